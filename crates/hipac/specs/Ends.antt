@@ -1,0 +1,35 @@
+-- How runs end.
+use Rattle.std.specs.Prelude.{ℕ, List, Result, Ok, Err}
+use Rattle.hp_model.specs.Cascade.{Script}
+use Rattle.hp_model.specs.Decode.{script_of}
+use Rattle.hp_model.specs.Refusals.{Refusal}
+use Rattle.hp_report.specs.declared.input.ReadFault.{ReadFault}
+use Rattle.hp_report.specs.declared.input.ReadFault.TheVariants as reading
+use Rattle.hp_report.specs.declared.output.WriteFault.{WriteFault}
+use Rattle.hp_report.specs.declared.output.WriteFault.TheVariants as writing
+use Rattle.hipac.specs.declared.fault.Status.{Status}
+use Rattle.hipac.specs.declared.fault.Status.TheVariants.{Reported, Refused}
+use Rattle.hipac.specs.declared.fault.Fault.{Fault}
+use Rattle.hipac.specs.declared.fault.Fault.TheVariants as fault
+
+abbrev pub read_fault : ReadFault → Fault
+read_fault reading.Read = fault.Read
+read_fault reading.NoMemory = fault.NoMemory
+
+abbrev pub write_fault : WriteFault → Fault
+write_fault writing.Write = fault.Write
+write_fault writing.NoMemory = fault.NoMemory
+
+abbrev pub status_for : Result Script Refusal → Status
+status_for (Ok script) = Reported
+status_for (Err refusal) = Refused
+
+-- a script is reported, and all else is refused
+abbrev pub status_of : List ℕ → Status
+status_of input = status_for (script_of input)
+
+-- the program's exit status
+abbrev pub code_of : Result Status Fault → ℕ
+code_of (Ok Reported) = 0
+code_of (Ok Refused) = 2
+code_of (Err f) = 4

@@ -1,0 +1,28 @@
+//! The rule manager: reads a script from standard input, runs it, and writes its firing report.
+#![tactic(auto)]
+
+mod fault;
+mod running;
+#[cfg(test)]
+mod tests;
+
+use fault::exit_code;
+use hp_report::Watched;
+use running::{Options, run};
+use std::process::ExitCode;
+
+fn main(rt: HostRuntime) -> ExitCode {
+    let mut reader = Watched::new(rt.stdin());
+    let mut writer = Watched::new(rt.stdout());
+    let ended = run(
+        &rt,
+        rt.alloc(),
+        &mut reader,
+        &mut writer,
+        Options { workers: 1 },
+    );
+    if let Err(fault) = &ended {
+        let _ = eprintln!(rt; "{fault}");
+    }
+    ExitCode::from(exit_code(&ended))
+}

@@ -1,0 +1,226 @@
+use crate::fault::{Fault, Status};
+use crate::running::{Options, run};
+use hp_report::Watched;
+use std::io;
+use std::io::{Read, Write};
+use std::process::Abort;
+use std::test::Fail;
+use std::thread::Threads;
+
+/// The thinnest run: one update and one rule.
+const SCRIPT: &[u8] =
+    b"{\"version\":1,\"classes\":[[\"acct\",[[\"bal\",\"int\"]]]],\"rules\":[[\"r\",[\"update\",\"acct\"],\"immediate\",[],\"immediate\",[[\"emit\",[\"-\",[\"new\",0,\"bal\"],[\"old\",0,\"bal\"]]]]]],\"items\":[[\"tx\",[[\"install\",\"r\"],[\"create\",\"acct\",1,[[\"bal\",5]]],[\"update\",\"acct\",1,[[\"bal\",7]]]]]]}";
+
+const TEXT: &[u8] = b"unit 1 committed\nemit 2\nfinal\nobject acct 1 bal=7\nrule r enabled\nend\n";
+
+const ONE_WORKER: Options = Options { workers: 1 };
+
+/// A device that moves at most `step` bytes a call, and fails at one call: it answers `Err`, or takes nothing.
+#[derive(Drop)]
+struct Device<'a> {
+    input: &'a [u8],
+    output: Vec<u8>,
+    step: usize,
+    calls: usize,
+    fails_at: usize,
+    takes_none: bool,
+}
+
+impl Device<'_> {
+    fn turn(&mut self) -> io::Result<()> {
+        self.calls = self.calls.wrapping_add(1);
+        if self.calls == self.fails_at {
+            return Err(io::Error::from(io::ErrorKind::Interrupted));
+        }
+        Ok(())
+    }
+}
+
+impl Read for Device<'_> {
+    fn read(&mut self, buf: &mut [u8]) -> io::Result<usize> {
+        self.turn()?;
+        let count = self.step.min(buf.len()).min(self.input.len());
+        let (now, later) = self.input.split_at(count);
+        buf[..count].copy_from_slice(now);
+        self.input = later;
+        Ok(count)
+    }
+}
+
+impl Write for Device<'_> {
+    fn write(&mut self, buf: &[u8]) -> io::Result<usize> {
+        match self.turn() {
+            Ok(()) => {}
+            Err(_) if self.takes_none => return Ok(0),
+            Err(error) => return Err(error),
+        }
+        let count = self.step.min(buf.len());
+        self.output.extend_from_slice(&buf[..count])?;
+        Ok(count)
+    }
+
+    fn flush(&mut self) -> io::Result<()> {
+        Ok(())
+    }
+}
+
+fn slow_device<'a>(rt: &impl AllocGlobal, input: &'a [u8], step: usize) -> Device<'a> {
+    Device {
+        input,
+        output: Vec::new(rt.alloc()),
+        step,
+        calls: 0,
+        fails_at: 0,
+        takes_none: false,
+    }
+}
+
+/// What a run writes for a script, and the status that it answers.
+fn written<R: AllocGlobal + Threads + Sync>(
+    rt: &R,
+    script: &[u8],
+    options: Options,
+) -> Result<(Vec<u8>, Status), Fail> {
+    let mut reader = Watched::new(slow_device(rt, script, 4096));
+    let mut writer = Watched::new(slow_device(rt, b"", 4096));
+    let status = run(rt, rt.alloc(), &mut reader, &mut writer, options)?;
+    Ok((writer.into_inner().output, status))
+}
+
+fn expect<R: Abort + AllocGlobal + Threads + Sync>(
+    rt: &R,
+    script: &[u8],
+    text: &[u8],
+    status: Status,
+) -> Result<(), Fail> {
+    let (output, ended) = written(rt, script, ONE_WORKER)?;
+    assert_eq!(rt; output.as_slice(), text);
+    assert_eq!(rt; ended, status);
+    Ok(())
+}
+
+#[test]
+fn thinnest_run_for_every_number_of_workers(rt: HostRuntime) -> Result<(), Fail> {
+    for workers in [1, 2, 8, 64] {
+        let (output, status) = written(&rt, SCRIPT, Options { workers })?;
+        assert_eq!(rt; output.as_slice(), TEXT);
+        assert_eq!(rt; status, Status::Reported);
+    }
+    Ok(())
+}
+
+#[test]
+fn empty(rt: HostRuntime) -> Result<(), Fail> {
+    expect(
+        &rt,
+        b"{\"version\":1,\"classes\":[],\"rules\":[],\"items\":[]}",
+        b"final\nend\n",
+        Status::Reported,
+    )
+}
+
+#[test]
+fn create_of_an_object_that_is_there(rt: HostRuntime) -> Result<(), Fail> {
+    expect(
+        &rt,
+        b"{\"version\":1,\"classes\":[[\"acct\",[[\"bal\",\"int\"]]]],\"rules\":[],\"items\":[[\"tx\",[[\"create\",\"acct\",1,[[\"bal\",5]]],[\"create\",\"acct\",1,[[\"bal\",6]]]]]]}",
+        b"unit 1 aborted A1\nfinal\nend\n",
+        Status::Reported,
+    )
+}
+
+#[test]
+fn truncated(rt: HostRuntime) -> Result<(), Fail> {
+    expect(
+        &rt,
+        b"{\"version\":1,\"classes\":[],\"rules\":[[",
+        b"refused S1\n",
+        Status::Refused,
+    )
+}
+
+#[test]
+fn unsupported_version(rt: HostRuntime) -> Result<(), Fail> {
+    expect(
+        &rt,
+        b"{\"version\":3,\"classes\":[],\"rules\":[],\"items\":[]}",
+        b"refused S6\n",
+        Status::Refused,
+    )
+}
+
+#[test]
+fn unknown_rule(rt: HostRuntime) -> Result<(), Fail> {
+    expect(
+        &rt,
+        b"{\"version\":1,\"classes\":[],\"rules\":[],\"items\":[[\"tx\",[[\"install\",\"r\"]]]]}",
+        b"refused S4 /items/0/1/0/1\n",
+        Status::Refused,
+    )
+}
+
+#[test]
+fn number_out_of_range(rt: HostRuntime) -> Result<(), Fail> {
+    expect(
+        &rt,
+        b"{\"version\":1,\"classes\":[],\"rules\":[],\"items\":[[\"tx\",[[\"emit\",9223372036854775808]]]]}",
+        b"refused S3 /items/0/1/0/1\n",
+        Status::Refused,
+    )
+}
+
+#[test]
+fn longest_input_and_one_byte_more(rt: HostRuntime) -> Result<(), Fail> {
+    let mut spaces = vec![in rt.alloc(); 32; 1_048_576]?;
+    expect(&rt, spaces.as_slice(), b"refused S1\n", Status::Refused)?;
+    spaces.push(32)?;
+    expect(
+        &rt,
+        spaces.as_slice(),
+        b"refused S5 size\n",
+        Status::Refused,
+    )
+}
+
+#[test]
+fn byte_by_byte(rt: HostRuntime) -> Result<(), Fail> {
+    let mut reader = Watched::new(slow_device(&rt, SCRIPT, 1));
+    let mut writer = Watched::new(slow_device(&rt, b"", 1));
+    let status = run(&rt, rt.alloc(), &mut reader, &mut writer, ONE_WORKER)?;
+    assert_eq!(rt; status, Status::Reported);
+    assert_eq!(rt; writer.into_inner().output.as_slice(), TEXT);
+    Ok(())
+}
+
+#[test]
+fn each_read_fails(rt: HostRuntime) -> Result<(), Fail> {
+    for call in 1..=SCRIPT.len() + 1 {
+        let mut reader = slow_device(&rt, SCRIPT, 1);
+        reader.fails_at = call;
+        let mut reader = Watched::new(reader);
+        let mut writer = Watched::new(slow_device(&rt, b"", 1));
+        let ended = run(&rt, rt.alloc(), &mut reader, &mut writer, ONE_WORKER);
+        assert_eq!(rt; ended, Err(Fault::Read));
+        assert_eq!(rt; writer.into_inner().output.len(), 0);
+    }
+    Ok(())
+}
+
+#[test]
+fn each_write_fails(rt: HostRuntime) -> Result<(), Fail> {
+    for call in 1..=TEXT.len() {
+        for takes_none in [false, true] {
+            let mut reader = Watched::new(slow_device(&rt, SCRIPT, 4096));
+            let mut writer = slow_device(&rt, b"", 1);
+            writer.fails_at = call;
+            writer.takes_none = takes_none;
+            let mut writer = Watched::new(writer);
+            let ended = run(&rt, rt.alloc(), &mut reader, &mut writer, ONE_WORKER);
+            assert_eq!(rt; ended, Err(Fault::Write));
+            let output = writer.into_inner().output;
+            assert_eq!(rt; output.len() + 1, call);
+            assert!(rt; TEXT.starts_with(output.as_slice()));
+        }
+    }
+    Ok(())
+}

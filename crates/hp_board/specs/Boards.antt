@@ -1,0 +1,12 @@
+-- What contracts see of a board.
+use Rattle.std.specs.Prelude.{◌≡◌, ℕ, List, length}
+use Rattle.hp_board.specs.Deal.{Deal, IsDealer}
+
+-- the dealer of its numbers, and the names of its cells, one a number
+pub record BoardView : Type 0 where
+  pub deal : Deal
+  pub cells : List ℕ
+
+-- a board of n numbers and as many cells, for k seats
+abbrev pub IsBoard : ℕ → ℕ → BoardView → Type 0
+IsBoard n k b = IsDealer n k b.deal × (length b.cells ≡ n)

@@ -1,0 +1,5 @@
+pub mod Stepped
+pub mod Mapped
+pub mod Codes
+pub mod DetectorState
+pub mod Same

@@ -1,0 +1,88 @@
+//! Composite events.
+
+ghost use Rattle.std.specs.Prelude.{◌≡◌};
+ghost use Rattle.hp_model.specs.Events as model;
+ghost use Rattle.hp_value.specs.Mapped.{primitive};
+ghost use Rattle.hp_detect.specs.Mapped.{event};
+
+use hp_event::Pattern;
+use hp_value::Prim;
+
+/// An event: a pattern of primitive occurrences, or what HiPAC makes of two events by disjunction, sequence and closure.
+///
+/// When and with which parts each occurs is this project's own choice.
+#[derive(Debug, Drop)]
+pub enum EventExpr {
+    /// It occurs where a primitive occurrence matches.
+    One(Pattern),
+    /// It occurs where an arm does, with the parts and the count of the first arm that does.
+    Or(Box<EventExpr>, Box<EventExpr>),
+    /// It occurs where the second arm does, if an occurrence of the first arm stands before that place which no earlier
+    /// occurrence of the sequence took. It takes the oldest such one; its parts are that one's and then the second's,
+    /// and its count is the sum.
+    Seq(Box<EventExpr>, Box<EventExpr>),
+    /// It occurs where the second arm, its end, does, if an occurrence of the first arm, its body, stands before that
+    /// place and after the end's place before. It occurs once: its parts are those of the last such one and then the
+    /// end's, and its count is the sum over all such ones.
+    Closure(Box<EventExpr>, Box<EventExpr>),
+}
+
+impl PartialEq for EventExpr {
+    ghost use Rattle.std.specs.Ordering.{on};
+    ghost use Rattle.std.specs.Cmp.{on_equiv, partial_equiv_from_equiv};
+    ghost use Rattle.hp_detect.specs.Mapped.{event};
+    ghost use Rattle.hp_detect.specs.Same.{event_same, event_equiv};
+
+    ghost eq = { on event event_same };
+
+    ghost laws = { partial_equiv_from_equiv (on_equiv event event_equiv) };
+
+    fn eq(&self, other: &EventExpr) -> bool {
+        match (self, other) {
+            (EventExpr::One(p), EventExpr::One(q)) => p == q,
+            (EventExpr::Or(a, b), EventExpr::Or(c, d)) => **a == **c && **b == **d,
+            (EventExpr::Seq(a, b), EventExpr::Seq(c, d)) => **a == **c && **b == **d,
+            (EventExpr::Closure(a, b), EventExpr::Closure(c, d)) => **a == **c && **b == **d,
+            _ => false,
+        }
+    }
+}
+
+impl Eq for EventExpr {
+    ghost use Rattle.std.specs.Cmp.{on_equiv};
+    ghost use Rattle.hp_detect.specs.Mapped.{event};
+    ghost use Rattle.hp_detect.specs.Same.{event_equiv};
+
+    ghost laws = { on_equiv event event_equiv };
+}
+
+impl EventExpr {
+    /// Whether a pattern of the event matches. Where none does the event doesn't occur, and a detector of it doesn't
+    /// change.
+    ///
+    /// It takes no memory.
+    pub fn mentions(&self, prim: &Prim) -> bool
+        ensures { result ≡ model.mentions (event self.now) (primitive prim.now) }
+    {
+        match self {
+            EventExpr::One(pattern) => pattern.matches(prim),
+            EventExpr::Or(a, b) | EventExpr::Seq(a, b) | EventExpr::Closure(a, b) => {
+                a.mentions(prim) || b.mentions(prim)
+            }
+        }
+    }
+}
+
+/// Whether the event is made of patterns and disjunctions alone, so that no past matters and a detector of it keeps
+/// nothing.
+///
+/// It takes no memory.
+pub fn is_pure(expr: &EventExpr) -> bool
+    ensures { result ≡ model.is_pure (event expr.now) }
+{
+    match expr {
+        EventExpr::One(_) => true,
+        EventExpr::Or(a, b) => is_pure(a) && is_pure(b),
+        EventExpr::Seq(_, _) | EventExpr::Closure(_, _) => false,
+    }
+}

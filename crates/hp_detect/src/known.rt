@@ -1,0 +1,67 @@
+//! What a detector knows of the past.
+
+ghost use Rattle.std.specs.Prelude.{◌≡◌, IfOk, []};
+ghost use Rattle.hp_model.specs.Knowledge as model;
+ghost use Rattle.hp_detect.specs.Mapped.{event, known};
+
+use crate::event::EventExpr;
+use crate::queue::Queue;
+use hp_value::Occurrence;
+use std::alloc::{AllocError, Global};
+use std::sync::Arc;
+
+/// What matters of the past for an event's later places, part by part of the event. Copies share their parts.
+#[derive(Debug, Drop)]
+pub enum Known {
+    /// Nothing matters for a pattern.
+    Nothing,
+    /// What matters for the arms of a disjunction.
+    Either(Arc<Known>, Arc<Known>),
+    /// What matters for the arms of a sequence, and the first arm's occurrences that are not yet taken.
+    Sequence(Arc<Known>, Arc<Known>, Queue),
+    /// What matters for a closure's body and its end, and what was gathered since the last end: the parts of the body's
+    /// last occurrence, with the sum of their counts.
+    Closed(Arc<Known>, Arc<Known>, Option<Arc<Occurrence>>),
+}
+
+impl PartialEq for Known {
+    ghost use Rattle.std.specs.Ordering.{on};
+    ghost use Rattle.std.specs.Cmp.{on_equiv, partial_equiv_from_equiv};
+    ghost use Rattle.hp_detect.specs.Mapped.{known};
+    ghost use Rattle.hp_detect.specs.Same.{knowledge_same, knowledge_equiv};
+
+    ghost eq = { on known knowledge_same };
+
+    ghost laws = { partial_equiv_from_equiv (on_equiv known knowledge_equiv) };
+
+    fn eq(&self, other: &Known) -> bool {
+        match (self, other) {
+            (Known::Nothing, Known::Nothing) => true,
+            (Known::Either(k, l), Known::Either(m, n)) => **k == **m && **l == **n,
+            (Known::Sequence(k, l, waiting), Known::Sequence(m, n, others)) => {
+                **k == **m && **l == **n && waiting == others
+            }
+            (Known::Closed(k, l, unfinished), Known::Closed(m, n, other)) => {
+                **k == **m && **l == **n && unfinished == other
+            }
+            _ => false,
+        }
+    }
+}
+
+/// What is known of no past.
+pub fn fresh(alloc: Global, expr: &EventExpr) -> Result<Arc<Known>, AllocError>
+    ensures { IfOk result (λ k. known k.value ≡ model.knowledge (event expr.now) []) }
+{
+    let known = match expr {
+        EventExpr::One(_) => Known::Nothing,
+        EventExpr::Or(a, b) => Known::Either(fresh(alloc, a)?, fresh(alloc, b)?),
+        EventExpr::Seq(a, b) => Known::Sequence(
+            fresh(alloc, a)?,
+            fresh(alloc, b)?,
+            Queue::new(alloc)?,
+        ),
+        EventExpr::Closure(a, t) => Known::Closed(fresh(alloc, a)?, fresh(alloc, t)?, None),
+    };
+    Ok(Arc::new(alloc, known)?)
+}

@@ -1,0 +1,91 @@
+//! Occurrences made of others.
+
+ghost use Rattle.std.specs.Prelude.{◌≡◌, ◌++◌, map, option_map, IfOk};
+ghost use Rattle.hp_model.specs.Events as model;
+ghost use Rattle.hp_model.specs.Occurrences.{primitive_occurrence};
+ghost use Rattle.hp_value.specs.Mapped.{primitive, occurrence};
+ghost use Rattle.hp_detect.specs.Stepped.{gathered_after};
+
+use hp_value::{Occurrence, Prim};
+use std::alloc::{AllocError, Global};
+use std::sync::Arc;
+
+/// A primitive occurrence as an occurrence: its own one part, with count 1 (this project's own choice).
+pub fn single(alloc: Global, prim: &Prim) -> Result<Occurrence, AllocError>
+    ensures { IfOk result (λ o. occurrence o ≡ primitive_occurrence (primitive prim.now)) }
+{
+    let mut parts = Vec::new(alloc);
+    parts.push(prim.clone()?)?;
+    Ok(Occurrence { parts, count: 1 })
+}
+
+/// An occurrence of a sequence: the parts of both, and the sum of their counts.
+pub fn joined(
+    alloc: Global,
+    first: Option<&Occurrence>,
+    second: Option<Occurrence>,
+) -> Result<Option<Occurrence>, AllocError>
+    ensures { IfOk result (λ o. option_map occurrence o ≡ model.joined (option_map (λ f. occurrence f.now) first.entry) (option_map occurrence second)) }
+{
+    let (Some(first), Some(second)) = (first, second) else {
+        return Ok(None);
+    };
+    Ok(Some(Occurrence {
+        parts: followed(alloc, &first.parts, second.parts)?,
+        count: first.count.saturating_add(second.count),
+    }))
+}
+
+/// An occurrence of a closure: the parts of what was gathered and of the end, with the count that was gathered.
+pub fn closed(
+    alloc: Global,
+    gathered: Option<&Occurrence>,
+    end: Option<Occurrence>,
+) -> Result<Option<Occurrence>, AllocError>
+    ensures { IfOk result (λ o. option_map occurrence o ≡ model.closed (option_map (λ g. occurrence g.now) gathered.entry) (option_map occurrence end)) }
+{
+    let (Some(gathered), Some(end)) = (gathered, end) else {
+        return Ok(None);
+    };
+    Ok(Some(Occurrence {
+        parts: followed(alloc, &gathered.parts, end.parts)?,
+        count: gathered.count,
+    }))
+}
+
+/// What is gathered for a closure after a place at which its end occurred or didn't, and its body did or didn't: the parts
+/// of the body's last occurrence since the last end, with the sum of their counts.
+pub fn gathered(
+    alloc: Global,
+    ended: bool,
+    body: Option<Occurrence>,
+    before: &Option<Arc<Occurrence>>,
+) -> Result<Option<Arc<Occurrence>>, AllocError>
+    ensures { IfOk result (λ g. option_map (λ o. occurrence o.value) g ≡ gathered_after ended (option_map occurrence body) (option_map (λ o. occurrence o.value) before.now)) }
+{
+    if ended {
+        return Ok(None);
+    }
+    match (body, before) {
+        (None, None) => Ok(None),
+        (None, Some(before)) => Ok(Some(Arc::try_clone(before)?)),
+        (Some(last), None) => Ok(Some(Arc::new(alloc, last)?)),
+        (Some(last), Some(before)) => {
+            let count = before.count.saturating_add(last.count);
+            let parts = last.parts;
+            Ok(Some(Arc::new(alloc, Occurrence { parts, count })?))
+        }
+    }
+}
+
+/// The parts of one occurrence and then those of another.
+fn followed(alloc: Global, first: &[Prim], mut last: Vec<Prim>) -> Result<Vec<Prim>, AllocError>
+    ensures { IfOk result (λ v. map primitive v.items ≡ map primitive first.now ++ map primitive last.items) }
+{
+    let mut parts = Vec::with_capacity(alloc, first.len())?;
+    for part in first {
+        parts.push(part.clone()?)?;
+    }
+    parts.append(&mut last)?;
+    Ok(parts)
+}

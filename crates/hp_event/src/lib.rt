@@ -1,0 +1,12 @@
+//! Patterns of primitive occurrences: the events that a single occurrence makes.
+//!
+//! `specs/Mapped.antt` says what a pattern stands for in `hp_model`.
+#![tactic(auto)]
+
+mod pattern;
+
+pub use hp_value::{Occurrence, Prim};
+pub use pattern::Pattern;
+
+#[cfg(test)]
+mod tests;

@@ -1,0 +1,91 @@
+-- What of a state a program keeps in cells, layers of changes over cells, and the reads that hold in cells.
+use Rattle.std.specs.Prelude.{◌≡◌, ℕ, ℤ, Bool, false, ◌&&◌, ◌==◌, List, [], ◌∷◌, Option, Some, None, option_map, is_some, if◌then◌else◌}
+use Rattle.std.specs.Ordering.{int_eq, int_cmp}
+use Rattle.std.specs.List.{list_any}
+use Rattle.std.specs.List.Sorted.{IsStrictlySortedBy}
+use Rattle.hp_model.specs.Values.{Row}
+use Rattle.hp_model.specs.Events.{is_pure}
+use Rattle.hp_model.specs.Knowledge.{Knowledge, knowledge}
+use Rattle.hp_model.specs.Rules.{Rule, Library, rule_at}
+use Rattle.hp_model.specs.State.{State, Status, absent, enabled, disabled, RuleState, rule_state, find_object}
+
+-- a place of the store: an object's row, a rule's status, or what a rule's detector knows
+pub data Cell : Type 0 where
+  object_cell : (class : ℕ) → (key : ℤ) → Cell
+  rule_cell detector_cell : (rule : ℕ) → Cell
+
+pub data CellValue : Type 0 where
+  row_value : Row → CellValue
+  status_value : Status → CellValue
+  knowledge_value : Knowledge → CellValue
+
+-- the value of each cell, or its absence. Two of them are the same where they are the same at each cell
+abbrev pub Cells : Type 0
+Cells = Cell → Option CellValue
+
+abbrev pub status_in : Status → Option CellValue
+status_in absent = None
+status_in enabled = Some (status_value enabled)
+status_in disabled = Some (status_value disabled)
+
+abbrev pub knowledge_in : Rule → Status → RuleState → Option CellValue
+knowledge_in rule enabled r = if is_pure rule.event then None else Some (knowledge_value (knowledge rule.event r.past))
+knowledge_in rule status r = None
+
+-- each object's row; each rule that isn't absent; for each enabled rule whose event looks back, what is known of its past
+abbrev pub cells : Library → State → Cells
+cells library S (object_cell class key) = option_map row_value (find_object S.objects class key)
+cells library S (rule_cell n) = status_in (rule_state S n).status
+cells library S (detector_cell n) = knowledge_in (rule_at library n) (rule_state S n).status (rule_state S n)
+
+-- ---- layers
+
+-- a layer: the cells to which it gives a value, and those that it takes out
+abbrev pub Changes : Type 0
+Changes = Cell → Option (Option CellValue)
+
+abbrev pub no_changes : Changes
+no_changes cell = None
+
+-- what is at a cell after a change
+abbrev pub changed : Option CellValue → Option (Option CellValue) → Option CellValue
+changed before None = before
+changed before (Some after) = after
+
+-- cells overwritten by a layer
+abbrev pub over : Cells → Changes → Cells
+over base changes cell = changed (base cell) (changes cell)
+
+abbrev pub same_cell : Cell → Cell → Bool
+same_cell (object_cell c k) (object_cell d l) = (c == d) && int_eq k l
+same_cell (rule_cell m) (rule_cell n) = m == n
+same_cell (detector_cell m) (detector_cell n) = m == n
+same_cell a b = false
+
+-- a layer with another change at one cell, or with none there
+abbrev pub with_change : Changes → Cell → Option (Option CellValue) → Changes
+with_change changes cell change q = if same_cell cell q then change else changes q
+
+-- ---- reads
+
+-- the keys of a class's objects, each once, rising
+pub record AreKeys (base : Cells) (class : ℕ) (keys : List ℤ) : Type 0 where
+  pub rise : IsStrictlySortedBy int_cmp keys
+  pub has : (key : ℤ) → list_any (int_eq key) keys ≡ is_some (base (object_cell class key))
+
+-- what was read: a cell with its value or its absence, or a class with its keys
+pub data Read : Type 0 where
+  cell_read : Cell → Option CellValue → Read
+  keys_read : (class : ℕ) → List ℤ → Read
+
+abbrev pub IsTold : Cells → Read → Type 0
+IsTold base (cell_read cell value) = base cell ≡ value
+IsTold base (keys_read class keys) = AreKeys base class keys
+
+abbrev pub AllTold : Cells → List Read → Type 0
+AllTold base [] = Unit {0}
+AllTold base (r ∷ rs) = IsTold base r × AllTold base rs
+
+-- the reads hold in these cells: each recorded cell has the recorded value or absence, each recorded class the recorded keys
+pub record Holds (base : Cells) (reads : List Read) : Type 0 where
+  pub told : AllTold base reads

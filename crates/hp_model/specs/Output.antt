@@ -1,0 +1,47 @@
+-- What is written for an input.
+use Rattle.std.specs.Prelude.{Bool, List, [], ◌∷◌, flat_map, Result, Ok, Err, codes, decimal}
+use Rattle.hp_model.specs.Cascade.{Script, evaluate}
+use Rattle.hp_model.specs.Report.{Bytes, line, report_text}
+use Rattle.hp_model.specs.Refusals.{Step, to_member, to_item, Path, Limit, size_limit, classes_limit, fields_limit, rules_limit, expression_limit, event_limit, nesting_limit, text_limit, depth_limit_word, arguments_limit, moments_limit, Refusal, unreadable, wrong_shape, bad_number, bad_name, over_limit, unknown_version}
+use Rattle.hp_model.specs.Decode.{script_of}
+
+abbrev pub limit_word : Limit → Bytes
+limit_word size_limit = codes "size"
+limit_word classes_limit = codes "classes"
+limit_word fields_limit = codes "fields"
+limit_word rules_limit = codes "rules"
+limit_word expression_limit = codes "expr"
+limit_word event_limit = codes "event"
+limit_word nesting_limit = codes "nesting"
+limit_word text_limit = codes "text"
+limit_word depth_limit_word = codes "depth"
+limit_word arguments_limit = codes "args"
+limit_word moments_limit = codes "moments"
+
+abbrev pub step_text : Step → Bytes
+step_text (to_member name) = name
+step_text (to_item i) = decimal i
+
+-- a slash before each step; the root is a slash alone
+abbrev pub path_text : Path → Bytes
+path_text [] = codes "/"
+path_text (s ∷ path) = flat_map (λ step. 47 ∷ step_text step) (s ∷ path)
+
+abbrev pub refusal_words : Refusal → List Bytes
+refusal_words unreadable = codes "S1" ∷ []
+refusal_words (wrong_shape path) = codes "S2" ∷ path_text path ∷ []
+refusal_words (bad_number path) = codes "S3" ∷ path_text path ∷ []
+refusal_words (bad_name path) = codes "S4" ∷ path_text path ∷ []
+refusal_words (over_limit limit) = codes "S5" ∷ limit_word limit ∷ []
+refusal_words unknown_version = codes "S6" ∷ []
+
+abbrev pub refusal_text : Refusal → Bytes
+refusal_text r = line 0 (codes "refused" ∷ refusal_words r)
+
+abbrev pub text_of : (with_tree : Bool) → Result Script Refusal → Bytes
+text_of with_tree (Err r) = refusal_text r
+text_of with_tree (Ok script) = report_text script.library with_tree (evaluate script)
+
+-- the report of the script that the bytes say, or the refusal's line
+abbrev pub output : Bytes → (with_tree : Bool) → Bytes
+output bytes with_tree = text_of with_tree (script_of bytes)

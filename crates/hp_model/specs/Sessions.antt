@@ -1,0 +1,23 @@
+-- The history of a book on which sessions submit bodies.
+use Rattle.std.specs.Prelude.{◌≡◌, ℕ, List, [], ◌∷◌}
+use Rattle.hp_model.specs.Rules.{Body, Library}
+use Rattle.hp_model.specs.State.{State, IsOrdered, IsFit}
+use Rattle.hp_model.specs.Cascade.{transaction, UnitReport, run_unit, unit_report}
+use Rattle.hp_model.specs.Cells.{Cells, cells}
+
+pub record Entry : Type 0 where
+  pub session : ℕ
+  pub body : Body
+  pub reply : UnitReport
+
+-- from the state, the bodies run one after the other as units give the replies, and leave these cells
+abbrev pub IsSerialRun : Library → State → List Entry → Cells → Type 0
+IsSerialRun library S [] now = cells library S ≡ now
+IsSerialRun library S (e ∷ es) now =
+    (unit_report (transaction e.body) (run_unit library (transaction e.body) S) ≡ e.reply)
+    × IsSerialRun library (run_unit library (transaction e.body) S).state es now
+
+-- there is a fit state with the opening cells, and from each ordered one the history is a serial run
+pub record IsLegal (library : Library) (opening now : Cells) (history : List Entry) : Type 0 where
+  pub opened : (S : State) × IsFit library S × (cells library S ≡ opening)
+  pub serial : (S : State) → IsOrdered library S → cells library S ≡ opening → IsSerialRun library S history now

@@ -1,0 +1,142 @@
+//! Objects in a plain ordered map.
+
+ghost use Rattle.std.specs.Prelude.{◌≡◌, ◌↔◌, [], length, IsTrue, OnOk, OnErr, IfOk};
+ghost use Rattle.std.specs.Option.{option_copied};
+ghost use Rattle.hp_model.specs.State.{find_object, write_object, remove_object};
+ghost use Rattle.hp_query.specs.Looks.{ObjectsRise, class_keys};
+ghost use Rattle.hp_query.specs.Plain.{objects_in, KeysFit};
+
+use crate::look::Look;
+use hp_value::{ClassNo, Key, Row};
+use std::alloc::{AllocError, Global};
+use std::collections::BTreeMap;
+use std::marker::Model;
+
+/// The name of an object: its class, and its key within the class. Names are in order of class, and then of key.
+#[derive(Clone, Copy, Debug, PartialEq, Eq, PartialOrd, Ord)]
+pub struct ObjectName {
+    /// The object's class.
+    pub class: ClassNo,
+    /// The object's key.
+    pub key: Key,
+}
+
+/// Objects in a plain ordered map: a look that allows its own objects alone.
+#[derive(Debug, Drop)]
+pub struct PlainObjects {
+    rows: BTreeMap<ObjectName, Row>,
+}
+
+impl Model for PlainObjects {
+    ghost use Rattle.hp_model.specs.State.{Objects};
+
+    ghost Value = { Objects };
+
+    ghost use Rattle.hp_query.specs.Plain.{objects_in, KeysFit};
+
+    ghost view = { λ p. objects_in p.rows.entries };
+
+    ghost invariant = { λ p. KeysFit p.rows.entries };
+}
+
+impl PlainObjects {
+    /// No objects.
+    pub fn new(alloc: Global) -> PlainObjects
+        ensures { result ≡ [] }
+    {
+        PlainObjects {
+            rows: BTreeMap::new(alloc),
+        }
+    }
+
+    /// How many objects there are.
+    pub fn len(&self) -> usize
+        ensures len { result ≡ length self.now }
+        ensures rise { ObjectsRise self.now }
+    {
+        self.rows.len()
+    }
+
+    /// Whether there are no objects.
+    pub fn is_empty(&self) -> bool
+        ensures { IsTrue result ↔ (self.now ≡ []) }
+    {
+        self.rows.is_empty()
+    }
+
+    /// The row of the object of a class with a key, if it is there.
+    pub fn get(&self, class: ClassNo, key: Key) -> Option<&Row>
+        ensures { option_copied result ≡ find_object self.now class key }
+    {
+        self.rows.get(&ObjectName { class, key })
+    }
+
+    /// Gives the object of a class with a key this row, whether it was there or not.
+    ///
+    /// An error means that memory ran out, and that nothing has changed.
+    pub fn insert(&mut self, class: ClassNo, key: Key, row: Row) -> Result<(), AllocError>
+        ensures ok { OnOk result (self.new ≡ write_object self.old class key row) }
+        ensures err { OnErr result (self.new ≡ self.old) }
+    {
+        self.rows.insert(ObjectName { class, key }, row)?;
+        Ok(())
+    }
+
+    /// Takes the object of a class with a key out, and gives its row, if it was there.
+    pub fn remove(&mut self, class: ClassNo, key: Key) -> Option<Row>
+        ensures row { result ≡ find_object self.old class key }
+        ensures others { self.new ≡ remove_object self.old class key }
+    {
+        self.rows.remove(&ObjectName { class, key })
+    }
+}
+
+impl Look for PlainObjects {
+    ghost use Rattle.std.specs.Prelude.{◌≡◌};
+    ghost use Rattle.std.proofs.Common.{refl, ◌∙◌};
+
+    ghost allows = { λ objects world. world ≡ objects };
+
+    ghost goes_on = { λ before after. after ≡ before };
+
+    ghost goes_on_same = { λ look. refl };
+
+    ghost goes_on_then = { λ first second third one two. two ∙ one };
+
+    ghost narrows = { λ first second on world is. is ∙ on };
+
+    fn row(&mut self, alloc: Global, class: ClassNo, key: Key) -> Result<Option<Row>, AllocError> {
+        match self.get(class, key) {
+            Some(row) => Ok(Some(row.clone()?)),
+            None => Ok(None),
+        }
+    }
+
+    fn keys(&mut self, alloc: Global, class: ClassNo) -> Result<Vec<Key>, AllocError> {
+        class_range(alloc, &self.rows, class)
+    }
+}
+
+// The keys of a class: its names are those from the least key to the largest.
+fn class_range(
+    alloc: Global,
+    rows: &BTreeMap<ObjectName, Row>,
+    class: ClassNo,
+) -> Result<Vec<Key>, AllocError>
+    requires { KeysFit rows.now.entries }
+    ensures { IfOk result (λ keys. keys.items ≡ class_keys class (objects_in rows.now.entries)) }
+{
+    let first = ObjectName {
+        class,
+        key: Key::MIN,
+    };
+    let last = ObjectName {
+        class,
+        key: Key::MAX,
+    };
+    let mut keys = Vec::new(alloc);
+    for (name, _) in rows.range(first..=last) {
+        keys.push(name.key)?;
+    }
+    Ok(keys)
+}

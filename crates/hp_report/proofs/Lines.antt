@@ -1,0 +1,73 @@
+-- Lines, word by word, and texts as `serde_json` quotes them.
+use Rattle.std.proofs.Common.{◌≡◌, ℕ, List, [], ◌∷◌, ◌++◌, refl, ap, ◌∙◌, sym, append-nil, map, inl, inr, ◌⊎◌, codes, false, drop, ◌+◌, Some, append_assoc, slice_get}
+use Rattle.std.proofs.lemmas.List.{at_drop_more}
+use Rattle.std.proofs.lemmas.Option.{slice_get_within, get_or_from_slice_get}
+use Rattle.std.proofs.lemmas.List.Concat.{flat_map-append}
+use Rattle.std.specs.Prelude.{flat_map}
+use Rattle.json.specs.Print.{escape_byte, quoted as json_quoted}
+use Rattle.hp_model.specs.Report.{Bytes, row_words, escaped, quoted, words, line, value_text, outcome_text, rules_text}
+use Rattle.hp_model.specs.Rules.{Rule, Library}
+use Rattle.hp_model.specs.State.{RuleState}
+use Rattle.hp_model.specs.Values.{Name, Value, Row}
+use Rattle.hp_model.specs.Tree.{Ending, committed, aborted, emits, if_committed}
+use Rattle.hp_fire.specs.Flat.{emissions}
+use Rattle.hp_report.specs.Text.{spaced, emit_lines}
+
+escape_byte-escaped : (x : ℕ) → escape_byte x ≡ escaped x
+unfolding escape_byte
+escape_byte-escaped x = refl
+
+pub quoted_lem : (s : List ℕ) → json_quoted s ≡ quoted s
+unfolding escape_byte
+quoted_lem s = refl
+
+-- the words of a line: the first, and the others with their spaces
+pub spaced_words : (w : Bytes) (ws : List Bytes) → words (w ∷ ws) ≡ w ++ spaced ws
+spaced_words w [] = sym (append-nil w)
+spaced_words w (v ∷ vs) = ap (λ (l : Bytes). w ++ 32 ∷ l) (spaced_words v vs)
+
+-- a line is its first word, the others with their spaces, and the line feed
+pub line_put : (w : Bytes) (us vs : List Bytes) (start first second third done : Bytes)
+    → first ≡ start ++ w → second ≡ first ++ spaced us → third ≡ second ++ spaced vs → done ≡ third ++ 10 ∷ [] → done ≡ start ++ line 0 (w ∷ (us ++ vs))
+line_put w us vs start first second third done a b c d =
+    let e : words (w ∷ (us ++ vs)) ≡ w ++ (spaced us ++ spaced vs) = spaced_words w (us ++ vs) ∙ ap (λ (l : Bytes). w ++ l) (flat_map-append (λ (v : Bytes). 32 ∷ v) us vs) in
+    let f : done ≡ ((start ++ w) ++ spaced us) ++ spaced vs ++ 10 ∷ [] = cc in
+    let g : ((start ++ w) ++ spaced us) ++ spaced vs ++ 10 ∷ [] ≡ start ++ ((w ++ (spaced us ++ spaced vs)) ++ 10 ∷ []) = simp append_assoc in
+    f ∙ g ∙ ap (λ (l : Bytes). start ++ (l ++ 10 ∷ [])) (sym e)
+
+pub emits_emissions : (vs : List Value) → emits (emissions vs) ≡ vs
+emits_emissions [] = refl
+emits_emissions (v ∷ vs) = ap (λ (l : List Value). v ∷ l) (emits_emissions vs)
+
+-- what a transaction's line is followed by
+pub outcome_lines : (library : Library) (end : Ending) (vs : List Value)
+    → outcome_text library false end (emissions vs) ≡ if_committed end (emit_lines vs) []
+outcome_lines library committed vs = append-nil _ ∙ ap emit_lines (emits_emissions vs)
+outcome_lines library (aborted c) vs = refl
+
+-- no rule or no status is left: all lines are written
+pub rules_text_end : {A B : Type 0} (f : A → Rule) (g : B → RuleState) (xs : List A) (ys : List B) (out all : Bytes)
+    → (xs ≡ []) ⊎ (ys ≡ []) → out ++ rules_text (map f xs) (map g ys) ≡ all → out ≡ all
+rules_text_end f g [] ys out all e h = sym (append-nil out) ∙ h
+rules_text_end f g (x ∷ xs) [] out all e h = sym (append-nil out) ∙ h
+rules_text_end f g (x ∷ xs) (y ∷ ys) out all (inl e) h = cc
+rules_text_end f g (x ∷ xs) (y ∷ ys) out all (inr e) h = cc
+
+-- the fields from the i-th on
+fields_left : (row : Row) (i : ℕ) (x : Name × Value) → slice_get row i ≡ Some x
+    → spaced (row_words (drop i row)) ≡ 32 ∷ (x.0 ++ 61 ∷ (value_text x.1 ++ spaced (row_words (drop (i + 1) row))))
+fields_left row i x e =
+    at_drop_more (λ r. spaced (row_words r)) row i x (slice_get_within row i x e)
+    ∙ ap (λ y. spaced (row_words (y ∷ drop (i + 1) row))) (get_or_from_slice_get row i x x e)
+    ∙ ap (λ (l : Bytes). 32 ∷ l) (append_assoc x.0 (61 ∷ value_text x.1) (spaced (row_words (drop (i + 1) row))))
+
+-- one more field was written
+pub field_put : (row : Row) (i : ℕ) (name : Name) (v : Value) (all before named done : Bytes)
+    → Some (name, v) ≡ slice_get row i → before ++ spaced (row_words (drop i row)) ≡ all → named ≡ before ++ 32 ∷ (name ++ 61 ∷ []) → done ≡ named ++ value_text v
+    → done ++ spaced (row_words (drop (i + 1) row)) ≡ all
+field_put row i name v all before named done e h a b =
+    let rest = spaced (row_words (drop (i + 1) row)) in
+    let left = fields_left row i (name, v) (sym e) in
+    let f : done ++ rest ≡ ((before ++ 32 ∷ (name ++ 61 ∷ [])) ++ value_text v) ++ rest = cc in
+    let g : ((before ++ 32 ∷ (name ++ 61 ∷ [])) ++ value_text v) ++ rest ≡ before ++ 32 ∷ (name ++ 61 ∷ (value_text v ++ rest)) = simp append_assoc in
+    f ∙ g ∙ ap (λ (l : Bytes). before ++ l) (sym left) ∙ h

@@ -1,0 +1,4 @@
+pub mod Device
+pub mod Mapped
+pub mod Text
+pub mod Watched

@@ -1,0 +1,17 @@
+-- Texts that grow at their end, word by word.
+use Rattle.std.specs.Prelude.{◌≡◌, [], ◌∷◌, ◌++◌, List, flat_map, codes, String, string_bytes}
+use Rattle.std.specs.declared.alloc.Global.{Global}
+use Rattle.hp_model.specs.Values.{Value}
+use Rattle.hp_model.specs.Report.{Bytes, line, value_text}
+
+-- the text grew by this at its end
+abbrev pub Gains : String Global → String Global → Bytes → Type 0
+Gains old new text = string_bytes new ≡ string_bytes old ++ text
+
+-- words, each with a space before it
+abbrev pub spaced : List Bytes → Bytes
+spaced ws = flat_map (λ (w : Bytes). 32 ∷ w) ws
+
+-- a line for each value
+abbrev pub emit_lines : List Value → Bytes
+emit_lines vs = flat_map (λ v. line 0 (codes "emit" ∷ value_text v ∷ [])) vs

@@ -1,0 +1,58 @@
+//! Reading a device.
+
+ghost use Rattle.std.specs.Prelude.{◌≡◌, ◌↔◌, ◌≤◌, take, vec_len, IfOk, IfSome, true, false};
+ghost use Rattle.std.specs.Io.KnownBytes.{Consumes};
+ghost use Rattle.hp_report.specs.declared.input.ReadFault.TheVariants.{NoMemory};
+
+use crate::device::Source;
+use std::alloc::{AllocError, Global};
+use thiserror::Error;
+
+/// Why a device's bytes were not read.
+#[derive(Clone, Copy, Debug, PartialEq, Eq, Error)]
+pub enum ReadFault {
+    /// A read has failed.
+    #[error("a read failed")]
+    Read,
+    /// There was no memory for the bytes; no read has failed.
+    #[error("out of memory")]
+    NoMemory,
+}
+
+impl From<AllocError> for ReadFault {
+    ghost from_gives = { λ _ fault. fault ≡ NoMemory };
+
+    fn from(_error: AllocError) -> ReadFault {
+        ReadFault::NoMemory
+    }
+}
+
+/// Reads the bytes of a device up to its end, or the first `limit` of them.
+///
+/// No more than `limit` bytes are taken from the device. It ends at the first read that fails. After a
+/// fault some bytes may have been read, and are lost.
+pub fn read_up_to<R: Source>(
+    alloc: Global,
+    reader: &mut R,
+    limit: usize,
+) -> Result<Vec<u8>, ReadFault>
+    requires { R.has_failed reader.old ≡ false }
+    ensures bytes { IfOk result (λ input. IfSome (R.remaining reader.old) (λ all.
+        input.items ≡ take limit all)) }
+    ensures taken { IfOk result (λ input.
+        Consumes (R.remaining reader.old) (R.remaining reader.new) input.items) }
+    ensures limit { IfOk result (λ input. vec_len input ≤ limit) }
+    ensures read { result ≡ Err ReadFault.Read ↔ (R.has_failed reader.new ≡ true) }
+{
+    let mut input = Vec::new(alloc);
+    let mut buf = [0u8; 4096];
+    while input.len() < limit {
+        let room = (limit - input.len()).min(buf.len());
+        match reader.read(&mut buf[..room]) {
+            Ok(0) => return Ok(input),
+            Ok(count) => input.extend_from_slice(&buf[..count])?,
+            Err(_) => return Err(ReadFault::Read),
+        }
+    }
+    Ok(input)
+}

@@ -1,0 +1,76 @@
+//! Words of a report: values, causes and endings.
+
+ghost use Rattle.std.specs.Prelude.{◌≡◌, IfOk, OnOk, string_bytes};
+ghost use Rattle.hp_model.specs.Report.{quoted, value_text, rule_name, cause_words, ending_words};
+ghost use Rattle.hp_report.specs.Mapped as model;
+ghost use Rattle.hp_report.specs.Text.{Gains, spaced};
+
+use hp_fire::Ending;
+use hp_rule::path::Library;
+use hp_value::{Cause, RuleNo, Value};
+use std::alloc::{AllocError, Global};
+use std::fmt::Write;
+
+/// A text as compact JSON.
+#[tactic(auto, using(crate::proofs::Lines::quoted_lem))]
+fn quoted_text(alloc: Global, text: &str) -> Result<String, AllocError>
+    ensures { IfOk result (λ s. string_bytes s ≡ quoted text.now) }
+{
+    serde_json::Value::try_from_str(alloc, text)?.to_string(alloc)
+}
+
+/// A value as the report shows it.
+pub fn put_value(alloc: Global, out: &mut String, value: &Value) -> Result<(), AllocError>
+    ensures { OnOk result (Gains out.old out.new (value_text (model.value value.now))) }
+{
+    match value {
+        Value::Int(number) => write!(out, "{number}"),
+        Value::Bool(truth) => write!(out, "{truth}"),
+        Value::Text(text) => out.push_str(quoted_text(alloc, text.as_str())?.as_str()),
+    }
+}
+
+/// The name of a rule; nothing where the library has no such rule.
+fn rule_name(library: &Library, rule: RuleNo) -> &str
+    ensures { result.now ≡ rule_name (model.library library.now) rule }
+{
+    library
+        .rules
+        .get(rule as usize)
+        .map_or("", |rule| rule.name.as_str())
+}
+
+/// The words of a cause, each after a space.
+fn put_cause(out: &mut String, library: &Library, cause: Cause) -> Result<(), AllocError>
+    ensures { OnOk result (Gains out.old out.new
+        (spaced (cause_words (model.library library.now) (model.cause cause)))) }
+{
+    match cause {
+        Cause::Exists => out.push_str(" A1"),
+        Cause::Missing => out.push_str(" A2"),
+        Cause::Kind => out.push_str(" A3"),
+        Cause::Overflow => out.push_str(" A4"),
+        Cause::DivideByZero => out.push_str(" A5"),
+        Cause::NoParameter => out.push_str(" A6"),
+        Cause::Depth => out.push_str(" A7"),
+        Cause::Asked => out.push_str(" A8"),
+        Cause::Vetoed(rule) => {
+            let name = rule_name(library, rule);
+            write!(out, " A9 {name}")
+        }
+    }
+}
+
+/// The words of an ending, each after a space.
+pub fn put_ending(out: &mut String, library: &Library, ending: Ending) -> Result<(), AllocError>
+    ensures { OnOk result (Gains out.old out.new
+        (spaced (ending_words (model.library library.now) (model.ending ending)))) }
+{
+    match ending {
+        Ending::Committed => out.push_str(" committed"),
+        Ending::Aborted(cause) => {
+            out.push_str(" aborted")?;
+            put_cause(out, library, cause)
+        }
+    }
+}

@@ -1,0 +1,77 @@
+//! Readers and writers of `std` as devices.
+
+ghost use Rattle.std.specs.Prelude.{◌≡◌};
+
+use crate::device::{Sink, Source};
+use std::io;
+use std::io::{Read, Write};
+
+/// A reader or writer of std, and whether a call of it has failed.
+#[derive(Drop)]
+pub struct Watched<T> {
+    inner: T,
+    failed: bool,
+}
+
+impl<T> Watched<T> {
+    ghost use Rattle.std.specs.Prelude.{false};
+    ghost use Rattle.hp_report.specs.Watched.{inner_of, has_failed};
+
+    /// A device that has not failed yet.
+    pub fn new(inner: T) -> Watched<T>
+        ensures inner { inner_of result ≡ inner }
+        ensures fresh { has_failed result ≡ false }
+    {
+        Watched {
+            inner,
+            failed: false,
+        }
+    }
+
+    /// The reader or writer itself.
+    pub fn into_inner(self) -> T
+        ensures { result ≡ inner_of self }
+    {
+        let Watched { inner, failed: _ } = self;
+        inner
+    }
+}
+
+impl<R: Read> Source for Watched<R> {
+    ghost use Rattle.hp_report.specs.Watched.{inner_of, has_failed as watched_failed};
+
+    ghost remaining = { λ s. R.remaining (inner_of s) };
+
+    ghost has_failed = { λ s. watched_failed s };
+
+    fn read(&mut self, buf: &mut [u8]) -> io::Result<usize> {
+        let result = self.inner.read(buf);
+        self.failed = result.is_err();
+        result
+    }
+
+    fn failed(&self) -> bool {
+        self.failed
+    }
+}
+
+impl<W: Write> Sink for Watched<W> {
+    ghost use Rattle.hp_report.specs.Watched.{inner_of, has_failed as watched_failed};
+
+    ghost contents = { λ s. W.contents (inner_of s) };
+
+    ghost has_failed = { λ s. watched_failed s };
+
+    fn write(&mut self, buf: &[u8]) -> io::Result<usize> {
+        let result = self.inner.write(buf);
+        self.failed = match &result {
+            Ok(count) => *count == 0 && !buf.is_empty(),
+            Err(_) => true,
+        };
+        result
+    }
+
+    fn failed(&self) -> bool {
+        self.failed
+    }
+}

@@ -1,0 +1,2 @@
+pub mod PathMapped
+pub mod Mentions

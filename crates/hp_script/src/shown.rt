@@ -1,0 +1,106 @@
+//! Refusals as text.
+
+ghost use Rattle.std.specs.Prelude.{◌≡◌, Some, IfOk, string_bytes};
+ghost use Rattle.hp_model.specs.Output.{limit_word, step_text, path_text, refusal_words, refusal_text as line_of};
+ghost use Rattle.hp_model.specs.Report.{words};
+ghost use Rattle.hp_script.specs.Mapped.{member_name, step, limit, path_in, refusal as mapped};
+
+use crate::refusal::{Limit, Member, Refusal, Step};
+use std::alloc::{AllocError, Global};
+use std::fmt;
+
+impl fmt::Display for Member {
+    ghost output = { λ m. Some (member_name m) };
+
+    fn fmt<W: fmt::Write>(&self, f: &mut fmt::Formatter<W>) -> fmt::Result {
+        match self {
+            Member::Version => write!(f, "version"),
+            Member::Classes => write!(f, "classes"),
+            Member::Rules => write!(f, "rules"),
+            Member::Items => write!(f, "items"),
+        }
+    }
+}
+
+impl fmt::Display for Step {
+    ghost output = { λ s. Some (step_text (step s)) };
+
+    fn fmt<W: fmt::Write>(&self, f: &mut fmt::Formatter<W>) -> fmt::Result {
+        match self {
+            Step::Member(member) => write!(f, "{member}"),
+            Step::Position(position) => write!(f, "{position}"),
+        }
+    }
+}
+
+impl fmt::Display for Limit {
+    ghost output = { λ l. Some (limit_word (limit l)) };
+
+    fn fmt<W: fmt::Write>(&self, f: &mut fmt::Formatter<W>) -> fmt::Result {
+        match self {
+            Limit::Size => write!(f, "size"),
+            Limit::Classes => write!(f, "classes"),
+            Limit::Fields => write!(f, "fields"),
+            Limit::Rules => write!(f, "rules"),
+            Limit::Expression => write!(f, "expr"),
+            Limit::Event => write!(f, "event"),
+            Limit::Nesting => write!(f, "nesting"),
+            Limit::Text => write!(f, "text"),
+            Limit::Depth => write!(f, "depth"),
+            Limit::Arguments => write!(f, "args"),
+            Limit::Moments => write!(f, "moments"),
+        }
+    }
+}
+
+/// A path from the root.
+#[derive(Clone, Copy)]
+struct Path<'a>(&'a [Step]);
+
+impl fmt::Display for Path<'_> {
+    ghost output = { λ p. Some (path_text (path_in p.0.now)) };
+
+    fn fmt<W: fmt::Write>(&self, f: &mut fmt::Formatter<W>) -> fmt::Result {
+        if self.0.is_empty() {
+            return write!(f, "/");
+        }
+        for step in self.0 {
+            write!(f, "/{step}")?;
+        }
+        Ok(())
+    }
+}
+
+impl fmt::Display for Refusal {
+    ghost output = { λ r. Some (words (refusal_words (mapped r))) };
+
+    fn fmt<W: fmt::Write>(&self, f: &mut fmt::Formatter<W>) -> fmt::Result {
+        match self {
+            Refusal::S1 => write!(f, "S1"),
+            Refusal::S2(path) => {
+                let path = Path(path.as_slice());
+                write!(f, "S2 {path}")
+            }
+            Refusal::S3(path) => {
+                let path = Path(path.as_slice());
+                write!(f, "S3 {path}")
+            }
+            Refusal::S4(path) => {
+                let path = Path(path.as_slice());
+                write!(f, "S4 {path}")
+            }
+            Refusal::S5(limit) => write!(f, "S5 {limit}"),
+            Refusal::S6 => write!(f, "S6"),
+        }
+    }
+}
+
+/// The line that a refused script gets in a report's place, with its line feed: `refused S6`, `refused S5 size`, or
+/// `refused S2 /items/0/1/0`, where the path has the names of members and the positions of items.
+///
+/// An error means that memory ran out.
+pub fn refusal_text(alloc: Global, refusal: &Refusal) -> Result<String, AllocError>
+    ensures { IfOk result (λ s. string_bytes s ≡ line_of (mapped refusal.now)) }
+{
+    format!(in alloc; "refused {refusal}\n")
+}

@@ -1,0 +1,277 @@
+//! What an expression is evaluated in.
+
+use crate::halt::{Cause, Halt};
+use crate::occurrence::{Occurrence, Primitive};
+use crate::operator::in_range;
+use crate::row::{KeyedRow, Row};
+use crate::value::{Key, Value};
+use std::alloc::AllocError;
+
+/// The kept answer of a query: HiPAC hands the answers of a condition on to the action.
+#[derive(Debug, Drop)]
+pub struct Answer {
+    /// The query's name.
+    pub name: String,
+    /// The rows for which the query's predicate was true, by rising keys.
+    pub rows: Vec<KeyedRow>,
+}
+
+/// What an expression is evaluated in. It borrows all that it names, and binding a name takes no memory.
+#[derive(Clone, Copy)]
+pub struct Env<'a> {
+    /// The occurrence by which a rule was triggered; none in the body of a script.
+    pub occurrence: Option<&'a Occurrence>,
+    /// The rows by their names.
+    pub rows: Names<'a>,
+}
+
+/// Rows by their names, the innermost name first: a list on the stack.
+#[derive(Clone, Copy)]
+pub enum Names<'a> {
+    /// The kept answers of a condition. Each name means the first row of its answer, and a later name hides an
+    /// earlier one; an empty answer binds nothing. In the body of a script there is none.
+    Answers(&'a [Answer]),
+    /// One name more, in front of the outer ones.
+    Bound {
+        /// The name.
+        name: &'a str,
+        /// The key of the object that it means.
+        key: Key,
+        /// The row of that object.
+        row: &'a Row,
+        /// The names that stood before.
+        outer: &'a Names<'a>,
+    },
+}
+
+impl PartialEq for Answer {
+    ghost use Rattle.std.specs.Ordering.{on};
+    ghost use Rattle.std.specs.Cmp.{on_equiv, partial_equiv_from_equiv};
+    ghost use Rattle.hp_value.specs.Same.{answer_same, answer_equiv};
+    ghost use Rattle.hp_value.specs.Mapped.{answer};
+
+    ghost eq = { on answer answer_same };
+
+    ghost laws = { partial_equiv_from_equiv (on_equiv answer answer_equiv) };
+
+    fn eq(&self, other: &Answer) -> bool {
+        self.name == other.name && self.rows == other.rows
+    }
+}
+
+impl Eq for Answer {
+    ghost use Rattle.std.specs.Cmp.{on_equiv};
+    ghost use Rattle.hp_value.specs.Same.{answer_equiv};
+    ghost use Rattle.hp_value.specs.Mapped.{answer};
+
+    ghost laws = { on_equiv answer answer_equiv };
+}
+
+impl Clone for Answer {
+    ghost use Rattle.std.specs.Prelude.{◌≡◌};
+    ghost use Rattle.hp_value.specs.Mapped.{answer};
+
+    ghost is_clone = { λ x y. answer y ≡ answer x };
+
+    fn clone(&self) -> Result<Answer, AllocError> {
+        Ok(Answer {
+            name: self.name.clone()?,
+            rows: self.rows.clone()?,
+        })
+    }
+}
+
+impl Answer {
+    ghost use Rattle.std.specs.Prelude.{◌≡◌, option_map, bytes_eq, cond, map};
+    ghost use Rattle.hp_value.specs.Mapped.{first_under, answer};
+
+    /// The first row of the answer, with its key, if the query has this name and the answer isn't empty.
+    fn first_under(&self, name: &str) -> Option<(Key, &Row)>
+        ensures { option_map (λ r. record { key = r.0; row = r.1.now }) result ≡ first_under name.now (answer self.now) }
+    {
+        if name != self.name.as_str() {
+            return None;
+        }
+        match self.rows.first() {
+            Some(first) => Some((first.key, &first.row)),
+            None => None,
+        }
+    }
+}
+
+impl<'a> Names<'a> {
+    ghost use Rattle.std.specs.Prelude.{◌≡◌, option_map, bytes_eq};
+    ghost use Rattle.std.specs.Map.{lookup};
+    ghost use Rattle.hp_value.specs.Mapped.{answered_rows, answers};
+
+    /// The row that kept answers give to a name, with its key: that of the last answer which has one.
+    fn answered(kept: &'a [Answer], name: &str) -> Option<(Key, &'a Row)>
+        ensures { option_map (λ r. record { key = r.0; row = r.1.now }) result ≡ lookup (bytes_eq name.now) (answered_rows (answers kept.now)) }
+    {
+        let mut found = None;
+        for answer in kept {
+            found = answer.first_under(name).or(found);
+        }
+        found
+    }
+}
+
+impl<'a> Names<'a> {
+    ghost use Rattle.std.specs.Prelude.{◌≡◌, ◌∷◌, option_map, bytes_eq};
+    ghost use Rattle.std.specs.Map.{lookup};
+    ghost use Rattle.hp_value.specs.Mapped.{rows_in, answered_rows, answers};
+
+    /// The names of the queries of kept answers.
+    pub fn new(kept: &'a [Answer]) -> Names<'a>
+        ensures { rows_in result ≡ answered_rows (answers kept.entry.now) }
+    {
+        Names::Answers(kept)
+    }
+
+    /// These names with one more in front of them.
+    pub fn bound<'b>(&'b self, name: &'b str, key: Key, row: &'b Row) -> Names<'b>
+        ensures { rows_in result ≡ (name.entry.now, record { key = key; row = row.entry.now }) ∷ rows_in self.entry.now }
+    {
+        Names::Bound {
+            name,
+            key,
+            row,
+            outer: self,
+        }
+    }
+
+    /// The row with a name, with its key: the innermost one.
+    pub fn row(&self, name: &str) -> Option<(Key, &'a Row)>
+        ensures { option_map (λ r. record { key = r.0; row = r.1.now }) result ≡ lookup (bytes_eq name.now) (rows_in self.now) }
+    {
+        match self {
+            Names::Answers(answers) => Names::answered(answers, name),
+            Names::Bound {
+                name: bound,
+                key,
+                row,
+                outer,
+            } => {
+                if name == *bound {
+                    Some((*key, row))
+                } else {
+                    outer.row(name)
+                }
+            }
+        }
+    }
+}
+
+impl<'a> Env<'a> {
+    ghost use Rattle.std.specs.Prelude.{◌≡◌, [], option_map};
+    ghost use Rattle.hp_model.specs.Conditions.{with_answers};
+    ghost use Rattle.hp_value.specs.Mapped as mapped;
+
+    /// What a condition or an action begins in: the occurrence, if there is one, and the kept answers of the
+    /// condition's queries, if there are some.
+    pub fn new(occurrence: Option<&'a Occurrence>, answers: &'a [Answer]) -> Env<'a>
+        ensures { mapped.environment result ≡ with_answers (record { occurrence = option_map (λ o. mapped.occurrence o.now) occurrence.entry; rows = [] }) (mapped.answers answers.entry.now) }
+    {
+        Env {
+            occurrence,
+            rows: Names::new(answers),
+        }
+    }
+}
+
+impl<'a> Env<'a> {
+    ghost use Rattle.std.specs.Prelude.{◌≡◌};
+    ghost use Rattle.hp_model.specs.Expressions as model;
+    ghost use Rattle.hp_value.specs.Mapped.{Meets, outcome, value, primitive, environment};
+
+    /// The same with one name more, in front of the others.
+    pub fn bound<'b>(&'b self, name: &'b str, key: Key, row: &'b Row) -> Env<'b>
+        ensures { environment result ≡ model.bound name.entry.now (record { key = key; row = row.entry.now }) (environment self.entry.now) }
+    {
+        Env {
+            occurrence: self.occurrence,
+            rows: self.rows.bound(name, key, row),
+        }
+    }
+
+    /// The row with a name, with its key. `Kind` means that no row has this name: a checked expression names no such.
+    pub fn row(&self, name: &str) -> Result<(Key, &'a Row), Cause>
+        ensures { outcome (λ r. record { key = r.0; row = r.1.now }) result ≡ model.row_named (environment self.now) name.now }
+    {
+        self.rows.row(name).ok_or(Cause::Kind)
+    }
+
+    /// A part of the occurrence, from 0 on. `NoParameter` means that there is no occurrence, or no such part.
+    pub fn part(&self, i: u16) -> Result<&'a Primitive, Cause>
+        ensures { outcome (λ p. primitive p.now) result ≡ model.part_of (environment self.now) i }
+    {
+        let found = match self.occurrence {
+            Some(o) => o.parts.get(i as usize),
+            None => None,
+        };
+        found.ok_or(Cause::NoParameter)
+    }
+
+    /// The value of a field of the row with a name.
+    pub(crate) fn field_of(&self, variable: &str, field: &str) -> Result<Value, Halt>
+        ensures { Meets value result (model.value_of (environment self.now) (model.field_of variable.now field.now)) }
+    {
+        let (_, row) = self.row(variable)?;
+        Ok(row.field(field)?.clone()?)
+    }
+
+    /// The key of the row with a name, as a value.
+    pub(crate) fn key_of(&self, variable: &str) -> Result<Value, Cause>
+        ensures { outcome value result ≡ model.value_of (environment self.now) (model.key_of variable.now) }
+    {
+        let (key, _) = self.row(variable)?;
+        Ok(Value::Int(key))
+    }
+
+    /// The value of a field of the row that an operation left.
+    pub(crate) fn new_field(&self, part: u16, field: &str) -> Result<Value, Halt>
+        ensures { Meets value result (model.value_of (environment self.now) (model.new_field part field.now)) }
+    {
+        let v = self.part(part)?.new_row()?.field(field)?;
+        Ok(v.clone()?)
+    }
+
+    /// The value of a field of the row that an operation found.
+    pub(crate) fn old_field(&self, part: u16, field: &str) -> Result<Value, Halt>
+        ensures { Meets value result (model.value_of (environment self.now) (model.old_field part field.now)) }
+    {
+        let v = self.part(part)?.old_row()?.field(field)?;
+        Ok(v.clone()?)
+    }
+
+    /// The key of an operation's object, as a value.
+    pub(crate) fn key_in(&self, part: u16) -> Result<Value, Cause>
+        ensures { outcome value result ≡ model.value_of (environment self.now) (model.key_in part) }
+    {
+        Ok(Value::Int(self.part(part)?.key()?))
+    }
+
+    /// The value of an argument of a signal.
+    pub(crate) fn argument(&self, part: u16, place: u16) -> Result<Value, Halt>
+        ensures { Meets value result (model.value_of (environment self.now) (model.argument part place)) }
+    {
+        Ok(self.part(part)?.argument(place)?.clone()?)
+    }
+
+    /// The moment that the clock reached, as a value.
+    pub(crate) fn time_of(&self, part: u16) -> Result<Value, Cause>
+        ensures { outcome value result ≡ model.value_of (environment self.now) (model.time_of part) }
+    {
+        Ok(Value::Int(self.part(part)?.moment()?))
+    }
+
+    /// How many occurrences the occurrence stands for, as a value. `NoParameter` means that there is none.
+    pub(crate) fn count(&self) -> Result<Value, Cause>
+        ensures { outcome value result ≡ model.value_of (environment self.now) model.occurrence_count }
+    {
+        match self.occurrence {
+            Some(o) => Ok(Value::Int(in_range(o.count)?)),
+            None => Err(Cause::NoParameter),
+        }
+    }
+}

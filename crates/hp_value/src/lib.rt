@@ -1,0 +1,24 @@
+//! Values, rows, occurrences and expressions of a rule manager over typed objects.
+//!
+//! The types stand for those of `hp_model`: `specs/Mapped.antt` has a function for each.
+#![tactic(auto)]
+
+mod cell;
+mod env;
+mod eval;
+mod expr;
+mod halt;
+mod occurrence;
+mod operator;
+mod row;
+#[cfg(test)]
+mod tests;
+mod value;
+
+pub use cell::Cell;
+pub use env::{Answer, Env, Names};
+pub use expr::{Arithmetic, Comparison, Expr};
+pub use halt::{Cause, Halt};
+pub use occurrence::{Coupling, Occurrence, Prim, Primitive};
+pub use row::{ClassDef, Field, KeyedRow, Row};
+pub use value::{ClassNo, Key, Kind, RuleNo, Value};

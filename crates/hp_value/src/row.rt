@@ -1,0 +1,230 @@
+//! Classes of objects and the rows of their objects.
+
+ghost use Rattle.std.specs.Prelude.{◌≡◌, IfOk, option_map, bytes_eq};
+ghost use Rattle.std.specs.Map.{lookup};
+ghost use Rattle.hp_value.specs.Rows.{value, row_of};
+ghost use Rattle.hp_value.specs.Same.{row_same};
+
+use crate::halt::Cause;
+use crate::value::{Key, Kind, Value};
+use std::alloc::{AllocError, Global};
+use std::marker::Model;
+use std::sync::Arc;
+
+/// A field of a class.
+#[derive(Clone, Debug, PartialEq, Eq, Drop)]
+pub struct Field {
+    /// The field's name, which is the only one of this name in its class.
+    pub name: String,
+    /// The kind of its values.
+    pub kind: Kind,
+}
+
+/// A class of objects.
+#[derive(Debug, Drop)]
+pub struct ClassDef {
+    /// The class's name.
+    pub name: String,
+    /// Its fields, in the script's order. The rows of its objects share this list.
+    pub fields: Arc<Vec<Field>>,
+}
+
+/// The values of an object, by the names of its class's fields.
+///
+/// The list of fields is the class's own, and a clone shares both lists: it copies no value.
+#[derive(Debug, Drop)]
+pub struct Row {
+    fields: Arc<Vec<Field>>,
+    values: Arc<Vec<Value>>,
+}
+
+impl Model for Row {
+    ghost use Rattle.hp_model.specs.Values as model;
+    ghost use Rattle.hp_value.specs.Rows.{row_of};
+
+    ghost Value = { model.Row };
+
+    ghost view = { λ r. row_of r.fields.value.items r.values.value.items };
+}
+
+impl Row {
+    /// A row of these values, which stand in the order of the fields. Where there are fewer of one than of the other,
+    /// the rest of the other is left out.
+    ///
+    /// An error means that memory ran out.
+    pub fn new(
+        alloc: Global,
+        fields: &Arc<Vec<Field>>,
+        values: Vec<Value>,
+    ) -> Result<Row, AllocError>
+        ensures { IfOk result (λ r. r ≡ row_of fields.now.value.items values.items) }
+    {
+        Ok(Row {
+            fields: Arc::try_clone(fields)?,
+            values: Arc::new(alloc, values)?,
+        })
+    }
+}
+
+impl Row {
+    ghost use Rattle.std.specs.Prelude.{length, slice_get, option_map, map};
+    ghost use Rattle.hp_model.specs.Expressions as model;
+    ghost use Rattle.hp_value.specs.Mapped.{value, outcome};
+    ghost use Rattle.hp_value.specs.Rows.{renewed};
+
+    /// A row of the same fields with these values, which stand in their order. A value too many is left out.
+    ///
+    /// An error means that memory ran out.
+    pub fn with_values(&self, alloc: Global, mut values: Vec<Value>) -> Result<Row, AllocError>
+        ensures { IfOk result (λ r. r ≡ renewed self.now (map value values.items)) }
+    {
+        values.truncate(self.len());
+        Row::new(alloc, &self.fields, values)
+    }
+
+    /// How many fields the row has.
+    pub fn len(&self) -> usize
+        ensures { result ≡ length self.now }
+    {
+        let (fields, values) = self.parts();
+        fields.len().min(values.len())
+    }
+
+    /// A field's name with its value, by its place from 0 on.
+    pub fn get(&self, i: usize) -> Option<(&str, &Value)>
+        ensures { option_map (λ p. (p.0.now, value p.1.now)) result ≡ slice_get self.now i }
+    {
+        let (fields, values) = self.parts();
+        let f = fields.get(i)?;
+        let v = values.get(i)?;
+        Some((f.name.as_str(), v))
+    }
+
+    /// The value of the field with a name. `Kind` means that the row has no such field.
+    pub fn field(&self, name: &str) -> Result<&Value, Cause>
+        ensures { outcome (λ v. value v.now) result ≡ model.field_in self.now name.now }
+    {
+        let (fields, values) = self.parts();
+        find_value(fields, values, name).ok_or(Cause::Kind)
+    }
+
+    /// The two lists that the row shares.
+    fn parts(&self) -> (&[Field], &[Value])
+        ensures { row_of result.0.now result.1.now ≡ self.now }
+    {
+        (&self.fields, &self.values)
+    }
+}
+
+/// The value at the place where the field with a name stands.
+fn find_value<'a>(fields: &[Field], values: &'a [Value], name: &str) -> Option<&'a Value>
+    ensures { option_map (λ v. value v.now) result ≡ lookup (bytes_eq name.now) (row_of fields.now values.now) }
+{
+    for (i, f) in fields.iter().enumerate() {
+        if name == f.name.as_str() {
+            return values.get(i);
+        }
+    }
+    None
+}
+
+impl PartialEq for Row {
+    ghost use Rattle.std.specs.Cmp.{partial_equiv_from_equiv};
+    ghost use Rattle.hp_value.specs.Same.{row_same, row_equiv};
+
+    ghost eq = { row_same };
+
+    ghost laws = { partial_equiv_from_equiv row_equiv };
+
+    fn eq(&self, other: &Row) -> bool {
+        let (fields, values) = self.parts();
+        let (others, other_values) = other.parts();
+        same_rows(fields, values, others, other_values)
+    }
+}
+
+impl Eq for Row {
+    ghost use Rattle.hp_value.specs.Same.{row_equiv};
+
+    ghost laws = { row_equiv };
+}
+
+/// Whether two rows, given by their fields and values, are the same.
+fn same_rows(fields: &[Field], values: &[Value], others: &[Field], other_values: &[Value]) -> bool
+    ensures { result ≡ row_same (row_of fields.now values.now) (row_of others.now other_values.now) }
+{
+    let n = fields.len().min(values.len());
+    if n != others.len().min(other_values.len()) {
+        return false;
+    }
+    for i in 0..n {
+        let (f, v) = (&fields[i], &values[i]);
+        let (g, w) = (&others[i], &other_values[i]);
+        if f.name != g.name {
+            return false;
+        }
+        if v != w {
+            return false;
+        }
+    }
+    true
+}
+
+impl Clone for Row {
+    ghost use Rattle.std.specs.Prelude.{◌≡◌};
+
+    ghost is_clone = { λ r s. s ≡ r };
+
+    fn clone(&self) -> Result<Row, AllocError> {
+        Ok(Row {
+            fields: Arc::try_clone(&self.fields)?,
+            values: Arc::try_clone(&self.values)?,
+        })
+    }
+}
+
+/// A row with its object's key.
+#[derive(Debug, Drop)]
+pub struct KeyedRow {
+    /// The object's key.
+    pub key: Key,
+    /// The object's values.
+    pub row: Row,
+}
+
+impl PartialEq for KeyedRow {
+    ghost use Rattle.std.specs.Ordering.{on};
+    ghost use Rattle.std.specs.Cmp.{on_equiv, partial_equiv_from_equiv};
+    ghost use Rattle.hp_value.specs.Same.{keyed_same, keyed_equiv};
+    ghost use Rattle.hp_value.specs.Mapped.{keyed_row};
+
+    ghost eq = { on keyed_row keyed_same };
+
+    ghost laws = { partial_equiv_from_equiv (on_equiv keyed_row keyed_equiv) };
+
+    fn eq(&self, other: &KeyedRow) -> bool {
+        self.key == other.key && self.row == other.row
+    }
+}
+
+impl Eq for KeyedRow {
+    ghost use Rattle.std.specs.Cmp.{on_equiv};
+    ghost use Rattle.hp_value.specs.Same.{keyed_equiv};
+    ghost use Rattle.hp_value.specs.Mapped.{keyed_row};
+
+    ghost laws = { on_equiv keyed_row keyed_equiv };
+}
+
+impl Clone for KeyedRow {
+    ghost use Rattle.std.specs.Prelude.{◌≡◌};
+    ghost use Rattle.hp_value.specs.Mapped.{keyed_row};
+
+    ghost is_clone = { λ x y. keyed_row y ≡ keyed_row x };
+
+    fn clone(&self) -> Result<KeyedRow, AllocError> {
+        Ok(KeyedRow {
+            key: self.key,
+            row: self.row.clone()?,
+        })
+    }
+}
