@@ -5,8 +5,10 @@ use Rattle.std.proofs.lemmas.List.{take_all, length-take-le}
 use Rattle.hp_model.specs.Values.{◌>>=◌}
 use Rattle.hp_model.specs.Cascade.{Script}
 use Rattle.hp_model.specs.Refusals.{Decoded, over_limit, size_limit}
-use Rattle.hp_model.specs.Decode.{json_at, decode, script_of}
-use Rattle.hp_model.specs.Output.{text_of, output}
+use Rattle.hp_model.specs.Decode.{json_at}
+use Rattle.hp_model.specs.FirstDecode.{decode, script_of}
+use Rattle.hp_model.specs.Output.{text_of}
+use Rattle.hp_model.specs.FirstOutput.{first_output}
 use Rattle.hipac.specs.Ends.{status_for, status_of}
 
 too_long : (bytes : List ℕ) → 1048576 < length bytes → script_of bytes ≡ Err (over_limit size_limit)
@@ -23,7 +25,7 @@ cut most r input long =
 script_of_take : (input : List ℕ) → script_of (take 1048577 input) ≡ script_of input
 script_of_take input = cut 1048577 (Err (over_limit size_limit)) input (λ bytes h. too_long bytes (omega arith))
 
-pub output_of_take : (input : List ℕ) → output (take 1048577 input) false ≡ output input false
+pub output_of_take : (input : List ℕ) → first_output (take 1048577 input) false ≡ first_output input false
 output_of_take input = ap (text_of false) (script_of_take input)
 
 pub status_of_take : (input : List ℕ) → status_of (take 1048577 input) ≡ status_of input

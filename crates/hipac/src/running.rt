@@ -2,17 +2,20 @@
 
 ghost use Rattle.std.specs.Prelude.{◌≡◌, ◌≢◌, ◌↔◌, OnOk, IfOk, IfSome, true, false};
 ghost use Rattle.std.specs.Io.KnownBytes.{Appends};
-ghost use Rattle.hp_model.specs.Output.{output, text_of};
+ghost use Rattle.hp_model.specs.Output.{text_of};
+ghost use Rattle.hp_model.specs.FirstOutput.{first_output};
 ghost use Rattle.hp_model.specs.Report.{report_text};
 ghost use Rattle.hp_report.specs.Device.{Begins};
-ghost use Rattle.hp_report.specs.Mapped.{library, evaluation};
-ghost use Rattle.hp_script.specs.Mapped.{script as script_of_model};
+ghost use Rattle.hp_report.specs.PathMapped.{library, evaluation};
+ghost use Rattle.hp_script.specs.PathMapped.{script as script_of_model};
 ghost use Rattle.hipac.specs.Ends.{status_of};
 
 use crate::fault::{Fault, Status};
 use hp_fire::run_units;
-use hp_report::{Report, Sink, Source, read_up_to, write_report, write_text};
-use hp_script::{DecodeError, Script, decode, refusal_text};
+use hp_report::path::{Report, write_report};
+use hp_report::{Sink, Source, read_up_to, write_text};
+use hp_script::path::{Script, decode};
+use hp_script::{DecodeError, refusal_text};
 use std::alloc::{AllocError, Global};
 use std::thread::Threads;
 
@@ -43,12 +46,12 @@ pub fn run<T: Threads + Sync, R: Source, W: Sink>(
 
     // Where it answers `Ok`, it has written the definition's output for the bytes up to the reader's end, and nothing else.
     ensures output { OnOk result (IfSome (R.remaining reader.old) (λ input.
-        Appends (W.contents writer.old) (W.contents writer.new) (output input false))) }
+        Appends (W.contents writer.old) (W.contents writer.new) (first_output input false))) }
     ensures status { IfOk result (λ status. IfSome (R.remaining reader.old) (λ input. status ≡ status_of input)) }
 
     // However it ends, what went out is a beginning of that output.
     ensures begins { IfSome (R.remaining reader.old) (λ input.
-        Begins (W.contents writer.old) (W.contents writer.new) (output input false)) }
+        Begins (W.contents writer.old) (W.contents writer.new) (first_output input false)) }
 
     // The faults of devices come exactly where a call has failed, and after a failed read nothing was written.
     ensures read { result ≡ Err Fault.Read ↔ (R.has_failed reader.new ≡ true) }
@@ -63,9 +66,9 @@ pub fn run<T: Threads + Sync, R: Source, W: Sink>(
 /// Writes what the definitions give for a script's bytes.
 fn respond<W: Sink>(alloc: Global, input: &[u8], writer: &mut W) -> Result<Status, Fault>
     requires { W.has_failed writer.old ≡ false }
-    ensures output { OnOk result (Appends (W.contents writer.old) (W.contents writer.new) (output input.now false)) }
+    ensures output { OnOk result (Appends (W.contents writer.old) (W.contents writer.new) (first_output input.now false)) }
     ensures status { IfOk result (λ status. status ≡ status_of input.now) }
-    ensures begins { Begins (W.contents writer.old) (W.contents writer.new) (output input.now false) }
+    ensures begins { Begins (W.contents writer.old) (W.contents writer.new) (first_output input.now false) }
     ensures read { result ≢ Err Fault.Read }
     ensures write { result ≡ Err Fault.Write ↔ (W.has_failed writer.new ≡ true) }
 {

@@ -7,6 +7,7 @@
 
 mod detector;
 mod event;
+mod knowledge;
 mod known;
 mod parts;
 mod queue;
@@ -16,6 +17,7 @@ pub use detector::{Detector, detect};
 pub use event::{EventExpr, is_pure};
 pub use hp_event::Pattern;
 pub use hp_value::{Occurrence, Prim};
+pub use knowledge::Knowledge;
 
 #[cfg(test)]
 mod tests;

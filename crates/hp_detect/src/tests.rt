@@ -1,6 +1,6 @@
 //! Occurrences of nested events against values worked out by hand from the rules.
 
-use crate::{Detector, EventExpr, Occurrence, Pattern, Prim, detect, is_pure};
+use crate::{Detector, EventExpr, Knowledge, Occurrence, Pattern, Prim, detect, is_pure};
 use hp_value::Value;
 use std::alloc::{AllocError, Global};
 use std::sync::Arc;
@@ -194,5 +194,23 @@ fn refused_steps_change_nothing(rt: HostRuntime) -> Result<(), Fail> {
         last = answer;
     }
     assert_eq!(rt; shown(alloc, &last)?.as_str(), "5:a3b4t5c7");
+    Ok(())
+}
+
+/// What is known without the event goes on as a detector of the event does.
+#[test]
+fn knowledge_goes_on_by_itself(rt: HostRuntime) -> Result<(), Fail> {
+    let alloc = rt.alloc();
+    let expr = event(alloc, "ab;")?;
+    let mut known = Knowledge::fresh(alloc, &expr)?;
+    assert!(rt; known == known.clone()?);
+    let mut last = None;
+    for prim in &signals(alloc, "a1 a2 b3")? {
+        let (answer, next) = known.step(alloc, &expr, prim)?;
+        assert!(rt; known != next);
+        last = answer;
+        known = next;
+    }
+    assert_eq!(rt; shown(alloc, &last)?.as_str(), "2:a1b3");
     Ok(())
 }

@@ -1,5 +1,6 @@
 pub mod Scripts
 pub mod Rows
+pub mod FirstDecoding
 pub mod Decoding
 pub mod Induction
 pub mod Ranks
@@ -18,3 +19,8 @@ pub mod BridgesReads
 pub mod BridgesWrites
 pub mod BridgesOrdered
 pub mod BridgesSignals
+pub mod Faithful
+pub mod FaithfulFirings
+pub mod FaithfulTops
+pub mod Hearing
+pub mod FaithfulOperations

@@ -1,23 +1,57 @@
--- The script's grammar, in the order of its checks: the root's shape, the version, the classes, the form and name of each
--- rule, each rule's other parts, and the items. Each part is read depth first, from left to right.
-use Rattle.std.specs.Prelude.{ℕ, pos, ◌==◌, nat_lt, List, [], ◌∷◌, length, map, codes, ⊤, Option, Some, None, option_map, option_and_then, Ok, Err, bytes_eq, if◌then◌else◌}
-use Rattle.std.specs.Ordering.{int_eq}
+-- The script's grammar, in the order of its checks: the root's shape, the version, the depth limit, the classes, the form
+-- and name of each rule, each rule's other parts, and the items. Each part is read depth first, from left to right.
+use Rattle.std.specs.Prelude.{ℕ, suc, ◌+◌, ◌-◌, ℤ, pos, negsuc, ◌==◌, ◌||◌, ◌&&◌, Bool, true, false, nat_lt, List, [], ◌∷◌, ◌++◌, length, map, filter, codes, Option, Some, None, is_some, option_map, option_and_then, Ok, Err, bytes_eq, if◌then◌else◌}
+use Rattle.std.specs.List.{list_any, range_with_len}
 use Rattle.serde_json.specs.Data.{Data}
 use Rattle.serde_json.specs.Events.{members_len}
 use Rattle.serde_json.specs.Find.{as_object, as_str, get}
-use Rattle.hp_model.specs.Values.{Name, Kind, integer_kind, Field, ClassDef, ◌>>=◌}
-use Rattle.hp_model.specs.Rules.{Coupling, immediate, Query, Rule}
-use Rattle.hp_model.specs.Cascade.{Unit, transaction, Script}
-use Rattle.hp_model.specs.Refusals.{Path, under_root, item_at, size_limit, classes_limit, fields_limit, rules_limit, unreadable, wrong_shape, over_limit, unknown_version, Decoded, shaped}
+use Rattle.hp_model.specs.Values.{Name, Kind, integer_kind, boolean_kind, text_kind, Field, ClassDef, ◌>>=◌}
+use Rattle.hp_model.specs.Occurrences.{moment_reached}
+use Rattle.hp_model.specs.Events.{mentions}
+use Rattle.hp_model.specs.Rules.{Coupling, immediate, deferred, separate, dependent, exclusive, Query, Rule}
+use Rattle.hp_model.specs.Cascade.{Unit, transaction, moment, Script}
+use Rattle.hp_model.specs.Refusals.{Path, under_root, item_at, size_limit, classes_limit, fields_limit, depth_limit_word, moments_limit, unreadable, over_limit, unknown_version, Decoded, shaped}
 use Rattle.hp_model.specs.Json.{json_of, list_of, Form, form_of, pair_of, beside}
-use Rattle.hp_model.specs.Parts.{new_name_at, integer_at, list_at, short_list_at, read_each}
+use Rattle.hp_model.specs.Parts.{new_name_at, place_at, integer_at, number_from, list_at, short_list_at, read_each}
+use Rattle.hp_model.specs.Scopes.{class_names, field_names, query_names, Scope, new_row_at}
+use Rattle.hp_model.specs.ExpressionGrammar.{expression_at}
 use Rattle.hp_model.specs.EventGrammar.{event_at}
-use Rattle.hp_model.specs.StatementGrammar.{Scope, class_names, field_names, body_at, action_at}
+use Rattle.hp_model.specs.StatementGrammar.{statements_at, body_of}
+use Rattle.hp_model.specs.RuleHeads.{RuleHead, rule_names, rule_heads_at}
+
+-- ---- the version, 1 or 2, and the depth limit
+
+pub data Version : Type 0 where
+  first_version second_version : Version
+
+abbrev pub version_in : ℤ → Decoded Version
+version_in (pos n) = if n == 1 then Ok first_version else if n == 2 then Ok second_version else Err unknown_version
+version_in (negsuc n) = Err unknown_version
+
+unfoldable pub version_at : Path → Data → Decoded Version
+version_at path d = do
+  z ← integer_at path d
+  version_in z
+
+abbrev pub depth_in : ℤ → Decoded ℕ
+depth_in (pos n) = if nat_lt n 1 || nat_lt 16 n then Err (over_limit depth_limit_word) else Ok n
+depth_in (negsuc n) = Err (over_limit depth_limit_word)
+
+-- 1 to 16
+unfoldable pub depth_at : Path → Data → Decoded ℕ
+depth_at path d = do
+  z ← integer_at path d
+  depth_in z
+
+-- 8 where none stands
+abbrev pub depth_if_any : Path → Option Data → Decoded ℕ
+depth_if_any path None = Ok 8
+depth_if_any path (Some d) = depth_at path d
 
 -- ---- classes: `[name, fields]`, and fields: `[name, kind]`
 
 abbrev pub kind_of_word : List ℕ → Option Kind
-kind_of_word word = beside word ((codes "int", integer_kind) ∷ [])
+kind_of_word word = beside word ((codes "int", integer_kind) ∷ (codes "bool", boolean_kind) ∷ (codes "text", text_kind) ∷ [])
 
 abbrev pub kind_at : Path → Data → Decoded Kind
 kind_at path d = shaped path (option_and_then kind_of_word (as_str d))
@@ -50,98 +84,143 @@ classes_at path d = do
   ds ← short_list_at 64 classes_limit path d
   read_each class_at path ds
 
--- ---- rules: `[name, event, ec, queries, ca, action]`
+-- ---- couplings
 
--- the parts of a rule as they stand in JSON
-pub record RuleParts : Type 0 where
-  pub name : Data
-  pub event : Data
-  pub event_coupling : Data
-  pub condition : Data
-  pub action_coupling : Data
-  pub action : Data
+abbrev pub is_second : Version → Bool
+is_second first_version = false
+is_second second_version = true
 
-abbrev pub six_in : List Data → Option RuleParts
-six_in (a ∷ b ∷ c ∷ d ∷ e ∷ f ∷ []) = Some (record { name = a; event = b; event_coupling = c; condition = d; action_coupling = e; action = f })
-six_in ds = None
+-- the couplings of both versions
+abbrev pub common_coupling : List ℕ → Option Coupling
+common_coupling word = beside word
+    ((codes "immediate", immediate) ∷ (codes "deferred", deferred) ∷ (codes "separate", separate) ∷ (codes "dependent", dependent) ∷ [])
 
-abbrev pub rule_parts_of : Data → Option RuleParts
-rule_parts_of d = option_and_then six_in (list_of d)
+-- `exclusive` is of version 2 alone
+abbrev pub coupling_of_word : Version → List ℕ → Option Coupling
+coupling_of_word version word = if is_second version && bytes_eq word (codes "exclusive") then Some exclusive else common_coupling word
 
--- a rule's head: its name, with its parts
-pub record RuleHead : Type 0 where
-  pub name : Name
-  pub parts : RuleParts
+abbrev pub coupling_at : Version → Path → Data → Decoded Coupling
+coupling_at version path d = shaped path (option_and_then (coupling_of_word version) (as_str d))
 
-abbrev pub rule_names : List RuleHead → List Name
-rule_names heads = map (λ (h : RuleHead). h.name) heads
+-- ---- conditions: queries `[name, class, predicate]`
 
--- a rule's form and name, which no rule before has
-unfoldable pub rule_head_at : List RuleHead → Path → Data → Decoded RuleHead
-rule_head_at before path d = do
-  parts ← shaped path (rule_parts_of d)
-  x ← new_name_at (rule_names before) (item_at path 0) parts.name
-  Ok (record { name = x; parts = parts })
+abbrev pub three_in : List Data → Option (Data × Data × Data)
+three_in (a ∷ b ∷ c ∷ []) = Some (a, b, c)
+three_in ds = None
 
--- at most 256 rules, by their forms and names
-unfoldable pub rule_heads_at : Path → Data → Decoded (List RuleHead)
-rule_heads_at path d = do
-  ds ← short_list_at 256 rules_limit path d
-  read_each rule_head_at path ds
+abbrev pub triple_of : Data → Option (Data × Data × Data)
+triple_of d = option_and_then three_in (list_of d)
 
-abbrev pub coupling_of_word : List ℕ → Option Coupling
-coupling_of_word word = beside word ((codes "immediate", immediate) ∷ [])
+-- a query, whose name no query before has; its predicate knows them, and its own row by its name
+unfoldable pub query_at : (classes : List Name) → List Query → Path → Data → Decoded Query
+query_at classes before path d = do
+  parts ← shaped path (triple_of d)
+  x ← new_row_at (query_names before) (item_at path 0) parts.0
+  n ← place_at classes (item_at path 1) parts.1
+  e ← expression_at (x ∷ query_names before) (item_at path 2) parts.2
+  Ok (record { name = x; class = n; predicate = e })
 
-abbrev pub coupling_at : Path → Data → Decoded Coupling
-coupling_at path d = shaped path (option_and_then coupling_of_word (as_str d))
+unfoldable pub condition_at : (classes : List Name) → Path → Data → Decoded (List Query)
+condition_at classes path d = do
+  ds ← list_at path d
+  read_each (query_at classes) path ds
 
--- a condition has no query yet
-abbrev pub no_query_in : Path → List Data → Decoded (List Query)
-no_query_in path [] = Ok []
-no_query_in path (d ∷ ds) = Err (wrong_shape (item_at path 0))
+-- ---- rules
 
-abbrev pub condition_at : Path → Data → Decoded (List Query)
-condition_at path d = list_at path d >>= no_query_in path
+-- in the action of a rule with this condition
+abbrev pub acting : Scope → List Query → Scope
+acting scope condition = record { classes = scope.classes; rules = scope.rules; queries = query_names condition; in_action = true }
 
 -- the other five parts of a rule
-unfoldable pub rule_at : Scope → Path → RuleHead → Decoded Rule
-rule_at scope path head = do
+unfoldable pub rule_at : Version → Scope → Path → RuleHead → Decoded Rule
+rule_at version scope path head = do
   event ← event_at (class_names scope.classes) (item_at path 1) head.parts.event
-  ec ← coupling_at (item_at path 2) head.parts.event_coupling
-  condition ← condition_at (item_at path 3) head.parts.condition
-  ca ← coupling_at (item_at path 4) head.parts.action_coupling
-  action ← action_at (item_at path 5) head.parts.action
-  Ok (record { name = head.name; event = event; event_coupling = ec; condition = condition; action_coupling = ca; action = action })
+  ec ← coupling_at version (item_at path 2) head.parts.event_coupling
+  condition ← condition_at (class_names scope.classes) (item_at path 3) head.parts.condition
+  ca ← coupling_at version (item_at path 4) head.parts.action_coupling
+  action ← statements_at (acting scope condition) (query_names condition) (item_at path 5) head.parts.action
+  Ok (record { name = head.name; event = event; event_coupling = ec; condition = condition; action_coupling = ca; action = body_of action })
 
-abbrev pub rules_at : Scope → Path → List RuleHead → Decoded (List Rule)
-rules_at scope path heads = read_each (λ _. rule_at scope) path heads
+abbrev pub rules_at : Version → Scope → Path → List RuleHead → Decoded (List Rule)
+rules_at version scope path heads = read_each (λ _. rule_at version scope) path heads
 
--- ---- items: `["tx", body]`
+-- ---- items: `["tx", body]` and `["clock", t]`
 
-abbrev pub transaction_form : List ℕ → List Data → Option Data
-transaction_form word (a ∷ []) = if bytes_eq word (codes "tx") then Some a else None
-transaction_form word parts = None
+-- a rule's event names a moment, wherever in it, and whether or not the rule is enabled
+abbrev pub names_moment : List Rule → ℕ → Bool
+names_moment rules t = list_any (λ (r : Rule). mentions r.event (moment_reached t)) rules
 
--- what stands for the body of a `tx`
-abbrev pub transaction_of : Data → Option Data
-transaction_of d = option_and_then (λ (f : Form). transaction_form f.word f.parts) (form_of d)
+-- the moments after one time and up to another that some rule's event names
+abbrev pub due_moments : List Rule → (after until : ℕ) → List ℕ
+due_moments rules after until = filter (names_moment rules) (range_with_len (after + 1) (until - after))
 
-unfoldable pub unit_at : Scope → Path → Data → Decoded Unit
-unit_at scope path d = do
-  body ← shaped path (transaction_of d)
-  b ← body_at scope (item_at path 1) body
-  Ok (transaction b)
+-- at most 1,000
+abbrev pub few_moments : List ℕ → Decoded (List ℕ)
+few_moments ts = if nat_lt 1000 (length ts) then Err (over_limit moments_limit) else Ok ts
 
-unfoldable pub units_at : Scope → Path → Data → Decoded (List Unit)
-units_at scope path d = do
+-- the units of the items so far, and the time that the clock then has
+pub record Schedule : Type 0 where
+  pub units : List Unit
+  pub clock : ℕ
+
+-- the clock begins at 0
+abbrev pub no_item : Schedule
+no_item = record { units = []; clock = 0 }
+
+-- an item whose part is still JSON
+pub data ItemForm : Type 0 where
+  transaction_form : (body : Data) → ItemForm
+  clock_form : (time : Data) → ItemForm
+
+abbrev pub item_form_of_one : List ℕ → Data → Option ItemForm
+item_form_of_one word a = beside word ((codes "tx", transaction_form a) ∷ (codes "clock", clock_form a) ∷ [])
+
+abbrev pub item_form : List ℕ → List Data → Option ItemForm
+item_form word (a ∷ []) = item_form_of_one word a
+item_form word parts = None
+
+abbrev pub item_form_at : Path → Data → Decoded ItemForm
+item_form_at path d = shaped path (option_and_then (λ (f : Form). item_form f.word f.parts) (form_of d))
+
+unfoldable pub transaction_at : Scope → Path → Schedule → Data → Decoded Schedule
+transaction_at scope path before body = do
+  statements ← statements_at scope [] (item_at path 1) body
+  Ok (record { units = before.units ++ transaction (body_of statements) ∷ []; clock = before.clock })
+
+-- a move of the clock, which doesn't go back, stands as its due moments, in order
+unfoldable pub clock_at : List Rule → Path → Schedule → Data → Decoded Schedule
+clock_at rules path before time = do
+  t ← number_from before.clock (item_at path 1) time
+  moments ← few_moments (due_moments rules before.clock t)
+  Ok (record { units = before.units ++ map moment moments; clock = t })
+
+abbrev pub item_from : List Rule → Scope → Path → Schedule → ItemForm → Decoded Schedule
+item_from rules scope path before (transaction_form body) = transaction_at scope path before body
+item_from rules scope path before (clock_form time) = clock_at rules path before time
+
+unfoldable pub unit_at : List Rule → Scope → Path → Schedule → Data → Decoded Schedule
+unit_at rules scope path before d = do
+  form ← item_form_at path d
+  item_from rules scope path before form
+
+-- the items from a position on, after what was read before
+abbrev pub units_from : List Rule → Scope → Path → Schedule → ℕ → List Data → Decoded Schedule
+units_from rules scope path before i [] = Ok before
+units_from rules scope path before i (d ∷ ds) = do
+  next ← unit_at rules scope (item_at path i) before d
+  units_from rules scope path next (suc i) ds
+
+unfoldable pub units_at : List Rule → Scope → Path → Data → Decoded Schedule
+units_at rules scope path d = do
   ds ← list_at path d
-  read_each (λ _. unit_at scope) path ds
+  units_from rules scope path no_item 0 ds
 
--- ---- the root: an object with the members `version`, `classes`, `rules` and `items`
+-- ---- the root: an object with the members `version`, `classes`, `rules` and `items`, and perhaps `depth`
 
 -- the members of the root as they stand in JSON
 pub record Root : Type 0 where
   pub version : Data
+  pub depth : Option Data
   pub classes : Data
   pub rules : Data
   pub items : Data
@@ -149,36 +228,44 @@ pub record Root : Type 0 where
 abbrev pub member_count : Data → Option ℕ
 member_count d = option_map members_len (as_object d)
 
-abbrev pub root_members : (version classes rules items : Option Data) → Option Root
-root_members (Some v) (Some c) (Some r) (Some i) = Some (record { version = v; classes = c; rules = r; items = i })
-root_members version classes rules items = None
+-- how many members there are, if all are there
+abbrev pub wanted_count : (depth : Option Data) → ℕ
+wanted_count None = 4
+wanted_count (Some d) = 5
+
+abbrev pub root_members : (version depth classes rules items : Option Data) → Option Root
+root_members (Some v) depth (Some c) (Some r) (Some i) = Some (record { version = v; depth = depth; classes = c; rules = r; items = i })
+root_members version depth classes rules items = None
 
 -- an object that has each of the members, and no other
 abbrev pub root_of : Data → Option Root
-root_of d = option_and_then (λ count. if count == 4 then root_members (get (codes "version") d) (get (codes "classes") d) (get (codes "rules") d) (get (codes "items") d) else None) (member_count d)
+root_of d = option_and_then
+    (λ count. if count == wanted_count (get (codes "depth") d)
+    then root_members (get (codes "version") d) (get (codes "depth") d) (get (codes "classes") d) (get (codes "rules") d) (get (codes "items") d)
+    else None)
+    (member_count d)
 
--- the version is 1
-abbrev pub version_at : Path → Data → Decoded ⊤
-version_at path d = do
-  z ← integer_at path d
-  if int_eq z (pos 1) then Ok tt else Err unknown_version
+-- what a body of the script may name
+abbrev pub script_scope : List ClassDef → List RuleHead → Scope
+script_scope classes heads = record { classes = classes; rules = rule_names heads; queries = []; in_action = false }
 
--- the script of these classes and these heads of rules: the other parts of each rule, and the items
-unfoldable pub script_from : List ClassDef → List RuleHead → (items : Data) → Decoded Script
-script_from classes heads items = do
-  let scope : Scope = record { classes = classes; rules = rule_names heads }
-  rules ← rules_at scope (under_root (codes "rules")) heads
-  units ← units_at scope (under_root (codes "items")) items
-  Ok (record { library = record { classes = classes; rules = rules; depth_limit = 8 }; units = units })
+-- the script of this version and depth limit, these classes and these heads of rules: the other parts of each rule, and
+-- the items
+unfoldable pub script_from : Version → (depth : ℕ) → List ClassDef → List RuleHead → (items : Data) → Decoded Script
+script_from version depth classes heads items = do
+  rules ← rules_at version (script_scope classes heads) (under_root (codes "rules")) heads
+  schedule ← units_at rules (script_scope classes heads) (under_root (codes "items")) items
+  Ok (record { library = record { classes = classes; rules = rules; depth_limit = depth }; units = schedule.units })
 
 -- the script of a JSON value, or the first refusal
 unfoldable pub decode : Data → Decoded Script
 decode d = do
   root ← shaped [] (root_of d)
-  _ ← version_at (under_root (codes "version")) root.version
+  version ← version_at (under_root (codes "version")) root.version
+  depth ← depth_if_any (under_root (codes "depth")) root.depth
   classes ← classes_at (under_root (codes "classes")) root.classes
   heads ← rule_heads_at (under_root (codes "rules")) root.rules
-  script_from classes heads root.items
+  script_from version depth classes heads root.items
 
 -- ---- bytes
 

@@ -1,26 +1,58 @@
--- The grammar of expressions: a whole number, or a form of the table. At one value its form comes first, then its level,
--- and then its parts from left to right.
-use Rattle.std.specs.Prelude.{ℕ, zero, suc, ℤ, List, [], ◌∷◌, codes, Option, None, option_and_then, Ok, Err}
-use Rattle.serde_json.specs.Data.{Data, number}
+-- The grammar of expressions. At one value its form comes first, then its level, then a text's length, and then its parts
+-- from left to right.
+use Rattle.std.specs.Prelude.{ℕ, zero, suc, ℤ, Bool, nat_lt, List, [], ◌∷◌, length, codes, Option, Some, None, option_map, option_and_then, Ok, Err, bytes_eq, if◌then◌else◌}
+use Rattle.std.specs.Option.{option_or}
+use Rattle.serde_json.specs.Data.{Data, number, boolean, string}
 use Rattle.serde_json.specs.Find.{as_i64}
-use Rattle.hp_model.specs.Values.{integer, ◌>>=◌}
-use Rattle.hp_model.specs.Expressions.{Arithmetic, plus, minus, times, Expression, constant, arithmetic, new_field, old_field}
-use Rattle.hp_model.specs.Refusals.{Path, item_at, expression_limit, over_limit, Decoded, shaped, whole}
+use Rattle.hp_model.specs.Values as V
+use Rattle.hp_model.specs.Values.{Name, ◌>>=◌}
+use Rattle.hp_model.specs.Expressions.{Arithmetic, plus, minus, times, quotient, remainder, Comparison, equal, unequal, less, at_most, greater, at_least, Expression, constant, arithmetic, negated, inverted, both, either, compared, field_of, key_of, new_field, old_field, key_in, argument, time_of, occurrence_count}
+use Rattle.hp_model.specs.Refusals.{Path, item_at, expression_limit, text_limit, over_limit, Decoded, shaped, whole}
 use Rattle.hp_model.specs.Json.{Form, form_of, beside}
 use Rattle.hp_model.specs.Parts.{name_at, index_at}
+use Rattle.hp_model.specs.Scopes.{row_at}
 
 -- an expression whose parts are still JSON
 pub data ExpressionForm : Type 0 where
   number_form : ℤ → ExpressionForm
+  truth_form : Bool → ExpressionForm
+  text_form : List ℕ → ExpressionForm
   arithmetic_form : Arithmetic → (left right : Data) → ExpressionForm
+  comparison_form : Comparison → (left right : Data) → ExpressionForm
+  negated_form inverted_form : (operand : Data) → ExpressionForm
+  both_form either_form : (left right : Data) → ExpressionForm
+  field_form : (variable field : Data) → ExpressionForm
+  key_form : (variable : Data) → ExpressionForm
   new_form old_form : (part field : Data) → ExpressionForm
+  key_in_form : (part : Data) → ExpressionForm
+  argument_form : (part place : Data) → ExpressionForm
+  time_form : (part : Data) → ExpressionForm
+  count_form : ExpressionForm
+
+abbrev pub arithmetic_of : List ℕ → Option Arithmetic
+arithmetic_of word = beside word ((codes "+", plus) ∷ (codes "-", minus) ∷ (codes "*", times) ∷ (codes "/", quotient) ∷ (codes "%", remainder) ∷ [])
+
+abbrev pub comparison_of : List ℕ → Option Comparison
+comparison_of word = beside word
+    ((codes "=", equal) ∷ (codes "!=", unequal) ∷ (codes "<", less) ∷ (codes "<=", at_most) ∷ (codes ">", greater) ∷ (codes ">=", at_least) ∷ [])
+
+abbrev pub form_of_one : List ℕ → Data → Option ExpressionForm
+form_of_one word a = beside word
+    ((codes "neg", negated_form a) ∷ (codes "not", inverted_form a) ∷ (codes "key", key_form a) ∷ (codes "id", key_in_form a) ∷ (codes "time", time_form a) ∷ [])
+
+abbrev pub other_form_of_two : List ℕ → Data → Data → Option ExpressionForm
+other_form_of_two word a b = beside word
+    ((codes "and", both_form a b) ∷ (codes "or", either_form a b) ∷ (codes "of", field_form a b)
+    ∷ (codes "new", new_form a b) ∷ (codes "old", old_form a b) ∷ (codes "arg", argument_form a b) ∷ [])
 
 abbrev pub form_of_two : List ℕ → Data → Data → Option ExpressionForm
-form_of_two word a b = beside word
-    ((codes "+", arithmetic_form plus a b) ∷ (codes "-", arithmetic_form minus a b) ∷ (codes "*", arithmetic_form times a b)
-    ∷ (codes "new", new_form a b) ∷ (codes "old", old_form a b) ∷ [])
+form_of_two word a b =
+    option_or (option_map (λ op. arithmetic_form op a b) (arithmetic_of word))
+    (option_or (option_map (λ op. comparison_form op a b) (comparison_of word)) (other_form_of_two word a b))
 
 abbrev pub expression_form : List ℕ → List Data → Option ExpressionForm
+expression_form word [] = if bytes_eq word (codes "count") then Some count_form else None
+expression_form word (a ∷ []) = form_of_one word a
 expression_form word (a ∷ b ∷ []) = form_of_two word a b
 expression_form word parts = None
 
@@ -28,7 +60,24 @@ abbrev pub expression_form_at : Path → Data → Decoded ExpressionForm
 expression_form_at path (number n) = do
   z ← whole path (as_i64 n)
   Ok (number_form z)
+expression_form_at path (boolean b) = Ok (truth_form b)
+expression_form_at path (string t) = Ok (text_form t)
 expression_form_at path d = shaped path (option_and_then (λ (f : Form). expression_form f.word f.parts) (form_of d))
+
+-- at most 1,024 bytes
+unfoldable pub text_at : List ℕ → Decoded Expression
+text_at t = if nat_lt 1024 (length t) then Err (over_limit text_limit) else Ok (constant (V.text t))
+
+unfoldable pub field_of_at : (rows : List Name) → Path → Data → Data → Decoded Expression
+field_of_at rows path variable field = do
+  x ← row_at rows (item_at path 1) variable
+  f ← name_at (item_at path 2) field
+  Ok (field_of x f)
+
+unfoldable pub key_of_at : (rows : List Name) → Path → Data → Decoded Expression
+key_of_at rows path variable = do
+  x ← row_at rows (item_at path 1) variable
+  Ok (key_of x)
 
 unfoldable pub new_field_at : Path → Data → Data → Decoded Expression
 new_field_at path part field = do
@@ -42,20 +91,66 @@ old_field_at path part field = do
   f ← name_at (item_at path 2) field
   Ok (old_field i f)
 
--- the expression of a form, whose operands are read by `operand`
-abbrev pub expression_from : (operand : Path → Data → Decoded Expression) → Path → ExpressionForm → Decoded Expression
-expression_from operand path (number_form z) = Ok (constant (integer z))
-expression_from operand path (arithmetic_form op a b) = do
+unfoldable pub key_in_at : Path → Data → Decoded Expression
+key_in_at path part = do
+  i ← index_at (item_at path 1) part
+  Ok (key_in i)
+
+unfoldable pub argument_at : Path → Data → Data → Decoded Expression
+argument_at path part place = do
+  i ← index_at (item_at path 1) part
+  j ← index_at (item_at path 2) place
+  Ok (argument i j)
+
+unfoldable pub time_of_at : Path → Data → Decoded Expression
+time_of_at path part = do
+  i ← index_at (item_at path 1) part
+  Ok (time_of i)
+
+-- two operands, each read by `operand`
+unfoldable pub operands_at : (operand : Path → Data → Decoded Expression) → Path → Data → Data → Decoded (Expression × Expression)
+operands_at operand path a b = do
   left ← operand (item_at path 1) a
   right ← operand (item_at path 2) b
-  Ok (arithmetic op left right)
-expression_from operand path (new_form part field) = new_field_at path part field
-expression_from operand path (old_form part field) = old_field_at path part field
+  Ok (left, right)
+
+-- the expression of a form, whose operands are read by `operand`
+abbrev pub expression_from : (rows : List Name) → (operand : Path → Data → Decoded Expression) → Path → ExpressionForm → Decoded Expression
+expression_from rows operand path (number_form z) = Ok (constant (V.integer z))
+expression_from rows operand path (truth_form b) = Ok (constant (V.boolean b))
+expression_from rows operand path (text_form t) = text_at t
+expression_from rows operand path (arithmetic_form op a b) = do
+  operands ← operands_at operand path a b
+  Ok (arithmetic op operands.0 operands.1)
+expression_from rows operand path (comparison_form op a b) = do
+  operands ← operands_at operand path a b
+  Ok (compared op operands.0 operands.1)
+expression_from rows operand path (negated_form a) = do
+  e ← operand (item_at path 1) a
+  Ok (negated e)
+expression_from rows operand path (inverted_form a) = do
+  e ← operand (item_at path 1) a
+  Ok (inverted e)
+expression_from rows operand path (both_form a b) = do
+  operands ← operands_at operand path a b
+  Ok (both operands.0 operands.1)
+expression_from rows operand path (either_form a b) = do
+  operands ← operands_at operand path a b
+  Ok (either operands.0 operands.1)
+expression_from rows operand path (field_form variable field) = field_of_at rows path variable field
+expression_from rows operand path (key_form variable) = key_of_at rows path variable
+expression_from rows operand path (new_form part field) = new_field_at path part field
+expression_from rows operand path (old_form part field) = old_field_at path part field
+expression_from rows operand path (key_in_form part) = key_in_at path part
+expression_from rows operand path (argument_form part place) = argument_at path part place
+expression_from rows operand path (time_form part) = time_of_at path part
+expression_from rows operand path count_form = Ok occurrence_count
 
 -- an expression of at most so many levels
-unfoldable pub expression_within : ℕ → Path → Data → Decoded Expression
-expression_within zero path d = expression_form_at path d >>= λ form. Err (over_limit expression_limit)
-expression_within (suc levels) path d = expression_form_at path d >>= λ form. expression_from (expression_within levels) path form
+unfoldable pub expression_within : (rows : List Name) → ℕ → Path → Data → Decoded Expression
+expression_within rows zero path d = expression_form_at path d >>= λ form. Err (over_limit expression_limit)
+expression_within rows (suc levels) path d = expression_form_at path d >>= λ form. expression_from rows (expression_within rows levels) path form
 
-abbrev pub expression_at : Path → Data → Decoded Expression
-expression_at = expression_within 16
+-- an expression, in which these rows have names; a value by itself is a level
+abbrev pub expression_at : (rows : List Name) → Path → Data → Decoded Expression
+expression_at rows = expression_within rows 16

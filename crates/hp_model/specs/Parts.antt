@@ -65,6 +65,16 @@ index_at path d = do
   z ← integer_at path d
   shaped path (index_in z)
 
+abbrev pub not_below : (least : ℕ) → ℤ → Option ℕ
+not_below least (pos n) = if nat_lt n least then None else Some n
+not_below least (negsuc n) = None
+
+-- a whole number that isn't below the least one allowed, which is 0 or more
+unfoldable pub number_from : (least : ℕ) → Path → Data → Decoded ℕ
+number_from least path d = do
+  z ← integer_at path d
+  shaped path (not_below least z)
+
 -- ---- lists
 
 abbrev pub list_at : Path → Data → Decoded (List Data)

@@ -1,3 +1,6 @@
-pub mod Flat
+pub mod AnyDepth
+pub mod PathFlat
+pub mod PathLines
 pub mod Known
 pub mod Lines
+pub mod TreeLines

@@ -1,17 +1,14 @@
 -- Lines, word by word, and texts as `serde_json` quotes them.
-use Rattle.std.proofs.Common.{◌≡◌, ℕ, List, [], ◌∷◌, ◌++◌, refl, ap, ◌∙◌, sym, append-nil, map, inl, inr, ◌⊎◌, codes, false, drop, ◌+◌, Some, append_assoc, slice_get}
+use Rattle.std.proofs.Common.{◌≡◌, ℕ, List, [], ◌∷◌, ◌++◌, refl, ap, ◌∙◌, sym, append-nil, map, inl, inr, ◌⊎◌, drop, ◌+◌, Some, append_assoc, slice_get, replicate}
 use Rattle.std.proofs.lemmas.List.{at_drop_more}
 use Rattle.std.proofs.lemmas.Option.{slice_get_within, get_or_from_slice_get}
 use Rattle.std.proofs.lemmas.List.Concat.{flat_map-append}
-use Rattle.std.specs.Prelude.{flat_map}
 use Rattle.json.specs.Print.{escape_byte, quoted as json_quoted}
-use Rattle.hp_model.specs.Report.{Bytes, row_words, escaped, quoted, words, line, value_text, outcome_text, rules_text}
-use Rattle.hp_model.specs.Rules.{Rule, Library}
+use Rattle.hp_model.specs.Report.{Bytes, row_words, escaped, quoted, words, line, value_text, rules_text}
+use Rattle.hp_model.specs.Rules.{Rule}
 use Rattle.hp_model.specs.State.{RuleState}
 use Rattle.hp_model.specs.Values.{Name, Value, Row}
-use Rattle.hp_model.specs.Tree.{Ending, committed, aborted, emits, if_committed}
-use Rattle.hp_fire.specs.Flat.{emissions}
-use Rattle.hp_report.specs.Text.{spaced, emit_lines}
+use Rattle.hp_report.specs.Text.{spaced}
 
 escape_byte-escaped : (x : ℕ) → escape_byte x ≡ escaped x
 unfolding escape_byte
@@ -34,16 +31,6 @@ line_put w us vs start first second third done a b c d =
     let f : done ≡ ((start ++ w) ++ spaced us) ++ spaced vs ++ 10 ∷ [] = cc in
     let g : ((start ++ w) ++ spaced us) ++ spaced vs ++ 10 ∷ [] ≡ start ++ ((w ++ (spaced us ++ spaced vs)) ++ 10 ∷ []) = simp append_assoc in
     f ∙ g ∙ ap (λ (l : Bytes). start ++ (l ++ 10 ∷ [])) (sym e)
-
-pub emits_emissions : (vs : List Value) → emits (emissions vs) ≡ vs
-emits_emissions [] = refl
-emits_emissions (v ∷ vs) = ap (λ (l : List Value). v ∷ l) (emits_emissions vs)
-
--- what a transaction's line is followed by
-pub outcome_lines : (library : Library) (end : Ending) (vs : List Value)
-    → outcome_text library false end (emissions vs) ≡ if_committed end (emit_lines vs) []
-outcome_lines library committed vs = append-nil _ ∙ ap emit_lines (emits_emissions vs)
-outcome_lines library (aborted c) vs = refl
 
 -- no rule or no status is left: all lines are written
 pub rules_text_end : {A B : Type 0} (f : A → Rule) (g : B → RuleState) (xs : List A) (ys : List B) (out all : Bytes)
@@ -71,3 +58,28 @@ field_put row i name v all before named done e h a b =
     let f : done ++ rest ≡ ((before ++ 32 ∷ (name ++ 61 ∷ [])) ++ value_text v) ++ rest = cc in
     let g : ((before ++ 32 ∷ (name ++ 61 ∷ [])) ++ value_text v) ++ rest ≡ before ++ 32 ∷ (name ++ 61 ∷ (value_text v ++ rest)) = simp append_assoc in
     f ∙ g ∙ ap (λ (l : Bytes). before ++ l) (sym left) ∙ h
+
+pub spaced_both : (us vs : List Bytes) → spaced (us ++ vs) ≡ spaced us ++ spaced vs
+spaced_both us vs = flat_map-append (λ (v : Bytes). 32 ∷ v) us vs
+
+-- a line is its spaces, its words and the line feed
+pub words_put : (indent : ℕ) (ws : List Bytes) (start first second done : Bytes)
+    → first ≡ start ++ replicate indent 32 → second ≡ first ++ words ws → done ≡ second ++ 10 ∷ [] → done ≡ start ++ line indent ws
+words_put indent ws start first second done a b c =
+    let f : done ≡ ((start ++ replicate indent 32) ++ words ws) ++ 10 ∷ [] = cc in
+    f ∙ simp append_assoc
+
+-- its first word by itself, and the others with their spaces
+pub word_put : (indent : ℕ) (w : Bytes) (ws : List Bytes) (start first second third done : Bytes)
+    → first ≡ start ++ replicate indent 32 → second ≡ first ++ w → third ≡ second ++ spaced ws → done ≡ third ++ 10 ∷ [] → done ≡ start ++ line indent (w ∷ ws)
+word_put indent w ws start first second third done a b c d =
+    let e : third ≡ first ++ words (w ∷ ws) = c ∙ ap (λ (l : Bytes). l ++ spaced ws) b ∙ append_assoc first w (spaced ws) ∙ ap (λ (l : Bytes). first ++ l) (sym (spaced_words w ws)) in
+    words_put indent (w ∷ ws) start first third done a e d
+
+-- three words, and the others with their spaces
+pub three_words_put : (w x y : Bytes) (ws : List Bytes) (start first done : Bytes)
+    → first ≡ start ++ (w ++ 32 ∷ (x ++ 32 ∷ y)) → done ≡ first ++ spaced ws → done ≡ start ++ words (w ∷ x ∷ y ∷ ws)
+three_words_put w x y ws start first done a b =
+    let f : done ≡ (start ++ (w ++ 32 ∷ (x ++ 32 ∷ y))) ++ spaced ws = cc in
+    let g : (start ++ (w ++ 32 ∷ (x ++ 32 ∷ y))) ++ spaced ws ≡ start ++ (w ++ 32 ∷ (x ++ 32 ∷ (y ++ spaced ws))) = simp append_assoc in
+    f ∙ g ∙ ap (λ (l : Bytes). start ++ (w ++ 32 ∷ (x ++ 32 ∷ l))) (sym (spaced_words y ws))

@@ -1,4 +1,6 @@
 pub mod Device
 pub mod Mapped
+pub mod Named
+pub mod PathMapped
 pub mod Text
 pub mod Watched

@@ -1,17 +1,39 @@
 -- What a report and its parts stand for in the model.
-use Rattle.std.specs.Prelude.{None}
+use Rattle.std.specs.Prelude.{ℕ, List, [], map}
+use Rattle.hp_model.specs.Values as V
+use Rattle.hp_model.specs.Rules as R
+use Rattle.hp_model.specs.State as S
+use Rattle.hp_model.specs.Tree.{if_committed, emits}
 use Rattle.hp_model.specs.Cascade as C
-use Rattle.hp_fire.specs.declared.course.UnitReport.{UnitReport}
-use Rattle.hp_fire.specs.Mapped.{evaluation as evaluation_of}
+use Rattle.hp_value.specs.declared.occurrence.Coupling.{Coupling}
+use Rattle.hp_report.specs.declared.report.Status.{Status}
+use Rattle.hp_report.specs.declared.report.Status.TheVariants.{Absent, Enabled, Disabled}
 use Rattle.hp_report.specs.declared.report.Report.{Report}
-pub use Rattle.hp_value.specs.Mapped.{value, cause}
-pub use Rattle.hp_rule.specs.PathMapped.{rule, library}
-pub use Rattle.hp_fire.specs.Flat.{emissions}
-pub use Rattle.hp_fire.specs.Mapped.{objects, status, values, ending, unit_report}
+pub use Rattle.hp_value.specs.Mapped.{value, cause, coupling}
+pub use Rattle.hp_tree.specs.Mapped.{objects_of, rule_operation, operation, condition, what, ending, before, row_items, items_in, values_behind, top_report, unit_report}
+pub use Rattle.hp_rule.specs.Mapped.{rule, library}
+pub use Rattle.hp_report.specs.Named.{library_of}
 
--- a unit's one transaction
-abbrev pub transaction_report : UnitReport → C.TransactionReport
-transaction_report u = record { task = None; ending = ending u.ending; items = emissions (values u.emits.items) }
+-- a detached task's rule and mode
+abbrev pub task : ℕ × Coupling → ℕ × R.Coupling
+task t = (t.0, coupling t.1)
+
+abbrev pub status : Status → S.Status
+status Absent = S.absent
+status Enabled = S.enabled
+status Disabled = S.disabled
+
+-- the state of a rule without a past
+abbrev pub rule_state : Status → S.RuleState
+rule_state s = S.with_status (status s)
+
+-- what a top-level transaction has emitted
+abbrev pub committed_emits : C.TransactionReport → List V.Value
+committed_emits t = if_committed t.ending (emits t.items) []
 
 abbrev pub evaluation : Report → C.Evaluation
-evaluation r = evaluation_of r.units.items r.state
+evaluation r =
+    record {
+      units = map unit_report r.units.items;
+      state = record { objects = r.objects; rules = map rule_state r.statuses.items };
+    }

@@ -1,9 +1,13 @@
 //! What a run reads and writes: devices, and the text of a report.
+//!
+//! `specs/Mapped.antt` says what each type stands for in `hp_model`, whose `Report` says the text.
 #![tactic(auto)]
 
 mod device;
 mod input;
+mod names;
 mod output;
+pub mod path;
 mod report;
 mod text;
 mod watched;
@@ -11,7 +15,7 @@ mod watched;
 pub use device::{Sink, Source};
 pub use input::{ReadFault, read_up_to};
 pub use output::{WriteFault, write_text};
-pub use report::{Report, write_report};
+pub use report::{Report, Status, write_report};
 pub use watched::Watched;
 
 #[cfg(test)]

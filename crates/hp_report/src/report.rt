@@ -7,39 +7,55 @@ ghost use Rattle.hp_report.specs.Device.{Begins};
 ghost use Rattle.hp_report.specs.Mapped as model;
 
 use crate::device::Sink;
+use crate::names::Names;
 use crate::output::{WriteFault, write_text};
-use crate::text::{put_objects, put_rules, put_units};
-use hp_fire::{State, UnitReport};
-use hp_rule::path::Library;
+use crate::text::{put_final, put_units};
+use hp_rule::Library;
+use hp_tree::{Objects, UnitReport};
 use std::alloc::{AllocError, Global};
-use std::fmt::Write;
+use std::sync::Arc;
+
+/// Whether a rule fires where its event occurs (this project's own choice).
+#[derive(Clone, Copy, Debug, PartialEq, Eq)]
+pub enum Status {
+    /// The rule isn't there.
+    Absent,
+    /// It fires.
+    Enabled,
+    /// It is there, and doesn't fire.
+    Disabled,
+}
 
 /// What the units of a script did, and the state that the last one left.
 #[derive(Debug, Drop)]
 pub struct Report {
     /// The script's classes and rules.
-    pub library: Library,
+    pub library: Arc<Library>,
     /// A report for each unit, in the order in which they ran.
     pub units: Vec<UnitReport>,
-    /// The final state.
-    pub state: State,
+    /// The final objects.
+    pub objects: Objects,
+    /// The final status of each rule, by its number.
+    pub statuses: Vec<Status>,
 }
 
-/// The whole text of a report, without trees.
-fn text_of(alloc: Global, report: &Report) -> Result<String, AllocError>
+/// The whole text of a report.
+fn text_of(alloc: Global, report: &Report, with_tree: bool) -> Result<String, AllocError>
     ensures { IfOk result (λ text. string_bytes text
-        ≡ report_text (model.library report.now.library) false (model.evaluation report.now)) }
+        ≡ report_text (model.library report.now.library.value) with_tree (model.evaluation report.now)) }
 {
+    let names = Names {
+        classes: report.library.classes(),
+        rules: report.library.rules(),
+    };
     let mut out = String::new(alloc);
-    put_units(alloc, &mut out, &report.library, &report.units)?;
-    writeln!(out, "final")?;
-    put_objects(alloc, &mut out, &report.library, &report.state.objects)?;
-    put_rules(&mut out, &report.library.rules, &report.state.rules)?;
-    writeln!(out, "end")?;
+    put_units(alloc, &mut out, &names, with_tree, &report.units)?;
+    put_final(alloc, &mut out, &names, &report.objects, &report.statuses)?;
     Ok(out)
 }
 
-/// Writes the text of a report, without trees, in as many writes as the device wants.
+/// Writes the text of a report in as many writes as the device wants, with the trees of its transactions where these are
+/// wanted.
 ///
 /// The text is made whole before the first write, so that want of memory writes nothing. The first
 /// write that fails is the fault, and none is tried after it: what went out is then a beginning of the
@@ -47,19 +63,20 @@ fn text_of(alloc: Global, report: &Report) -> Result<String, AllocError>
 pub fn write_report<W: Sink>(
     alloc: Global,
     report: &Report,
+    with_tree: bool,
     writer: &mut W,
 ) -> Result<(), WriteFault>
     requires { W.has_failed writer.old ≡ false }
     ensures ok { OnOk result (Appends (W.contents writer.old) (W.contents writer.new)
-        (report_text (model.library report.now.library) false (model.evaluation report.now))) }
+        (report_text (model.library report.now.library.value) with_tree (model.evaluation report.now))) }
 
     // However it ends, what went out is a beginning of the text.
     ensures begins { Begins (W.contents writer.old) (W.contents writer.new)
-        (report_text (model.library report.now.library) false (model.evaluation report.now)) }
+        (report_text (model.library report.now.library.value) with_tree (model.evaluation report.now)) }
 
     ensures write { result ≡ Err WriteFault.Write ↔ (W.has_failed writer.new ≡ true) }
     ensures memory { result ≡ Err WriteFault.NoMemory → writer.new ≡ writer.old }
 {
-    let text = text_of(alloc, report)?;
+    let text = text_of(alloc, report, with_tree)?;
     write_text(writer, text.as_bytes())
 }

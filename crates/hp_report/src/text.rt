@@ -2,9 +2,14 @@
 
 mod objects;
 mod rules;
+mod state;
+#[cfg(test)]
+mod tests;
+mod tree;
 mod units;
 mod words;
 
-pub use objects::put_objects;
-pub use rules::put_rules;
+pub use objects::put_fields;
+pub use state::put_final;
 pub use units::put_units;
+pub use words::put_value;

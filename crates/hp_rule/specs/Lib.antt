@@ -1,2 +1,12 @@
 pub mod PathMapped
 pub mod Mentions
+pub mod Statements
+pub mod Libraries
+pub mod Mapped
+pub mod Noted
+pub mod Index
+pub mod Faults
+pub mod Places
+pub mod Named
+pub mod Scopes
+pub mod WellNamed

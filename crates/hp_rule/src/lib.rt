@@ -1,4 +1,27 @@
 //! Rules, statements, and the library that names them.
+//!
+//! `specs/Mapped.antt` says what each type stands for in `hp_model`.
 #![tactic(auto)]
 
+mod body;
+mod check;
+mod fault;
+mod index;
+mod library;
+mod note;
 pub mod path;
+mod rule;
+mod stmt;
+mod task;
+#[cfg(test)]
+mod tests;
+
+pub use body::Body;
+pub use fault::{CheckError, CheckFault, Limit, Member, PathStep};
+pub use hp_detect::EventExpr;
+pub use hp_query::Query;
+pub use hp_value::Coupling;
+pub use library::Library;
+pub use rule::Rule;
+pub use stmt::{Assignment, RuleOperation, Stmt};
+pub use task::{Detached, Step, Task};

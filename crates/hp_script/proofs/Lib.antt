@@ -1,3 +1,6 @@
 pub mod Listed
 pub mod Bodies
+pub mod Moments
+pub mod Readings
+pub mod PathBodies
 pub mod Parsed

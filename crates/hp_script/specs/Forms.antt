@@ -1,34 +1,36 @@
 -- What the forms stand for whose parts are still JSON, and what is known where they are read.
-use Rattle.std.specs.Prelude.{List, map}
+use Rattle.std.specs.Prelude.{List, map, option_map}
 use Rattle.serde_json.specs.View.{view}
 use Rattle.hp_model.specs.Json as J
+use Rattle.hp_model.specs.RuleHeads as H
+use Rattle.hp_model.specs.Scopes as S
 use Rattle.hp_model.specs.ExpressionGrammar as E
 use Rattle.hp_model.specs.EventGrammar as V
-use Rattle.hp_model.specs.StatementGrammar as S
+use Rattle.hp_model.specs.StatementGrammar as T
 use Rattle.hp_model.specs.Decode as D
-use Rattle.hp_value.specs.Mapped.{arithmetic, class_def}
+use Rattle.hp_value.specs.Mapped.{arithmetic, comparison, class_def}
+use Rattle.hp_query.specs.Mapped.{query}
+use Rattle.hp_rule.specs.Mapped.{rule_operation}
 use Rattle.hp_script.specs.declared.shape.Form.{Form}
+use Rattle.hp_script.specs.declared.scope.Scope.{Scope}
 use Rattle.hp_script.specs.declared.expression.ExpressionForm.{ExpressionForm}
-use Rattle.hp_script.specs.declared.expression.ExpressionForm.TheVariants.{Integer, Arithmetic, NewField, OldField}
+use Rattle.hp_script.specs.declared.expression.ExpressionForm.TheVariants as expression
 use Rattle.hp_script.specs.declared.event.EventForm.{EventForm}
 use Rattle.hp_script.specs.declared.event.EventForm.TheVariants as event
-use Rattle.hp_script.specs.declared.statement.StatementForm.{StatementForm}
-use Rattle.hp_script.specs.declared.statement.StatementForm.TheVariants as statement
+use Rattle.hp_script.specs.declared.statement_form.StatementForm.{StatementForm}
+use Rattle.hp_script.specs.declared.statement_form.StatementForm.TheVariants as statement
+use Rattle.hp_script.specs.declared.item.ItemForm.{ItemForm}
+use Rattle.hp_script.specs.declared.item.ItemForm.TheVariants.{Transaction, Clock}
+use Rattle.hp_script.specs.declared.version.Version.{Version}
+use Rattle.hp_script.specs.declared.version.Version.TheVariants.{First, Second}
 use Rattle.hp_script.specs.declared.decoding.Root.{Root}
-use Rattle.hp_script.specs.declared.scope.RuleParts.{RuleParts}
-use Rattle.hp_script.specs.declared.scope.RuleHead.{RuleHead}
-use Rattle.hp_script.specs.declared.scope.Scope.{Scope}
+use Rattle.hp_script.specs.declared.rule_head.RuleParts.{RuleParts}
+use Rattle.hp_script.specs.declared.rule_head.RuleHead.{RuleHead}
 
 abbrev pub form_view : Form → J.Form
 form_view f = record { word = f.word.now; parts = map view f.parts.now }
 
-abbrev pub expression_form_view : ExpressionForm → E.ExpressionForm
-expression_form_view (Integer z) = E.number_form z
-expression_form_view (Arithmetic op a b) = E.arithmetic_form (arithmetic op) (view a.now) (view b.now)
-expression_form_view (NewField part field) = E.new_form (view part.now) (view field.now)
-expression_form_view (OldField part field) = E.old_form (view part.now) (view field.now)
-
-abbrev pub parts_view : RuleParts → D.RuleParts
+abbrev pub parts_view : RuleParts → H.RuleParts
 parts_view p = record {
   name = view p.name.now;
   event = view p.event.now;
@@ -38,24 +40,80 @@ parts_view p = record {
   action = view p.action.now;
 }
 
-abbrev pub head_view : RuleHead → D.RuleHead
+abbrev pub head_view : RuleHead → H.RuleHead
 head_view h = record { name = h.name.now; parts = parts_view h.parts }
 
-abbrev pub heads_view : List RuleHead → List D.RuleHead
+abbrev pub heads_view : List RuleHead → List H.RuleHead
 heads_view = map head_view
 
 abbrev pub scope_view : Scope → S.Scope
-scope_view s = record { classes = map class_def s.classes.now; rules = D.rule_names (heads_view s.rules.now) }
+scope_view s = record {
+  classes = map class_def s.classes.now;
+  rules = H.rule_names (heads_view s.rules.now);
+  queries = S.query_names (map query s.queries.now);
+  in_action = s.in_action;
+}
+
+abbrev pub expression_form_view : ExpressionForm → E.ExpressionForm
+expression_form_view (expression.Integer z) = E.number_form z
+expression_form_view (expression.Truth b) = E.truth_form b
+expression_form_view (expression.Text t) = E.text_form t.now
+expression_form_view (expression.Arithmetic op a b) = E.arithmetic_form (arithmetic op) (view a.now) (view b.now)
+expression_form_view (expression.Comparison op a b) = E.comparison_form (comparison op) (view a.now) (view b.now)
+expression_form_view (expression.Negated a) = E.negated_form (view a.now)
+expression_form_view (expression.Not a) = E.inverted_form (view a.now)
+expression_form_view (expression.And a b) = E.both_form (view a.now) (view b.now)
+expression_form_view (expression.Or a b) = E.either_form (view a.now) (view b.now)
+expression_form_view (expression.FieldOf x field) = E.field_form (view x.now) (view field.now)
+expression_form_view (expression.KeyOf x) = E.key_form (view x.now)
+expression_form_view (expression.NewField part field) = E.new_form (view part.now) (view field.now)
+expression_form_view (expression.OldField part field) = E.old_form (view part.now) (view field.now)
+expression_form_view (expression.KeyIn part) = E.key_in_form (view part.now)
+expression_form_view (expression.Argument part place) = E.argument_form (view part.now) (view place.now)
+expression_form_view (expression.TimeOf part) = E.time_form (view part.now)
+expression_form_view expression.Count = E.count_form
 
 abbrev pub event_form_view : EventForm → V.EventForm
 event_form_view (event.Create class) = V.create_form (view class.now)
 event_form_view (event.Update class) = V.update_form (view class.now)
+event_form_view (event.Delete class) = V.delete_form (view class.now)
+event_form_view (event.Signal name) = V.signal_form (view name.now)
+event_form_view event.Commit = V.commit_form
+event_form_view (event.At time) = V.at_form (view time.now)
+event_form_view (event.Every first period) = V.every_form (view first.now) (view period.now)
+event_form_view (event.Or a b) = V.or_form (view a.now) (view b.now)
+event_form_view (event.Seq a b) = V.seq_form (view a.now) (view b.now)
+event_form_view (event.Closure a b) = V.closure_form (view a.now) (view b.now)
 
-abbrev pub statement_form_view : StatementForm → S.StatementForm
-statement_form_view (statement.Install rule) = S.install_form (view rule.now)
-statement_form_view (statement.Create class key pairs) = S.create_form (view class.now) (view key.now) (view pairs.now)
-statement_form_view (statement.Update class key pairs) = S.update_form (view class.now) (view key.now) (view pairs.now)
-statement_form_view (statement.Emit value) = S.emit_form (view value.now)
+abbrev pub statement_form_view : StatementForm → T.StatementForm
+statement_form_view (statement.Create class key pairs) = T.create_form (view class.now) (view key.now) (view pairs.now)
+statement_form_view (statement.Update class key pairs) = T.update_form (view class.now) (view key.now) (view pairs.now)
+statement_form_view (statement.Delete class key) = T.delete_form (view class.now) (view key.now)
+statement_form_view (statement.Signal name arguments) = T.signal_form (view name.now) (view arguments.now)
+statement_form_view (statement.Emit value) = T.emit_form (view value.now)
+statement_form_view (statement.If test then_body else_body) = T.if_form (view test.now) (view then_body.now) (view else_body.now)
+statement_form_view (statement.Each x class predicate body) = T.each_form (view x.now) (view class.now) (view predicate.now) (view body.now)
+statement_form_view (statement.For query body) = T.for_form (view query.now) (view body.now)
+statement_form_view (statement.With x class key body) = T.with_form (view x.now) (view class.now) (view key.now) (view body.now)
+statement_form_view (statement.Sub body otherwise) = T.sub_form (view body.now) (view otherwise.now)
+statement_form_view statement.Abort = T.abort_form
+statement_form_view statement.Veto = T.veto_form
+statement_form_view (statement.OnRule op rule) = T.rule_form (rule_operation op) (view rule.now)
+statement_form_view (statement.Fire rule) = T.fire_form (view rule.now)
+
+abbrev pub item_form_view : ItemForm → D.ItemForm
+item_form_view (Transaction body) = D.transaction_form (view body.now)
+item_form_view (Clock time) = D.clock_form (view time.now)
+
+abbrev pub version_view : Version → D.Version
+version_view First = D.first_version
+version_view Second = D.second_version
 
 abbrev pub root_view : Root → D.Root
-root_view r = record { version = view r.version.now; classes = view r.classes.now; rules = view r.rules.now; items = view r.items.now }
+root_view r = record {
+  version = view r.version.now;
+  depth = option_map (λ v. view v.now) r.depth;
+  classes = view r.classes.now;
+  rules = view r.rules.now;
+  items = view r.items.now;
+}

@@ -1,3 +1,7 @@
 pub mod Mapped
 pub mod Place
+pub mod Rows
+pub mod Moments
 pub mod Forms
+pub mod PathMapped
+pub mod PathForms

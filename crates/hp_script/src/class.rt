@@ -28,6 +28,8 @@ fn kind_of_word(word: &str) -> Option<Kind>
 {
     match word {
         "int" => Some(Kind::Int),
+        "bool" => Some(Kind::Bool),
+        "text" => Some(Kind::Text),
         _ => None,
     }
 }

@@ -2,21 +2,21 @@
 
 ghost use Rattle.std.specs.Prelude.{◌≡◌, ◌≤◌, ◌<◌, length, map, option_map};
 ghost use Rattle.serde_json.specs.View.{view};
-ghost use Rattle.hp_model.specs.Decode.{member_count, root_of, version_at, json_at, script_from, decode as script_at, script_of};
+ghost use Rattle.hp_model.specs.Decode.{wanted_count, root_of, script_from, decode as script_at, script_of};
 ghost use Rattle.hp_value.specs.Mapped.{class_def};
-ghost use Rattle.hp_script.specs.Forms.{heads_view, root_view};
+ghost use Rattle.hp_script.specs.Forms.{heads_view, root_view, version_view};
 ghost use Rattle.hp_script.specs.Mapped.{Gives, script};
-ghost use Rattle.hp_script.specs.Place.{path_to};
 
 use crate::class::classes_at;
-use crate::number::integer_at;
+use crate::item::units_at;
+use crate::json::{json_at, member_count};
 use crate::place::{Place, misshapen};
 use crate::refusal::{DecodeError, Limit, Member, Refusal};
-use crate::rule::{rule_heads_at, rules_at};
-use crate::scope::{RuleHead, Scope};
+use crate::rule::rules_at;
+use crate::rule_head::{RuleHead, rule_heads_at};
+use crate::scope::Scope;
 use crate::script::Script;
-use crate::unit::units_at;
-use hp_rule::path::Library;
+use crate::version::{Version, depth_if_any, version_at};
 use hp_value::ClassDef;
 use serde_json::Value;
 use std::alloc::Global;
@@ -28,66 +28,74 @@ const MAX_BYTES: usize = 1_048_576;
 #[derive(Clone, Copy)]
 pub(crate) struct Root<'a> {
     pub version: &'a Value,
+    pub depth: Option<&'a Value>,
     pub classes: &'a Value,
     pub rules: &'a Value,
     pub items: &'a Value,
 }
 
-#[tactic(auto, using(crate::proofs::Listed::member_count_view))]
-fn member_count(value: &Value) -> Option<usize>
-    ensures { result ≡ member_count (view value.now) }
+/// How many members there are, if all are there.
+fn wanted_count(depth: Option<&Value>) -> usize
+    ensures { result ≡ wanted_count (option_map (λ v. view v.now) depth.entry) }
 {
-    match value.as_object() {
-        Some(members) => Some(members.len()),
-        None => None,
+    match depth {
+        None => 4,
+        Some(_) => 5,
     }
 }
 
-/// The members of the root, if there is each of them and no other.
+/// The members of the root, if each of them is there and no other.
 fn root_of(value: &Value) -> Option<Root<'_>>
     ensures { option_map root_view result ≡ root_of (view value.now) }
 {
-    if member_count(value)? != 4 {
+    let count = member_count(value)?;
+    let depth = value.get("depth");
+    if count != wanted_count(depth) {
         return None;
     }
     Some(Root {
         version: value.get("version")?,
+        depth,
         classes: value.get("classes")?,
         rules: value.get("rules")?,
         items: value.get("items")?,
     })
 }
 
-fn check_version(alloc: Global, place: &Place<'_>, value: &Value) -> Result<(), DecodeError>
-    ensures { Gives (λ _. tt) result (version_at (path_to place.now) (view value.now)) }
-{
-    let version = integer_at(alloc, place, value)?;
-    if version != 1 {
-        return Err(DecodeError::Refused(Refusal::S6));
-    }
-    Ok(())
-}
-
-/// The script of these classes and these heads of rules.
+/// The script of this version and depth limit, these classes and these heads of rules.
 #[tactic(auto, unfolding(hp_model::specs::Decode::script_from))]
 fn script_from(
     alloc: Global,
+    version: Version,
+    depth_limit: u8,
     classes: Vec<ClassDef>,
     heads: &[RuleHead<'_>],
     items: &Value,
 ) -> Result<Script, DecodeError>
     requires few_classes { length classes.items ≤ 64 }
     requires few_rules { length heads.now ≤ 256 }
-    ensures { Gives script result (script_from (map class_def classes.items) (heads_view heads.entry.now) (view items.now)) }
+    ensures { Gives script result (script_from (version_view version) depth_limit (map class_def classes.items) (heads_view heads.entry.now) (view items.now)) }
 {
     let scope = Scope {
         classes: classes.as_slice(),
         rules: heads,
+        queries: &[],
+        in_action: false,
     };
-    let rules = rules_at(alloc, &Place::Member(Member::Rules), &scope, heads)?;
-    let items = units_at(alloc, &Place::Member(Member::Items), &scope, items)?;
-    let library = Library { classes, rules };
-    Ok(Script { library, items })
+    let rules = rules_at(alloc, &Place::Member(Member::Rules), version, &scope, heads)?;
+    let schedule = units_at(
+        alloc,
+        &Place::Member(Member::Items),
+        &scope,
+        rules.as_slice(),
+        items,
+    )?;
+    Ok(Script {
+        classes,
+        rules,
+        depth_limit,
+        items: schedule.units,
+    })
 }
 
 /// The script that a JSON value says.
@@ -98,33 +106,26 @@ fn script_at(alloc: Global, value: &Value) -> Result<Script, DecodeError>
     let Some(root) = root_of(value) else {
         return Err(misshapen(alloc, &Place::Root));
     };
-    check_version(alloc, &Place::Member(Member::Version), root.version)?;
+    let version = version_at(alloc, &Place::Member(Member::Version), root.version)?;
+    let depth_limit = depth_if_any(alloc, &Place::Member(Member::Depth), root.depth)?;
     let classes = classes_at(alloc, &Place::Member(Member::Classes), root.classes)?;
     let heads = rule_heads_at(alloc, &Place::Member(Member::Rules), root.rules)?;
-    script_from(alloc, classes, heads.as_slice(), root.items)
-}
-
-/// The value that a JSON text in UTF-8 is.
-fn json_at(alloc: Global, bytes: &[u8]) -> Result<Value, DecodeError>
-    ensures { Gives view result (json_at bytes.now) }
-{
-    match Value::from_slice(alloc, bytes) {
-        Ok(value) => Ok(value),
-        Err(error) => {
-            if error.is_memory() {
-                return Err(DecodeError::Memory);
-            }
-            Err(DecodeError::Refused(Refusal::S1))
-        }
-    }
+    script_from(
+        alloc,
+        version,
+        depth_limit,
+        classes,
+        heads.as_slice(),
+        root.items,
+    )
 }
 
 /// The script that the bytes say.
 ///
 /// `Refused` tells the first fault, in the order of the grammar's checks: the size, the JSON text, the root's members,
-/// the version, the classes, the form and name of each rule, the other parts of each rule, and the items. `Memory` means
-/// that memory ran out, and says nothing of the bytes but that they are no more than 1,048,576: more are refused before
-/// any memory is taken.
+/// the version, the depth limit, the classes, the form and name of each rule, the other parts of each rule, and the
+/// items. `Memory` means that memory ran out, and says nothing of the bytes but that they are no more than 1,048,576:
+/// more are refused before any memory is taken.
 #[tactic(auto, unfolding(hp_model::specs::Decode::script_of))]
 pub fn decode(alloc: Global, bytes: &[u8]) -> Result<Script, DecodeError>
     ensures reads { Gives script result (script_of bytes.now) }

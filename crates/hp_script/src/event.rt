@@ -2,36 +2,64 @@
 
 ghost use Rattle.std.specs.Prelude.{◌≡◌, map, option_map};
 ghost use Rattle.serde_json.specs.View.{view};
-ghost use Rattle.hp_model.specs.Events.{pattern_event};
-ghost use Rattle.hp_model.specs.EventGrammar.{event_form, event_form_of_one, event_form_at, event_at};
-ghost use Rattle.hp_model.specs.StatementGrammar.{class_names};
-ghost use Rattle.hp_event.specs.Mapped.{pattern};
+ghost use Rattle.hp_model.specs.EventGrammar.{event_form, event_form_of_one, event_form_of_two, event_form_at, on_create_at, on_update_at, on_delete_at, on_signal_at, at_moment_at, every_moment_at, parts_at, event_within, event_at};
+ghost use Rattle.hp_model.specs.Scopes.{class_names};
+ghost use Rattle.hp_detect.specs.Mapped.{event};
 ghost use Rattle.hp_script.specs.Forms.{event_form_view, scope_view};
 ghost use Rattle.hp_script.specs.Mapped.{Gives};
 ghost use Rattle.hp_script.specs.Place.{path_to};
 
-use crate::name::class_at;
+use crate::name::name_at;
+use crate::number::number_from;
 use crate::place::{Place, misshapen};
-use crate::refusal::DecodeError;
+use crate::reference::class_at;
+use crate::refusal::{DecodeError, Limit, Refusal};
 use crate::scope::Scope;
 use crate::shape::form_of;
 use hp_event::Pattern;
+use hp_rule::EventExpr;
 use serde_json::Value;
 use std::alloc::Global;
+
+/// The levels that an event may have.
+const MAX_LEVELS: usize = 16;
 
 /// An event whose parts are still JSON.
 #[derive(Clone, Copy)]
 pub(crate) enum EventForm<'a> {
     Create(&'a Value),
     Update(&'a Value),
+    Delete(&'a Value),
+    Signal(&'a Value),
+    Commit,
+    At(&'a Value),
+    Every(&'a Value, &'a Value),
+    Or(&'a Value, &'a Value),
+    Seq(&'a Value, &'a Value),
+    Closure(&'a Value, &'a Value),
 }
 
-fn event_form_of_one<'a>(word: &str, class: &'a Value) -> Option<EventForm<'a>>
-    ensures { option_map event_form_view result ≡ event_form_of_one word.now (view class.entry.now) }
+fn event_form_of_one<'a>(word: &str, part: &'a Value) -> Option<EventForm<'a>>
+    ensures { option_map event_form_view result ≡ event_form_of_one word.now (view part.entry.now) }
 {
     match word {
-        "create" => Some(EventForm::Create(class)),
-        "update" => Some(EventForm::Update(class)),
+        "create" => Some(EventForm::Create(part)),
+        "update" => Some(EventForm::Update(part)),
+        "delete" => Some(EventForm::Delete(part)),
+        "signal" => Some(EventForm::Signal(part)),
+        "at" => Some(EventForm::At(part)),
+        _ => None,
+    }
+}
+
+fn event_form_of_two<'a>(word: &str, first: &'a Value, second: &'a Value) -> Option<EventForm<'a>>
+    ensures { option_map event_form_view result ≡ event_form_of_two word.now (view first.entry.now) (view second.entry.now) }
+{
+    match word {
+        "every" => Some(EventForm::Every(first, second)),
+        "or" => Some(EventForm::Or(first, second)),
+        "seq" => Some(EventForm::Seq(first, second)),
+        "closure" => Some(EventForm::Closure(first, second)),
         _ => None,
     }
 }
@@ -40,7 +68,13 @@ fn event_form<'a>(word: &str, parts: &'a [Value]) -> Option<EventForm<'a>>
     ensures { option_map event_form_view result ≡ event_form word.now (map view parts.entry.now) }
 {
     match parts {
-        [class] => event_form_of_one(word, class),
+        [] => if word == "commit" {
+            Some(EventForm::Commit)
+        } else {
+            None
+        },
+        [part] => event_form_of_one(word, part),
+        [first, second] => event_form_of_two(word, first, second),
         _ => None,
     }
 }
@@ -61,24 +95,156 @@ fn event_form_at<'a>(
     }
 }
 
+#[tactic(auto, unfolding(hp_model::specs::EventGrammar::on_create_at))]
+fn on_create_at(
+    alloc: Global,
+    place: &Place<'_>,
+    scope: &Scope<'_>,
+    class: &Value,
+) -> Result<EventExpr, DecodeError>
+    ensures { Gives event result (on_create_at (class_names (scope_view scope.entry.now).classes) (path_to place.now) (view class.now)) }
+{
+    let class = class_at(alloc, &place.item(1), scope, class)?;
+    Ok(EventExpr::One(Pattern::Create(class)))
+}
+
+#[tactic(auto, unfolding(hp_model::specs::EventGrammar::on_update_at))]
+fn on_update_at(
+    alloc: Global,
+    place: &Place<'_>,
+    scope: &Scope<'_>,
+    class: &Value,
+) -> Result<EventExpr, DecodeError>
+    ensures { Gives event result (on_update_at (class_names (scope_view scope.entry.now).classes) (path_to place.now) (view class.now)) }
+{
+    let class = class_at(alloc, &place.item(1), scope, class)?;
+    Ok(EventExpr::One(Pattern::Update(class)))
+}
+
+#[tactic(auto, unfolding(hp_model::specs::EventGrammar::on_delete_at))]
+fn on_delete_at(
+    alloc: Global,
+    place: &Place<'_>,
+    scope: &Scope<'_>,
+    class: &Value,
+) -> Result<EventExpr, DecodeError>
+    ensures { Gives event result (on_delete_at (class_names (scope_view scope.entry.now).classes) (path_to place.now) (view class.now)) }
+{
+    let class = class_at(alloc, &place.item(1), scope, class)?;
+    Ok(EventExpr::One(Pattern::Delete(class)))
+}
+
+#[tactic(auto, unfolding(hp_model::specs::EventGrammar::on_signal_at))]
+fn on_signal_at(alloc: Global, place: &Place<'_>, name: &Value) -> Result<EventExpr, DecodeError>
+    ensures { Gives event result (on_signal_at (path_to place.now) (view name.now)) }
+{
+    let name = name_at(alloc, &place.item(1), name)?;
+    let name = String::from_str(alloc, name)?;
+    Ok(EventExpr::One(Pattern::Signal(name)))
+}
+
+#[tactic(auto, unfolding(hp_model::specs::EventGrammar::at_moment_at))]
+fn at_moment_at(alloc: Global, place: &Place<'_>, time: &Value) -> Result<EventExpr, DecodeError>
+    ensures { Gives event result (at_moment_at (path_to place.now) (view time.now)) }
+{
+    let time = number_from(alloc, &place.item(1), 0, time)?;
+    Ok(EventExpr::One(Pattern::At(time)))
+}
+
+#[tactic(auto, unfolding(hp_model::specs::EventGrammar::every_moment_at))]
+fn every_moment_at(
+    alloc: Global,
+    place: &Place<'_>,
+    first: &Value,
+    period: &Value,
+) -> Result<EventExpr, DecodeError>
+    ensures { Gives event result (every_moment_at (path_to place.now) (view first.now) (view period.now)) }
+{
+    let first = number_from(alloc, &place.item(1), 0, first)?;
+    let period = number_from(alloc, &place.item(2), 1, period)?;
+    Ok(EventExpr::One(Pattern::Every { first, period }))
+}
+
+/// The event of at most so many levels that stands at a place.
+#[cycle(event)]
+#[tactic(auto, unfolding(hp_model::specs::EventGrammar::event_within))]
+fn event_within(
+    alloc: Global,
+    place: &Place<'_>,
+    scope: &Scope<'_>,
+    levels: usize,
+    value: &Value,
+) -> Result<EventExpr, DecodeError>
+    ensures { Gives event result (event_within (class_names (scope_view scope.entry.now).classes) levels (path_to place.now) (view value.now)) }
+{
+    let form = event_form_at(alloc, place, value)?;
+    if levels == 0 {
+        return Err(DecodeError::Refused(Refusal::S5(Limit::Event)));
+    }
+    let levels = levels - 1;
+    match form {
+        EventForm::Create(class) => on_create_at(alloc, place, scope, class),
+        EventForm::Update(class) => on_update_at(alloc, place, scope, class),
+        EventForm::Delete(class) => on_delete_at(alloc, place, scope, class),
+        EventForm::Signal(name) => on_signal_at(alloc, place, name),
+        EventForm::Commit => Ok(EventExpr::One(Pattern::Commit)),
+        EventForm::At(time) => at_moment_at(alloc, place, time),
+        EventForm::Every(first, period) => every_moment_at(alloc, place, first, period),
+        EventForm::Or(left, right) => {
+            let (left, right) = parts_at(alloc, place, scope, levels, left, right)?;
+            Ok(EventExpr::Or(left, right))
+        }
+        EventForm::Seq(left, right) => {
+            let (left, right) = parts_at(alloc, place, scope, levels, left, right)?;
+            Ok(EventExpr::Seq(left, right))
+        }
+        EventForm::Closure(left, right) => {
+            let (left, right) = parts_at(alloc, place, scope, levels, left, right)?;
+            Ok(EventExpr::Closure(left, right))
+        }
+    }
+}
+
+#[cycle(event)]
+fn part_at(
+    alloc: Global,
+    place: &Place<'_>,
+    scope: &Scope<'_>,
+    levels: usize,
+    value: &Value,
+) -> Result<Box<EventExpr>, DecodeError>
+    ensures { Gives (λ e. event e.value) result (event_within (class_names (scope_view scope.entry.now).classes) levels (path_to place.now) (view value.now)) }
+{
+    let part = event_within(alloc, place, scope, levels, value)?;
+    Ok(Box::new(alloc, part)?)
+}
+
+/// The two parts of the form at a place.
+#[cycle(event)]
+#[tactic(auto, unfolding(hp_model::specs::EventGrammar::parts_at))]
+fn parts_at(
+    alloc: Global,
+    place: &Place<'_>,
+    scope: &Scope<'_>,
+    levels: usize,
+    left: &Value,
+    right: &Value,
+) -> Result<(Box<EventExpr>, Box<EventExpr>), DecodeError>
+    ensures { Gives (λ p. (event p.0.value, event p.1.value)) result (parts_at (event_within (class_names (scope_view scope.entry.now).classes) levels) (path_to place.now) (view left.now) (view right.now)) }
+{
+    let left = part_at(alloc, &place.item(1), scope, levels, left)?;
+    let right = part_at(alloc, &place.item(2), scope, levels, right)?;
+    Ok((left, right))
+}
+
 /// The event that stands at a place.
-#[tactic(auto, unfolding(hp_model::specs::EventGrammar::event_at))]
 pub(crate) fn event_at(
     alloc: Global,
     place: &Place<'_>,
     scope: &Scope<'_>,
     value: &Value,
-) -> Result<Pattern, DecodeError>
-    ensures { Gives (λ p. pattern_event (pattern p)) result (event_at (class_names (scope_view scope.entry.now).classes) (path_to place.now) (view value.now)) }
+) -> Result<EventExpr, DecodeError>
+    ensures { Gives event result (event_at (class_names (scope_view scope.entry.now).classes) (path_to place.now) (view value.now)) }
 {
-    match event_form_at(alloc, place, value)? {
-        EventForm::Create(class) => {
-            let class = class_at(alloc, &place.item(1), scope, class)?;
-            Ok(Pattern::Create(class))
-        }
-        EventForm::Update(class) => {
-            let class = class_at(alloc, &place.item(1), scope, class)?;
-            Ok(Pattern::Update(class))
-        }
-    }
+    event_within(alloc, place, scope, MAX_LEVELS, value)
 }

@@ -1,16 +1,14 @@
-//! Which names are known, and what they stand for.
+//! The places of names among those that are known.
 
 ghost use Rattle.std.specs.Prelude.{◌≡◌, ◌<◌, map, length, IfSome};
 ghost use Rattle.hp_model.specs.Parts.{place_of};
-ghost use Rattle.hp_model.specs.StatementGrammar.{class_names, field_names, assigned_names, fields_of};
-ghost use Rattle.hp_model.specs.Decode.{rule_names};
+ghost use Rattle.hp_model.specs.Scopes.{class_names, field_names};
+ghost use Rattle.hp_model.specs.RuleHeads.{rule_names};
 ghost use Rattle.hp_value.specs.Mapped.{field, class_def};
-ghost use Rattle.hp_rule.specs.PathMapped.{assignment};
-ghost use Rattle.hp_script.specs.Forms.{heads_view, scope_view};
+ghost use Rattle.hp_script.specs.Forms.{heads_view};
 
-use crate::scope::{RuleHead, Scope};
-use hp_rule::path::Assignment;
-use hp_value::{ClassDef, ClassNo, Field, RuleNo};
+use crate::rule_head::RuleHead;
+use hp_value::{ClassDef, Field};
 
 /// The place of the field of this name.
 pub(crate) fn field_place(fields: &[Field], name: &str) -> Option<usize>
@@ -18,18 +16,6 @@ pub(crate) fn field_place(fields: &[Field], name: &str) -> Option<usize>
 {
     for (place, field) in fields.iter().enumerate() {
         if field.name.as_str() == name {
-            return Some(place);
-        }
-    }
-    None
-}
-
-/// The place of the pair that sets the field of this name.
-pub(crate) fn assignment_place(pairs: &[Assignment], name: &str) -> Option<usize>
-    ensures { result ≡ place_of (assigned_names (map assignment pairs.now)) name.now }
-{
-    for (place, pair) in pairs.iter().enumerate() {
-        if pair.field.as_str() == name {
             return Some(place);
         }
     }
@@ -60,30 +46,4 @@ pub(crate) fn rule_place(rules: &[RuleHead<'_>], name: &str) -> Option<usize>
         }
     }
     None
-}
-
-/// The number of the class of this name.
-pub(crate) fn class_number(scope: &Scope<'_>, name: &str) -> Option<ClassNo>
-    ensures { result ≡ place_of (class_names (scope_view scope.entry.now).classes) name.now }
-{
-    let place = class_place(scope.classes, name)?;
-    Some(place as ClassNo)
-}
-
-/// The number of the rule of this name.
-pub(crate) fn rule_number(scope: &Scope<'_>, name: &str) -> Option<RuleNo>
-    ensures { result ≡ place_of (scope_view scope.entry.now).rules name.now }
-{
-    let place = rule_place(scope.rules, name)?;
-    Some(place as RuleNo)
-}
-
-/// The fields of a class.
-pub(crate) fn fields_of<'a>(scope: &Scope<'a>, class: ClassNo) -> &'a [Field]
-    ensures { field_names (map field result.now) ≡ fields_of (scope_view scope.entry.now) class }
-{
-    match scope.classes.get(class as usize) {
-        Some(class) => class.fields.as_slice(),
-        None => &[],
-    }
 }

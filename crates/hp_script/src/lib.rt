@@ -3,28 +3,40 @@
 //! The grammar and the order of its checks stand in `hp_model` (`specs/Decode.antt` and the files that it names).
 #![tactic(auto)]
 
-mod action;
 mod assignment;
 mod class;
+mod coupling;
 mod decoding;
 mod event;
 mod expression;
+mod item;
+mod json;
 mod known;
+mod moment;
 mod name;
 mod number;
+mod operation;
+pub mod path;
 mod place;
+mod query;
+mod reference;
 mod refusal;
+mod rows;
 mod rule;
+mod rule_head;
+mod schedule;
 mod scope;
 mod script;
 mod shape;
 mod shown;
 mod statement;
+mod statement_form;
 #[cfg(test)]
 mod tests;
-mod unit;
+mod version;
 
 pub use decoding::decode;
 pub use refusal::{DecodeError, Limit, Member, Refusal, Step};
+pub use schedule::Unit;
 pub use script::Script;
 pub use shown::refusal_text;

@@ -3,17 +3,12 @@
 ghost use Rattle.std.specs.Prelude.{◌≡◌, option_map};
 ghost use Rattle.std.specs.List.{list_all};
 ghost use Rattle.serde_json.specs.View.{view};
-ghost use Rattle.hp_model.specs.Parts.{is_name_byte, is_name, name_of, name_at, place_at};
-ghost use Rattle.hp_model.specs.StatementGrammar.{class_names};
-ghost use Rattle.hp_script.specs.Forms.{scope_view};
+ghost use Rattle.hp_model.specs.Parts.{is_name_byte, is_name, name_of, name_at};
 ghost use Rattle.hp_script.specs.Mapped.{Gives};
 ghost use Rattle.hp_script.specs.Place.{path_to};
 
-use crate::known::{class_number, rule_number};
-use crate::place::{Place, misnamed, misshapen};
+use crate::place::{Place, misshapen};
 use crate::refusal::DecodeError;
-use crate::scope::Scope;
-use hp_value::{ClassNo, RuleNo};
 use serde_json::Value;
 use std::alloc::Global;
 
@@ -55,39 +50,5 @@ pub(crate) fn name_at<'a>(
     match name_of(value) {
         Some(name) => Ok(name),
         None => Err(misshapen(alloc, place)),
-    }
-}
-
-/// The class whose name stands at a place.
-#[tactic(auto, unfolding(hp_model::specs::Parts::place_at))]
-pub(crate) fn class_at(
-    alloc: Global,
-    place: &Place<'_>,
-    scope: &Scope<'_>,
-    value: &Value,
-) -> Result<ClassNo, DecodeError>
-    ensures { Gives (λ n. n) result (place_at (class_names (scope_view scope.entry.now).classes) (path_to place.now) (view value.now)) }
-{
-    let name = name_at(alloc, place, value)?;
-    match class_number(scope, name) {
-        Some(number) => Ok(number),
-        None => Err(misnamed(alloc, place)),
-    }
-}
-
-/// The rule whose name stands at a place.
-#[tactic(auto, unfolding(hp_model::specs::Parts::place_at))]
-pub(crate) fn rule_at(
-    alloc: Global,
-    place: &Place<'_>,
-    scope: &Scope<'_>,
-    value: &Value,
-) -> Result<RuleNo, DecodeError>
-    ensures { Gives (λ n. n) result (place_at (scope_view scope.entry.now).rules (path_to place.now) (view value.now)) }
-{
-    let name = name_at(alloc, place, value)?;
-    match rule_number(scope, name) {
-        Some(number) => Ok(number),
-        None => Err(misnamed(alloc, place)),
     }
 }

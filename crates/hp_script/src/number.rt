@@ -1,7 +1,8 @@
 //! Numbers.
 
+ghost use Rattle.std.specs.Prelude.{◌≤◌, ◌<◌, ◌^◌, IfOk};
 ghost use Rattle.serde_json.specs.View.{view};
-ghost use Rattle.hp_model.specs.Parts.{integer_at, index_at};
+ghost use Rattle.hp_model.specs.Parts.{integer_at, index_at, number_from};
 ghost use Rattle.hp_script.specs.Mapped.{Gives};
 ghost use Rattle.hp_script.specs.Place.{path_to};
 
@@ -38,4 +39,27 @@ pub(crate) fn index_at(alloc: Global, place: &Place<'_>, value: &Value) -> Resul
         return Err(misshapen(alloc, place));
     }
     Ok(integer as u16)
+}
+
+/// The whole number that stands at a place and isn't below the least one allowed.
+#[tactic(auto, unfolding(hp_model::specs::Parts::number_from))]
+pub(crate) fn number_from(
+    alloc: Global,
+    place: &Place<'_>,
+    least: u64,
+    value: &Value,
+) -> Result<u64, DecodeError>
+    ensures reads { Gives (λ n. n) result (number_from least (path_to place.now) (view value.now)) }
+    ensures least { IfOk result (λ n. least ≤ n) }
+    ensures fits { IfOk result (λ n. n < 2 ^ 63) }
+{
+    let integer = integer_at(alloc, place, value)?;
+    if integer < 0 {
+        return Err(misshapen(alloc, place));
+    }
+    let number = integer as u64;
+    if number < least {
+        return Err(misshapen(alloc, place));
+    }
+    Ok(number)
 }

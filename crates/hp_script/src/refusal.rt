@@ -11,6 +11,8 @@ use std::error::Error;
 pub enum Member {
     /// The version of the grammar.
     Version,
+    /// The depth that firings may have.
+    Depth,
     /// The classes of objects.
     Classes,
     /// The rules.

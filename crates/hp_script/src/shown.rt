@@ -15,6 +15,7 @@ impl fmt::Display for Member {
     fn fmt<W: fmt::Write>(&self, f: &mut fmt::Formatter<W>) -> fmt::Result {
         match self {
             Member::Version => write!(f, "version"),
+            Member::Depth => write!(f, "depth"),
             Member::Classes => write!(f, "classes"),
             Member::Rules => write!(f, "rules"),
             Member::Items => write!(f, "items"),

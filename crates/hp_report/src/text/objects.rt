@@ -1,30 +1,19 @@
-//! Lines of objects.
+//! Objects, and their lines.
 
-ghost use Rattle.std.specs.Prelude.{◌≡◌, ◌++◌, ◌∷◌, codes, OnOk};
-ghost use Rattle.hp_model.specs.Report.{class_name, line, object_words, row_words, objects_text};
+ghost use Rattle.std.specs.Prelude.{◌++◌, ◌∷◌, codes, OnOk};
+ghost use Rattle.hp_model.specs.Report.{line, object_words, row_words, objects_text};
 ghost use Rattle.hp_report.specs.Mapped as model;
 ghost use Rattle.hp_report.specs.Text.{Gains, spaced};
 
+use crate::names::Names;
 use crate::text::words::put_value;
-use hp_fire::ObjectName;
-use hp_rule::path::Library;
-use hp_value::{ClassNo, Row};
+use hp_tree::{ObjectName, Objects};
+use hp_value::{ClassNo, Key, Row};
 use std::alloc::{AllocError, Global};
-use std::collections::BTreeMap;
 use std::fmt::Write;
 
-/// The name of a class; nothing where the library has no such class.
-fn class_name(library: &Library, class: ClassNo) -> &str
-    ensures { result.now ≡ class_name (model.library library.now) class }
-{
-    library
-        .classes
-        .get(class as usize)
-        .map_or("", |class| class.name.as_str())
-}
-
 /// The fields of a row with their values, each after a space.
-fn put_fields(alloc: Global, out: &mut String, row: &Row) -> Result<(), AllocError>
+pub fn put_fields(alloc: Global, out: &mut String, row: &Row) -> Result<(), AllocError>
     ensures { OnOk result (Gains out.old out.new (spaced (row_words row.now))) }
 {
     for index in 0..row.len() {
@@ -36,29 +25,48 @@ fn put_fields(alloc: Global, out: &mut String, row: &Row) -> Result<(), AllocErr
 }
 
 /// The class and the key of an object, each after a space.
-fn put_object_name(out: &mut String, library: &Library, name: &ObjectName) -> Result<(), AllocError>
-    ensures { OnOk result (Gains out.old out.new
-        (spaced (object_words (model.library library.now) name.now.class name.now.key))) }
+pub fn put_object_name(
+    out: &mut String,
+    names: &Names<'_>,
+    class: ClassNo,
+    key: Key,
+) -> Result<(), AllocError>
+    ensures { OnOk result (Gains out.old out.new (spaced (object_words (model.library_of names.now) class key))) }
 {
-    let class = class_name(library, name.class);
-    let key = name.key;
+    let class = names.class(class);
     write!(out, " {class} {key}")
 }
 
-/// The line of an object.
-fn put_object(
+/// The class, the key and the fields of an object, each after a space.
+#[tactic(auto, using(crate::proofs::Lines::spaced_both))]
+pub fn put_object(
     alloc: Global,
     out: &mut String,
-    library: &Library,
+    names: &Names<'_>,
+    class: ClassNo,
+    key: Key,
+    row: &Row,
+) -> Result<(), AllocError>
+    ensures { OnOk result (Gains out.old out.new
+        (spaced (object_words (model.library_of names.now) class key ++ row_words row.now))) }
+{
+    put_object_name(out, names, class, key)?;
+    put_fields(alloc, out, row)
+}
+
+/// The line of an object.
+fn put_object_line(
+    alloc: Global,
+    out: &mut String,
+    names: &Names<'_>,
     name: &ObjectName,
     row: &Row,
 ) -> Result<(), AllocError>
-    ensures { let words = object_words (model.library library.now) name.now.class name.now.key in
+    ensures { let words = object_words (model.library_of names.now) name.now.class name.now.key in
         OnOk result (Gains out.old out.new (line 0 (codes "object" ∷ (words ++ row_words row.now)))) }
 {
     out.push_str("object")?;
-    put_object_name(out, library, name)?;
-    put_fields(alloc, out, row)?;
+    put_object(alloc, out, names, name.class, name.key, row)?;
     out.push_str("\n")?;
     Ok(())
 }
@@ -67,14 +75,13 @@ fn put_object(
 pub fn put_objects(
     alloc: Global,
     out: &mut String,
-    library: &Library,
-    objects: &BTreeMap<ObjectName, Row>,
+    names: &Names<'_>,
+    objects: &Objects,
 ) -> Result<(), AllocError>
-    ensures { OnOk result (Gains out.old out.new
-        (objects_text (model.library library.now) (model.objects objects.now.entries))) }
+    ensures { OnOk result (Gains out.old out.new (objects_text (model.library_of names.now) objects.now)) }
 {
-    for (name, row) in objects {
-        put_object(alloc, out, library, name, row)?;
+    for (name, row) in objects.iter() {
+        put_object_line(alloc, out, names, name, row)?;
     }
     Ok(())
 }

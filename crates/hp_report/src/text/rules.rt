@@ -2,12 +2,11 @@
 
 ghost use Rattle.std.specs.Prelude.{◌≡◌, map, OnOk};
 ghost use Rattle.hp_model.specs.Report.{status_word, rules_text};
-ghost use Rattle.hp_model.specs.State.{with_status};
 ghost use Rattle.hp_report.specs.Mapped as model;
 ghost use Rattle.hp_report.specs.Text.{Gains};
 
-use hp_fire::Status;
-use hp_rule::path::Rule;
+use crate::report::Status;
+use hp_rule::Rule;
 use std::alloc::AllocError;
 use std::fmt::Write;
 
@@ -24,8 +23,7 @@ fn status_word(status: Status) -> &'static str
 
 /// The lines of rules, in their order.
 pub fn put_rules(out: &mut String, rules: &[Rule], statuses: &[Status]) -> Result<(), AllocError>
-    ensures { OnOk result (Gains out.old out.new (rules_text (map model.rule rules.now)
-        (map (λ s. with_status (model.status s)) statuses.now))) }
+    ensures { OnOk result (Gains out.old out.new (rules_text (map model.rule rules.now) (map model.rule_state statuses.now))) }
 {
     for (rule, status) in rules.iter().zip(statuses) {
         let name = rule.name.as_str();

@@ -1,91 +1,129 @@
 //! Lines of units.
 
-ghost use Rattle.std.specs.Prelude.{◌++◌, map, OnOk, None, false};
-ghost use Rattle.hp_model.specs.Report.{line, heading, ending_words, outcome_text, transaction_text, units_text};
+ghost use Rattle.std.specs.Prelude.{◌++◌, map, flat_map, option_map, OnOk};
+ghost use Rattle.hp_model.specs.Report.{words, line, heading, ending_words, outcome_text, transaction_text, units_text};
 ghost use Rattle.hp_report.specs.Mapped as model;
 ghost use Rattle.hp_report.specs.Text.{Gains, emit_lines};
 
-use crate::text::words::{put_ending, put_value};
-use hp_fire::{Ending, UnitReport};
-use hp_rule::path::Library;
-use hp_value::Value;
+use crate::names::Names;
+use crate::text::tree::{put_emit, put_items};
+use crate::text::words::{mode_word, put_ending};
+use hp_tree::{Ending, TopReport, UnitReport, emits};
+use hp_value::{Coupling, RuleNo, Value};
 use std::alloc::{AllocError, Global};
 use std::fmt::Write;
 
 /// A line for each value.
-fn put_values(alloc: Global, out: &mut String, values: &[Value]) -> Result<(), AllocError>
-    ensures { OnOk result (Gains out.old out.new (emit_lines (model.values values.now))) }
+fn put_emits(alloc: Global, out: &mut String, values: &[&Value]) -> Result<(), AllocError>
+    ensures { OnOk result (Gains out.old out.new (emit_lines (model.values_behind values.now))) }
 {
     for value in values {
-        out.push_str("emit ")?;
-        put_value(alloc, out, value)?;
-        out.push_str("\n")?;
+        put_emit(alloc, out, 0, value)?;
     }
     Ok(())
 }
 
 /// What a top-level transaction emitted, if it committed.
+fn put_committed(alloc: Global, out: &mut String, top: &TopReport) -> Result<(), AllocError>
+    ensures { OnOk result (Gains out.old out.new (emit_lines (model.committed_emits (model.top_report top.now)))) }
+{
+    match top.end {
+        Ending::Committed => put_emits(alloc, out, &emits(alloc, &top.tree)?),
+        Ending::Aborted(_) => Ok(()),
+    }
+}
+
+/// What a top-level transaction emitted, if it committed, and its tree where that is wanted.
 fn put_outcome(
     alloc: Global,
     out: &mut String,
-    library: &Library,
-    ending: Ending,
-    emits: &[Value],
+    names: &Names<'_>,
+    with_tree: bool,
+    top: &TopReport,
 ) -> Result<(), AllocError>
-    ensures { OnOk result (Gains out.old out.new (outcome_text (model.library library.now) false
-        (model.ending ending) (model.emissions (model.values emits.now)))) }
+    ensures { let t = model.top_report top.now in
+        OnOk result (Gains out.old out.new (outcome_text (model.library_of names.now) with_tree t.ending t.items)) }
 {
-    match ending {
-        Ending::Committed => put_values(alloc, out, emits)?,
-        Ending::Aborted(_) => {}
+    put_committed(alloc, out, top)?;
+    if with_tree {
+        put_items(alloc, out, names, 2, &top.tree)?;
     }
     Ok(())
 }
 
-/// The line of a unit.
-#[tactic(auto, using(crate::proofs::Lines::spaced_words))]
+/// What a top-level transaction's line begins with: the unit's number and moment, or the mode and the rule of its task.
 fn put_heading(
     out: &mut String,
-    library: &Library,
+    names: &Names<'_>,
     number: usize,
-    ending: Ending,
+    moment: Option<u64>,
+    task: Option<(RuleNo, Coupling)>,
 ) -> Result<(), AllocError>
-    ensures { let library = model.library library.now in
-        OnOk result (Gains out.old out.new
-        (line 0 (heading library number None None ++ ending_words library (model.ending ending)))) }
+    ensures { OnOk result (Gains out.old out.new
+        (words (heading (model.library_of names.now) number moment (option_map model.task task)))) }
 {
-    write!(out, "unit {number}")?;
-    put_ending(out, library, ending)?;
-    out.push_str("\n")
+    match (task, moment) {
+        (Some((rule, mode)), _) => {
+            let mode = mode_word(mode);
+            let name = names.rule(rule);
+            write!(out, "{mode} {name}")
+        }
+        (None, Some(moment)) => write!(out, "unit {number} time {moment}"),
+        (None, None) => write!(out, "unit {number}"),
+    }
 }
 
-/// The line of a unit and, where it committed, its values.
-fn put_unit(
+/// The line of a top-level transaction.
+fn put_top_line(
+    out: &mut String,
+    names: &Names<'_>,
+    number: usize,
+    moment: Option<u64>,
+    top: &TopReport,
+) -> Result<(), AllocError>
+    ensures { let library = model.library_of names.now in let t = model.top_report top.now in
+        OnOk result (Gains out.old out.new
+        (line 0 (heading library number moment t.task ++ ending_words library t.ending))) }
+{
+    put_heading(out, names, number, moment, top.task)?;
+    put_ending(out, names, top.end)?;
+    out.push_str("\n")?;
+    Ok(())
+}
+
+/// The lines of a unit's top-level transactions.
+fn put_tops(
     alloc: Global,
     out: &mut String,
-    library: &Library,
+    names: &Names<'_>,
+    with_tree: bool,
     number: usize,
     unit: &UnitReport,
 ) -> Result<(), AllocError>
-    ensures { OnOk result (Gains out.old out.new (transaction_text (model.library library.now) false
-        number None (model.transaction_report unit.now))) }
+    ensures { let u = model.unit_report unit.now in
+        OnOk result (Gains out.old out.new
+        (flat_map (transaction_text (model.library_of names.now) with_tree number u.time) u.transactions)) }
 {
-    put_heading(out, library, number, unit.ending)?;
-    put_outcome(alloc, out, library, unit.ending, unit.emits.as_slice())
+    for top in &unit.tops {
+        put_top_line(out, names, number, unit.moment, top)?;
+        put_outcome(alloc, out, names, with_tree, top)?;
+    }
+    Ok(())
 }
 
-/// The lines of units, which are numbered from 1.
+/// The lines of units, which are numbered from 1, with their trees where these are wanted.
 pub fn put_units(
     alloc: Global,
     out: &mut String,
-    library: &Library,
+    names: &Names<'_>,
+    with_tree: bool,
     units: &[UnitReport],
 ) -> Result<(), AllocError>
     ensures { OnOk result (Gains out.old out.new
-        (units_text (model.library library.now) false 1 (map model.unit_report units.now))) }
+        (units_text (model.library_of names.now) with_tree 1 (map model.unit_report units.now))) }
 {
     for (index, unit) in units.iter().enumerate() {
-        put_unit(alloc, out, library, index + 1, unit)?;
+        put_tops(alloc, out, names, with_tree, index + 1, unit)?;
     }
     Ok(())
 }

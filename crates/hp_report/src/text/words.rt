@@ -1,13 +1,13 @@
-//! Words of a report: values, causes and endings.
+//! Words of a report: values, causes, endings and modes.
 
 ghost use Rattle.std.specs.Prelude.{◌≡◌, IfOk, OnOk, string_bytes};
-ghost use Rattle.hp_model.specs.Report.{quoted, value_text, rule_name, cause_words, ending_words};
+ghost use Rattle.hp_model.specs.Report.{quoted, value_text, cause_words, ending_words, coupling_word};
 ghost use Rattle.hp_report.specs.Mapped as model;
 ghost use Rattle.hp_report.specs.Text.{Gains, spaced};
 
-use hp_fire::Ending;
-use hp_rule::path::Library;
-use hp_value::{Cause, RuleNo, Value};
+use crate::names::Names;
+use hp_tree::Ending;
+use hp_value::{Cause, Coupling, Value};
 use std::alloc::{AllocError, Global};
 use std::fmt::Write;
 
@@ -30,20 +30,23 @@ pub fn put_value(alloc: Global, out: &mut String, value: &Value) -> Result<(), A
     }
 }
 
-/// The name of a rule; nothing where the library has no such rule.
-fn rule_name(library: &Library, rule: RuleNo) -> &str
-    ensures { result.now ≡ rule_name (model.library library.now) rule }
+/// What is written for a mode.
+pub fn mode_word(mode: Coupling) -> &'static str
+    ensures { result.now ≡ coupling_word (model.coupling mode) }
 {
-    library
-        .rules
-        .get(rule as usize)
-        .map_or("", |rule| rule.name.as_str())
+    match mode {
+        Coupling::Immediate => "immediate",
+        Coupling::Deferred => "deferred",
+        Coupling::Separate => "separate",
+        Coupling::Dependent => "dependent",
+        Coupling::Exclusive => "exclusive",
+    }
 }
 
 /// The words of a cause, each after a space.
-fn put_cause(out: &mut String, library: &Library, cause: Cause) -> Result<(), AllocError>
+pub fn put_cause(out: &mut String, names: &Names<'_>, cause: Cause) -> Result<(), AllocError>
     ensures { OnOk result (Gains out.old out.new
-        (spaced (cause_words (model.library library.now) (model.cause cause)))) }
+        (spaced (cause_words (model.library_of names.now) (model.cause cause)))) }
 {
     match cause {
         Cause::Exists => out.push_str(" A1"),
@@ -55,22 +58,22 @@ fn put_cause(out: &mut String, library: &Library, cause: Cause) -> Result<(), Al
         Cause::Depth => out.push_str(" A7"),
         Cause::Asked => out.push_str(" A8"),
         Cause::Vetoed(rule) => {
-            let name = rule_name(library, rule);
+            let name = names.rule(rule);
             write!(out, " A9 {name}")
         }
     }
 }
 
 /// The words of an ending, each after a space.
-pub fn put_ending(out: &mut String, library: &Library, ending: Ending) -> Result<(), AllocError>
+pub fn put_ending(out: &mut String, names: &Names<'_>, ending: Ending) -> Result<(), AllocError>
     ensures { OnOk result (Gains out.old out.new
-        (spaced (ending_words (model.library library.now) (model.ending ending)))) }
+        (spaced (ending_words (model.library_of names.now) (model.ending ending)))) }
 {
     match ending {
         Ending::Committed => out.push_str(" committed"),
         Ending::Aborted(cause) => {
             out.push_str(" aborted")?;
-            put_cause(out, library, cause)
+            put_cause(out, names, cause)
         }
     }
 }

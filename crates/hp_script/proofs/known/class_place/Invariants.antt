@@ -1,7 +1,7 @@
 use Rattle.std.proofs.Common.{◌≡◌, drop, map}
 use Rattle.std.specs.List.{position_from}
 use Rattle.std.specs.Str.{bytes_eq}
-use Rattle.hp_model.specs.StatementGrammar.{class_names}
+use Rattle.hp_model.specs.Scopes.{class_names}
 use Rattle.hp_value.specs.Mapped.{class_def}
 use Rattle.hp_script.proofs.known.class_place.Given as goal
 

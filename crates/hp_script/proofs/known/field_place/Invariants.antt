@@ -1,7 +1,7 @@
 use Rattle.std.proofs.Common.{◌≡◌, drop, map}
 use Rattle.std.specs.List.{position_from}
 use Rattle.std.specs.Str.{bytes_eq}
-use Rattle.hp_model.specs.StatementGrammar.{field_names}
+use Rattle.hp_model.specs.Scopes.{field_names}
 use Rattle.hp_value.specs.Mapped.{field}
 use Rattle.hp_script.proofs.known.field_place.Given as goal
 

@@ -1,7 +1,7 @@
 use Rattle.std.proofs.Common.{◌≡◌, drop}
 use Rattle.std.specs.List.{position_from}
 use Rattle.std.specs.Str.{bytes_eq}
-use Rattle.hp_model.specs.Decode.{rule_names}
+use Rattle.hp_model.specs.RuleHeads.{rule_names}
 use Rattle.hp_script.specs.Forms.{heads_view}
 use Rattle.hp_script.proofs.known.rule_place.Given as goal
 

@@ -1,0 +1,36 @@
+//! Lines of rules.
+
+ghost use Rattle.std.specs.Prelude.{◌≡◌, map, OnOk};
+ghost use Rattle.hp_model.specs.Report.{status_word, rules_text};
+ghost use Rattle.hp_model.specs.State.{with_status};
+ghost use Rattle.hp_report.specs.PathMapped as model;
+ghost use Rattle.hp_report.specs.Text.{Gains};
+
+use hp_fire::Status;
+use hp_rule::path::Rule;
+use std::alloc::AllocError;
+use std::fmt::Write;
+
+/// What is written for a status.
+fn status_word(status: Status) -> &'static str
+    ensures { result.now ≡ status_word (model.status status) }
+{
+    match status {
+        Status::Absent => "absent",
+        Status::Enabled => "enabled",
+        Status::Disabled => "disabled",
+    }
+}
+
+/// The lines of rules, in their order.
+pub fn put_rules(out: &mut String, rules: &[Rule], statuses: &[Status]) -> Result<(), AllocError>
+    ensures { OnOk result (Gains out.old out.new (rules_text (map model.rule rules.now)
+        (map (λ s. with_status (model.status s)) statuses.now))) }
+{
+    for (rule, status) in rules.iter().zip(statuses) {
+        let name = rule.name.as_str();
+        let status = status_word(*status);
+        writeln!(out, "rule {name} {status}")?;
+    }
+    Ok(())
+}

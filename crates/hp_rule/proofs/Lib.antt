@@ -1,0 +1,4 @@
+pub mod Numbers
+pub mod Mentioned
+pub mod Bodies
+pub mod WellNamedLemmas

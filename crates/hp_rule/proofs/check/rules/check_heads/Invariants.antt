@@ -1,0 +1,9 @@
+use Rattle.std.proofs.Common.{◌≡◌, [], take, drop, map}
+use Rattle.hp_rule.specs.Statements.{rule}
+use Rattle.hp_model.specs.Checked.{each_check, head_check}
+use Rattle.hp_rule.specs.Places.{steps}
+use Rattle.hp_rule.proofs.check.rules.check_heads.Given as goal
+
+abbrev pub invariant-loop-i : goal.invariant-loop-i
+invariant-loop-i l =
+    each_check head_check (steps l.place) (map rule (take l.i l.rules)) l.i (map rule (drop l.i l.rules)) ≡ each_check head_check (steps l.place) [] 0 (map rule l.rules)

@@ -1,0 +1,10 @@
+use Rattle.std.proofs.Common.{◌≡◌, ◌++◌, drop, filter}
+use Rattle.hp_value.specs.Mapped.{primitive}
+use Rattle.hp_rule.specs.Mapped.{library}
+use Rattle.hp_rule.specs.Index.{is_mentioned}
+use Rattle.hp_rule.proofs.library.Library.mentions.Given as goal
+
+-- those found, and then those among the rest, are those among all that are listed
+abbrev pub invariant-loop-number : goal.invariant-loop-number
+invariant-loop-number l =
+    l.numbers.items ++ filter (is_mentioned (library l.self).rules (primitive l.prim)) (drop l.number-index l.listed) ≡ filter (is_mentioned (library l.self).rules (primitive l.prim)) l.listed

@@ -1,0 +1,47 @@
+-- Which rules the index of a library lists for a primitive occurrence.
+use Rattle.std.specs.Prelude.{ℕ, suc, Bool, true, false, ◌||◌, List, [], ◌∷◌, slice_get, if◌then◌else◌}
+use Rattle.std.specs.Option.{option_map_or}
+use Rattle.hp_model.specs.Occurrences.{Primitive, created, updated, deleted, signalled, commit_reached, moment_reached}
+use Rattle.hp_model.specs.Events.{Pattern, at_moment, every_moment, matches, mentions, Event, pattern_event, or_event, seq_event, closure_event}
+use Rattle.hp_model.specs.Rules.{Rule}
+use Rattle.hp_rule.specs.Noted.{of_class, of_name, noted_if}
+use Rattle.hp_rule.specs.declared.index.Index.{Index}
+
+-- whether the pattern may match: each pattern of moments may match at each moment
+abbrev pub may_match : Pattern → Primitive → Bool
+may_match (at_moment t) (moment_reached u) = true
+may_match (every_moment first period) (moment_reached t) = true
+may_match pattern p = matches pattern p
+
+-- whether a pattern of the event may match
+abbrev pub may_mention : Event → Primitive → Bool
+may_mention (pattern_event pattern) p = may_match pattern p
+may_mention (or_event a b) p = may_mention a p || may_mention b p
+may_mention (seq_event a b) p = may_mention a p || may_mention b p
+may_mention (closure_event a t) p = may_mention a p || may_mention t p
+
+-- the numbers of the rules with such an event, where the first of them is the n-th rule
+abbrev pub numbers_from : (Event → Bool) → ℕ → List Rule → List ℕ
+numbers_from test n [] = []
+numbers_from test n (rule ∷ rules) = if test rule.event then n ∷ numbers_from test (suc n) rules else numbers_from test (suc n) rules
+
+-- the numbers of the rules that may mention the occurrence, in rule order
+abbrev pub candidates : List Rule → Primitive → List ℕ
+candidates rules p = numbers_from (λ event. may_mention event p) 0 rules
+
+abbrev pub listed : Index → Primitive → List ℕ
+listed index (created class key new) = of_class index.created class
+listed index (updated class key old new) = of_class index.updated class
+listed index (deleted class key old) = of_class index.deleted class
+listed index (signalled name arguments) = of_name index.signalled name
+listed index commit_reached = index.commit.items
+listed index (moment_reached t) = index.moments.items
+
+-- what is listed once the rules from the n-th on are noted
+abbrev pub noted_from : (Event → Bool) → ℕ → List ℕ → List Rule → List ℕ
+noted_from test n ns [] = ns
+noted_from test n ns (rule ∷ rules) = noted_from test (suc n) (noted_if (test rule.event) n ns) rules
+
+-- whether the event of the rule of a number has a pattern that matches
+abbrev pub is_mentioned : List Rule → Primitive → ℕ → Bool
+is_mentioned rules p n = option_map_or (λ (r : Rule). mentions r.event p) (slice_get rules n) false

@@ -1,0 +1,119 @@
+//! Expressions.
+
+ghost use Rattle.hp_value.specs.Mapped.{value, expression};
+ghost use Rattle.hp_model.specs.Checked.{constant_check, field_check, operands_check, known_name_check, expression_check, whole_expression_check};
+ghost use Rattle.hp_rule.specs.Faults.{Passes};
+ghost use Rattle.hp_rule.specs.Named.{names_in};
+ghost use Rattle.hp_rule.specs.Places.{steps};
+
+use crate::check::name::{check_limit, check_name, check_unless};
+use crate::check::names::Names;
+use crate::check::place::{Place, beyond};
+use crate::fault::{CheckError, Limit};
+use hp_value::{Expr, Value};
+use std::alloc::Global;
+
+const MAX_LEVELS: usize = 16;
+
+const MAX_TEXT: usize = 1_024;
+
+fn check_constant(constant: &Value) -> Result<(), CheckError>
+    ensures { Passes result (constant_check (value constant.now)) }
+{
+    match constant {
+        Value::Text(text) => check_limit(MAX_TEXT, Limit::Text, text.len()),
+        Value::Int(_) | Value::Bool(_) => Ok(()),
+    }
+}
+
+/// A row's name is known.
+fn check_row(
+    alloc: Global,
+    place: &Place<'_>,
+    names: &Names<'_>,
+    variable: &str,
+) -> Result<(), CheckError>
+    ensures { Passes result (known_name_check (names_in names.now) (steps place.now) variable.now) }
+{
+    check_unless(alloc, place, variable, !names.knows(variable))
+}
+
+#[tactic(auto, unfolding(hp_model::specs::Checked::field_check))]
+fn check_field(
+    alloc: Global,
+    place: &Place<'_>,
+    names: &Names<'_>,
+    variable: &str,
+    field: &str,
+) -> Result<(), CheckError>
+    ensures { Passes result (field_check (names_in names.now) (steps place.now) variable.now field.now) }
+{
+    check_row(alloc, &place.item(1), names, variable)?;
+    check_name(alloc, &place.item(2), field)
+}
+
+/// The expression at a place, of at most so many levels.
+#[cycle(expr)]
+#[tactic(auto, unfolding(hp_model::specs::Checked::expression_check))]
+fn check_levels(
+    alloc: Global,
+    place: &Place<'_>,
+    names: &Names<'_>,
+    levels: usize,
+    expr: &Expr,
+) -> Result<(), CheckError>
+    ensures { Passes result (expression_check (names_in names.now) levels (steps place.now) (expression expr.now)) }
+{
+    if levels == 0 {
+        return Err(beyond(Limit::Expression));
+    }
+    let levels = levels - 1;
+    match expr {
+        Expr::Constant(constant) => check_constant(constant),
+        Expr::Arithmetic(_, a, b) | Expr::Comparison(_, a, b) | Expr::And(a, b) | Expr::Or(a, b) =>
+            { check_operands(alloc, place, names, levels, a, b) }
+        Expr::Negated(a) | Expr::Not(a) => check_levels(alloc, &place.item(1), names, levels, a),
+        Expr::FieldOf { variable, field } => check_field(
+            alloc,
+            place,
+            names,
+            variable.as_str(),
+            field.as_str(),
+        ),
+        Expr::KeyOf { variable } => check_row(alloc, &place.item(1), names, variable.as_str()),
+        Expr::NewField { field, .. } | Expr::OldField { field, .. } => check_name(
+            alloc,
+            &place.item(2),
+            field.as_str(),
+        ),
+        Expr::KeyIn { .. } | Expr::Argument { .. } | Expr::TimeOf { .. } | Expr::Count => Ok(()),
+    }
+}
+
+#[cycle(expr)]
+#[tactic(auto, unfolding(hp_model::specs::Checked::operands_check))]
+fn check_operands(
+    alloc: Global,
+    place: &Place<'_>,
+    names: &Names<'_>,
+    levels: usize,
+    left: &Expr,
+    right: &Expr,
+) -> Result<(), CheckError>
+    ensures { Passes result (operands_check (expression_check (names_in names.now) levels) (steps place.now) (expression left.now) (expression right.now)) }
+{
+    check_levels(alloc, &place.item(1), names, levels, left)?;
+    check_levels(alloc, &place.item(2), names, levels, right)
+}
+
+/// The expression at a place.
+pub(crate) fn check_expr(
+    alloc: Global,
+    place: &Place<'_>,
+    names: &Names<'_>,
+    expr: &Expr,
+) -> Result<(), CheckError>
+    ensures { Passes result (whole_expression_check (names_in names.now) (steps place.now) (expression expr.now)) }
+{
+    check_levels(alloc, place, names, MAX_LEVELS, expr)
+}

@@ -1,0 +1,86 @@
+//! Names, numbers and limits.
+
+ghost use Rattle.std.specs.Prelude.{◌≡◌};
+ghost use Rattle.std.specs.List.{list_all};
+ghost use Rattle.hp_model.specs.Parts.{is_name_byte, is_name};
+ghost use Rattle.hp_model.specs.Checked.{name_check, name_unless, number_check, limit_check};
+ghost use Rattle.hp_rule.specs.Faults.{limit, Passes};
+ghost use Rattle.hp_rule.specs.Places.{steps};
+
+use crate::check::place::{Place, beyond, misnamed, misshapen};
+use crate::fault::{CheckError, Limit};
+use std::alloc::Global;
+
+fn are_name_bytes(bytes: &[u8]) -> bool
+    ensures { result ≡ list_all is_name_byte bytes.now }
+{
+    bytes
+        .iter()
+        .all(|byte| byte.is_ascii_alphanumeric() || *byte == b'_')
+}
+
+/// Whether a text is a name: 1 to 32 ASCII letters, digits and `_`, of which the first is a letter.
+fn is_name(text: &str) -> bool
+    ensures { result ≡ is_name text.now }
+{
+    match text.as_bytes() {
+        [] => false,
+        [first, others @ ..] => {
+            first.is_ascii_alphabetic() && others.len() < 32 && are_name_bytes(others)
+        }
+    }
+}
+
+/// A name has a name's form.
+pub(crate) fn check_name(alloc: Global, place: &Place<'_>, name: &str) -> Result<(), CheckError>
+    ensures { Passes result (name_check (steps place.now) name.now) }
+{
+    if is_name(name) {
+        Ok(())
+    } else {
+        Err(misshapen(alloc, place))
+    }
+}
+
+/// A name has a name's form, and is not refused.
+#[tactic(auto, unfolding(hp_model::specs::Checked::name_unless))]
+pub(crate) fn check_unless(
+    alloc: Global,
+    place: &Place<'_>,
+    name: &str,
+    refused: bool,
+) -> Result<(), CheckError>
+    ensures { Passes result (name_unless refused (steps place.now) name.now) }
+{
+    check_name(alloc, place, name)?;
+    if refused {
+        return Err(misnamed(alloc, place));
+    }
+    Ok(())
+}
+
+/// A class or a rule is one of so many.
+pub(crate) fn check_number(
+    alloc: Global,
+    place: &Place<'_>,
+    count: usize,
+    number: u32,
+) -> Result<(), CheckError>
+    ensures { Passes result (number_check count (steps place.now) number) }
+{
+    if (number as usize) < count {
+        Ok(())
+    } else {
+        Err(misnamed(alloc, place))
+    }
+}
+
+/// There are at most so many.
+pub(crate) fn check_limit(most: usize, limited: Limit, count: usize) -> Result<(), CheckError>
+    ensures { Passes result (limit_check most (limit limited) count) }
+{
+    if count > most {
+        return Err(beyond(limited));
+    }
+    Ok(())
+}

@@ -1,0 +1,75 @@
+//! Where a checked part stands.
+
+ghost use Rattle.std.specs.Prelude.{◌≡◌, IfOk};
+ghost use Rattle.hp_model.specs.Refusals.{wrong_shape, bad_name, over_limit};
+ghost use Rattle.hp_rule.specs.Faults.{path, limit, IsFault};
+ghost use Rattle.hp_rule.specs.Places.{steps};
+
+use crate::fault::{CheckError, CheckFault, Limit, Member, PathStep};
+use std::alloc::{AllocError, Global};
+
+/// A place, which knows the places round it.
+#[derive(Clone, Copy)]
+pub(crate) enum Place<'a> {
+    Root,
+    Member(Member),
+    Item(&'a Place<'a>, usize),
+}
+
+impl Place<'_> {
+    ghost use Rattle.hp_model.specs.Refusals.{item_at};
+    ghost use Rattle.hp_rule.specs.Places.{steps};
+
+    /// The place of an item of the list here.
+    pub(crate) fn item(&self, position: usize) -> Place<'_>
+        ensures { steps result ≡ item_at (steps self.now) position }
+    {
+        Place::Item(self, position)
+    }
+}
+
+/// The steps to a place.
+fn path_to(alloc: Global, place: &Place<'_>) -> Result<Vec<PathStep>, AllocError>
+    ensures { IfOk result (λ v. path v.items ≡ steps place.now) }
+{
+    match place {
+        Place::Root => Ok(Vec::new(alloc)),
+        Place::Member(member) => {
+            let mut steps = Vec::new(alloc);
+            steps.push(PathStep::Member(*member))?;
+            Ok(steps)
+        }
+        Place::Item(list, position) => {
+            let mut steps = path_to(alloc, list)?;
+            steps.push(PathStep::Item(*position))?;
+            Ok(steps)
+        }
+    }
+}
+
+/// What stands here has not the form that is asked.
+pub(crate) fn misshapen(alloc: Global, place: &Place<'_>) -> CheckError
+    ensures { IsFault result (wrong_shape (steps place.now)) }
+{
+    match path_to(alloc, place) {
+        Ok(path) => CheckError::Fault(CheckFault::Shape(path)),
+        Err(_) => CheckError::Memory,
+    }
+}
+
+/// A name that may not stand here does.
+pub(crate) fn misnamed(alloc: Global, place: &Place<'_>) -> CheckError
+    ensures { IsFault result (bad_name (steps place.now)) }
+{
+    match path_to(alloc, place) {
+        Ok(path) => CheckError::Fault(CheckFault::Name(path)),
+        Err(_) => CheckError::Memory,
+    }
+}
+
+/// There is more than a limit allows.
+pub(crate) fn beyond(exceeded: Limit) -> CheckError
+    ensures { IsFault result (over_limit (limit exceeded)) }
+{
+    CheckError::Fault(CheckFault::Limit(exceeded))
+}

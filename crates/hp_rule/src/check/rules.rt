@@ -1,0 +1,171 @@
+//! Rules, libraries and bodies of scripts.
+
+ghost use Rattle.std.specs.Prelude.{◌≡◌, length, map};
+ghost use Rattle.hp_value.specs.Mapped.{class_def};
+ghost use Rattle.hp_query.specs.Mapped.{query};
+ghost use Rattle.hp_rule.specs.Statements.{rule, library_of};
+ghost use Rattle.hp_model.specs.Checked.{is_known, rule_names, query_names, head_check, heads_check, query_check, queries_check, rule_check, rules_check, depth_check, library_check};
+ghost use Rattle.hp_rule.specs.Faults.{Passes};
+ghost use Rattle.hp_rule.specs.Places.{steps};
+
+use crate::check::classes::check_classes;
+use crate::check::event::check_event;
+use crate::check::expr::check_expr;
+use crate::check::name::{check_limit, check_number, check_unless};
+use crate::check::names::{Names, is_query};
+use crate::check::place::{Place, beyond};
+use crate::check::scope::Scope;
+use crate::check::statement::check_whole_body;
+use crate::fault::{CheckError, Limit, Member};
+use crate::rule::Rule;
+use hp_query::Query;
+use hp_value::ClassDef;
+use std::alloc::Global;
+
+const MAX_RULES: usize = 256;
+
+const MAX_EVENT_LEVELS: usize = 16;
+
+const MAX_DEPTH: u8 = 16;
+
+/// Whether a rule has this name.
+fn has_rule(rules: &[Rule], name: &str) -> bool
+    ensures { result ≡ is_known (rule_names (map rule rules.now)) name.now }
+{
+    for rule in rules {
+        if rule.name.as_str() == name {
+            return true;
+        }
+    }
+    false
+}
+
+#[tactic(auto, unfolding(hp_model::specs::Checked::head_check))]
+fn check_head(
+    alloc: Global,
+    place: &Place<'_>,
+    before: &[Rule],
+    headed: &Rule,
+) -> Result<(), CheckError>
+    ensures { Passes result (head_check (map rule before.now) (steps place.now) (rule headed.now)) }
+{
+    let name = headed.name.as_str();
+    check_unless(alloc, &place.item(0), name, has_rule(before, name))
+}
+
+/// The names of the rules.
+#[tactic(auto, unfolding(hp_model::specs::Checked::heads_check))]
+fn check_heads(alloc: Global, place: &Place<'_>, rules: &[Rule]) -> Result<(), CheckError>
+    ensures { Passes result (heads_check (steps place.now) (map rule rules.now)) }
+{
+    check_limit(MAX_RULES, Limit::Rules, rules.len())?;
+    for (i, rule) in rules.iter().enumerate() {
+        check_head(alloc, &place.item(i), &rules[..i], rule)?;
+    }
+    Ok(())
+}
+
+#[tactic(auto, unfolding(hp_model::specs::Checked::query_check))]
+fn check_query(
+    alloc: Global,
+    place: &Place<'_>,
+    classes: usize,
+    before: &[Query],
+    asked: &Query,
+) -> Result<(), CheckError>
+    ensures { Passes result (query_check classes (map query before.now) (steps place.now) (query asked.now)) }
+{
+    let name = asked.name.as_str();
+    check_unless(alloc, &place.item(0), name, is_query(before, name))?;
+    check_number(alloc, &place.item(1), classes, asked.class)?;
+    let earlier = Names::Queries(before);
+    check_expr(
+        alloc,
+        &place.item(2),
+        &earlier.bound(name),
+        &asked.predicate,
+    )
+}
+
+fn check_queries(
+    alloc: Global,
+    place: &Place<'_>,
+    classes: usize,
+    queries: &[Query],
+) -> Result<(), CheckError>
+    ensures { Passes result (queries_check classes (steps place.now) (map query queries.now)) }
+{
+    for (i, query) in queries.iter().enumerate() {
+        check_query(alloc, &place.item(i), classes, &queries[..i], query)?;
+    }
+    Ok(())
+}
+
+/// A rule but for its name, where there are so many rules.
+#[tactic(auto, unfolding(hp_model::specs::Checked::rule_check))]
+fn check_rule(
+    alloc: Global,
+    place: &Place<'_>,
+    classes: &[ClassDef],
+    rules: usize,
+    whole: &Rule,
+) -> Result<(), CheckError>
+    ensures { Passes result (rule_check (map class_def classes.now) rules (steps place.now) (rule whole.now)) }
+{
+    check_event(
+        alloc,
+        &place.item(1),
+        classes.len(),
+        MAX_EVENT_LEVELS,
+        &whole.event,
+    )?;
+    check_queries(alloc, &place.item(3), classes.len(), &whole.condition)?;
+    let scope = Scope {
+        classes,
+        rules,
+        in_action: true,
+        queries: &whole.condition,
+    };
+    let names = Names::Queries(&whole.condition);
+    check_whole_body(alloc, &place.item(5), &scope, &names, &whole.action)
+}
+
+fn check_rules(
+    alloc: Global,
+    place: &Place<'_>,
+    classes: &[ClassDef],
+    rules: &[Rule],
+) -> Result<(), CheckError>
+    ensures { Passes result (rules_check (map class_def classes.now) (length rules.now) (steps place.now) (map rule rules.now)) }
+{
+    for (i, rule) in rules.iter().enumerate() {
+        check_rule(alloc, &place.item(i), classes, rules.len(), rule)?;
+    }
+    Ok(())
+}
+
+fn check_depth(depth: u8) -> Result<(), CheckError>
+    ensures { Passes result (depth_check depth) }
+{
+    if depth == 0 || depth > MAX_DEPTH {
+        return Err(beyond(Limit::Depth));
+    }
+    Ok(())
+}
+
+/// A library of these classes and rules, with this limit of depth.
+#[tactic(auto, unfolding(hp_model::specs::Checked::library_check))]
+pub(crate) fn check_library(
+    alloc: Global,
+    classes: &[ClassDef],
+    rules: &[Rule],
+    depth_limit: u8,
+) -> Result<(), CheckError>
+    ensures { Passes result (library_check (library_of classes.now rules.now depth_limit)) }
+{
+    check_depth(depth_limit)?;
+    check_classes(alloc, &Place::Member(Member::Classes), classes)?;
+    let place = Place::Member(Member::Rules);
+    check_heads(alloc, &place, rules)?;
+    check_rules(alloc, &place, classes, rules)
+}

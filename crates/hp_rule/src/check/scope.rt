@@ -1,0 +1,34 @@
+//! What a body may name besides rows.
+
+ghost use Rattle.std.specs.Prelude.{◌≡◌, map};
+ghost use Rattle.hp_value.specs.Mapped.{field};
+ghost use Rattle.hp_model.specs.Checked.{fields_of};
+
+use hp_query::Query;
+use hp_value::{ClassDef, ClassNo, Field};
+
+/// What a body may name besides rows, and whether it is an action.
+#[derive(Clone, Copy)]
+pub(crate) struct Scope<'a> {
+    pub classes: &'a [ClassDef],
+    /// How many rules there are.
+    pub rules: usize,
+    /// Whether the body is a rule's action.
+    pub in_action: bool,
+    /// The queries of the rule.
+    pub queries: &'a [Query],
+}
+
+impl<'a> Scope<'a> {
+    ghost use Rattle.hp_rule.specs.Scopes.{scope_of};
+
+    /// The fields of a class; none where there is no such class.
+    pub(crate) fn fields_of(&self, class: ClassNo) -> &'a [Field]
+        ensures { map field result.now ≡ fields_of (scope_of self.now) class }
+    {
+        match self.classes.get(class as usize) {
+            Some(class) => &class.fields,
+            None => &[],
+        }
+    }
+}

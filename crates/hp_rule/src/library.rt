@@ -1,0 +1,142 @@
+//! The library of a script.
+
+ghost use Rattle.std.specs.Prelude.{◌≡◌, Ok, map};
+ghost use Rattle.hp_model.specs.Occurrences.{Primitive};
+ghost use Rattle.hp_rule.specs.Statements.{rule, library_of};
+ghost use Rattle.hp_model.specs.Checked.{library_check};
+ghost use Rattle.hp_rule.specs.Index.{listed, candidates};
+
+use crate::check::rules::check_library;
+use crate::fault::CheckError;
+use crate::index::Index;
+use crate::rule::Rule;
+use hp_value::{ClassDef, ClassNo, Prim, RuleNo};
+use std::alloc::{AllocError, Global};
+
+/// The classes and the rules of a script, which are named by their places, from 0 on, and how deep firings go.
+///
+/// A library is checked: each name, number, event, expression and statement in it is as the grammar of scripts wants it,
+/// and nothing exceeds a limit.
+#[derive(Debug, Drop)]
+pub struct Library {
+    classes: Vec<ClassDef>,
+    rules: Vec<Rule>,
+    depth_limit: u8,
+    index: Index,
+    // What the index lists is what may concern an occurrence.
+    ghost indexed: { (p : Primitive) → listed index p ≡ candidates (map rule rules.items) p },
+    // The library is well formed.
+    pub ghost checked: { library_check (library_of classes.items rules.items depth_limit) ≡ Ok tt },
+}
+
+impl Library {
+    ghost use Rattle.std.specs.Prelude.{IfOk, option_map, slice_get};
+    ghost use Rattle.hp_value.specs.Mapped.{class_def, primitive};
+    ghost use Rattle.hp_model.specs.Checked.{checked_library};
+    ghost use Rattle.hp_rule.specs.Faults.{Gives};
+    ghost use Rattle.hp_rule.specs.Libraries.{library};
+    ghost use Rattle.hp_rule.specs.Mentions.{mentioning};
+    ghost use Rattle.hp_rule.specs.Index.{is_mentioned};
+    ghost use Rattle.hp_rule.specs.WellNamed.{IsWellNamed};
+
+    /// The library of these classes and rules, whose firings go at most this deep, if it is well formed.
+    ///
+    /// Else the error is the first fault, in the order in which a script is checked: the limit of depth, the classes, the
+    /// names of the rules, and then the other parts of each rule. `Memory` means that memory ran out.
+    pub fn check(
+        alloc: Global,
+        classes: Vec<ClassDef>,
+        rules: Vec<Rule>,
+        depth_limit: u8,
+    ) -> Result<Library, CheckError>
+        ensures library { Gives library result (checked_library (library_of classes.items rules.items depth_limit)) }
+        ensures well_named { IfOk result (λ l. IsWellNamed (library l)) }
+    {
+        check_library(alloc, &classes, &rules, depth_limit)?;
+        Ok(Library::of_checked(alloc, classes, rules, depth_limit)?)
+    }
+
+    /// The library of classes and rules that are known to be well formed. It is for a reader that checks what it reads.
+    ///
+    /// An error means that memory ran out.
+    pub fn of_checked(
+        alloc: Global,
+        classes: Vec<ClassDef>,
+        rules: Vec<Rule>,
+        depth_limit: u8,
+    ) -> Result<Library, AllocError>
+        requires { library_check (library_of classes.items rules.items depth_limit) ≡ Ok tt }
+        ensures library { IfOk result (λ l. library l ≡ library_of classes.items rules.items depth_limit) }
+        ensures well_named { IfOk result (λ l. IsWellNamed (library l)) }
+    {
+        let index = Index::of(alloc, &rules)?;
+        Ok(Library {
+            classes,
+            rules,
+            depth_limit,
+            index,
+        })
+    }
+
+    /// The classes, in the script's order.
+    pub fn classes(&self) -> &[ClassDef]
+        ensures { map class_def result.now ≡ (library self.now).classes }
+    {
+        &self.classes
+    }
+
+    /// The rules, in rule order: triggered rules fire in this order.
+    pub fn rules(&self) -> &[Rule]
+        ensures { map rule result.now ≡ (library self.now).rules }
+    {
+        &self.rules
+    }
+
+    /// How deep firings go, at most: a firing caused by a firing of this depth doesn't take place.
+    pub fn depth_limit(&self) -> u8
+        ensures { result ≡ (library self.now).depth_limit }
+    {
+        self.depth_limit
+    }
+
+    /// The class of a number; none where the library has no such class.
+    pub fn class(&self, number: ClassNo) -> Option<&ClassDef>
+        ensures { option_map (λ c. class_def c.now) result ≡ slice_get (library self.now).classes number }
+    {
+        self.classes.get(number as usize)
+    }
+
+    /// The rule of a number; none where the library has no such rule.
+    pub fn rule(&self, number: RuleNo) -> Option<&Rule>
+        ensures { option_map (λ r. rule r.now) result ≡ slice_get (library self.now).rules number }
+    {
+        self.rules.get(number as usize)
+    }
+
+    /// The rules whose event has a pattern that matches, in rule order. Only the rules that the index lists for such an
+    /// occurrence are looked at.
+    ///
+    /// An error means that memory ran out.
+    pub fn mentions(&self, alloc: Global, prim: &Prim) -> Result<Vec<RuleNo>, AllocError>
+        ensures { IfOk result (λ ns. ns.items ≡ mentioning (library self.now) (primitive prim.now)) }
+    {
+        let listed = self.index.listed(prim);
+        let mut numbers = Vec::new(alloc);
+        for number in listed {
+            if self.is_mentioned(*number, prim) {
+                numbers.push(*number)?;
+            }
+        }
+        Ok(numbers)
+    }
+
+    /// Whether the event of the rule of a number has a pattern that matches.
+    fn is_mentioned(&self, number: RuleNo, prim: &Prim) -> bool
+        ensures { result ≡ is_mentioned (library self.now).rules (primitive prim.now) number }
+    {
+        match self.rule(number) {
+            Some(rule) => rule.event.mentions(prim),
+            None => false,
+        }
+    }
+}

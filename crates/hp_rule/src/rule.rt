@@ -1,0 +1,26 @@
+//! Rules.
+
+use crate::stmt::Stmt;
+use hp_detect::EventExpr;
+use hp_query::Query;
+use hp_value::Coupling;
+use std::sync::Arc;
+
+/// A rule: where its event occurs its condition is evaluated, and where that is satisfied its action runs.
+///
+/// HiPAC's rules have an event, a condition, an action and two coupling modes.
+#[derive(Debug, Drop)]
+pub struct Rule {
+    /// The rule's name.
+    pub name: String,
+    /// The event that triggers it. The rule's detector shares it.
+    pub event: Arc<EventExpr>,
+    /// When and in which transaction the condition is evaluated, seen from the event.
+    pub ec: Coupling,
+    /// The condition: it is satisfied where each query has a non-empty answer.
+    pub condition: Vec<Query>,
+    /// When and in which transaction the action runs, seen from the condition.
+    pub ca: Coupling,
+    /// The action's statements, in order.
+    pub action: Vec<Stmt>,
+}

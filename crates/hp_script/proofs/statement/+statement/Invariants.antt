@@ -1,0 +1,35 @@
+use Rattle.std.proofs.Common.{◌≡◌, ◌+◌, ◌*◌, [], drop, map}
+use Rattle.serde_json.specs.View.{view}
+use Rattle.hp_model.specs.Parts.{read_from}
+use Rattle.hp_model.specs.StatementGrammar.{statement_within}
+use Rattle.hp_rule.specs.Mapped.{statement}
+use Rattle.hp_script.specs.Forms.{scope_view}
+use Rattle.hp_script.specs.Place.{path_to}
+use Rattle.hp_script.specs.Rows.{names_in}
+use Rattle.hp_script.proofs.statement.+statement.Given as goal
+
+abbrev pub decreases-statement_within : goal.decreases-statement_within
+decreases-statement_within l = 3 * l.levels
+
+abbrev pub decreases-statements_within : goal.decreases-statements_within
+decreases-statements_within l = 3 * l.levels + 1
+
+abbrev pub decreases-if_at : goal.decreases-if_at
+decreases-if_at l = 3 * l.levels + 2
+
+abbrev pub decreases-each_at : goal.decreases-each_at
+decreases-each_at l = 3 * l.levels + 2
+
+abbrev pub decreases-for_at : goal.decreases-for_at
+decreases-for_at l = 3 * l.levels + 2
+
+abbrev pub decreases-with_at : goal.decreases-with_at
+decreases-with_at l = 3 * l.levels + 2
+
+abbrev pub decreases-sub_at : goal.decreases-sub_at
+decreases-sub_at l = 3 * l.levels + 2
+
+abbrev pub invariant-statements_within-loop-i : goal.invariant-statements_within-loop-i
+invariant-statements_within-loop-i l =
+    read_from (λ _. statement_within (scope_view l.scope) l.levels (names_in l.rows)) (path_to l.place) (map statement l.body.items) l.i (map view (drop l.i l.values))
+    ≡ read_from (λ _. statement_within (scope_view l.scope) l.levels (names_in l.rows)) (path_to l.place) [] 0 (map view l.values)

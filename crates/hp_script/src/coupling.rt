@@ -1,0 +1,62 @@
+//! Coupling modes.
+
+ghost use Rattle.std.specs.Prelude.{◌≡◌, option_map};
+ghost use Rattle.serde_json.specs.View.{view};
+ghost use Rattle.hp_model.specs.Decode.{is_second, common_coupling, coupling_of_word, coupling_at};
+ghost use Rattle.hp_value.specs.Mapped.{coupling};
+ghost use Rattle.hp_script.specs.Forms.{version_view};
+ghost use Rattle.hp_script.specs.Mapped.{Gives};
+ghost use Rattle.hp_script.specs.Place.{path_to};
+
+use crate::place::{Place, misshapen};
+use crate::refusal::DecodeError;
+use crate::version::Version;
+use hp_rule::Coupling;
+use serde_json::Value;
+use std::alloc::Global;
+
+fn is_second(version: Version) -> bool
+    ensures { result ≡ is_second (version_view version) }
+{
+    matches!(version, Version::Second)
+}
+
+/// A coupling of both versions.
+fn common_coupling(word: &str) -> Option<Coupling>
+    ensures { option_map coupling result ≡ common_coupling word.now }
+{
+    match word {
+        "immediate" => Some(Coupling::Immediate),
+        "deferred" => Some(Coupling::Deferred),
+        "separate" => Some(Coupling::Separate),
+        "dependent" => Some(Coupling::Dependent),
+        _ => None,
+    }
+}
+
+fn coupling_of_word(version: Version, word: &str) -> Option<Coupling>
+    ensures { option_map coupling result ≡ coupling_of_word (version_view version) word.now }
+{
+    if is_second(version) && word == "exclusive" {
+        return Some(Coupling::Exclusive);
+    }
+    common_coupling(word)
+}
+
+/// The coupling that stands at a place.
+pub(crate) fn coupling_at(
+    alloc: Global,
+    place: &Place<'_>,
+    version: Version,
+    value: &Value,
+) -> Result<Coupling, DecodeError>
+    ensures { Gives coupling result (coupling_at (version_view version) (path_to place.now) (view value.now)) }
+{
+    let Some(word) = value.as_str() else {
+        return Err(misshapen(alloc, place));
+    };
+    match coupling_of_word(version, word) {
+        Some(coupling) => Ok(coupling),
+        None => Err(misshapen(alloc, place)),
+    }
+}

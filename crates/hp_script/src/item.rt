@@ -1,0 +1,153 @@
+//! Items: transactions and moves of the clock.
+
+ghost use Rattle.std.specs.Prelude.{◌≡◌, ◌++◌, map, option_map, IfOk};
+ghost use Rattle.serde_json.specs.View.{view};
+ghost use Rattle.hp_model.specs.Cascade.{moment};
+ghost use Rattle.hp_model.specs.Decode.{item_form_of_one, item_form, item_form_at, transaction_at, clock_at, unit_at, units_at};
+ghost use Rattle.hp_rule.specs.Mapped.{rule};
+ghost use Rattle.hp_script.specs.Forms.{item_form_view, scope_view};
+ghost use Rattle.hp_script.specs.Mapped.{Gives, unit, schedule};
+ghost use Rattle.hp_script.specs.Place.{path_to};
+
+use crate::moment::due_moments;
+use crate::number::number_from;
+use crate::place::{Place, misshapen};
+use crate::refusal::{DecodeError, Limit, Refusal};
+use crate::rows::no_rows;
+use crate::schedule::{Schedule, Unit};
+use crate::scope::Scope;
+use crate::shape::{form_of, list_of};
+use crate::statement::statements_at;
+use hp_rule::Rule;
+use serde_json::Value;
+use std::alloc::{AllocError, Global};
+
+/// An item whose part is still JSON.
+#[derive(Clone, Copy)]
+pub(crate) enum ItemForm<'a> {
+    Transaction(&'a Value),
+    Clock(&'a Value),
+}
+
+fn item_form_of_one<'a>(word: &str, part: &'a Value) -> Option<ItemForm<'a>>
+    ensures { option_map item_form_view result ≡ item_form_of_one word.now (view part.entry.now) }
+{
+    match word {
+        "tx" => Some(ItemForm::Transaction(part)),
+        "clock" => Some(ItemForm::Clock(part)),
+        _ => None,
+    }
+}
+
+fn item_form<'a>(word: &str, parts: &'a [Value]) -> Option<ItemForm<'a>>
+    ensures { option_map item_form_view result ≡ item_form word.now (map view parts.entry.now) }
+{
+    match parts {
+        [part] => item_form_of_one(word, part),
+        _ => None,
+    }
+}
+
+fn item_form_at<'a>(
+    alloc: Global,
+    place: &Place<'_>,
+    value: &'a Value,
+) -> Result<ItemForm<'a>, DecodeError>
+    ensures { Gives item_form_view result (item_form_at (path_to place.now) (view value.entry.now)) }
+{
+    let Some(form) = form_of(value) else {
+        return Err(misshapen(alloc, place));
+    };
+    match item_form(form.word, form.parts) {
+        Some(form) => Ok(form),
+        None => Err(misshapen(alloc, place)),
+    }
+}
+
+#[tactic(auto, unfolding(hp_model::specs::Decode::transaction_at))]
+fn transaction_at(
+    alloc: Global,
+    place: &Place<'_>,
+    scope: &Scope<'_>,
+    before: Schedule,
+    body: &Value,
+) -> Result<Schedule, DecodeError>
+    ensures { Gives schedule result (transaction_at (scope_view scope.entry.now) (path_to place.now) (schedule before) (view body.now)) }
+{
+    let rows = no_rows();
+    let statements = statements_at(alloc, &place.item(1), scope, &rows, body)?;
+    let Schedule { mut units, clock } = before;
+    units.push(Unit::Transaction(statements))?;
+    Ok(Schedule { units, clock })
+}
+
+/// The units with these moments after them.
+fn with_moments(units: Vec<Unit>, moments: &[u64]) -> Result<Vec<Unit>, AllocError>
+    ensures { IfOk result (λ all. map unit all.items ≡ map unit units.items ++ map moment moments.now) }
+{
+    let mut all = units;
+    for moment in moments {
+        all.push(Unit::Moment(*moment))?;
+    }
+    Ok(all)
+}
+
+#[tactic(auto, unfolding(hp_model::specs::Decode::clock_at))]
+fn clock_at(
+    alloc: Global,
+    place: &Place<'_>,
+    rules: &[Rule],
+    before: Schedule,
+    time: &Value,
+) -> Result<Schedule, DecodeError>
+    ensures { Gives schedule result (clock_at (map rule rules.now) (path_to place.now) (schedule before) (view time.now)) }
+{
+    let clock = number_from(alloc, &place.item(1), before.clock, time)?;
+    let Some(moments) = due_moments(alloc, rules, before.clock, clock)? else {
+        return Err(DecodeError::Refused(Refusal::S5(Limit::Moments)));
+    };
+    let units = with_moments(before.units, moments.as_slice())?;
+    Ok(Schedule { units, clock })
+}
+
+/// What was read before, and the item that stands at a place.
+#[tactic(auto, unfolding(hp_model::specs::Decode::unit_at))]
+fn unit_at(
+    alloc: Global,
+    place: &Place<'_>,
+    scope: &Scope<'_>,
+    rules: &[Rule],
+    before: Schedule,
+    value: &Value,
+) -> Result<Schedule, DecodeError>
+    ensures { Gives schedule result (unit_at (map rule rules.now) (scope_view scope.entry.now) (path_to place.now) (schedule before) (view value.now)) }
+{
+    match item_form_at(alloc, place, value)? {
+        ItemForm::Transaction(body) => transaction_at(alloc, place, scope, before, body),
+        ItemForm::Clock(time) => clock_at(alloc, place, rules, before, time),
+    }
+}
+
+/// The items that stand at a place, as the units that they run.
+#[tactic(auto, unfolding(hp_model::specs::Decode::units_at))]
+pub(crate) fn units_at(
+    alloc: Global,
+    place: &Place<'_>,
+    scope: &Scope<'_>,
+    rules: &[Rule],
+    value: &Value,
+) -> Result<Schedule, DecodeError>
+    ensures { Gives schedule result (units_at (map rule rules.now) (scope_view scope.entry.now) (path_to place.now) (view value.now)) }
+{
+    let Some(values) = list_of(value) else {
+        return Err(misshapen(alloc, place));
+    };
+    let mut schedule = Schedule {
+        units: Vec::new(alloc),
+        clock: 0,
+    };
+    for (i, value) in values.iter().enumerate() {
+        schedule = unit_at(alloc, &place.item(i), scope, rules, schedule, value)?;
+    }
+    Ok(schedule)
+}

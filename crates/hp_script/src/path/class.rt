@@ -1,0 +1,130 @@
+//! Classes and their fields.
+
+ghost use Rattle.std.specs.Prelude.{◌≡◌, ◌≤◌, length, map, option_map, IfOk};
+ghost use Rattle.serde_json.specs.View.{view};
+ghost use Rattle.hp_model.specs.FirstDecode.{kind_of_word, kind_at, field_at, fields_at, class_at, classes_at};
+ghost use Rattle.hp_value.specs.Mapped.{kind, field, class_def};
+ghost use Rattle.hp_script.specs.Mapped.{Gives};
+ghost use Rattle.hp_script.specs.Place.{path_to};
+
+use crate::known::{class_place, field_place};
+use crate::name::name_at;
+use crate::place::{Place, misnamed, misshapen};
+use crate::refusal::{DecodeError, Limit, Refusal};
+use crate::shape::{list_of, pair_of};
+use hp_value::{ClassDef, Field, Kind};
+use serde_json::Value;
+use std::alloc::Global;
+use std::sync::Arc;
+
+/// The fields that a class may have.
+const MAX_FIELDS: usize = 32;
+
+/// The classes that a script may have.
+const MAX_CLASSES: usize = 64;
+
+fn kind_of_word(word: &str) -> Option<Kind>
+    ensures { option_map kind result ≡ kind_of_word word.now }
+{
+    match word {
+        "int" => Some(Kind::Int),
+        _ => None,
+    }
+}
+
+fn kind_at(alloc: Global, place: &Place<'_>, value: &Value) -> Result<Kind, DecodeError>
+    ensures { Gives kind result (kind_at (path_to place.now) (view value.now)) }
+{
+    let Some(word) = value.as_str() else {
+        return Err(misshapen(alloc, place));
+    };
+    match kind_of_word(word) {
+        Some(kind) => Ok(kind),
+        None => Err(misshapen(alloc, place)),
+    }
+}
+
+#[tactic(auto, unfolding(hp_model::specs::FirstDecode::field_at, hp_model::specs::Parts::new_name_at))]
+fn field_at(
+    alloc: Global,
+    place: &Place<'_>,
+    before: &[Field],
+    value: &Value,
+) -> Result<Field, DecodeError>
+    ensures { Gives field result (field_at (map field before.now) (path_to place.now) (view value.now)) }
+{
+    let Some((name, kind)) = pair_of(value) else {
+        return Err(misshapen(alloc, place));
+    };
+    let name = name_at(alloc, &place.item(0), name)?;
+    if field_place(before, name).is_some() {
+        return Err(misnamed(alloc, &place.item(0)));
+    }
+    let kind = kind_at(alloc, &place.item(1), kind)?;
+    let name = String::from_str(alloc, name)?;
+    Ok(Field { name, kind })
+}
+
+#[tactic(auto, unfolding(hp_model::specs::FirstDecode::fields_at, hp_model::specs::Parts::short_list_at))]
+fn fields_at(alloc: Global, place: &Place<'_>, value: &Value) -> Result<Vec<Field>, DecodeError>
+    ensures { Gives (λ fields. map field fields.items) result (fields_at (path_to place.now) (view value.now)) }
+{
+    let Some(values) = list_of(value) else {
+        return Err(misshapen(alloc, place));
+    };
+    if values.len() > MAX_FIELDS {
+        return Err(DecodeError::Refused(Refusal::S5(Limit::Fields)));
+    }
+    let mut fields = Vec::new(alloc);
+    for (i, value) in values.iter().enumerate() {
+        let field = field_at(alloc, &place.item(i), fields.as_slice(), value)?;
+        fields.push(field)?;
+    }
+    Ok(fields)
+}
+
+#[tactic(auto, unfolding(hp_model::specs::FirstDecode::class_at, hp_model::specs::Parts::new_name_at))]
+fn class_at(
+    alloc: Global,
+    place: &Place<'_>,
+    before: &[ClassDef],
+    value: &Value,
+) -> Result<ClassDef, DecodeError>
+    ensures { Gives class_def result (class_at (map class_def before.now) (path_to place.now) (view value.now)) }
+{
+    let Some((name, fields)) = pair_of(value) else {
+        return Err(misshapen(alloc, place));
+    };
+    let name = name_at(alloc, &place.item(0), name)?;
+    if class_place(before, name).is_some() {
+        return Err(misnamed(alloc, &place.item(0)));
+    }
+    let fields = fields_at(alloc, &place.item(1), fields)?;
+    let fields = Arc::new(alloc, fields)?;
+    let name = String::from_str(alloc, name)?;
+    Ok(ClassDef { name, fields })
+}
+
+/// The classes that stand at a place.
+#[tactic(auto, unfolding(hp_model::specs::FirstDecode::classes_at, hp_model::specs::Parts::short_list_at))]
+pub(crate) fn classes_at(
+    alloc: Global,
+    place: &Place<'_>,
+    value: &Value,
+) -> Result<Vec<ClassDef>, DecodeError>
+    ensures reads { Gives (λ classes. map class_def classes.items) result (classes_at (path_to place.now) (view value.now)) }
+    ensures few { IfOk result (λ classes. length classes.items ≤ 64) }
+{
+    let Some(values) = list_of(value) else {
+        return Err(misshapen(alloc, place));
+    };
+    if values.len() > MAX_CLASSES {
+        return Err(DecodeError::Refused(Refusal::S5(Limit::Classes)));
+    }
+    let mut classes = Vec::new(alloc);
+    for (i, value) in values.iter().enumerate() {
+        let class = class_at(alloc, &place.item(i), classes.as_slice(), value)?;
+        classes.push(class)?;
+    }
+    Ok(classes)
+}

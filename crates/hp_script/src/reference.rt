@@ -1,0 +1,99 @@
+//! Classes, rules and queries by their names.
+
+ghost use Rattle.std.specs.Prelude.{◌≡◌, map};
+ghost use Rattle.serde_json.specs.View.{view};
+ghost use Rattle.hp_model.specs.Parts.{place_of, place_at};
+ghost use Rattle.hp_model.specs.Scopes.{class_names, field_names, fields_of};
+ghost use Rattle.hp_model.specs.StatementGrammar.{query_at};
+ghost use Rattle.hp_value.specs.Mapped.{field};
+ghost use Rattle.hp_script.specs.Forms.{scope_view};
+ghost use Rattle.hp_script.specs.Mapped.{Gives};
+ghost use Rattle.hp_script.specs.Place.{path_to};
+
+use crate::known::{class_place, rule_place};
+use crate::name::name_at;
+use crate::place::{Place, misnamed};
+use crate::refusal::DecodeError;
+use crate::rows::has_query;
+use crate::scope::Scope;
+use hp_value::{ClassNo, Field, RuleNo};
+use serde_json::Value;
+use std::alloc::Global;
+
+/// The number of the class of this name.
+fn class_number(scope: &Scope<'_>, name: &str) -> Option<ClassNo>
+    ensures { result ≡ place_of (class_names (scope_view scope.entry.now).classes) name.now }
+{
+    let place = class_place(scope.classes, name)?;
+    Some(place as ClassNo)
+}
+
+/// The number of the rule of this name.
+fn rule_number(scope: &Scope<'_>, name: &str) -> Option<RuleNo>
+    ensures { result ≡ place_of (scope_view scope.entry.now).rules name.now }
+{
+    let place = rule_place(scope.rules, name)?;
+    Some(place as RuleNo)
+}
+
+/// The class whose name stands at a place.
+#[tactic(auto, unfolding(hp_model::specs::Parts::place_at))]
+pub(crate) fn class_at(
+    alloc: Global,
+    place: &Place<'_>,
+    scope: &Scope<'_>,
+    value: &Value,
+) -> Result<ClassNo, DecodeError>
+    ensures { Gives (λ n. n) result (place_at (class_names (scope_view scope.entry.now).classes) (path_to place.now) (view value.now)) }
+{
+    let name = name_at(alloc, place, value)?;
+    match class_number(scope, name) {
+        Some(number) => Ok(number),
+        None => Err(misnamed(alloc, place)),
+    }
+}
+
+/// The rule whose name stands at a place.
+#[tactic(auto, unfolding(hp_model::specs::Parts::place_at))]
+pub(crate) fn rule_at(
+    alloc: Global,
+    place: &Place<'_>,
+    scope: &Scope<'_>,
+    value: &Value,
+) -> Result<RuleNo, DecodeError>
+    ensures { Gives (λ n. n) result (place_at (scope_view scope.entry.now).rules (path_to place.now) (view value.now)) }
+{
+    let name = name_at(alloc, place, value)?;
+    match rule_number(scope, name) {
+        Some(number) => Ok(number),
+        None => Err(misnamed(alloc, place)),
+    }
+}
+
+/// The name, at a place, of a query of the rule.
+#[tactic(auto, unfolding(hp_model::specs::StatementGrammar::query_at))]
+pub(crate) fn query_at<'a>(
+    alloc: Global,
+    place: &Place<'_>,
+    scope: &Scope<'_>,
+    value: &'a Value,
+) -> Result<&'a str, DecodeError>
+    ensures { Gives (λ x. x.now) result (query_at (scope_view scope.entry.now) (path_to place.now) (view value.entry.now)) }
+{
+    let name = name_at(alloc, place, value)?;
+    if has_query(scope.queries, name) {
+        Ok(name)
+    } else {
+        Err(misnamed(alloc, place))
+    }
+}
+
+/// The fields of a class.
+pub(crate) fn fields_of<'a>(scope: &Scope<'a>, class: ClassNo) -> &'a [Field]
+    ensures { field_names (map field result.now) ≡ fields_of (scope_view scope.entry.now) class }
+{
+    match scope.classes.get(class as usize) {
+        Some(class) => class.fields.as_slice(),
+        None => &[],
+    }
+}

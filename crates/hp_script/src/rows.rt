@@ -1,0 +1,102 @@
+//! The rows that have names where an expression stands.
+
+ghost use Rattle.std.specs.Prelude.{◌≡◌, [], map};
+ghost use Rattle.serde_json.specs.View.{view};
+ghost use Rattle.hp_model.specs.Scopes.{query_names, is_known, row_at, new_row_at};
+ghost use Rattle.hp_query.specs.Mapped.{query};
+ghost use Rattle.hp_script.specs.Mapped.{Gives};
+ghost use Rattle.hp_script.specs.Place.{path_to};
+ghost use Rattle.hp_script.specs.Rows.{names_in};
+
+use crate::name::name_at;
+use crate::place::{Place, misnamed};
+use crate::refusal::DecodeError;
+use hp_rule::Query;
+use serde_json::Value;
+use std::alloc::Global;
+
+/// The names of rows.
+#[derive(Clone, Copy)]
+pub(crate) enum Rows<'a> {
+    /// The first rows of these queries' answers.
+    Queries(&'a [Query]),
+    /// Those, and one more.
+    Named(&'a Rows<'a>, &'a str),
+}
+
+impl Rows<'_> {
+    ghost use Rattle.std.specs.Prelude.{◌≡◌, ◌∷◌};
+    ghost use Rattle.hp_script.specs.Rows.{names_in};
+
+    /// These names and one more.
+    pub(crate) fn named<'b>(&'b self, newest: &'b str) -> Rows<'b>
+        ensures { names_in result ≡ newest.entry.now ∷ names_in self.entry.now }
+    {
+        Rows::Named(self, newest)
+    }
+}
+
+/// The names that a body of the script begins with: none.
+pub(crate) fn no_rows<'a>() -> Rows<'a>
+    ensures { names_in result ≡ [] }
+{
+    Rows::Queries(&[])
+}
+
+/// Whether a query has this name.
+pub(crate) fn has_query(queries: &[Query], name: &str) -> bool
+    ensures { result ≡ is_known (query_names (map query queries.now)) name.now }
+{
+    for query in queries {
+        if query.name.as_str() == name {
+            return true;
+        }
+    }
+    false
+}
+
+/// Whether a row has this name.
+fn is_known(rows: &Rows<'_>, name: &str) -> bool
+    ensures { result ≡ is_known (names_in rows.now) name.now }
+{
+    match rows {
+        Rows::Queries(queries) => has_query(queries, name),
+        Rows::Named(outer, newest) => *newest == name || is_known(outer, name),
+    }
+}
+
+/// The name, at a place, of a row that is known.
+#[tactic(auto, unfolding(hp_model::specs::Scopes::row_at))]
+pub(crate) fn row_at<'a>(
+    alloc: Global,
+    place: &Place<'_>,
+    rows: &Rows<'_>,
+    value: &'a Value,
+) -> Result<&'a str, DecodeError>
+    ensures { Gives (λ x. x.now) result (row_at (names_in rows.now) (path_to place.now) (view value.entry.now)) }
+{
+    let name = name_at(alloc, place, value)?;
+    if is_known(rows, name) {
+        Ok(name)
+    } else {
+        Err(misnamed(alloc, place))
+    }
+}
+
+/// The name, at a place, that a row is to have, and none has.
+#[tactic(auto, unfolding(hp_model::specs::Scopes::new_row_at))]
+pub(crate) fn new_row_at<'a>(
+    alloc: Global,
+    place: &Place<'_>,
+    rows: &Rows<'_>,
+    value: &'a Value,
+) -> Result<&'a str, DecodeError>
+    ensures { Gives (λ x. x.now) result (new_row_at (names_in rows.now) (path_to place.now) (view value.entry.now)) }
+{
+    let name = name_at(alloc, place, value)?;
+    if is_known(rows, name) {
+        Err(misnamed(alloc, place))
+    } else {
+        Ok(name)
+    }
+}

@@ -1,0 +1,104 @@
+//! The forms and the names of rules.
+
+ghost use Rattle.std.specs.Prelude.{◌≡◌, ◌≤◌, length, option_map, IfOk};
+ghost use Rattle.serde_json.specs.View.{view};
+ghost use Rattle.hp_model.specs.RuleHeads.{rule_parts_of, rule_head_at, rule_heads_at};
+ghost use Rattle.hp_script.specs.Forms.{parts_view, head_view, heads_view};
+ghost use Rattle.hp_script.specs.Mapped.{Gives};
+ghost use Rattle.hp_script.specs.Place.{path_to};
+
+use crate::known::rule_place;
+use crate::name::name_at;
+use crate::place::{Place, misnamed, misshapen};
+use crate::refusal::{DecodeError, Limit, Refusal};
+use crate::shape::list_of;
+use serde_json::Value;
+use std::alloc::Global;
+
+/// The rules that a script may have.
+const MAX_RULES: usize = 256;
+
+/// The six parts of a rule.
+#[derive(Clone, Copy)]
+pub(crate) struct RuleParts<'a> {
+    pub name: &'a Value,
+    pub event: &'a Value,
+    pub event_coupling: &'a Value,
+    pub condition: &'a Value,
+    pub action_coupling: &'a Value,
+    pub action: &'a Value,
+}
+
+/// A rule's name, with its parts.
+#[derive(Clone, Copy)]
+pub(crate) struct RuleHead<'a> {
+    pub name: &'a str,
+    pub parts: RuleParts<'a>,
+}
+
+fn rule_parts_of(value: &Value) -> Option<RuleParts<'_>>
+    ensures { option_map parts_view result ≡ rule_parts_of (view value.now) }
+{
+    match list_of(value)? {
+        [
+            name,
+            event,
+            event_coupling,
+            condition,
+            action_coupling,
+            action,
+        ] => Some(RuleParts {
+            name,
+            event,
+            event_coupling,
+            condition,
+            action_coupling,
+            action,
+        }),
+        _ => None,
+    }
+}
+
+/// A rule's name, which no rule before has, with the rule's parts.
+#[tactic(auto, unfolding(hp_model::specs::RuleHeads::rule_head_at, hp_model::specs::Parts::new_name_at))]
+fn rule_head_at<'a>(
+    alloc: Global,
+    place: &Place<'_>,
+    before: &[RuleHead<'_>],
+    value: &'a Value,
+) -> Result<RuleHead<'a>, DecodeError>
+    ensures { Gives head_view result (rule_head_at (heads_view before.entry.now) (path_to place.now) (view value.entry.now)) }
+{
+    let Some(parts) = rule_parts_of(value) else {
+        return Err(misshapen(alloc, place));
+    };
+    let name = name_at(alloc, &place.item(0), parts.name)?;
+    if rule_place(before, name).is_some() {
+        return Err(misnamed(alloc, &place.item(0)));
+    }
+    Ok(RuleHead { name, parts })
+}
+
+/// The forms and the names of the rules that stand at a place.
+#[tactic(auto, unfolding(hp_model::specs::RuleHeads::rule_heads_at, hp_model::specs::Parts::short_list_at))]
+pub(crate) fn rule_heads_at<'a>(
+    alloc: Global,
+    place: &Place<'_>,
+    value: &'a Value,
+) -> Result<Vec<RuleHead<'a>>, DecodeError>
+    ensures reads { Gives (λ heads. heads_view heads.items) result (rule_heads_at (path_to place.now) (view value.entry.now)) }
+    ensures few { IfOk result (λ heads. length heads.items ≤ 256) }
+{
+    let Some(values) = list_of(value) else {
+        return Err(misshapen(alloc, place));
+    };
+    if values.len() > MAX_RULES {
+        return Err(DecodeError::Refused(Refusal::S5(Limit::Rules)));
+    }
+    let mut heads = Vec::new(alloc);
+    for (i, value) in values.iter().enumerate() {
+        let head = rule_head_at(alloc, &place.item(i), heads.as_slice(), value)?;
+        heads.push(head)?;
+    }
+    Ok(heads)
+}

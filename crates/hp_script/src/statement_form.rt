@@ -1,0 +1,150 @@
+//! The forms of statements.
+
+ghost use Rattle.std.specs.Prelude.{◌≡◌, map, option_map};
+ghost use Rattle.serde_json.specs.View.{view};
+ghost use Rattle.hp_model.specs.StatementGrammar.{statement_form_of_none, statement_form_of_one, statement_form_of_two, statement_form_of_three, statement_form_of_four, statement_form, is_veto, statement_form_at};
+ghost use Rattle.hp_script.specs.Forms.{scope_view, statement_form_view};
+ghost use Rattle.hp_script.specs.Mapped.{Gives};
+ghost use Rattle.hp_script.specs.Place.{path_to};
+
+use crate::place::{Place, misshapen};
+use crate::refusal::DecodeError;
+use crate::scope::Scope;
+use crate::shape::form_of;
+use hp_rule::RuleOperation;
+use serde_json::Value;
+use std::alloc::Global;
+
+/// A statement whose parts are still JSON.
+#[derive(Clone, Copy)]
+pub(crate) enum StatementForm<'a> {
+    Create(&'a Value, &'a Value, &'a Value),
+    Update(&'a Value, &'a Value, &'a Value),
+    Delete(&'a Value, &'a Value),
+    Signal(&'a Value, &'a Value),
+    Emit(&'a Value),
+    If(&'a Value, &'a Value, &'a Value),
+    Each(&'a Value, &'a Value, &'a Value, &'a Value),
+    For(&'a Value, &'a Value),
+    With(&'a Value, &'a Value, &'a Value, &'a Value),
+    Sub(&'a Value, &'a Value),
+    Abort,
+    Veto,
+    OnRule(RuleOperation, &'a Value),
+    Fire(&'a Value),
+}
+
+fn statement_form_of_none<'a>(word: &str) -> Option<StatementForm<'a>>
+    ensures { option_map statement_form_view result ≡ statement_form_of_none word.now }
+{
+    match word {
+        "abort" => Some(StatementForm::Abort),
+        "veto" => Some(StatementForm::Veto),
+        _ => None,
+    }
+}
+
+fn statement_form_of_one<'a>(word: &str, part: &'a Value) -> Option<StatementForm<'a>>
+    ensures { option_map statement_form_view result ≡ statement_form_of_one word.now (view part.entry.now) }
+{
+    match word {
+        "emit" => Some(StatementForm::Emit(part)),
+        "install" => Some(StatementForm::OnRule(RuleOperation::Install, part)),
+        "enable" => Some(StatementForm::OnRule(RuleOperation::Enable, part)),
+        "disable" => Some(StatementForm::OnRule(RuleOperation::Disable, part)),
+        "remove" => Some(StatementForm::OnRule(RuleOperation::Remove, part)),
+        "fire" => Some(StatementForm::Fire(part)),
+        _ => None,
+    }
+}
+
+fn statement_form_of_two<'a>(
+    word: &str,
+    first: &'a Value,
+    second: &'a Value,
+) -> Option<StatementForm<'a>>
+    ensures { option_map statement_form_view result ≡ statement_form_of_two word.now (view first.entry.now) (view second.entry.now) }
+{
+    match word {
+        "delete" => Some(StatementForm::Delete(first, second)),
+        "signal" => Some(StatementForm::Signal(first, second)),
+        "for" => Some(StatementForm::For(first, second)),
+        "sub" => Some(StatementForm::Sub(first, second)),
+        _ => None,
+    }
+}
+
+fn statement_form_of_three<'a>(
+    word: &str,
+    first: &'a Value,
+    second: &'a Value,
+    third: &'a Value,
+) -> Option<StatementForm<'a>>
+    ensures { option_map statement_form_view result ≡ statement_form_of_three word.now (view first.entry.now) (view second.entry.now) (view third.entry.now) }
+{
+    match word {
+        "create" => Some(StatementForm::Create(first, second, third)),
+        "update" => Some(StatementForm::Update(first, second, third)),
+        "if" => Some(StatementForm::If(first, second, third)),
+        _ => None,
+    }
+}
+
+fn statement_form_of_four<'a>(
+    word: &str,
+    first: &'a Value,
+    second: &'a Value,
+    third: &'a Value,
+    fourth: &'a Value,
+) -> Option<StatementForm<'a>>
+    ensures { option_map statement_form_view result ≡ statement_form_of_four word.now (view first.entry.now) (view second.entry.now) (view third.entry.now) (view fourth.entry.now) }
+{
+    match word {
+        "each" => Some(StatementForm::Each(first, second, third, fourth)),
+        "with" => Some(StatementForm::With(first, second, third, fourth)),
+        _ => None,
+    }
+}
+
+fn statement_form<'a>(word: &str, parts: &'a [Value]) -> Option<StatementForm<'a>>
+    ensures { option_map statement_form_view result ≡ statement_form word.now (map view parts.entry.now) }
+{
+    match parts {
+        [] => statement_form_of_none(word),
+        [part] => statement_form_of_one(word, part),
+        [first, second] => statement_form_of_two(word, first, second),
+        [first, second, third] => statement_form_of_three(word, first, second, third),
+        [first, second, third, fourth] => statement_form_of_four(
+            word, first, second, third, fourth,
+        ),
+        _ => None,
+    }
+}
+
+fn is_veto(form: StatementForm<'_>) -> bool
+    ensures { result ≡ is_veto (statement_form_view form.entry) }
+{
+    matches!(form, StatementForm::Veto)
+}
+
+/// The form of the statement that stands at a place. A veto stands in a rule's action alone.
+#[tactic(auto, unfolding(hp_model::specs::StatementGrammar::statement_form_at))]
+pub(crate) fn statement_form_at<'a>(
+    alloc: Global,
+    place: &Place<'_>,
+    scope: &Scope<'_>,
+    value: &'a Value,
+) -> Result<StatementForm<'a>, DecodeError>
+    ensures { Gives statement_form_view result (statement_form_at (scope_view scope.entry.now) (path_to place.now) (view value.entry.now)) }
+{
+    let Some(form) = form_of(value) else {
+        return Err(misshapen(alloc, place));
+    };
+    let Some(form) = statement_form(form.word, form.parts) else {
+        return Err(misshapen(alloc, place));
+    };
+    if is_veto(form) && !scope.in_action {
+        return Err(misshapen(alloc, place));
+    }
+    Ok(form)
+}

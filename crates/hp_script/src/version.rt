@@ -1,0 +1,65 @@
+//! Versions of the grammar, and the depth limit.
+
+ghost use Rattle.std.specs.Prelude.{option_map};
+ghost use Rattle.serde_json.specs.View.{view};
+ghost use Rattle.hp_model.specs.Decode.{version_at, depth_at, depth_if_any};
+ghost use Rattle.hp_script.specs.Forms.{version_view};
+ghost use Rattle.hp_script.specs.Mapped.{Gives};
+ghost use Rattle.hp_script.specs.Place.{path_to};
+
+use crate::number::integer_at;
+use crate::place::Place;
+use crate::refusal::{DecodeError, Limit, Refusal};
+use serde_json::Value;
+use std::alloc::Global;
+
+/// The depth limit of a script that says none.
+const USUAL_DEPTH: u8 = 8;
+
+/// The versions of the grammar. The second has one coupling more.
+#[derive(Clone, Copy)]
+pub(crate) enum Version {
+    First,
+    Second,
+}
+
+/// The version that stands at a place.
+#[tactic(auto, unfolding(hp_model::specs::Decode::version_at))]
+pub(crate) fn version_at(
+    alloc: Global,
+    place: &Place<'_>,
+    value: &Value,
+) -> Result<Version, DecodeError>
+    ensures { Gives version_view result (version_at (path_to place.now) (view value.now)) }
+{
+    match integer_at(alloc, place, value)? {
+        1 => Ok(Version::First),
+        2 => Ok(Version::Second),
+        _ => Err(DecodeError::Refused(Refusal::S6)),
+    }
+}
+
+#[tactic(auto, unfolding(hp_model::specs::Decode::depth_at))]
+fn depth_at(alloc: Global, place: &Place<'_>, value: &Value) -> Result<u8, DecodeError>
+    ensures { Gives (λ n. n) result (depth_at (path_to place.now) (view value.now)) }
+{
+    let depth = integer_at(alloc, place, value)?;
+    if depth < 1 || 16 < depth {
+        return Err(DecodeError::Refused(Refusal::S5(Limit::Depth)));
+    }
+    Ok(depth as u8)
+}
+
+/// The depth limit that stands at a place, if one stands there.
+pub(crate) fn depth_if_any(
+    alloc: Global,
+    place: &Place<'_>,
+    value: Option<&Value>,
+) -> Result<u8, DecodeError>
+    ensures { Gives (λ n. n) result (depth_if_any (path_to place.now) (option_map (λ v. view v.now) value.entry)) }
+{
+    match value {
+        None => Ok(USUAL_DEPTH),
+        Some(value) => depth_at(alloc, place, value),
+    }
+}

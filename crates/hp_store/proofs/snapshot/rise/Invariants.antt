@@ -1,0 +1,11 @@
+use Rattle.std.proofs.Common.{◌≡◌, ◌<◌}
+use Rattle.std.specs.declared.cmp.Ordering.TheVariants.{Less}
+use Rattle.std.specs.Ordering.{int_cmp}
+use Rattle.std.specs.List.{AllAdjacentBelow}
+use Rattle.hp_store.proofs.snapshot.rise.Given as goal
+
+abbrev pub invariant-loop-i : goal.invariant-loop-i
+invariant-loop-i l = record {
+  first : 0 < l.i;
+  so_far : AllAdjacentBelow (λ x y. int_cmp x y ≡ Less) l.keys l.i;
+}

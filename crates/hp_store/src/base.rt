@@ -1,0 +1,171 @@
+//! The cells beneath all layers.
+
+ghost use Rattle.std.specs.Prelude.{◌≡◌, ◌<◌, ℕ, IfOk, OnOk, OnErr, cond, length};
+ghost use Rattle.std.specs.BTreeMap.{get, keys, is_at, IsUnchanged};
+ghost use Rattle.std.specs.List.Sorted.{IsStrictlySortedBy};
+ghost use Rattle.std.specs.Ordering.{int_cmp};
+ghost use Rattle.hp_store.specs.Tables.{table_at};
+
+use crate::layer::Layer;
+use crate::value::CellValue;
+use hp_value::{Cell, ClassNo, Key, RuleNo};
+use std::alloc::{AllocError, Global};
+use std::collections::BTreeMap;
+
+/// Cells with their values: the statuses of rules and their detectors by the rules, and for each class a table of its
+/// objects by their keys.
+///
+/// So a look-up takes one search among numbers, and the keys of a class are those of its table.
+#[derive(Debug, Drop)]
+pub(crate) struct Base {
+    statuses: BTreeMap<RuleNo, CellValue>,
+    detectors: BTreeMap<RuleNo, CellValue>,
+    classes: Vec<BTreeMap<Key, CellValue>>,
+}
+
+impl Base {
+    ghost use Rattle.std.specs.Prelude.{◌≡◌, [], None, IfOk, OnOk, OnErr, MatchOption, option_map, if◌then◌else◌};
+    ghost use Rattle.hp_store.specs.Tables.{table_at};
+    ghost use Rattle.hp_model.specs.Cells.{Cell as ModelCell, object_cell, AreKeys, over, same_cell};
+    ghost use Rattle.hp_value.specs.Mapped as mapped;
+    ghost use Rattle.hp_store.specs.Changes.{changes};
+    ghost use Rattle.hp_store.specs.Mapped as here;
+    ghost use Rattle.hp_store.specs.Tables.{base_cells};
+
+    /// Empty cells.
+    pub(crate) fn new(alloc: Global) -> Base
+        ensures { (q : ModelCell) → base_cells result q ≡ None }
+    {
+        Base {
+            statuses: BTreeMap::new(alloc),
+            detectors: BTreeMap::new(alloc),
+            classes: Vec::new(alloc),
+        }
+    }
+
+    /// The value of a cell.
+    pub(crate) fn get(&self, cell: Cell) -> Option<&CellValue>
+        ensures { option_map (λ v. here.cell_value v.now) result ≡ base_cells self.now (mapped.cell cell) }
+    {
+        match cell {
+            Cell::Object(class, key) => self.object(class, key),
+            Cell::Rule(rule) => self.statuses.get(&rule),
+            Cell::Detector(rule) => self.detectors.get(&rule),
+        }
+    }
+
+    // The same of an object.
+    fn object(&self, class: ClassNo, key: Key) -> Option<&CellValue>
+        ensures { option_map (λ v. here.cell_value v.now) result ≡ base_cells self.now (object_cell class key) }
+    {
+        match self.classes.get(class as usize) {
+            Some(table) => table.get(&key),
+            None => None,
+        }
+    }
+
+    /// The table of a class's objects, if there is one.
+    pub(crate) fn table(&self, class: ClassNo) -> Option<&BTreeMap<Key, CellValue>>
+        ensures { MatchOption result (table_at self.now.classes.items class ≡ []) (λ table. table.now.entries ≡ table_at self.now.classes.items class) }
+    {
+        match self.classes.get(class as usize) {
+            Some(table) => Some(table),
+            None => None,
+        }
+    }
+
+    /// The keys of a class, in rising order.
+    ///
+    /// An error means that memory ran out.
+    pub(crate) fn keys(&self, alloc: Global, class: ClassNo) -> Result<Vec<Key>, AllocError>
+        ensures { IfOk result (λ keys. AreKeys (base_cells self.now) class keys.items) }
+    {
+        match self.table(class) {
+            Some(table) => {
+                let list = rising(alloc, table)?;
+                Ok(list)
+            }
+            None => Ok(Vec::new(alloc)),
+        }
+    }
+
+    /// Gives a cell a new value, or empties it.
+    ///
+    /// An error means that memory ran out; the cells are then as before. Nothing is asked of memory where the cell has a
+    /// value.
+    pub(crate) fn set(
+        &mut self,
+        alloc: Global,
+        cell: Cell,
+        change: Option<CellValue>,
+    ) -> Result<(), AllocError>
+        ensures ok { OnOk result ((q : ModelCell) → base_cells self.new q ≡ (if same_cell (mapped.cell cell) q then here.change change else base_cells self.old q)) }
+        ensures err { OnErr result ((q : ModelCell) → base_cells self.new q ≡ base_cells self.old q) }
+    {
+        match cell {
+            Cell::Object(class, key) => {
+                make_room(alloc, &mut self.classes, class as usize)?;
+                put(&mut self.classes[class as usize], key, change)?;
+                Ok(())
+            }
+            Cell::Rule(rule) => put(&mut self.statuses, rule, change),
+            Cell::Detector(rule) => put(&mut self.detectors, rule, change),
+        }
+    }
+
+    /// Takes in the changes of a layer. They are shared.
+    ///
+    /// An error means that memory ran out; some of the changes may have been taken in.
+    pub(crate) fn take_in(&mut self, alloc: Global, layer: &Layer) -> Result<(), AllocError>
+        ensures ok { OnOk result ((q : ModelCell) → base_cells self.new q ≡ over (base_cells self.old) (changes layer.now) q) }
+        ensures others { (q : ModelCell) → changes layer.now q ≡ None → base_cells self.new q ≡ base_cells self.old q }
+    {
+        for (cell, change) in layer.iter() {
+            self.set(alloc, *cell, change.clone()?)?;
+        }
+        Ok(())
+    }
+}
+
+// The keys of a table, in rising order.
+fn rising(alloc: Global, table: &BTreeMap<Key, CellValue>) -> Result<Vec<Key>, AllocError>
+    ensures rise { IfOk result (λ list. IsStrictlySortedBy int_cmp list.items) }
+    ensures all { IfOk result (λ list. list.items ≡ keys table.now) }
+{
+    table.keys().copied().collect(alloc)
+}
+
+// Tables up to a place; those that are added are empty.
+fn make_room(
+    alloc: Global,
+    tables: &mut Vec<BTreeMap<Key, CellValue>>,
+    place: usize,
+) -> Result<(), AllocError>
+    ensures room { OnOk result (place < length tables.new.items) }
+    ensures same { (i : ℕ) → table_at tables.new.items i ≡ table_at tables.old.items i }
+{
+    while tables.len() <= place {
+        tables.push(BTreeMap::new(alloc))?;
+    }
+    Ok(())
+}
+
+// Gives a key a new value, or takes it out.
+fn put<K: Ord + Drop>(
+    table: &mut BTreeMap<K, CellValue>,
+    key: K,
+    change: Option<CellValue>,
+) -> Result<(), AllocError>
+    ensures ok { OnOk result ((q : K) → get K.cmp table.new q ≡ cond (is_at (K.cmp key) q) change (get K.cmp table.old q)) }
+    ensures err { OnErr result (IsUnchanged table.old table.new) }
+{
+    match change {
+        Some(value) => {
+            table.insert(key, value)?;
+        }
+        None => {
+            table.remove(&key);
+        }
+    }
+    Ok(())
+}

@@ -1,0 +1,227 @@
+//! Layers of changes.
+
+ghost use Rattle.std.specs.Prelude.{◌≡◌};
+ghost use Rattle.std.specs.List.Sorted.{IsStrictlySortedBy};
+ghost use Rattle.std.specs.Ordering.{int_cmp};
+ghost use Rattle.hp_store.specs.Keys.{below, above};
+
+use crate::value::CellValue;
+use hp_value::{Cell, ClassNo, Key};
+use std::alloc::{AllocError, Global};
+use std::collections::BTreeMap;
+use std::collections::btree_map::{Iter, Range};
+use std::marker::Model;
+
+/// Changes of cells: for each cell that it names a new value, or none where the cell is emptied.
+#[derive(Debug, Drop)]
+pub struct Layer {
+    changes: BTreeMap<Cell, Option<CellValue>>,
+}
+
+impl Model for Layer {
+    ghost use Rattle.hp_store.specs.Changes.{Entries};
+    ghost use Rattle.hp_store.specs.Codes.{entries_code};
+
+    ghost Value = { Entries };
+
+    ghost coded = { entries_code };
+
+    ghost use Rattle.std.specs.Prelude.{map};
+    ghost use Rattle.hp_store.specs.Changes.{KeysFit};
+    ghost use Rattle.hp_store.specs.Mapped.{entry};
+
+    ghost view = { λ l. map entry l.changes.entries };
+
+    ghost invariant = { λ l. KeysFit (map entry l.changes.entries) };
+}
+
+impl Layer {
+    ghost use Rattle.std.specs.Prelude.{◌≡◌, ◌↔◌, ◌==◌, [], Some, None, IsTrue, IsSome, IsOk, IfOk, OnOk, OnErr, map, option_map, length};
+    ghost use Rattle.std.specs.Option.{option_or};
+    ghost use Rattle.hp_model.specs.Cells.{Cell as ModelCell, object_cell, with_change};
+    ghost use Rattle.hp_value.specs.Mapped as mapped;
+    ghost use Rattle.hp_store.specs.Changes.{changes, IsEachOnce, cell_fits};
+    ghost use Rattle.hp_store.specs.Mapped as here;
+
+    /// A layer that changes nothing.
+    pub fn new(alloc: Global) -> Layer
+        ensures { result ≡ [] }
+    {
+        Layer {
+            changes: BTreeMap::new(alloc),
+        }
+    }
+
+    /// How many cells the layer names.
+    pub fn len(&self) -> usize
+        ensures { result ≡ length self.now }
+    {
+        self.changes.len()
+    }
+
+    /// Whether the layer changes nothing.
+    pub fn is_empty(&self) -> bool
+        ensures { IsTrue result ↔ (self.now ≡ []) }
+    {
+        self.changes.is_empty()
+    }
+
+    /// What the layer makes of a cell, if it names it: its new value, or none where it is emptied.
+    pub fn get(&self, cell: Cell) -> Option<&Option<CellValue>>
+        ensures { option_map (λ c. here.change c.now) result ≡ changes self.now (mapped.cell cell) }
+    {
+        self.changes.get(&cell)
+    }
+
+    /// The cells that the layer names, in their order, with what it makes of them.
+    pub fn iter(&self) -> Iter<'_, Cell, Option<CellValue>>
+        ensures entries { map here.entry result ≡ self.now }
+        ensures once { IsEachOnce self.now }
+    {
+        self.changes.iter()
+    }
+
+    /// Names a cell: gives it a new value, or empties it. The answer is what the layer made of the cell before, if it named it.
+    ///
+    /// An error means that memory ran out; the layer is then as before. A cell that the layer names already takes no memory.
+    pub fn insert(
+        &mut self,
+        cell: Cell,
+        change: Option<CellValue>,
+    ) -> Result<Option<Option<CellValue>>, AllocError>
+        ensures ok { OnOk result (changes self.new ≡ with_change (changes self.old) (mapped.cell cell) (Some (here.change change))) }
+        ensures old { IfOk result (λ old. option_map here.change old ≡ changes self.old (mapped.cell cell)) }
+        ensures covered { IsSome (changes self.old (mapped.cell cell)) → IsOk result }
+        ensures err { OnErr result (self.new ≡ self.old) }
+    {
+        match cell {
+            Cell::Object(class, key) => self.insert_object(class, key, change),
+            _ => self.put(cell, change),
+        }
+    }
+
+    // The same for the cell of an object.
+    fn insert_object(
+        &mut self,
+        class: ClassNo,
+        key: Key,
+        change: Option<CellValue>,
+    ) -> Result<Option<Option<CellValue>>, AllocError>
+        ensures ok { OnOk result (changes self.new ≡ with_change (changes self.old) (object_cell class key) (Some (here.change change))) }
+        ensures old { IfOk result (λ old. option_map here.change old ≡ changes self.old (object_cell class key)) }
+        ensures covered { IsSome (changes self.old (object_cell class key)) → IsOk result }
+        ensures err { OnErr result (self.new ≡ self.old) }
+    {
+        self.put(Cell::Object(class, key), change)
+    }
+
+    fn put(
+        &mut self,
+        cell: Cell,
+        change: Option<CellValue>,
+    ) -> Result<Option<Option<CellValue>>, AllocError>
+        requires { IsTrue (cell_fits (mapped.cell cell)) }
+        ensures ok { OnOk result (changes self.new ≡ with_change (changes self.old) (mapped.cell cell) (Some (here.change change))) }
+        ensures old { IfOk result (λ old. option_map here.change old ≡ changes self.old (mapped.cell cell)) }
+        ensures covered { IsSome (changes self.old (mapped.cell cell)) → IsOk result }
+        ensures err { OnErr result (self.new ≡ self.old) }
+    {
+        Ok(self.changes.insert(cell, change)?)
+    }
+
+    /// Names a cell no longer. The answer is what the layer made of it before, if it named it.
+    pub fn remove(&mut self, cell: Cell) -> Option<Option<CellValue>>
+        ensures changes { changes self.new ≡ with_change (changes self.old) (mapped.cell cell) None }
+        ensures old { option_map here.change result ≡ changes self.old (mapped.cell cell) }
+    {
+        self.changes.remove(&cell)
+    }
+
+    /// Takes in the changes of a layer over this one. They are shared, and hold where both layers name a cell.
+    ///
+    /// An error means that memory ran out; some of the upper layer's changes may have been taken in.
+    pub fn take_in(&mut self, upper: &Layer) -> Result<(), AllocError>
+        ensures { OnOk result ((q : ModelCell) → changes self.new q ≡ option_or (changes upper.now q) (changes self.old q)) }
+    {
+        for (cell, change) in upper.iter() {
+            self.insert(*cell, change.clone()?)?;
+        }
+        Ok(())
+    }
+}
+
+impl Layer {
+    ghost use Rattle.std.specs.Prelude.{◌≡◌, IfOk, map};
+    ghost use Rattle.std.specs.List.Sorted.{IsStrictlySortedBy};
+    ghost use Rattle.std.specs.Ordering.{int_cmp};
+    ghost use Rattle.hp_model.specs.Cells.{Cells, AreKeys, over};
+    ghost use Rattle.hp_store.specs.Changes.{changes, class_entries, KeysFit};
+    ghost use Rattle.hp_store.specs.Keys.{KeysRise};
+    ghost use Rattle.hp_store.specs.Mapped.{entry};
+
+    // The changes of a class's objects, by their keys.
+    pub(crate) fn of_class(&self, class: ClassNo) -> Range<'_, Cell, Option<CellValue>>
+        ensures entries { map entry result ≡ class_entries class self.now }
+        ensures rise { KeysRise (class_entries class self.now) }
+        ensures fit { KeysFit (class_entries class self.now) }
+    {
+        self.changes.range(Cell::Object(class, Key::MIN)..=Cell::Object(class, Key::MAX))
+    }
+
+    /// The keys of a class's objects after the layer's changes, from the keys before them. Both rise.
+    ///
+    /// The time goes with the class's keys and the changes of its objects; the layer's other cells aren't looked at. An
+    /// error means that memory ran out.
+    pub fn keys_over(
+        &self,
+        alloc: Global,
+        class: ClassNo,
+        keys: Vec<Key>,
+    ) -> Result<Vec<Key>, AllocError>
+        requires { IsStrictlySortedBy int_cmp keys.items }
+        ensures { IfOk result (λ merged. (base : Cells) → AreKeys base class keys.items → AreKeys (over base (changes self.now)) class merged.items) }
+    {
+        if self.of_class(class).next().is_none() {
+            return Ok(keys);
+        }
+        let mut merged = Vec::with_capacity(alloc, keys.len())?;
+        let mut rest = keys.as_slice();
+        for (cell, change) in self.of_class(class) {
+            if let Cell::Object(_, key) = *cell {
+                let (below, above) = around(rest, key);
+                merged.extend_from_slice(below)?;
+                if change.is_some() {
+                    merged.push(key)?;
+                }
+                rest = above;
+            }
+        }
+        merged.extend_from_slice(rest)?;
+        Ok(merged)
+    }
+}
+
+// The keys below a key and those above it.
+fn around(keys: &[Key], key: Key) -> (&[Key], &[Key])
+    requires { IsStrictlySortedBy int_cmp keys.now }
+    ensures below { result.0.now ≡ below key keys.now }
+    ensures above { result.1.now ≡ above key keys.now }
+{
+    match keys.binary_search(&key) {
+        Ok(at) => (&keys[..at], &keys[at + 1..]),
+        Err(at) => (&keys[..at], &keys[at..]),
+    }
+}
+
+impl Clone for Layer {
+    ghost use Rattle.std.specs.Prelude.{◌≡◌};
+
+    ghost is_clone = { λ l m. m ≡ l };
+
+    /// The same layer once more, which shares its values.
+    fn clone(&self) -> Result<Layer, AllocError> {
+        Ok(Layer {
+            changes: self.changes.clone()?,
+        })
+    }
+}

@@ -1,0 +1,145 @@
+//! Lists of shared layers.
+
+ghost use Rattle.std.specs.Prelude.{◌≡◌, ◌≤◌, ◌<◌, ◌++◌, ◌∷◌, [], length, IfOk, IfSome, OnOk, None, option_map, MatchOption};
+ghost use Rattle.std.specs.Option.{option_or};
+ghost use Rattle.hp_model.specs.Cells.{Cell as ModelCell};
+ghost use Rattle.hp_value.specs.Mapped as mapped;
+ghost use Rattle.hp_store.specs.Changes.{changes, changes_in};
+ghost use Rattle.hp_store.specs.Mapped as here;
+
+use crate::layer::Layer;
+use crate::value::CellValue;
+use hp_value::Cell;
+use smallvec::SmallVec;
+use std::alloc::{AllocError, Global};
+use std::marker::Model;
+use std::sync::Arc;
+
+/// How many layers a snapshot has at most.
+pub(crate) const MOST_LAYERS: usize = 8;
+
+/// A layer that several snapshots share; by default one that changes nothing.
+#[derive(Debug, Default, Drop)]
+pub(crate) struct SharedLayer {
+    layer: Option<Arc<Layer>>,
+}
+
+/// Layers over a base, the newest last. Eight of them lie in the value itself.
+pub(crate) type Layers = SmallVec<SharedLayer, 8>;
+
+impl Model for SharedLayer {
+    ghost use Rattle.hp_store.specs.Changes.{Entries};
+    ghost use Rattle.hp_store.specs.Codes.{entries_code};
+
+    ghost Value = { Entries };
+
+    ghost coded = { entries_code };
+
+    ghost use Rattle.hp_store.specs.Stack.{shared_entries};
+
+    ghost view = { λ s. shared_entries s.layer };
+}
+
+impl SharedLayer {
+    /// The layer, unless it changes nothing.
+    pub(crate) fn layer(&self) -> Option<&Layer>
+        ensures { MatchOption result (self.now ≡ []) (λ layer. layer.now ≡ self.now) }
+    {
+        match &self.layer {
+            Some(layer) => Some(layer),
+            None => None,
+        }
+    }
+}
+
+impl Clone for SharedLayer {
+    ghost is_clone = { λ s t. t ≡ s };
+
+    fn clone(&self) -> Result<SharedLayer, AllocError> {
+        let layer = match &self.layer {
+            Some(layer) => Some(Arc::try_clone(layer)?),
+            None => None,
+        };
+        Ok(SharedLayer { layer })
+    }
+}
+
+/// What the newest layer that names a cell makes of it.
+pub(crate) fn newest(layers: &[SharedLayer], cell: Cell) -> Option<&Option<CellValue>>
+    ensures { option_map (λ c. here.change c.now) result ≡ changes_in layers.now (mapped.cell cell) }
+{
+    let mut rest = layers;
+    while let Some((last, others)) = rest.split_last() {
+        if let Some(layer) = last.layer() {
+            if let Some(change) = layer.get(cell) {
+                return Some(change);
+            }
+        }
+        rest = others;
+    }
+    None
+}
+
+/// The same layers once more.
+///
+/// An error means that memory ran out.
+pub(crate) fn copied(alloc: Global, layers: &[SharedLayer]) -> Result<Layers, AllocError>
+    ensures { IfOk result (λ copies. copies.items ≡ layers.now) }
+{
+    let mut copies = SmallVec::new(alloc);
+    for shared in layers {
+        copies.push(shared.clone()?)?;
+    }
+    Ok(copies)
+}
+
+/// The layers with one more over them. One that changes nothing is left out, and a ninth is folded with the others into one.
+///
+/// An error means that memory ran out.
+pub(crate) fn piled(
+    alloc: Global,
+    layers: &[SharedLayer],
+    layer: Arc<Layer>,
+) -> Result<Layers, AllocError>
+    requires { length layers.now ≤ MOST_LAYERS }
+    ensures changes { IfOk result (λ pile. (q : ModelCell) → changes_in pile.items q ≡ option_or (changes layer.value q) (changes_in layers.now q)) }
+    ensures most { IfOk result (λ pile. length pile.items ≤ MOST_LAYERS) }
+{
+    if layer.is_empty() {
+        let pile = copied(alloc, layers)?;
+        return Ok(pile);
+    }
+    if layers.len() == MOST_LAYERS {
+        let mut all = folded(alloc, layers)?;
+        all.take_in(&layer)?;
+        let one = alone(alloc, all)?;
+        return Ok(one);
+    }
+    let mut pile = copied(alloc, layers)?;
+    pile.push(SharedLayer { layer: Some(layer) })?;
+    Ok(pile)
+}
+
+// A list of this one layer.
+fn alone(alloc: Global, layer: Layer) -> Result<Layers, AllocError>
+    ensures { IfOk result (λ pile. pile.items ≡ layer ∷ []) }
+{
+    let mut pile = SmallVec::new(alloc);
+    pile.push(SharedLayer {
+        layer: Some(Arc::new(alloc, layer)?),
+    })?;
+    Ok(pile)
+}
+
+// One layer in place of several.
+fn folded(alloc: Global, layers: &[SharedLayer]) -> Result<Layer, AllocError>
+    ensures { IfOk result (λ all. (q : ModelCell) → changes all q ≡ changes_in layers.now q) }
+{
+    let mut all = Layer::new(alloc);
+    for shared in layers {
+        if let Some(layer) = shared.layer() {
+            all.take_in(layer)?;
+        }
+    }
+    Ok(all)
+}

@@ -1,0 +1,83 @@
+//! The committed store.
+
+use crate::layer::Layer;
+use crate::snapshot::Snapshot;
+use crate::value::CellValue;
+use hp_value::{Cell, ClassNo, Key};
+use std::alloc::{AllocError, Global};
+use std::marker::Model;
+use std::sync::Arc;
+
+/// The cells of the committed state.
+///
+/// To a clause it is what a snapshot of it is.
+#[derive(Debug, Drop)]
+pub struct Store {
+    state: Snapshot,
+}
+
+impl Model for Store {
+    ghost use Rattle.hp_store.specs.Stack.{Stack, stack_code};
+
+    ghost Value = { Stack };
+
+    ghost coded = { stack_code };
+
+    ghost view = { λ s. s.state };
+}
+
+impl Store {
+    ghost use Rattle.std.specs.Prelude.{◌≡◌, None, IfOk, OnOk, OnErr, option_map};
+    ghost use Rattle.hp_model.specs.Cells.{Cell as ModelCell, AreKeys, over};
+    ghost use Rattle.hp_value.specs.Mapped as mapped;
+    ghost use Rattle.hp_store.specs.Changes.{changes};
+    ghost use Rattle.hp_store.specs.Mapped as here;
+    ghost use Rattle.hp_store.specs.Stack.{cells_in};
+
+    /// A store in which each cell is empty.
+    ///
+    /// An error means that memory ran out.
+    pub fn empty(alloc: Global) -> Result<Store, AllocError>
+        ensures { IfOk result (λ s. (q : ModelCell) → cells_in s q ≡ None) }
+    {
+        Ok(Store {
+            state: Snapshot::empty(alloc)?,
+        })
+    }
+
+    /// The cells as they are now. What is applied later doesn't change the snapshot; no cell is copied.
+    ///
+    /// An error means that std refused a copy of an `Arc`.
+    pub fn snapshot(&self) -> Result<Snapshot, AllocError>
+        ensures { IfOk result (λ s. s ≡ self.now) }
+    {
+        self.state.clone()
+    }
+
+    /// The value of a cell, or none where the cell is empty. Nothing is copied.
+    pub fn get(&self, cell: Cell) -> Option<&CellValue>
+        ensures { option_map (λ v. here.cell_value v.now) result ≡ cells_in self.now (mapped.cell cell) }
+    {
+        self.state.get(cell)
+    }
+
+    /// The keys of a class's objects, in rising order.
+    ///
+    /// An error means that memory ran out.
+    pub fn keys(&self, alloc: Global, class: ClassNo) -> Result<Vec<Key>, AllocError>
+        ensures { IfOk result (λ keys. AreKeys (cells_in self.now) class keys.items) }
+    {
+        self.state.keys(alloc, class)
+    }
+
+    /// Overwrites the cells by a layer. Where no snapshot of the store is left, the changes go into the cells in place, and
+    /// cost no more than what they change.
+    ///
+    /// An error means that memory ran out; the store is then as before. A layer that changes nothing costs nothing.
+    pub fn apply(&mut self, alloc: Global, layer: Arc<Layer>) -> Result<(), AllocError>
+        ensures ok { OnOk result (cells_in self.new ≡ over (cells_in self.old) (changes layer.value)) }
+        ensures err { OnErr result (self.new ≡ self.old) }
+    {
+        self.state.take_in(alloc, layer)
+    }
+}

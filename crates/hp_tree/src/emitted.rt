@@ -1,0 +1,49 @@
+//! The values that a tree emitted.
+
+ghost use Rattle.std.specs.Prelude.{◌≡◌, ◌++◌, IfOk, OnOk};
+ghost use Rattle.hp_model.specs.Tree.{emits, no_items};
+ghost use Rattle.hp_tree.specs.Mapped.{before, items_in, values_behind};
+
+use crate::node::{Ending, Item};
+use hp_value::Value;
+use std::alloc::{AllocError, Global};
+
+/// The values emitted in those nodes of a tree that committed together with all nodes round them, in tree order.
+///
+/// What stands in no node counts as committed: an aborted top-level transaction has emitted nothing. An error means that
+/// memory ran out.
+pub fn emits<'a>(alloc: Global, tree: &'a [Item]) -> Result<Vec<&'a Value>, AllocError>
+    ensures { IfOk result (λ vs. values_behind vs.items ≡ emits (items_in tree.now)) }
+{
+    let mut values = Vec::new(alloc);
+    add_emits(tree, &mut values)?;
+    Ok(values)
+}
+
+/// Adds the values that items emitted.
+#[cycle(emits)]
+fn add_emits<'a>(items: &'a [Item], values: &mut Vec<&'a Value>) -> Result<(), AllocError>
+    ensures { OnOk result (values_behind values.new.items ≡ values_behind values.old.items ++ emits (items_in items.now)) }
+{
+    for item in items {
+        add_emit(item, values)?;
+    }
+    Ok(())
+}
+
+/// Adds the values that one item emitted.
+#[cycle(emits)]
+fn add_emit<'a>(item: &'a Item, values: &mut Vec<&'a Value>) -> Result<(), AllocError>
+    ensures { OnOk result (values_behind values.new.items ≡ values_behind values.old.items ++ emits (before item.now no_items)) }
+{
+    match item {
+        Item::Operation(_) => {}
+        Item::Emit(value) => values.push(value)?,
+        Item::Node(node) => {
+            if let Ending::Committed = node.end {
+                add_emits(&node.items, values)?;
+            }
+        }
+    }
+    Ok(())
+}

@@ -1,0 +1,5 @@
+mod Reading
+mod Noting
+mod Undoing
+mod Looking
+pub mod Views

@@ -1,0 +1,29 @@
+-- What a view shows to a query.
+use Rattle.std.proofs.Common.{◌≡◌, refl, sym, ap, ◌∙◌, ℕ, ℤ, List, Option, Some, None, is_some}
+use Rattle.std.specs.Prelude.{option_map}
+use Rattle.hp_model.specs.Values.{Row}
+use Rattle.hp_model.specs.State.{Objects, find_object}
+use Rattle.hp_model.specs.Cells.{object_cell, CellValue, row_value, over, AreKeys}
+use Rattle.hp_model.proofs.BridgesReads.{row_at}
+use Rattle.hp_model.proofs.BridgesKeys.{ObjectsRise, class_keys, keys_are_class_keys}
+use Rattle.hp_view.specs.Seeing.{Seeing, written, Shows, ShowsKeys}
+use Rattle.hp_view.specs.Looks.{Allows}
+
+row_back : (o : Option Row) → row_at (option_map row_value o) ≡ o
+row_back None = refl
+row_back (Some row) = refl
+
+some_row : (o : Option Row) → is_some (option_map row_value o) ≡ is_some o
+some_row None = refl
+some_row (Some row) = refl
+
+-- the row of an object that was read is the one in each world
+pub row_shown : {v : Seeing} {class : ℕ} {key : ℤ} {value : Option CellValue} → Shows v (object_cell class key) value → (world : Objects) → Allows v world → row_at value ≡ find_object world class key
+row_shown {v} {class} {key} {value} shows world allowed =
+    ap row_at (sym (shows.everywhere allowed.base allowed.held) ∙ allowed.objects class key) ∙ row_back (find_object world class key)
+
+-- the keys of a class that were read are those in each world
+pub keys_shown : {v : Seeing} {class : ℕ} {keys : List ℤ} → ShowsKeys v class keys → (world : Objects) → ObjectsRise world → Allows v world → keys ≡ class_keys class world
+keys_shown {v} {class} {keys} shows world rise allowed =
+    let are : AreKeys (over allowed.base (written v)) class keys = shows.everywhere allowed.base allowed.held in
+    keys_are_class_keys class world keys rise are.rise (λ key. are.has key ∙ ap is_some (allowed.objects class key) ∙ some_row (find_object world class key))

@@ -1,0 +1,74 @@
+-- Recorded reads, found by what was looked at.
+use Rattle.std.proofs.Common.{◌≡◌, refl, sym, ap, ◌∙◌, subst, ℕ, Bool, true, false, ◌||◌, ◌==◌, cond, List, [], ◌∷◌, map, Option, Some, None, is_some}
+use Rattle.std.specs.List.{list_any}
+use Rattle.std.specs.Map.{lookup}
+use Rattle.std.specs.Option.{option_copied}
+use Rattle.std.specs.Borrow.{Bor}
+use Rattle.std.proofs.lemmas.Bool.Decides.{Decides-eqb}
+use Rattle.hp_model.specs.Cells.{Cells, Read, AllTold, AreKeys}
+use Rattle.hp_value.specs.declared.cell.Cell.TheVariants.{Object, Rule, Detector}
+use Rattle.hp_value.specs.Mapped.{cell}
+use Rattle.hp_view.specs.declared.reads.Seen.{Seen}
+use Rattle.hp_view.specs.declared.reads.Seen.TheVariants.{Cell as OfCell, Keys as OfKeys}
+use Rattle.hp_view.specs.declared.reads.Found.{Found}
+use Rattle.hp_view.specs.contracts.reads.SeenPartialEq.TheImpl as seeing
+use Rattle.hp_view.specs.Mapped.{read, keys_found}
+use Rattle.hp_view.specs.Seeing.{reads_cell, reads_keys, was_read}
+
+-- a read of what was looked at
+abbrev pub is_read_of : Seen → Read → Bool
+is_read_of (OfCell q) = reads_cell (cell q)
+is_read_of (OfKeys class) = reads_keys class
+
+told_apart : (s : Seen) (e : Seen × Found) → seeing.ghosts.eq s e.0 ≡ is_read_of s (read e)
+told_apart (OfCell (Object c k)) (OfCell (Object d l), found) = refl
+told_apart (OfCell (Object c k)) (OfCell (Rule n), found) = refl
+told_apart (OfCell (Object c k)) (OfCell (Detector n), found) = refl
+told_apart (OfCell (Rule m)) (OfCell (Object d l), found) = refl
+told_apart (OfCell (Rule m)) (OfCell (Rule n), found) = refl
+told_apart (OfCell (Rule m)) (OfCell (Detector n), found) = refl
+told_apart (OfCell (Detector m)) (OfCell (Object d l), found) = refl
+told_apart (OfCell (Detector m)) (OfCell (Rule n), found) = refl
+told_apart (OfCell (Detector m)) (OfCell (Detector n), found) = refl
+told_apart (OfCell q) (OfKeys class, found) = refl
+told_apart (OfKeys class) (OfCell q, found) = refl
+told_apart (OfKeys class) (OfKeys n, found) = refl
+
+some_or : (b : Bool) (found : Found) (rest : Option Found) → is_some (cond b (Some found) rest) ≡ (b || is_some rest)
+some_or true found rest = refl
+some_or false found rest = refl
+
+-- something is recorded where it was read
+pub recorded : (s : Seen) (es : List (Seen × Found)) → is_some (lookup (seeing.ghosts.eq s) es) ≡ list_any (is_read_of s) (map read es)
+recorded s [] = refl
+recorded s (e ∷ es) =
+    some_or (seeing.ghosts.eq s e.0) e.1 (lookup (seeing.ghosts.eq s) es)
+    ∙ (λ i. told_apart s e i || recorded s es i)
+
+-- the keys that are recorded for a class are told
+pub told_keys : (class : ℕ) (found : Found) (base : Cells) (es : List (Seen × Found)) → lookup (seeing.ghosts.eq (OfKeys class)) es ≡ Some found → AllTold base (map read es) → AreKeys base class (keys_found found)
+told_keys class found base [] h told = cc
+told_keys class found base ((OfCell q, other) ∷ es) h told = told_keys class found base es h told.1
+told_keys class found base ((OfKeys n, other) ∷ es) h told = by (class == n) refl h (λ g. told_keys class found base es g told.1)
+  where
+    by : (b : Bool) → (class == n) ≡ b → cond b (Some other) (lookup (seeing.ghosts.eq (OfKeys class)) es) ≡ Some found → (lookup (seeing.ghosts.eq (OfKeys class)) es ≡ Some found → AreKeys base class (keys_found found)) → AreKeys base class (keys_found found)
+    by true e h rest =
+        let same : other ≡ found = cc in
+        subst (λ f. AreKeys base class (keys_found f)) same (subst (λ k. AreKeys base k (keys_found other)) (sym ((Decides-eqb class n).0 e)) told.0)
+    by false e h rest = rest h
+
+-- the same of a read, as `noted` asks
+pub was_recorded : (s : Seen) (found : Found) (es : List (Seen × Found)) → is_some (lookup (seeing.ghosts.eq s) es) ≡ was_read (map read es) (read (s, found))
+was_recorded (OfCell q) found es = recorded (OfCell q) es
+was_recorded (OfKeys class) found es = recorded (OfKeys class) es
+
+pub none_there : {A : Type 0} (o : Option A) → is_some o ≡ false → o ≡ None
+none_there None h = refl
+none_there (Some a) h = cc
+
+-- what a look-up gave, read through its reference
+pub seen_same : {A : Type 0} {r : Option (Bor A)} {b : Bor A} {found : Option A} → r ≡ Some b → option_copied r ≡ found → found ≡ Some b.now
+seen_same is copied = sym copied ∙ ap option_copied is
+
+pub seen_none : {A : Type 0} {r : Option (Bor A)} {found : Option A} → r ≡ None → option_copied r ≡ found → found ≡ None
+seen_none is copied = sym copied ∙ ap option_copied is

@@ -1,0 +1,24 @@
+-- Views that go on, for the layers above.
+use Rattle.std.proofs.Common.{refl, sym, ap, ◌∙◌, subst, ◌≤◌, [], ◌++◌, append-nil, append_assoc, length, arith}
+use Rattle.hp_model.specs.Cells.{Cells, Holds}
+use Rattle.hp_model.proofs.BridgesCells.{Holds-front}
+use Rattle.hp_view.specs.Seeing.{Seeing, GoesOn}
+
+-- a view goes on from itself
+pub GoesOn-same : (v : Seeing) → GoesOn v v
+GoesOn-same v = record { base = refl; reads = ([], sym (append-nil v.reads)); undo = omega arith; before = λ n within. refl }
+
+-- and from one from which another goes on that it goes on from
+pub GoesOn-then : {first second third : Seeing} → GoesOn first second → GoesOn second third → GoesOn first third
+GoesOn-then {first} {second} {third} one two = record {
+  base = two.base ∙ one.base;
+  reads = (one.reads.0 ++ two.reads.0, two.reads.1 ∙ ap (λ rs. rs ++ two.reads.0) one.reads.1 ∙ append_assoc first.reads one.reads.0 two.reads.0);
+  undo = omega arith;
+  before = λ n within.
+      let further : n ≤ length second.undo = omega arith in
+      two.before n further ∙ one.before n within;
+}
+
+-- where the reads hold, those before hold
+pub held_before : {old new : Seeing} → GoesOn old new → (base : Cells) → Holds base new.reads → Holds base old.reads
+held_before {old} {new} on base held = Holds-front base old.reads on.reads.0 (subst (Holds base) on.reads.1 held)

@@ -1,0 +1,4 @@
+pub mod Codes
+pub mod Looks
+pub mod Mapped
+pub mod Seeing

@@ -1,0 +1,163 @@
+-- What a view is to a contract.
+use Rattle.std.specs.Prelude.{◌≡◌, ℕ, ℤ, ◌≤◌, ◌==◌, length, Bool, true, false, List, [], ◌∷◌, ◌++◌, Option, Some, None, IsSome, drop, take, if◌then◌else◌}
+use Rattle.std.specs.List.{list_any}
+use Rattle.hp_model.specs.Cells.{Cell, CellValue, Cells, Changes, over, same_cell, with_change, Read, cell_read, keys_read, Holds, AreKeys}
+use Rattle.hp_model.proofs.BridgesCells.{stacked}
+use Rattle.hp_store.specs.Changes.{Entries, changes}
+use Rattle.hp_store.specs.Stack.{Stack, cells_in}
+
+-- cells that were written, each with what the layer made of it before
+abbrev pub Undo : Type 0
+Undo = List (Cell × Option (Option CellValue))
+
+-- a snapshot, the reads of it, the writes over it, and what each write replaced, the newest last
+pub record Seeing : Type 0 where
+  pub base : Stack
+  pub reads : List Read
+  pub writes : Entries
+  pub undo : Undo
+
+-- the cells of the snapshot
+abbrev pub beneath : Seeing → Cells
+beneath v = cells_in v.base
+
+-- the layer of the view's writes
+abbrev pub written : Seeing → Changes
+written v = changes v.writes
+
+-- the cells of the view
+abbrev pub now_in : Seeing → Cells
+now_in v = over (beneath v) (written v)
+
+-- ---- writes that can be taken back
+
+-- a layer before some writes, which replaced these
+abbrev pub undone : Undo → Changes → Changes
+undone [] layer = layer
+undone (u ∷ us) layer = with_change (undone us layer) u.0 u.1
+
+-- the layer of the view's writes when there were n of them
+abbrev pub rewound : Seeing → ℕ → Changes
+rewound v n = undone (drop n v.undo) (written v)
+
+-- each write that can be taken back covers its cell, once those after it are taken back
+abbrev pub AreCovered : Undo → Changes → Type 0
+AreCovered [] layer = Unit {0}
+AreCovered (u ∷ us) layer = IsSome (undone us layer u.0) × AreCovered us layer
+
+-- from a later layer, with what its writes replaced, an earlier one can be gone back to
+pub record CanGoBack (before : Undo) (earlier : Changes) (after : Undo) (later : Changes) : Type 0 where
+  pub covered : AreCovered after later
+  pub writes : (more : Undo) × (after ≡ before ++ more) × (undone more later ≡ earlier)
+
+-- ---- reads
+
+-- a read of this cell, and one of this class's keys
+abbrev pub reads_cell : Cell → Read → Bool
+reads_cell cell (cell_read q value) = same_cell cell q
+reads_cell cell (keys_read class keys) = false
+
+abbrev pub reads_keys : ℕ → Read → Bool
+reads_keys class (cell_read q value) = false
+reads_keys class (keys_read n keys) = class == n
+
+-- whether they were read before
+abbrev pub cell_was_read : List Read → Cell → Bool
+cell_was_read reads cell = list_any (reads_cell cell) reads
+
+abbrev pub keys_were_read : List Read → ℕ → Bool
+keys_were_read reads class = list_any (reads_keys class) reads
+
+abbrev pub was_read : List Read → Read → Bool
+was_read reads (cell_read cell value) = cell_was_read reads cell
+was_read reads (keys_read class keys) = keys_were_read reads class
+
+-- the reads, and this one if it is the first of its kind
+abbrev pub noted : List Read → Read → List Read
+noted reads read = if was_read reads read then reads else reads ++ read ∷ []
+
+-- the reads after one of a cell, which is none where the view's own writes cover the cell
+abbrev pub noted_unless : Option (Option CellValue) → List Read → Read → List Read
+noted_unless None reads read = noted reads read
+noted_unless (Some change) reads read = reads
+
+abbrev pub read_cell : Seeing → Cell → List Read
+read_cell v cell = noted_unless (written v cell) v.reads (cell_read cell (beneath v cell))
+
+-- ---- what a view keeps
+
+-- its reads are what the snapshot holds, and its writes can be taken back
+pub record IsKept (base : Stack) (reads : List Read) (writes : Entries) (undo : Undo) : Type 0 where
+  pub held : Holds (cells_in base) reads
+  pub covered : AreCovered undo (changes writes)
+
+-- ---- what the reads show
+
+-- in all cells where the reads hold, the view's writes over them have this value at a cell
+pub record Shows (v : Seeing) (cell : Cell) (value : Option CellValue) : Type 0 where
+  pub everywhere : (base : Cells) → Holds base v.reads → over base (written v) cell ≡ value
+
+-- in all cells where the reads hold, the view's writes over them have these keys in a class
+pub record ShowsKeys (v : Seeing) (class : ℕ) (keys : List ℤ) : Type 0 where
+  pub everywhere : (base : Cells) → Holds base v.reads → AreKeys (over base (written v)) class keys
+
+-- ---- what calls do
+
+-- one cell more is written, and nothing else changes
+pub record Writes (old new : Seeing) (cell : Cell) (change : Option CellValue) : Type 0 where
+  pub base : new.base ≡ old.base
+  pub reads : new.reads ≡ old.reads
+  pub changes : written new ≡ with_change (written old) cell (Some change)
+  pub undo : new.undo ≡ old.undo ++ (cell, written old cell) ∷ []
+
+-- the writes are those from when there were n of them, and nothing else changes
+pub record GoesBack (old new : Seeing) (n : ℕ) : Type 0 where
+  pub base : new.base ≡ old.base
+  pub reads : new.reads ≡ old.reads
+  pub changes : written new ≡ rewound old n
+  pub undo : new.undo ≡ take n old.undo
+
+-- a layer is written over the writes, and nothing else changes
+pub record TakesIn (old new : Seeing) (layer : Entries) : Type 0 where
+  pub base : new.base ≡ old.base
+  pub reads : new.reads ≡ old.reads
+  pub changes : written new ≡ stacked (written old) (changes layer)
+
+-- nothing changes of what a view shows and keeps
+pub record IsSame (old new : Seeing) : Type 0 where
+  pub base : new.base ≡ old.base
+  pub reads : new.reads ≡ old.reads
+  pub changes : written new ≡ written old
+  pub undo : new.undo ≡ old.undo
+
+-- one view goes on from another: the reads only grew, and what was written before can still be gone back to
+pub record GoesOn (old new : Seeing) : Type 0 where
+  pub base : new.base ≡ old.base
+  pub reads : (more : List Read) × (new.reads ≡ old.reads ++ more)
+  pub undo : length old.undo ≤ length new.undo
+  pub before : (n : ℕ) → n ≤ length old.undo → rewound new n ≡ rewound old n
+
+-- the cells are those of an earlier view, from which the reads only grew
+pub record Restores (earlier new : Seeing) : Type 0 where
+  pub cells : now_in new ≡ now_in earlier
+  pub goes_on : GoesOn earlier new
+
+-- the same where nothing is written: only the reads grew
+pub record OnlyReads (old new : Seeing) : Type 0 where
+  pub base : new.base ≡ old.base
+  pub reads : (more : List Read) × (new.reads ≡ old.reads ++ more)
+  pub writes : new.writes ≡ old.writes
+  pub undo : new.undo ≡ old.undo
+
+-- a cell is read, if memory doesn't run out
+pub record ReadsCell (old new : Seeing) (cell : Cell) (done : Bool) : Type 0 where
+  pub ok : done ≡ true → new ≡ record old { reads = read_cell old cell }
+  pub err : done ≡ false → new ≡ old
+  pub shows : done ≡ true → Shows new cell (now_in old cell)
+  pub only : OnlyReads old new
+  pub goes_on : GoesOn old new
+  pub so_it_was : done ≡ true → Holds (beneath new) new.reads
+
+-- only the keys of a class are read, as they stand beneath the writes
+pub record ReadsKeys (old new : Seeing) (class : ℕ) : Type 0 where
+  pub keys : (keys : List ℤ) × (AreKeys (beneath old) class keys) × (new ≡ record old { reads = noted old.reads (keys_read class keys) })

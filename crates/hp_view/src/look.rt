@@ -1,0 +1,35 @@
+//! Queries over a view.
+
+use crate::view::View;
+use hp_query::Look;
+use hp_store::CellValue;
+use hp_value::{Cell, ClassNo, Key, Row};
+use std::alloc::{AllocError, Global};
+
+impl Look for View {
+    ghost use Rattle.hp_view.specs.Seeing.{OnlyReads};
+    ghost use Rattle.hp_view.specs.Looks.{Allows, only_reads_same, only_reads_then, reads_narrow};
+
+    // the objects of the cells where the view's reads hold, under the view's writes
+    ghost allows = { Allows };
+
+    ghost goes_on = { OnlyReads };
+
+    ghost goes_on_same = { only_reads_same };
+
+    ghost goes_on_then = { only_reads_then };
+
+    ghost narrows = { reads_narrow };
+
+    fn row(&mut self, alloc: Global, class: ClassNo, key: Key) -> Result<Option<Row>, AllocError> {
+        match self.get(Cell::Object(class, key))? {
+            Some(CellValue::Row(row)) => Ok(Some(row.clone()?)),
+            _ => Ok(None),
+        }
+    }
+
+    fn keys(&mut self, alloc: Global, class: ClassNo) -> Result<Vec<Key>, AllocError> {
+        let keys = View::keys(self, alloc, class)?;
+        Ok(keys)
+    }
+}

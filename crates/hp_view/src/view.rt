@@ -1,0 +1,268 @@
+//! A view: a snapshot, what was read of it, and what is written over it.
+
+ghost use Rattle.std.specs.Prelude.{◌≡◌, ◌↔◌, ℕ, ◌≤◌, [], length, None, Some, IsTrue, IsOk, IsSome, IfOk, OnOk, OnErr, option_map};
+ghost use Rattle.hp_model.specs.Cells.{AreKeys, Holds};
+ghost use Rattle.hp_value.specs.Mapped as mapped;
+ghost use Rattle.hp_store.specs.Mapped.{cell_value};
+ghost use Rattle.hp_store.specs.Stack.{cells_in};
+ghost use Rattle.hp_view.specs.Seeing.{Seeing as Seen, beneath, written, now_in, read_cell, cell_was_read, Writes, TakesIn, IsSame, GoesBack, GoesOn, Restores, OnlyReads, Shows, ShowsKeys, ReadsKeys};
+
+use crate::reads::Reads;
+use crate::undo::{Replaced, take_back, write, write_all};
+use hp_store::{CellValue, Layer, Snapshot};
+use hp_value::{Cell, ClassNo, Key};
+use std::alloc::{AllocError, Global};
+use std::marker::Model;
+use std::sync::Arc;
+
+/// A snapshot of a state's cells, what was read of it, and what is written over it.
+///
+/// A transaction works on a view. What it reads is recorded with what the snapshot holds beneath the view's own writes, so
+/// that another state where these reads hold would have shown the same. A transaction inside begins at a `Mark` and is
+/// taken back from there; its reads stay.
+#[derive(Debug, Drop)]
+pub struct View {
+    base: Snapshot,
+    reads: Reads,
+    // Frozen snapshots share it.
+    writes: Arc<Layer>,
+    // What each write replaced, the newest last.
+    undo: Vec<Replaced>,
+}
+
+impl Model for View {
+    ghost use Rattle.hp_view.specs.Seeing.{Seeing};
+    ghost use Rattle.hp_view.specs.Codes.{seeing_code};
+
+    ghost Value = { Seeing };
+
+    ghost coded = { seeing_code };
+
+    ghost use Rattle.std.specs.Prelude.{map};
+    ghost use Rattle.hp_view.specs.Mapped.{replaced};
+    ghost use Rattle.hp_view.specs.Seeing.{IsKept};
+
+    ghost view = { λ v. record { base = v.base; reads = v.reads; writes = v.writes.value; undo = map replaced v.undo.items } };
+
+    ghost invariant = { λ v. IsKept v.base v.reads v.writes.value (map replaced v.undo.items) };
+}
+
+/// Where a transaction inside a view began. It is given back to end that transaction.
+#[derive(Debug, Drop)]
+pub struct Mark {
+    at: usize,
+}
+
+impl Model for Mark {
+    ghost Value = { ℕ };
+
+    ghost view = { λ m. m.at };
+}
+
+impl View {
+    /// A view of a snapshot, with no read and no write.
+    ///
+    /// An error means that memory ran out.
+    pub fn new(alloc: Global, base: Snapshot) -> Result<View, AllocError>
+        ensures base { IfOk result (λ v. v.base ≡ base) }
+        ensures reads { IfOk result (λ v. v.reads ≡ []) }
+        ensures writes { IfOk result (λ v. v.writes ≡ []) }
+        ensures undo { IfOk result (λ v. v.undo ≡ []) }
+    {
+        Ok(View {
+            base,
+            reads: Reads::new(alloc),
+            writes: Arc::new(alloc, Layer::new(alloc))?,
+            undo: Vec::new(alloc),
+        })
+    }
+
+    /// Reads a cell, whose value is then the one that `peek` gives.
+    ///
+    /// The read is recorded with what the snapshot holds, unless the cell was read before, or the view's own writes cover
+    /// it: then it takes no memory. An error means that memory ran out; the view is then as before.
+    pub fn read(&mut self, cell: Cell) -> Result<(), AllocError>
+        ensures reads { OnOk result (self.new ≡ record self.old { reads = read_cell self.old (mapped.cell cell) }) }
+        ensures err { OnErr result (self.new ≡ self.old) }
+        ensures covered { IsSome (written self.old (mapped.cell cell)) → IsOk result }
+        ensures again { IsTrue (cell_was_read self.old.reads (mapped.cell cell)) → IsOk result }
+        ensures shows { OnOk result (Shows self.new (mapped.cell cell) (now_in self.old (mapped.cell cell))) }
+        ensures only { OnlyReads self.old self.new }
+        ensures goes_on { GoesOn self.old self.new }
+        ensures so_it_was { OnOk result (Holds (beneath self.new) self.new.reads) }
+    {
+        if self.writes.get(cell).is_some() {
+            return Ok(());
+        }
+        if self.reads.has_cell(cell) {
+            return Ok(());
+        }
+        self.reads.note_value(cell, self.base.get(cell))?;
+        Ok(())
+    }
+
+    /// The value of a cell, or none where the cell is empty. Nothing is recorded, and no memory is taken.
+    pub fn peek(&self, cell: Cell) -> Option<&CellValue>
+        ensures { option_map (λ v. cell_value v.now) result ≡ now_in self.now (mapped.cell cell) }
+    {
+        match self.writes.get(cell) {
+            Some(change) => change.as_ref(),
+            None => self.base.get(cell),
+        }
+    }
+}
+
+impl View {
+    ghost use Rattle.std.specs.Prelude.{◌≡◌, ⊤, IsTrue, IsOk, IsSome, IfOk, is_ok, option_map};
+    ghost use Rattle.std.specs.Borrow.{sem, follows_so};
+    ghost use mathlib.Core.Option.{none};
+    ghost use Rattle.hp_value.specs.Mapped as mapped;
+    ghost use Rattle.hp_store.specs.Mapped.{cell_value};
+    ghost use Rattle.hp_view.specs.Seeing.{written, now_in, cell_was_read, ReadsCell};
+    ghost use Rattle.hp_view.specs.contracts.view.View.{the_row};
+
+    /// Reads a cell and gives its value, or none where the cell is empty: `read` and then `peek`.
+    ///
+    /// A cell that was read before, or that the view's own writes cover, takes no memory. An error means that memory ran
+    /// out; the view is then as before.
+    pub fn get(&mut self, cell: Cell) -> Result<Option<&CellValue>, AllocError>
+        ensures value { IfOk result (λ found. option_map (λ v. cell_value v.now) found ≡ now_in self.old (mapped.cell cell)) }
+        ensures covered { IsSome (written self.old (mapped.cell cell)) → IsOk result }
+        ensures again { IsTrue (cell_was_read self.old.reads (mapped.cell cell)) → IsOk result }
+        ensures* after { sem 𝓛 (follows_so the_row the_row self.entry.ghost_name none (λ _ _. ⊤) (λ v. ReadsCell self.old v (mapped.cell cell) (is_ok result))) }
+    {
+        self.read(cell)?;
+        Ok(self.peek(cell))
+    }
+}
+
+impl View {
+    /// Gives a cell a value.
+    ///
+    /// An error means that memory ran out; the view is then as before.
+    pub fn put(&mut self, cell: Cell, value: CellValue) -> Result<(), AllocError>
+        ensures ok { OnOk result (Writes self.old self.new (mapped.cell cell) (Some (cell_value value))) }
+        ensures goes_on { GoesOn self.old self.new }
+        ensures err { OnErr result (self.new ≡ self.old) }
+    {
+        write(&mut self.writes, &mut self.undo, cell, Some(value))?;
+        Ok(())
+    }
+
+    /// Empties a cell.
+    ///
+    /// An error means that memory ran out; the view is then as before.
+    pub fn cut(&mut self, cell: Cell) -> Result<(), AllocError>
+        ensures ok { OnOk result (Writes self.old self.new (mapped.cell cell) None) }
+        ensures goes_on { GoesOn self.old self.new }
+        ensures err { OnErr result (self.new ≡ self.old) }
+    {
+        write(&mut self.writes, &mut self.undo, cell, None)?;
+        Ok(())
+    }
+
+    /// Takes in the changes of a layer, over the view's own writes. They are shared.
+    ///
+    /// An error means that memory ran out; no cell of the view has then changed.
+    pub fn take_in(&mut self, layer: &Layer) -> Result<(), AllocError>
+        ensures ok { OnOk result (TakesIn self.old self.new layer.now) }
+        ensures goes_on { GoesOn self.old self.new }
+        ensures err { OnErr result (IsSame self.old self.new) }
+    {
+        write_all(&mut self.writes, &mut self.undo, layer)?;
+        Ok(())
+    }
+
+    /// Begins a transaction inside (Moss).
+    pub fn enter(&self) -> Mark
+        ensures { result ≡ length self.now.undo }
+    {
+        Mark {
+            at: self.undo.len(),
+        }
+    }
+
+    /// Ends a transaction inside. What it wrote stays, now as the outer transaction's.
+    pub fn commit(&mut self, mark: Mark)
+        ensures { self.new ≡ self.old }
+    {
+        let Mark { at: _ } = mark;
+    }
+
+    /// Ends a transaction inside. What it wrote goes, and what it read stays.
+    ///
+    /// No memory is taken unless a frozen snapshot still shares the writes. An error means that memory for a copy of them
+    /// ran out; the view is then as before.
+    pub fn abort(&mut self, mark: Mark) -> Result<(), AllocError>
+        requires { mark ≤ length self.old.undo }
+        ensures ok { OnOk result (GoesBack self.old self.new mark) }
+        ensures restores { OnOk result ((entered : Seen) → GoesOn entered self.old → length entered.undo ≡ mark → Restores entered self.new) }
+        ensures err { OnErr result (self.new ≡ self.old) }
+    {
+        let Mark { at } = mark;
+        take_back(&mut self.writes, &mut self.undo, at)?;
+        Ok(())
+    }
+}
+
+impl View {
+    /// The keys of a class's objects, in rising order.
+    ///
+    /// They are recorded as they stand beneath the view's own writes, unless they were read before. The time goes with the
+    /// class's keys and the writes of its objects. An error means that memory ran out; the view is then as before.
+    pub fn keys(&mut self, alloc: Global, class: ClassNo) -> Result<Vec<Key>, AllocError>
+        ensures reads { OnOk result (ReadsKeys self.old self.new class) }
+        ensures err { OnErr result (self.new ≡ self.old) }
+        ensures shows { IfOk result (λ keys. ShowsKeys self.new class keys.items) }
+        ensures only { OnlyReads self.old self.new }
+        ensures goes_on { GoesOn self.old self.new }
+        ensures so_it_was { OnOk result (Holds (beneath self.new) self.new.reads) }
+    {
+        if let Some(recorded) = self.reads.keys(class) {
+            let under = Vec::from_slice(alloc, recorded)?;
+            let keys = self.writes.keys_over(alloc, class, under)?;
+            return Ok(keys);
+        }
+        let beneath = self.base.keys(alloc, class)?;
+        let under = Vec::from_slice(alloc, &beneath)?;
+        let keys = self.writes.keys_over(alloc, class, under)?;
+        self.reads.note_keys(class, beneath)?;
+        Ok(keys)
+    }
+}
+
+impl View {
+    /// A snapshot of the view's cells, from which others start. It shares the view's writes and copies no cell; while it
+    /// lives, the next write of the view copies them.
+    ///
+    /// An error means that memory ran out.
+    pub fn freeze(&self, alloc: Global) -> Result<Snapshot, AllocError>
+        ensures { IfOk result (λ s. cells_in s ≡ now_in self.now) }
+    {
+        let layer = Arc::try_clone(&self.writes)?;
+        let snapshot = self.base.with_layer(alloc, layer)?;
+        Ok(snapshot)
+    }
+
+    /// Whether these are the keys of a class's objects, in rising order. Nothing is recorded, and no memory is taken.
+    pub fn has_keys(&self, class: ClassNo, keys: &[Key]) -> bool
+        ensures { IsTrue result ↔ AreKeys (now_in self.now) class keys.now }
+    {
+        self.base.has_keys_over(&self.writes, class, keys)
+    }
+
+    /// What was read, and what was written.
+    pub fn into_parts(self) -> (Reads, Arc<Layer>)
+        ensures reads { result.0 ≡ self.reads }
+        ensures layer { result.1.value ≡ self.writes }
+        ensures so_it_was { Holds (cells_in self.base) result.0 }
+    {
+        let View {
+            base: _,
+            reads,
+            writes,
+            undo: _,
+        } = self;
+        (reads, writes)
+    }
+}
