@@ -4,9 +4,7 @@ use Rattle.std.specs.Prelude.{bytes_eq, unwrap_or, string_bytes, slice_get, opti
 use Rattle.std.specs.Map.{lookup}
 use Rattle.hp_model.specs.Values.{Name, Value, Kind, Cause, Row, Outcome, wrong_kind, ◌>>=◌, or_cause, kind_of, is_kind}
 use Rattle.hp_model.specs.Values as V
-use Rattle.hp_model.specs.Expressions.{Environment, value_of}
-use Rattle.hp_model.specs.Rules.{Assignment}
-use Rattle.hp_model.specs.Firing.{assigned, of_kind, made_row, kind_in, checked_kinds, changed_row}
+use Rattle.hp_model.specs.Firing.{of_kind, made_row, changed_row}
 use Rattle.hp_value.specs.declared.value.Value.{Value as RustValue}
 use Rattle.hp_value.specs.declared.row.Field.{Field}
 use Rattle.hp_value.specs.Mapped.{value, row_of}

@@ -1,8 +1,7 @@
 -- Lemmas on items and what they emit.
 use Rattle.std.proofs.Common.{◌≡◌, refl, sym, ap, ◌∙◌, List, [], ◌∷◌, ◌++◌, append_assoc}
-use Rattle.std.proofs.lemmas.List.{append-nil}
 use Rattle.hp_model.specs.Values.{Value}
-use Rattle.hp_model.specs.Tree.{Items, no_items, operation, emission, detachment, node, append, Ending, committed, aborted, if_committed, emits, without_detachments}
+use Rattle.hp_model.specs.Tree.{Items, no_items, operation, emission, detachment, node, append, if_committed, emits, without_detachments}
 use Rattle.hp_fire.specs.Flat.{emissions}
 
 pub append-nothing : (i : Items) → append i no_items ≡ i

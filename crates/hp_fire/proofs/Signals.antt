@@ -1,7 +1,6 @@
 -- Lemmas on signals: the tasks that one makes, and the course of their group.
-use Rattle.std.proofs.Common.{arith, ◌≡◌, refl, sym, ap, subst, ◌∙◌, ℕ, zero, suc, ◌+◌, List, [], ◌∷◌, ◌++◌, Bool, true, false, Option, None, Some, map}
+use Rattle.std.proofs.Common.{arith, ◌≡◌, refl, sym, ap, subst, ◌∙◌, ℕ, suc, ◌+◌, List, [], ◌∷◌, ◌++◌, Bool, true, false, Option, None, Some, map}
 use Rattle.std.specs.Prelude.{cond, filter, filter_map, option_map, ◌&&◌}
-use Rattle.std.proofs.lemmas.List.{append-nil}
 use Rattle.hp_model.specs.Values as V
 use Rattle.hp_model.specs.Occurrences.{Primitive, History, primitive_occurrence}
 use Rattle.hp_model.specs.Events.{matches}

@@ -1,16 +1,15 @@
 -- Lemmas on statements: how each ends, from what was evaluated and found.
-use Rattle.std.proofs.Common.{◌≡◌, refl, sym, ap, subst, ◌∙◌, ℕ, ℤ, List, [], ◌∷◌, Ok, Err, Option, Some, None, Bool, true, false}
+use Rattle.std.proofs.Common.{◌≡◌, refl, sym, ap, subst, ◌∙◌, ℕ, ℤ, List, [], Ok, Err, Option, Some, None, true, false}
 use Rattle.std.specs.Prelude.{is_some}
 use Rattle.hp_model.specs.Values.{Value, KeyedRow, Cause, Row, Outcome, exists, missing, ◌>>=◌}
-use Rattle.hp_model.specs.Values as V
 use Rattle.hp_model.specs.Occurrences.{Primitive, created, updated}
 use Rattle.hp_model.specs.Expressions.{Expression, as_integer, value_of}
-use Rattle.hp_model.specs.Rules.{Assignment, create, update, Library, class_at}
+use Rattle.hp_model.specs.Rules.{Assignment, create, update, class_at}
 use Rattle.hp_model.specs.State as M
 use Rattle.hp_model.specs.State.{find_object, write_object, with_objects}
 use Rattle.hp_model.specs.Tree.{Operation, create_op, update_op}
-use Rattle.hp_model.specs.Transactions.{End, Course, Work, abort_by, aborts, with_value}
-use Rattle.hp_model.specs.Firing.{Level, level_at, assigned, keyed_row, made_row, checked_kinds, changed_row, created_if_absent, updated_if_present, operated, signal_in, run_statement}
+use Rattle.hp_model.specs.Transactions.{End, Course, abort_by, aborts, with_value}
+use Rattle.hp_model.specs.Firing.{Level, assigned, keyed_row, made_row, checked_kinds, changed_row, created_if_absent, updated_if_present, operated, signal_in, run_statement}
 use Rattle.hp_model.specs.Cascade.{no_context}
 use Rattle.hp_fire.specs.declared.state.State.{State}
 use Rattle.hp_fire.specs.Courses.{StandsFor, Leaves}

@@ -7,9 +7,8 @@ use Rattle.hp_model.specs.Rules as R
 use Rattle.hp_model.specs.Rules.{Body}
 use Rattle.hp_model.specs.State as M
 use Rattle.hp_model.specs.State.{RuleState, with_status, initial_state}
-use Rattle.hp_model.specs.Tree as T
-use Rattle.hp_model.specs.Tree.{emits, committed, aborted, if_committed}
-use Rattle.hp_model.specs.Transactions.{End, done, abort_by, veto_by, Course, Work, then_do, after_end, joined, survivors, Closed, closed, closed_by, undone}
+use Rattle.hp_model.specs.Tree.{emits, committed, aborted}
+use Rattle.hp_model.specs.Transactions.{End, done, abort_by, veto_by, Course, Work, then_do, after_end, survivors, Closed, closed, closed_by, undone}
 use Rattle.hp_model.specs.Firing.{Fire, level_at, signal_in, fire_task}
 use Rattle.hp_model.specs.Cascade.{Unit, transaction, unit_work, most_rounds, next_round, rounds, top, alone, before_cascade, cascade, due, Cascade, run_unit, run_units, Evaluation}
 use Rattle.hp_model.specs.Cascade as C

@@ -1,19 +1,19 @@
 -- How faithful calls compose to firings, groups and signals.
-use Rattle.std.proofs.Common.{◌≡◌, refl, ap, ap₂, sym, ◌∙◌, subst, ℕ, suc, Bool, true, false, List, [], ◌∷◌, ◌++◌, map, Option, Some, None, append-nil, append_assoc, ◌≤◌, ◌<◌, arith}
+use Rattle.std.proofs.Common.{◌≡◌, refl, ap, ap₂, sym, ◌∙◌, subst, ℕ, suc, Bool, true, false, List, [], ◌∷◌, ◌++◌, map, Option, Some, None, append-nil, append_assoc, ◌≤◌, ◌<◌}
 use Rattle.std.specs.Prelude.{filter}
-use Rattle.hp_model.specs.Values.{Cause, depth_exceeded, vetoed}
+use Rattle.hp_model.specs.Values.{depth_exceeded}
 use Rattle.hp_model.specs.Occurrences.{Primitive}
-use Rattle.hp_model.specs.Rules.{Coupling, immediate, deferred, separate, dependent, exclusive, is_immediate, Library, rule_at}
-use Rattle.hp_model.specs.State.{State, IsOrdered, extended}
-use Rattle.hp_model.specs.Conditions.{Answers, Verdict, satisfied, unsatisfied, faulty, verdict}
-use Rattle.hp_model.specs.Tree.{Step, condition_step, action_step, Task, Items, no_items, node, append, Node, fire_node, act_node, committed, without_action, with_fault, with_action, with_later_action, without_detachments}
-use Rattle.hp_model.specs.Transactions.{Detached, End, done, abort_by, veto_by, Course, Work, ends, aborts, skip, then_do, closed_by, closed, placed, detached_of}
-use Rattle.hp_model.specs.Firing.{Firing, Fire, Siblings, after_firing, siblings, queued_by, detached_by, items_of, end_of, course_of, Level, triggered, start, signal_in, veto_of, firing_with, quiet, task_environment, action_course, run_action, action_task, deferring, follow, decide, take_step, level_at, fire_task}
-use Rattle.hp_model.specs.Cells.{Cells, cells, Changes, over, Read, Holds}
+use Rattle.hp_model.specs.Rules.{is_immediate, Library, rule_at}
+use Rattle.hp_model.specs.State.{State, extended}
+use Rattle.hp_model.specs.Conditions.{Answers, Verdict, verdict}
+use Rattle.hp_model.specs.Tree.{condition_step, Task, no_items, node, append, Node, committed, without_detachments}
+use Rattle.hp_model.specs.Transactions.{End, done, abort_by, veto_by, Course, closed_by, placed, detached_of}
+use Rattle.hp_model.specs.Firing.{Firing, Fire, Siblings, after_firing, siblings, queued_by, detached_by, items_of, end_of, course_of, Level, triggered, start, signal_in, veto_of, firing_with, quiet, task_environment, action_course, run_action, deferring, decide, take_step, level_at, fire_task}
+use Rattle.hp_model.specs.Cells.{Changes, over, Read}
 use Rattle.hp_model.specs.Soundness.{Answer, answer_of, FiringAnswer, firing_answer, LeadsTo, Faithful}
-use Rattle.hp_model.specs.Answers.{FaithfulWork, FaithfulFiring, SiblingsAnswer, siblings_answer, FaithfulSiblings, Finds, ended, placing, followed, is_done, kept, closing, closing_action, handing_on, queued_in, detached_in, items_in, group_answer}
+use Rattle.hp_model.specs.Answers.{FaithfulWork, FaithfulFiring, SiblingsAnswer, siblings_answer, FaithfulSiblings, Finds, ended, placing, followed, kept, closing_action, handing_on, queued_in, detached_in, items_in, group_answer}
 use Rattle.hp_model.proofs.Levels.{below_fires, below_none, below_some}
-use Rattle.hp_model.proofs.Faithful.{Grows, Grows-same, Grows-then, held_before, faithful_more, finds_more, without-append, without-detachments, faithful_ends, faithful_placed, faithful_found, work_found, firing_found, faithful_then, closed_cells, closed_ordered, append-assoc}
+use Rattle.hp_model.proofs.Faithful.{Grows, Grows-same, Grows-then, held_before, without-append, without-detachments, faithful_ends, faithful_placed, firing_found, faithful_then, closed_cells, closed_ordered}
 
 -- ---- firings
 

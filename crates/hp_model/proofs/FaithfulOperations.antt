@@ -1,23 +1,22 @@
 -- Faithful operations, and the statements that make them.
-use Rattle.std.proofs.Common.{◌≡◌, refl, ap, ap₂, sym, ◌∙◌, subst, ℕ, ℤ, ◌<◌, Bool, true, false, List, [], ◌∷◌, ◌++◌, Option, Some, None, arith}
-use Rattle.std.specs.Prelude.{Ok, Err, ⊤, length}
+use Rattle.std.proofs.Common.{◌≡◌, refl, ap, sym, ◌∙◌, subst, ℕ, ℤ, ◌<◌, true, List, Option, Some, None, arith}
+use Rattle.std.specs.Prelude.{Ok, Err, length}
 use Rattle.hp_model.specs.Values.{Row, Cause, exists, missing, Outcome}
 use Rattle.hp_model.specs.Occurrences.{Primitive, created, updated, deleted}
 use Rattle.hp_model.specs.Events.{is_pure}
-use Rattle.hp_model.specs.Knowledge.{knowledge}
 use Rattle.hp_model.specs.Rules.{RuleOperation, install, enable, disable, remove, Library, rule_at}
 use Rattle.hp_model.specs.State.{State, Status, absent, enabled, disabled, RuleState, rule_state, with_status, find_object, write_object, remove_object, with_objects, with_rule, IsOrdered}
-use Rattle.hp_model.specs.Tree.{create_op, update_op, delete_op, rule_op, Items, no_items, operation, without_detachments}
-use Rattle.hp_model.specs.Transactions.{done, abort_by, Course, Work, aborts, then_do, with_value, with_items}
-use Rattle.hp_model.specs.Firing.{Level, changed_row, operated_rule, created_if_absent, updated_if_present, deleted_if_present, signal_in, start, fired_task, start_fired}
-use Rattle.hp_model.specs.Cells.{Cell, object_cell, rule_cell, detector_cell, CellValue, row_value, Cells, cells, status_in, knowledge_in, Changes, over, with_change, Read, Holds}
-use Rattle.hp_model.specs.Soundness.{Answer, answer_of, LeadsTo, Faithful}
+use Rattle.hp_model.specs.Tree.{rule_op, no_items, operation, without_detachments}
+use Rattle.hp_model.specs.Transactions.{abort_by, Course, Work, aborts, then_do, with_value, with_items}
+use Rattle.hp_model.specs.Firing.{Level, changed_row, operated_rule, created_if_absent, updated_if_present, deleted_if_present, signal_in, start_fired}
+use Rattle.hp_model.specs.Cells.{object_cell, rule_cell, detector_cell, CellValue, row_value, Cells, cells, status_in, knowledge_in, Changes, over, with_change, Read, Holds}
+use Rattle.hp_model.specs.Soundness.{Answer, answer_of, LeadsTo}
 use Rattle.hp_model.specs.Answers.{FaithfulWork, Finds, ended, tells, followed}
 use Rattle.hp_model.specs.Operations.{Operated, FaithfulOperation, create_where, create_object, update_where, update_object, delete_where, delete_object, operation_items, new_status, set_where, set_rule}
 use Rattle.hp_model.proofs.BridgesOrdered.{write_ordered, remove_ordered, rule_ordered}
 use Rattle.hp_model.proofs.BridgesReads.{row_at, status_at, find_object-cells, status-cells}
 use Rattle.hp_model.proofs.BridgesWrites.{cells_changed, write_changes, remove_changes, with_rule-same, rule_changed, pure_rule_changes}
-use Rattle.hp_model.proofs.Faithful.{Grows, Grows-same, held_before, faithful_ends, finds_part, finds_as, finds_cell, faithful_found, work_found, finds_answer, faithful_more, faithful_then}
+use Rattle.hp_model.proofs.Faithful.{Grows, Grows-same, held_before, faithful_ends, finds_part, finds_as, finds_cell, faithful_found, work_found, faithful_then}
 
 -- ---- what an operation reads
 

@@ -1,17 +1,16 @@
 -- How faithful calls compose to top-level transactions, generations, cascades and units.
-use Rattle.std.proofs.Common.{◌≡◌, refl, ap, ap₂, sym, ◌∙◌, subst, ℕ, zero, suc, Bool, true, false, List, [], ◌∷◌, ◌++◌, map, Option, Some, None, append-nil, append_assoc}
-use Rattle.std.specs.Prelude.{flat_map}
+use Rattle.std.proofs.Common.{◌≡◌, refl, ap, ap₂, sym, ◌∙◌, subst, ℕ, zero, suc, true, List, [], ◌∷◌, ◌++◌, Some, None, append-nil, append_assoc}
 use Rattle.std.proofs.lemmas.List.{map-append}
 use Rattle.hp_model.specs.Rules.{Library}
-use Rattle.hp_model.specs.State.{State, IsOrdered}
+use Rattle.hp_model.specs.State.{State}
 use Rattle.hp_model.specs.Tree.{Task, without_detachments}
-use Rattle.hp_model.specs.Transactions.{Detached, End, done, abort_by, veto_by, Course, Work, joined, drained, Closed, closed_by, closed}
-use Rattle.hp_model.specs.Firing.{Fire, Siblings, siblings, end_of, course_of, fire_task}
-use Rattle.hp_model.specs.Cascade.{Unit, unit_work, task_work, most_rounds, next_round, rounds, top_course, top, Transaction, Generation, alone, followed_by, generation, due, Cascade, if_due, before_cascade, cascade, run_unit, transactions_of, TransactionReport, transaction_report, unit_report, time_of, veto_end}
-use Rattle.hp_model.specs.Cells.{Cells, cells, Changes, over, Read, Holds}
-use Rattle.hp_model.specs.Soundness.{Answer, answer_of, FiringAnswer, LeadsTo, Faithful}
-use Rattle.hp_model.specs.Answers.{FaithfulWork, FaithfulFiring, SiblingsAnswer, FaithfulSiblings, followed, kept, ending_of, detached_at, group_answer, drained_answer, is_settled, TopAnswer, top_answer, closing_top, FaithfulTop, GenerationAnswer, generation_answer, FaithfulGeneration, reported, cascade_answer, FaithfulCascade, FaithfulUnit}
-use Rattle.hp_model.proofs.Faithful.{Grows, Grows-same, Grows-then, held_before, faithful_more, joined_answer, closed_cells, closed_ordered}
+use Rattle.hp_model.specs.Transactions.{Detached, End, done, abort_by, veto_by, Course, Work, drained, closed_by}
+use Rattle.hp_model.specs.Firing.{Fire, siblings, course_of, fire_task}
+use Rattle.hp_model.specs.Cascade.{Unit, unit_work, task_work, most_rounds, next_round, rounds, top_course, top, Generation, alone, generation, due, Cascade, before_cascade, cascade, transactions_of, TransactionReport, transaction_report, time_of, veto_end}
+use Rattle.hp_model.specs.Cells.{Changes, over, Read}
+use Rattle.hp_model.specs.Soundness.{Answer, answer_of, FiringAnswer, LeadsTo}
+use Rattle.hp_model.specs.Answers.{FaithfulWork, FaithfulFiring, SiblingsAnswer, FaithfulSiblings, followed, kept, group_answer, drained_answer, is_settled, TopAnswer, top_answer, closing_top, FaithfulTop, GenerationAnswer, generation_answer, FaithfulGeneration, reported, cascade_answer, FaithfulCascade, FaithfulUnit}
+use Rattle.hp_model.proofs.Faithful.{Grows, Grows-same, Grows-then, held_before, joined_answer, closed_cells, closed_ordered}
 use Rattle.hp_model.proofs.FaithfulFirings.{course_answer}
 
 -- ---- rounds

@@ -1,28 +1,28 @@
 -- A signal, as it is told to the rules that mention it, one after the other.
-use Rattle.std.proofs.Common.{arith, ◌≡◌, refl, ap, ap₂, sym, ◌∙◌, subst, ℕ, zero, suc, ◌+◌, ◌<◌, ◌≤◌, Bool, true, false, true≢false, List, [], ◌∷◌, ◌++◌, map, length, Option, Some, None, append-nil, append_assoc, drop, take, get_or, ltb-true, ltb-false}
-use Rattle.std.specs.Prelude.{◌==◌, ◌||◌, option_map, option_to_list, filter_map, if◌then◌else◌, slice_get, is_some, nat_lt}
+use Rattle.std.proofs.Common.{arith, ◌≡◌, refl, ap, ap₂, sym, ◌∙◌, subst, ℕ, zero, suc, ◌+◌, ◌<◌, ◌≤◌, Bool, true, false, true≢false, List, [], ◌∷◌, ◌++◌, map, length, Option, Some, None, append-nil, drop, take, get_or, ltb-true, ltb-false}
+use Rattle.std.specs.Prelude.{◌==◌, ◌||◌, option_map, option_to_list, filter_map, if◌then◌else◌, slice_get, nat_lt}
 use Rattle.std.specs.List.{slice_index_or, list_any}
 use Rattle.std.proofs.lemmas.List.{get_or_past, map-append}
 use Rattle.std.proofs.lemmas.List.Folds.{list_any-append}
 use Rattle.std.proofs.lemmas.List.Elements.{filter_map-append}
 use Rattle.std.proofs.Math.Bool.{or-false}
-use Rattle.std.proofs.lemmas.Bool.{eqb-false, or_parts}
+use Rattle.std.proofs.lemmas.Bool.{or_parts}
 use Rattle.std.proofs.lemmas.Bool.Decides.{Decides-eqb}
 use Rattle.std.specs.Option.{option_or}
 use Rattle.hp_model.specs.Occurrences.{Primitive, History, Occurrence, primitive_occurrence}
-use Rattle.hp_model.specs.Events.{Event, pattern_event, or_event, seq_event, closure_event, matches, is_pure, mentions, occurrence_of, occurrences, occurrences_since, sequences, gathered, joined, closed}
+use Rattle.hp_model.specs.Events.{Event, pattern_event, or_event, seq_event, closure_event, is_pure, mentions, occurrence_of, occurrences, occurrences_since, sequences, gathered, joined, closed}
 use Rattle.hp_model.specs.Knowledge.{Knowledge, nothing_known, knowledge, of_either, of_sequence, of_closure}
 use Rattle.hp_model.specs.Rules.{Rule, no_rule, Library, rule_at}
 use Rattle.hp_model.specs.State.{State, Status, absent, enabled, disabled, RuleState, rule_state, with_status, extended, IsOrdered}
 use Rattle.hp_model.specs.Mentions.{mentioning_from, mentioning}
-use Rattle.hp_model.specs.Cells.{Cell, object_cell, rule_cell, detector_cell, CellValue, knowledge_value, Cells, cells, status_in, same_cell, knowledge_in, Changes, changed, over, with_change, Read, Holds}
+use Rattle.hp_model.specs.Cells.{Cell, object_cell, rule_cell, detector_cell, CellValue, knowledge_value, Cells, cells, status_in, same_cell, Changes, changed, over, with_change, Read, Holds}
 use Rattle.hp_model.specs.Tree.{Task}
 use Rattle.hp_model.specs.Firing.{Level, triggered_by, triggered}
-use Rattle.hp_model.specs.Soundness.{LeadsTo, Faithful}
+use Rattle.hp_model.specs.Soundness.{Faithful}
 use Rattle.hp_model.proofs.Detecting.{advance, advance_lem, after_second, gathered_next}
 use Rattle.hp_model.proofs.BridgesCells.{over-with_change}
 use Rattle.hp_model.proofs.BridgesOrdered.{extended_ordered}
-use Rattle.hp_model.proofs.BridgesReads.{status_at, knowledge_at, known_by, status-cells, known-cells, detector-cells, detector-cells-pure, detector-cells-idle, knowledge-pure}
+use Rattle.hp_model.proofs.BridgesReads.{status_at, knowledge_at, known_by, status-cells, known-cells, detector-cells, detector-cells-pure, detector-cells-idle}
 use Rattle.hp_model.proofs.BridgesSignals.{heard, extended-detector, extended-status, task_by, task_at, tasks_at, triggered-cells}
 use Rattle.hp_model.proofs.Faithful.{Grows, held_before}
 

@@ -1,11 +1,11 @@
 -- The answers of faithful calls: how they follow one another, and what becomes of them as transactions end.
-use Rattle.std.specs.Prelude.{◌≡◌, ℕ, List, [], ◌∷◌, ◌++◌, Bool, true, false, map, Option, Some, None}
-use Rattle.hp_model.specs.Values.{Cause, vetoed}
+use Rattle.std.specs.Prelude.{◌≡◌, ℕ, List, [], ◌∷◌, ◌++◌, Bool, true, false, map, Option, None}
+use Rattle.hp_model.specs.Values.{vetoed}
 use Rattle.hp_model.specs.Rules.{Library}
 use Rattle.hp_model.specs.State.{State, IsOrdered}
 use Rattle.hp_model.specs.Tree.{Task, Items, no_items, node, append, Node, Ending, committed, aborted, without_detachments}
 use Rattle.hp_model.specs.Transactions.{Detached, End, done, abort_by, veto_by, Work, Closed, survivors, deferred_of, detached_of, unreleased}
-use Rattle.hp_model.specs.Firing.{Firing, Siblings, siblings, Fire, end_of, veto_of}
+use Rattle.hp_model.specs.Firing.{Firing, Siblings, end_of, veto_of}
 use Rattle.hp_model.specs.Cascade.{Unit, Generation, TransactionReport, task_report, transaction_report, Cascade, transactions_of, UnitReport, unit_report, run_unit}
 use Rattle.hp_model.specs.Cells.{Cells, cells, Changes, over, Read, Holds}
 use Rattle.hp_model.specs.Soundness.{Answer, answer_of, FiringAnswer, firing_answer, Faithful}

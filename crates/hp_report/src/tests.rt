@@ -1,10 +1,14 @@
 ghost use Rattle.std.specs.Prelude.{◌≡◌, false};
 ghost use Rattle.hp_report.specs.Watched.{has_failed};
 
-use crate::{ReadFault, Sink, Source, Watched, read_up_to, write_text};
+use crate::{ReadFault, Report, Sink, Source, Watched, read_up_to, write_report, write_text};
+use hp_rule::Library;
+use hp_tree::{Ending, Item, Objects, TopReport, UnitReport};
+use hp_value::Value;
 use std::alloc::Global;
 use std::io;
 use std::io::{Read, Write};
+use std::sync::Arc;
 use std::test::Fail;
 
 /// A device that moves one byte a call. Its call `fails_at` moves none, and later ones would work again.
@@ -118,5 +122,44 @@ fn a_piece_may_be_empty(rt: HostRuntime) -> Result<(), Fail> {
     let mut writer = self::writer(rt.alloc(), 0, false);
     write_text(&mut writer, b"")?;
     assert_eq!(rt; writer.into_inner().calls, 0);
+    Ok(())
+}
+
+/// The report of one transaction that emitted a number, with no class and no rule.
+fn small_report(alloc: Global) -> Result<Report, Fail> {
+    let Ok(library) = Library::check(alloc, Vec::new(alloc), Vec::new(alloc), 8) else {
+        return Err(Fail::from("the library is refused"));
+    };
+    let mut tree = Vec::new(alloc);
+    tree.push(Item::Emit(Value::Int(2)))?;
+    let mut tops = Vec::new(alloc);
+    tops.push(TopReport {
+        task: None,
+        end: Ending::Committed,
+        tree,
+    })?;
+    let mut units = Vec::new(alloc);
+    units.push(UnitReport { moment: None, tops })?;
+    Ok(Report {
+        library: Arc::new(alloc, library)?,
+        units,
+        objects: Objects::new(alloc),
+        statuses: Vec::new(alloc),
+    })
+}
+
+#[test]
+fn a_report_goes_out_byte_by_byte(rt: HostRuntime) -> Result<(), Fail> {
+    let alloc = rt.alloc();
+    let report = small_report(alloc)?;
+    for (with_tree, text) in [
+        (false, "unit 1 committed\nemit 2\nfinal\nend\n"),
+        (true, "unit 1 committed\nemit 2\n  emit 2\nfinal\nend\n"),
+    ] {
+        let mut writer = writer(alloc, 0, false);
+        write_report(alloc, &report, with_tree, &mut writer)?;
+        let output = writer.into_inner().output;
+        assert_eq!(rt; output.as_slice(), text.as_bytes());
+    }
     Ok(())
 }

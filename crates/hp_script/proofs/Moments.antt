@@ -1,15 +1,15 @@
 -- Next moments, and lists of due ones.
-use Rattle.std.proofs.Common.{◌≡◌, ℕ, zero, suc, ◌+◌, ◌-◌, ◌*◌, ◌/◌, ◌%◌, ◌^◌, ◌<◌, ◌≤◌, ◌==◌, ◌&&◌, ◌||◌, min, nat_le, nat_lt, length, Bool, true, false, cond, List, [], ◌∷◌, ◌++◌, Option, Some, None, filter, map, take, get_or, append-nil, append_assoc, inl, inr, refl, sym, ap, ◌∙◌, arith}
+use Rattle.std.proofs.Common.{◌≡◌, ℕ, zero, suc, ◌+◌, ◌-◌, ◌*◌, ◌/◌, ◌%◌, ◌^◌, ◌<◌, ◌≤◌, ◌||◌, min, length, Bool, true, false, cond, List, [], ◌∷◌, ◌++◌, Option, Some, None, filter, map, take, get_or, append-nil, append_assoc, inl, inr, refl, sym, ap, ◌∙◌, arith}
 use Rattle.std.proofs.lemmas.Bool.{cases_lt, lt-ltb, le-ltb}
 use Rattle.std.proofs.lemmas.List.{length-append, take_more, map-append}
 use Rattle.std.proofs.lemmas.List.Folds.{list_any-append}
 use Rattle.std.proofs.lemmas.Bool.Decides.{nat_tests}
 use Rattle.std.proofs.lemmas.Nat.{mod-mul-add, div-add-mod', mod_below}
-use Rattle.std.specs.List.{range_with_len, list_any}
+use Rattle.std.specs.List.{range_with_len}
 use Rattle.hp_model.specs.Occurrences.{moment_reached}
 use Rattle.hp_model.specs.Events.{is_multiple, mentions}
 use Rattle.hp_model.specs.Rules as R
-use Rattle.hp_model.specs.Decode.{names_moment, due_moments}
+use Rattle.hp_model.specs.Decode.{names_moment}
 use Rattle.hp_rule.specs.Mapped.{rule}
 use Rattle.hp_rule.specs.declared.rule.Rule.{Rule}
 use Rattle.hp_script.specs.Moments.{IsNext, NextOf, earlier, limited}

@@ -1,6 +1,4 @@
-use Rattle.std.proofs.Common.{◌≡◌, ◌∙◌, ap, sym, subst, List, ℕ, false, Ok, Err, string_bytes}
-use Rattle.hp_model.specs.Refusals.{Decoded}
-use Rattle.hp_model.specs.Cascade.{Script}
+use Rattle.std.proofs.Common.{◌≡◌, ◌∙◌, ap, sym, subst, List, ℕ, false, Err}
 use Rattle.hp_model.specs.FirstDecode.{script_of}
 use Rattle.hp_model.specs.Output.{text_of}
 use Rattle.hp_model.specs.FirstOutput.{first_output}

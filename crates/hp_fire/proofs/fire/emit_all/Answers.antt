@@ -1,4 +1,4 @@
-use Rattle.std.proofs.Common.{rules, arith, ◌≡◌, refl, sym, ap, subst, ◌∙◌, ◌+◌, [], ◌∷◌, ◌++◌, drop, map, Ok, Err}
+use Rattle.std.proofs.Common.{rules, arith, ◌≡◌, sym, ap, subst, ◌∙◌, ◌+◌, [], ◌∷◌, ◌++◌, drop, Ok, Err}
 use Rattle.std.proofs.lemmas.List.{drop_all, map_push}
 use Rattle.std.proofs.lemmas.Grind.{common_steps}
 use Rattle.hp_model.specs.Transactions.{abort_by}

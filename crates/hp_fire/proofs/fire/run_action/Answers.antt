@@ -1,6 +1,6 @@
-use Rattle.std.proofs.Common.{rules, ◌≡◌, refl, sym, ap, ◌∙◌, [], ◌∷◌, Some, None}
+use Rattle.std.proofs.Common.{rules, ◌≡◌, sym, ap, ◌∙◌, []}
 use Rattle.hp_model.specs.Rules.{Rule, rule_at, no_rule}
-use Rattle.hp_model.specs.Firing.{level_at, run_body, action_context, task_environment}
+use Rattle.hp_model.specs.Firing.{level_at, run_body, action_context}
 use Rattle.hp_value.specs.Mapped.{environment}
 use Rattle.hp_rule.specs.PathMapped.{rule, library, task, emits_in}
 use Rattle.hp_fire.proofs.Firings.{index_some, index_none}

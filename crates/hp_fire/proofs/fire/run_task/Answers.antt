@@ -1,16 +1,14 @@
-use Rattle.std.proofs.Common.{rules, ◌≡◌, refl, sym, ap, ◌∙◌, [], None}
+use Rattle.std.proofs.Common.{refl, sym, ap, ◌∙◌, [], None}
 use Rattle.std.specs.declared.vec.Vec.{Vec}
 use Rattle.std.specs.declared.alloc.Global.{Global}
 use Rattle.hp_model.specs.Rules.{immediate}
-use Rattle.hp_model.specs.State.{State}
 use Rattle.hp_model.specs.Tree.{fire_node, with_action}
-use Rattle.hp_model.specs.Firing.{level_at, action_course}
-use Rattle.hp_model.specs.Transactions.{done, abort_by}
+use Rattle.hp_model.specs.Firing.{level_at}
 use Rattle.hp_value.specs.Mapped.{cause}
 use Rattle.hp_value.specs.declared.value.Value.{Value}
 use Rattle.hp_rule.specs.PathMapped.{library, task}
 use Rattle.hp_fire.specs.Flat.{emissions, flat_firing}
-use Rattle.hp_fire.specs.Mapped.{values, end_in, emitting}
+use Rattle.hp_fire.specs.Mapped.{values, end_in}
 use Rattle.hp_fire.proofs.Firings.{fires_action, no_queries, runs_at_once, emits_done, emits_aborted}
 use Rattle.hp_fire.proofs.fire.run_task.Goals as goal
 use Rattle.hp_fire.proofs.fire.run_task.Goals.{in-Done, in-Abort}

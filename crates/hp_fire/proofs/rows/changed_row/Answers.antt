@@ -1,10 +1,9 @@
-use Rattle.std.proofs.Common.{rules, arith, ◌≡◌, ap, sym, subst, ◌∙◌, ◌+◌, ◌<◌, ◌≤◌, [], ◌∷◌, ◌++◌, map, take, length, Some, None}
+use Rattle.std.proofs.Common.{rules, arith, ◌≡◌, ap, sym, subst, ◌∙◌, ◌<◌, ◌≤◌, [], ◌∷◌, ◌++◌, map, take, length, Some}
 use Rattle.std.proofs.lemmas.List.{take_all, map_push}
 use Rattle.std.specs.Prelude.{slice_get, unwrap_or, bytes_eq, IfOk}
 use Rattle.std.specs.Map.{lookup}
 use Rattle.std.specs.declared.vec.Vec.{Vec}
 use Rattle.std.specs.declared.alloc.Global.{Global}
-use Rattle.hp_model.specs.Firing as model
 use Rattle.hp_value.specs.declared.value.Value.{Value}
 use Rattle.hp_value.specs.Mapped.{value}
 use Rattle.hp_value.specs.Rows.{renewed}

@@ -1,4 +1,4 @@
-use Rattle.std.proofs.Common.{◌≡◌, sym, ap, subst, ◌∙◌}
+use Rattle.std.proofs.Common.{sym, ap, subst, ◌∙◌}
 use Rattle.hp_model.specs.State.{write_object, with_objects}
 use Rattle.hp_model.specs.Firing.{level_at, signal_in}
 use Rattle.hp_rule.specs.PathMapped.{library}

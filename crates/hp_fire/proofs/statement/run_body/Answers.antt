@@ -1,4 +1,4 @@
-use Rattle.std.proofs.Common.{rules, arith, ◌≡◌, sym, ap, subst, ◌∙◌, ◌+◌, [], ◌∷◌, ◌++◌, drop}
+use Rattle.std.proofs.Common.{rules, ◌≡◌, sym, ap, subst, ◌∙◌, ◌+◌, ◌++◌, drop}
 use Rattle.std.proofs.lemmas.List.{map-append}
 use Rattle.hp_model.specs.Firing.{level_at, run_statement, run_body}
 use Rattle.hp_model.specs.Cascade.{no_context}

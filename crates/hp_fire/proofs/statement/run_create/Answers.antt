@@ -1,4 +1,4 @@
-use Rattle.std.proofs.Common.{rules, ◌≡◌, sym, ap, subst, ◌∙◌, map, Ok, Some, None, true, false}
+use Rattle.std.proofs.Common.{rules, ◌≡◌, sym, ap, subst, ◌∙◌, map, Ok, true, false}
 use Rattle.std.proofs.Common.{SFits, w64, of_z, to_z}
 use Rattle.std.proofs.lemmas.Int.{to_z-of_z}
 use Rattle.std.specs.Prelude.{is_some}
@@ -9,7 +9,6 @@ use Rattle.hp_model.specs.Occurrences.{created}
 use Rattle.hp_model.specs.Rules.{class_at}
 use Rattle.hp_model.specs.State.{find_object, write_object}
 use Rattle.hp_model.specs.Tree.{create_op}
-use Rattle.hp_model.specs.Transactions.{Course}
 use Rattle.hp_model.specs.Firing.{level_at, operated}
 use Rattle.hp_model.specs.Firing as model
 use Rattle.hp_value.specs.Mapped.{expression}

@@ -1,6 +1,6 @@
 use Rattle.std.proofs.Common.{SFits, w64, of_z, to_z}
 use Rattle.std.proofs.lemmas.Int.{to_z-of_z}
-use Rattle.std.proofs.Common.{rules, ◌≡◌, sym, ap, subst, ◌∙◌, map, Ok, Some, None, true, false}
+use Rattle.std.proofs.Common.{rules, ◌≡◌, sym, ap, subst, ◌∙◌, map, Ok, Some, None}
 use Rattle.std.specs.Map.{lookup}
 use Rattle.std.specs.BTreeMap.{is_at}
 use Rattle.std.specs.declared.vec.Vec.{Vec}

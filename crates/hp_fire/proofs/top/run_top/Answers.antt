@@ -1,4 +1,4 @@
-use Rattle.std.proofs.Common.{sym, ap, subst, ◌∙◌, [], ◌∷◌, None}
+use Rattle.std.proofs.Common.{ap, subst, ◌∙◌, [], ◌∷◌, None}
 use Rattle.hp_model.specs.Occurrences.{commit_reached}
 use Rattle.hp_model.specs.Tree.{aborted}
 use Rattle.hp_model.specs.Transactions.{then_do}

@@ -1,11 +1,10 @@
-use Rattle.std.proofs.Common.{rules, ◌≡◌, sym, ap, subst, ◌∙◌, ◌+◌, [], ◌∷◌, ◌++◌, drop, false}
+use Rattle.std.proofs.Common.{sym, ap, subst, ◌∙◌, ◌+◌, drop, false}
 use Rattle.std.proofs.lemmas.List.{drop_all}
 use Rattle.hp_model.specs.State.{initial_state}
 use Rattle.hp_model.specs.Cascade.{transaction, run_unit, run_units}
 use Rattle.hp_model.specs.Report.{report_text}
 use Rattle.hp_rule.specs.PathMapped.{body_in, library, units_in}
 use Rattle.hp_fire.specs.Flat.{flat_evaluation}
-use Rattle.hp_fire.specs.Mapped.{evaluation}
 use Rattle.hp_fire.specs.Courses.{IsUnit}
 use Rattle.hp_fire.proofs.Firings.{split_at}
 use Rattle.hp_fire.proofs.UnitReports.{Continues, all_units, next_unit, no_units}

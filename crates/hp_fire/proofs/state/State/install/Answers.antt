@@ -1,5 +1,5 @@
-use Rattle.std.proofs.Common.{rules, arith, ◌≡◌, ◌<◌, length, ap, sym, ◌∙◌, map, get_or}
-use Rattle.std.proofs.lemmas.List.{map-set, get_or-map, get_or_default}
+use Rattle.std.proofs.Common.{rules, arith, ◌≡◌, ◌<◌, length, ap, sym, ◌∙◌, map}
+use Rattle.std.proofs.lemmas.List.{map-set, get_or-map}
 use Rattle.std.specs.Prelude.{slice_set}
 use Rattle.std.specs.List.{slice_index_or}
 use denote.Enum.Bare.{same_true}
