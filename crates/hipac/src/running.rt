@@ -11,7 +11,7 @@ ghost use Rattle.hp_script.specs.PathMapped.{script as script_of_model};
 ghost use Rattle.hipac.specs.Ends.{status_of};
 
 use crate::fault::{Fault, Status};
-use hp_fire::run_units;
+use hp_first::run_units;
 use hp_report::path::{Report, write_report};
 use hp_report::{Sink, Source, read_up_to, write_text};
 use hp_script::path::{Script, decode};

@@ -1,5 +1,6 @@
-pub mod Flat
+pub mod Decides
+pub mod Joined
 pub mod Mapped
-pub mod Courses
-pub mod Triggers
-pub mod Given
+pub mod Runs
+pub mod Signals
+pub mod Weights

@@ -1,57 +1,112 @@
-//! What statements, firings and transactions give.
+//! What statements, signals and groups give.
 
-use hp_value::{Cause, RuleNo, Value};
+ghost use Rattle.std.specs.Prelude.{◌≡◌, IfOk, OnOk, []};
+ghost use Rattle.hp_model.specs.Answers.{ended, followed, is_done};
+ghost use Rattle.hp_model.specs.Tree.{no_items};
+ghost use Rattle.hp_tree.specs.Mapped.{before};
+ghost use Rattle.hp_fire.specs.Mapped.{course, end};
+ghost use Rattle.hp_fire.specs.Mapped as mapped;
 
-/// How a statement, a signal or a body ends.
+use hp_attempt::Outcome;
+use hp_rule::{Detached, Task};
+use hp_tree::Item;
+use hp_value::{Cause, RuleNo};
+use std::alloc::{AllocError, Global};
+
+/// How a statement ends, and a body, which ends with the first statement that isn't done.
 #[derive(Clone, Copy, Debug, PartialEq, Eq)]
 pub enum End {
-    /// All was done.
+    /// It is done.
     Done,
-    /// The innermost transaction round it is to abort, by this cause.
+    /// It aborts the innermost transaction round it, by this cause.
     Abort(Cause),
+    /// A veto is on its way out of this rule's action.
+    Veto(RuleNo),
 }
 
-/// What a statement, a signal or a body gives, beside the state.
+/// What a statement, a body or a signal gives, beside what it writes.
 #[derive(Debug, Drop)]
 pub struct Course {
-    /// How it ends.
+    /// How it ended.
     pub end: End,
-    /// What it emitted before its end, in order; of the firings in it what they committed.
-    pub emits: Vec<Value>,
+    /// The tasks that it queued for the deferred rounds, in order.
+    pub queued: Vec<Task>,
+    /// The tasks that it detached, in order.
+    pub detached: Vec<Detached>,
+    /// What was done, in order of time, up to its end.
+    pub items: Vec<Item>,
 }
 
-/// How a transaction has ended.
-#[derive(Clone, Copy, Debug, PartialEq, Eq)]
-pub enum Ending {
-    /// Its effects are those of the transaction round it, or lasting.
-    Committed,
-    /// It had no effect, by this cause.
-    Aborted(Cause),
-}
-
-/// What a firing gives. No action of this language changes the state.
-#[derive(Debug, Drop)]
-pub struct Outcome {
-    /// What the firing emitted, in order; nothing where its action, which is a subtransaction, aborted.
-    pub emits: Vec<Value>,
-    /// The rule whose veto ended the action. No action of this language vetoes.
-    pub vetoed_by: Option<RuleNo>,
-}
-
-/// What sibling firings give.
+/// What a group of sibling firings gives, beside what it writes.
 #[derive(Debug, Drop)]
 pub struct GroupOutcome {
-    /// The outcome of each task that fired, in order.
+    /// What each firing gave, in the order of the tasks, up to the one whose veto stopped the group.
     pub outcomes: Vec<Outcome>,
-    /// The rule whose veto ended the group before its last task.
+    /// The rule whose veto stopped the group; none where no veto did.
     pub end: Option<RuleNo>,
+    /// How many firings were taken in from an attempt on a worker's thread.
+    pub accepted: usize,
+    /// How many were run by the owner of the group, or again.
+    pub reran: usize,
+    /// In how many waves workers ran; 0 where none were started.
+    pub waves: usize,
 }
 
-/// What is reported of a unit: one top-level transaction.
-#[derive(Debug, Drop)]
-pub struct UnitReport {
-    /// How the transaction has ended.
-    pub ending: Ending,
-    /// What it emitted, in order; nothing where it aborted.
-    pub emits: Vec<Value>,
+impl Course {
+    /// Nothing but an end.
+    pub(crate) fn ended(alloc: Global, how: End) -> Course
+        ensures { course result ≡ ended (end how) }
+    {
+        Course {
+            end: how,
+            queued: Vec::new(alloc),
+            detached: Vec::new(alloc),
+            items: Vec::new(alloc),
+        }
+    }
+
+    /// Nothing but one thing that was done.
+    ///
+    /// An error means that memory ran out.
+    pub(crate) fn of_item(alloc: Global, item: Item) -> Result<Course, AllocError>
+        ensures { IfOk result (λ c. course c ≡ record { end = end End.Done; queued = []; detached = []; items = before item no_items }) }
+    {
+        let mut items = Vec::new(alloc);
+        items.push(item)?;
+        Ok(Course {
+            end: End::Done,
+            queued: Vec::new(alloc),
+            detached: Vec::new(alloc),
+            items,
+        })
+    }
+
+    /// Whether what comes next is to be done.
+    pub(crate) fn is_done(&self) -> bool
+        ensures { result ≡ is_done (course self.now).end }
+    {
+        match self.end {
+            End::Done => true,
+            End::Abort(_) | End::Veto(_) => false,
+        }
+    }
+
+    /// Adds what followed this course.
+    ///
+    /// An error means that memory ran out; a part may then have been added.
+    pub fn join(&mut self, more: Course) -> Result<(), AllocError>
+        ensures { OnOk result (course self.new ≡ followed (course self.old) (course more)) }
+    {
+        let Course {
+            end,
+            mut queued,
+            mut detached,
+            mut items,
+        } = more;
+        self.queued.append(&mut queued)?;
+        self.detached.append(&mut detached)?;
+        self.items.append(&mut items)?;
+        self.end = end;
+        Ok(())
+    }
 }

@@ -1,18 +1,22 @@
-//! Transactions: statements, signals and firings over plain ordered maps, and whole scripts.
+//! Firings: statements, signals and groups of sibling firings on a view.
 //!
-//! Contracts speak of every state of `hp_model` for which a state stands; `specs/Mapped.antt` says what each type
-//! stands for, and `specs/Flat.antt` what of the model's trees is kept.
+//! The types stand for those of `hp_model`: `specs/Mapped.antt` has a function for each. `specs/Runs.antt` says what a call
+//! on a view promises.
 #![tactic(auto)]
 
+mod calls;
+mod closing;
+mod context;
 mod course;
-mod fire;
-mod rows;
-mod state;
-mod statement;
-mod top;
+mod deciding;
+mod gate;
+mod operations;
+mod placing;
+mod running;
+mod settling;
 
-pub use course::{Course, End, Ending, GroupOutcome, Outcome, UnitReport};
-pub use fire::{run_group, run_signal, run_task};
-pub use state::{ObjectName, State, Status};
-pub use statement::{run_body, run_statement};
-pub use top::{run_top, run_units};
+pub use calls::{run_body, run_firing, run_group, run_signal, run_task};
+pub use closing::{detached_after, end_transaction, ending};
+pub use course::{Course, End, GroupOutcome};
+pub use gate::{Gate, NoGate};
+pub use placing::group_course;

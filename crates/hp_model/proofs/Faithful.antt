@@ -243,7 +243,7 @@ append-assoc (emission v rest) b c = ap (emission v) (append-assoc rest b c)
 append-assoc (detachment t rest) b c = ap (detachment t) (append-assoc rest b c)
 append-assoc (node what end inside rest) b c = ap (node what end inside) (append-assoc rest b c)
 
-append-none : (a : Items) → append a no_items ≡ a
+pub append-none : (a : Items) → append a no_items ≡ a
 append-none no_items = refl
 append-none (operation op rest) = ap (operation op) (append-none rest)
 append-none (emission v rest) = ap (emission v) (append-none rest)

@@ -1,5 +1,6 @@
 -- Faithful operations, and the statements that make them.
-use Rattle.std.proofs.Common.{◌≡◌, refl, ap, sym, ◌∙◌, subst, ℕ, ℤ, ◌<◌, true, List, Option, Some, None, arith}
+use Rattle.std.proofs.Common.{◌≡◌, refl, ap, sym, ◌∙◌, subst, ℕ, ℤ, ◌<◌, ◌≤◌, true, List, Option, Some, None, arith}
+use Rattle.std.proofs.lemmas.List.{get_or_past, set_past}
 use Rattle.std.specs.Prelude.{Ok, Err, length}
 use Rattle.hp_model.specs.Values.{Row, Cause, exists, missing, Outcome}
 use Rattle.hp_model.specs.Occurrences.{Primitive, created, updated, deleted}
@@ -246,6 +247,20 @@ module _ (op : RuleOperation) (n : ℕ) {library : Library} {reads : List Read} 
   faithful_pure_rule_changed {before} {after} t below pure finds is writes =
       changed_to t finds is (λ base S ordered at. cells_changed library S (with_rule S n (with_status t)) (rule_cell n) (status_in t) base before after
       (pure_rule_changes library S n (with_status t) (omega (arith, below, ordered.each_rule)) pure) writes at)
+
+  -- a rule that the library lacks has no state to change
+  pub faithful_rule_unknown : {writes : Changes} {s : Status} (t : Status) → length library.rules ≤ n → Finds library (λ S. (rule_state S n).status) reads writes s → new_status op s ≡ Ok (Some t)
+      → FaithfulOperation library (set_rule op n) reads writes writes (Ok tt)
+  faithful_rule_unknown {writes} t past finds is =
+      changed_to t finds is (λ base S ordered at.
+      let outside : length S.rules ≤ n = omega (arith, past, ordered.each_rule) in
+      ap (λ rs. cells library (record { objects = S.objects; rules = rs })) (set_past S.rules n (with_status t) outside) ∙ at)
+
+-- no state has a rule that the library lacks
+pub finds_unknown : (n : ℕ) {library : Library} {reads : List Read} {writes : Changes} → length library.rules ≤ n → Finds library (λ S. (rule_state S n).status) reads writes absent
+finds_unknown n past = record {
+  from = λ base held S ordered at. ap (λ (r : RuleState). r.status) (get_or_past S.rules n (with_status absent) (omega (arith, past, ordered.each_rule)));
+}
 
 -- ---- the statements on rules
 

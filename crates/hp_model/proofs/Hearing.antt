@@ -1,5 +1,5 @@
 -- A signal, as it is told to the rules that mention it, one after the other.
-use Rattle.std.proofs.Common.{arith, ◌≡◌, refl, ap, ap₂, sym, ◌∙◌, subst, ℕ, zero, suc, ◌+◌, ◌<◌, ◌≤◌, Bool, true, false, true≢false, List, [], ◌∷◌, ◌++◌, map, length, Option, Some, None, append-nil, drop, take, get_or, ltb-true, ltb-false}
+use Rattle.std.proofs.Common.{arith, ◌≡◌, ◌≢◌, refl, ap, ap₂, sym, ◌∙◌, subst, ℕ, zero, suc, ◌+◌, ◌<◌, ◌≤◌, Bool, true, false, true≢false, List, [], ◌∷◌, ◌++◌, map, length, Option, Some, None, append-nil, drop, take, get_or, ltb-true, ltb-false}
 use Rattle.std.specs.Prelude.{◌==◌, ◌||◌, option_map, option_to_list, filter_map, if◌then◌else◌, slice_get, nat_lt}
 use Rattle.std.specs.List.{slice_index_or, list_any}
 use Rattle.std.proofs.lemmas.List.{get_or_past, map-append}
@@ -75,11 +75,11 @@ unlisted n k i (rule ∷ rules) p apart is below = at i is below (mentions rule.
     at (suc j) is below false here out later = later j out (omega arith) (omega arith)
 
 -- each of them comes once
-below_first : (n k : ℕ) → n < k → (k == n) ≡ false
-below_first n k low = by (k == n) refl
+other_number : (k n : ℕ) → k ≢ n → (k == n) ≡ false
+other_number k n apart = by (k == n) refl
   where
     by : (b : Bool) → (k == n) ≡ b → (k == n) ≡ false
-    by true is = let same : k ≡ n = (Decides-eqb k n).0 is in absurd (omega arith)
+    by true is = absurd (apart ((Decides-eqb k n).0 is))
     by false is = is
 
 all_above : (n k i : ℕ) (rules : List Rule) (p : Primitive) → n < k → is_in n (take i (mentioning_from k rules p)) ≡ false
@@ -91,7 +91,7 @@ all_above n k i (rule ∷ rules) p low = at i (mentions rule.event p) (λ j. all
         → is_in n (take j (if b then k ∷ mentioning_from (suc k) rules p else mentioning_from (suc k) rules p)) ≡ false
     at zero true later = refl
     at zero false later = later 0
-    at (suc j) true later = ap (λ b. b || is_in n (take j (mentioning_from (suc k) rules p))) (below_first n k low) ∙ later j
+    at (suc j) true later = ap (λ b. b || is_in n (take j (mentioning_from (suc k) rules p))) (other_number k n (λ e. absurd (omega (arith, e, low)))) ∙ later j
     at (suc j) false later = later (suc j)
 
 least : (k i : ℕ) (rules : List Rule) (p : Primitive) → i < length (mentioning_from k rules p) → k ≤ get_or (mentioning_from k rules p) i 0
@@ -120,14 +120,8 @@ once_from k i (rule ∷ rules) p below = at i (mentions rule.event p) below (λ 
     at (suc j) true low later above =
         let l : j < length (mentioning_from (suc k) rules p) = omega (arith, low) in
         let x = get_or (mentioning_from (suc k) rules p) j 0 in
-        ap (λ b. b || is_in x (take j (mentioning_from (suc k) rules p))) (above_first x (above j l)) ∙ later j l
-      where
-        above_first : (x : ℕ) → suc k ≤ x → (k == x) ≡ false
-        above_first x far = by (k == x) refl
-          where
-            by : (b : Bool) → (k == x) ≡ b → (k == x) ≡ false
-            by true is = let same : k ≡ x = (Decides-eqb k x).0 is in absurd (omega arith)
-            by false is = is
+        let far = above j l in
+        ap (λ b. b || is_in x (take j (mentioning_from (suc k) rules p))) (other_number k x (λ e. absurd (omega (arith, e, far)))) ∙ later j l
     at (suc j) false low later above = later (suc j) low
 
 -- a rule of the list doesn't stand before its place

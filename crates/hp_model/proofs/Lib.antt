@@ -24,3 +24,8 @@ pub mod FaithfulFirings
 pub mod FaithfulTops
 pub mod Hearing
 pub mod FaithfulOperations
+pub mod UnitRuns
+pub mod WellFormedParts
+pub mod WellFormedExpressions
+pub mod WellFormedStatements
+pub mod WellFormedScripts

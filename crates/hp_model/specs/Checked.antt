@@ -8,6 +8,8 @@ use Rattle.hp_model.specs.Events.{Pattern, on_create, on_update, on_delete, on_s
 use Rattle.hp_model.specs.Rules.{Query, Assignment, Statement, create, update, delete, signal, emit, when, each, for_answer, with_object, subtransaction, veto, on_rule, fire, Body, empty, ◌then◌, Rule, Library, no_class}
 use Rattle.hp_model.specs.Refusals.{Path, under_root, item_at, Limit, classes_limit, fields_limit, rules_limit, expression_limit, event_limit, nesting_limit, text_limit, depth_limit_word, arguments_limit, wrong_shape, bad_name, over_limit, Decoded}
 use Rattle.hp_model.specs.Parts.{is_name}
+pub use Rattle.hp_model.specs.Scopes.{class_names, field_names, query_names}
+pub use Rattle.hp_model.specs.StatementGrammar.{assigned_names}
 
 -- that something is well formed, or its first fault
 abbrev pub Checked : Type 0
@@ -116,15 +118,6 @@ pub record Scope : Type 0 where
   pub rules : ℕ
   pub in_action : Bool
   pub queries : List Name
-
-abbrev pub class_names : List ClassDef → List Name
-class_names classes = map (λ (c : ClassDef). c.name) classes
-
-abbrev pub field_names : List Field → List Name
-field_names fields = map (λ (f : Field). f.name) fields
-
-abbrev pub assigned_names : List Assignment → List Name
-assigned_names pairs = map (λ (a : Assignment). a.field) pairs
 
 -- the fields of a class
 abbrev pub fields_of : Scope → (class : ℕ) → List Field
@@ -273,9 +266,6 @@ classes_check path classes = do
 
 abbrev pub rule_names : List Rule → List Name
 rule_names rules = map (λ (r : Rule). r.name) rules
-
-abbrev pub query_names : List Query → List Name
-query_names queries = map (λ (q : Query). q.name) queries
 
 -- a rule's name comes before all other parts of rules
 unfoldable pub head_check : List Rule → Path → Rule → Checked

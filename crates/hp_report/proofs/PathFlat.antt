@@ -1,4 +1,4 @@
--- The report's text, without trees, shows no more of an evaluation than `hp_fire` keeps.
+-- The report's text, without trees, shows no more of an evaluation than `hp_first` keeps.
 use Rattle.std.proofs.Common.{◌≡◌, ℕ, suc, List, [], ◌∷◌, ◌++◌, map, flat_map, false, Option, refl, ap, ◌∙◌, codes}
 use Rattle.hp_model.specs.Values.{Value}
 use Rattle.hp_model.specs.Rules.{Library, Rule}
@@ -6,7 +6,7 @@ use Rattle.hp_model.specs.State.{RuleState, with_status}
 use Rattle.hp_model.specs.Tree.{Ending, committed, aborted, emits, if_committed}
 use Rattle.hp_model.specs.Cascade.{TransactionReport, UnitReport, Evaluation}
 use Rattle.hp_model.specs.Report.{Bytes, line, status_word, heading, ending_words, transaction_text, units_text, rules_text, objects_text, report_text}
-use Rattle.hp_fire.specs.Flat.{emissions, flat_transaction, flat_unit, flat_evaluation}
+use Rattle.hp_first.specs.Flat.{emissions, flat_transaction, flat_unit, flat_evaluation}
 use Rattle.hp_report.specs.Text.{emit_lines}
 use Rattle.hp_report.proofs.PathLines.{emits_emissions}
 

@@ -4,7 +4,7 @@ use Rattle.hp_model.specs.Report.{outcome_text}
 use Rattle.hp_model.specs.Rules.{Library}
 use Rattle.hp_model.specs.Values.{Value}
 use Rattle.hp_model.specs.Tree.{Ending, committed, aborted, emits, if_committed}
-use Rattle.hp_fire.specs.Flat.{emissions}
+use Rattle.hp_first.specs.Flat.{emissions}
 use Rattle.hp_report.specs.Text.{emit_lines}
 
 pub emits_emissions : (vs : List Value) → emits (emissions vs) ≡ vs

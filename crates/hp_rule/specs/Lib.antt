@@ -1,5 +1,6 @@
 pub mod PathMapped
 pub mod Mentions
+pub mod SameTasks
 pub mod Statements
 pub mod Libraries
 pub mod Mapped

@@ -2,21 +2,14 @@
 use Rattle.std.specs.Prelude.{ℕ, List, [], ◌∷◌, map, string_bytes}
 use Rattle.hp_model.specs.Rules as R
 use Rattle.hp_value.specs.Mapped.{class_def, expression, coupling}
+pub use Rattle.hp_value.specs.Mapped.{rule_operation}
 use Rattle.hp_value.specs.declared.row.ClassDef.{ClassDef}
 use Rattle.hp_query.specs.Mapped.{query}
 use Rattle.hp_detect.specs.Mapped.{event}
-use Rattle.hp_rule.specs.declared.stmt.RuleOperation.{RuleOperation}
-use Rattle.hp_rule.specs.declared.stmt.RuleOperation.TheVariants.{Install, Enable, Disable, Remove}
 use Rattle.hp_rule.specs.declared.stmt.Assignment.{Assignment}
 use Rattle.hp_rule.specs.declared.stmt.Stmt.{Stmt, Row_of-Stmt, end_of-Stmt, more_of-Stmt}
 use Rattle.hp_rule.specs.declared.stmt.Stmt.TheVariants.{Create, Update, Delete, Signal, Emit, If', Each', For', With', Sub', Abort, Veto, OnRule, Fire}
 use Rattle.hp_rule.specs.declared.rule.Rule.{Rule}
-
-abbrev pub rule_operation : RuleOperation → R.RuleOperation
-rule_operation Install = R.install
-rule_operation Enable = R.enable
-rule_operation Disable = R.disable
-rule_operation Remove = R.remove
 
 abbrev pub assignment : Assignment → R.Assignment
 assignment a = record { field = string_bytes a.field; value = expression a.value.value }

@@ -15,13 +15,16 @@ mod stmt;
 mod task;
 #[cfg(test)]
 mod tests;
+mod unit;
 
 pub use body::Body;
+pub use check::name::is_name;
 pub use fault::{CheckError, CheckFault, Limit, Member, PathStep};
 pub use hp_detect::EventExpr;
 pub use hp_query::Query;
-pub use hp_value::Coupling;
+pub use hp_value::{Coupling, RuleOperation};
 pub use library::Library;
 pub use rule::Rule;
-pub use stmt::{Assignment, RuleOperation, Stmt};
+pub use stmt::{Assignment, Stmt};
 pub use task::{Detached, Step, Task};
+pub use unit::Unit;

@@ -31,6 +31,7 @@ pub struct Library {
 
 impl Library {
     ghost use Rattle.std.specs.Prelude.{IfOk, option_map, slice_get};
+    ghost use Rattle.std.specs.Option.{option_copied};
     ghost use Rattle.hp_value.specs.Mapped.{class_def, primitive};
     ghost use Rattle.hp_model.specs.Checked.{checked_library};
     ghost use Rattle.hp_rule.specs.Faults.{Gives};
@@ -108,7 +109,8 @@ impl Library {
 
     /// The rule of a number; none where the library has no such rule.
     pub fn rule(&self, number: RuleNo) -> Option<&Rule>
-        ensures { option_map (λ r. rule r.now) result ≡ slice_get (library self.now).rules number }
+        ensures rule { option_map (λ r. rule r.now) result ≡ slice_get (library self.now).rules number }
+        ensures item { option_copied result ≡ slice_get self.now.rules.items number }
     {
         self.rules.get(number as usize)
     }

@@ -4,3 +4,5 @@ pub mod Moments
 pub mod Readings
 pub mod PathBodies
 pub mod Parsed
+pub mod ItemScopes
+pub mod OwnBodies

@@ -3,5 +3,7 @@ pub mod Place
 pub mod Rows
 pub mod Moments
 pub mod Forms
+pub mod ItemScopes
+pub mod OwnBodies
 pub mod PathMapped
 pub mod PathForms

@@ -4,10 +4,7 @@ use Rattle.hp_model.specs.Values.{Name}
 use Rattle.hp_model.specs.Refusals as R
 use Rattle.hp_model.specs.Cascade as C
 use Rattle.hp_model.specs.Decode as D
-use Rattle.hp_value.specs.Mapped.{class_def}
-use Rattle.hp_rule.specs.Mapped.{rule, body_in}
-use Rattle.hp_script.specs.declared.schedule.Unit.{Unit}
-use Rattle.hp_script.specs.declared.schedule.Unit.TheVariants.{Transaction, Moment}
+use Rattle.hp_rule.specs.Mapped.{library, unit}
 use Rattle.hp_script.specs.declared.schedule.Schedule.{Schedule}
 use Rattle.hp_script.specs.declared.script.Script.{Script}
 use Rattle.hp_script.specs.declared.refusal.Member.{Member}
@@ -70,15 +67,8 @@ abbrev pub Gives : {A B : Type 0} → (A → B) → Result A DecodeError → R.D
 Gives f (Ok x) read = read ≡ Ok (f x)
 Gives f (Err e) read = Fails e read
 
-abbrev pub unit : Unit → C.Unit
-unit (Transaction statements) = C.transaction (body_in statements.items)
-unit (Moment t) = C.moment t
-
 abbrev pub schedule : Schedule → D.Schedule
 schedule s = record { units = map unit s.units.items; clock = s.clock }
 
 abbrev pub script : Script → C.Script
-script s = record {
-  library = record { classes = map class_def s.classes.items; rules = map rule s.rules.items; depth_limit = s.depth_limit };
-  units = map unit s.items.items;
-}
+script s = record { library = library s.library.value; units = map unit s.items.items }

@@ -1,11 +1,14 @@
 //! Scripts from their bytes.
 
-ghost use Rattle.std.specs.Prelude.{◌≡◌, ◌≤◌, ◌<◌, length, map, option_map};
+ghost use Rattle.std.specs.Prelude.{◌≡◌, ◌≤◌, ◌<◌, codes, length, map, option_map, IfOk};
 ghost use Rattle.serde_json.specs.View.{view};
-ghost use Rattle.hp_model.specs.Decode.{wanted_count, root_of, script_from, decode as script_at, script_of};
+ghost use Rattle.hp_model.specs.Refusals.{under_root};
+ghost use Rattle.hp_model.specs.Decode.{wanted_count, root_of, rules_at, script_scope, decode as script_at, script_of};
 ghost use Rattle.hp_value.specs.Mapped.{class_def};
+ghost use Rattle.hp_rule.specs.Mapped.{rule};
 ghost use Rattle.hp_script.specs.Forms.{heads_view, root_view, version_view};
 ghost use Rattle.hp_script.specs.Mapped.{Gives, script};
+ghost use Rattle.hp_script.specs.OwnBodies.{AreOf};
 
 use crate::class::classes_at;
 use crate::item::units_at;
@@ -14,12 +17,14 @@ use crate::place::{Place, misshapen};
 use crate::refusal::{DecodeError, Limit, Member, Refusal};
 use crate::rule::rules_at;
 use crate::rule_head::{RuleHead, rule_heads_at};
-use crate::scope::Scope;
+use crate::scope::{ItemScope, Scope};
 use crate::script::Script;
 use crate::version::{Version, depth_if_any, version_at};
+use hp_rule::{Library, Rule};
 use hp_value::ClassDef;
 use serde_json::Value;
 use std::alloc::Global;
+use std::sync::Arc;
 
 /// The bytes that a script may have.
 const MAX_BYTES: usize = 1_048_576;
@@ -62,46 +67,31 @@ fn root_of(value: &Value) -> Option<Root<'_>>
     })
 }
 
-/// The script of this version and depth limit, these classes and these heads of rules.
-#[tactic(auto, unfolding(hp_model::specs::Decode::script_from))]
-fn script_from(
+/// The rules of these heads, over these classes.
+fn rules_of(
     alloc: Global,
     version: Version,
-    depth_limit: u8,
-    classes: Vec<ClassDef>,
+    classes: &[ClassDef],
     heads: &[RuleHead<'_>],
-    items: &Value,
-) -> Result<Script, DecodeError>
-    requires few_classes { length classes.items ≤ 64 }
+) -> Result<Vec<Rule>, DecodeError>
+    requires few_classes { length classes.now ≤ 64 }
     requires few_rules { length heads.now ≤ 256 }
-    ensures { Gives script result (script_from (version_view version) depth_limit (map class_def classes.items) (heads_view heads.entry.now) (view items.now)) }
+    ensures { Gives (λ rules. map rule rules.items) result (rules_at (version_view version) (script_scope (map class_def classes.now) (heads_view heads.entry.now)) (under_root (codes "rules")) (heads_view heads.entry.now)) }
 {
     let scope = Scope {
-        classes: classes.as_slice(),
+        classes,
         rules: heads,
         queries: &[],
         in_action: false,
     };
-    let rules = rules_at(alloc, &Place::Member(Member::Rules), version, &scope, heads)?;
-    let schedule = units_at(
-        alloc,
-        &Place::Member(Member::Items),
-        &scope,
-        rules.as_slice(),
-        items,
-    )?;
-    Ok(Script {
-        classes,
-        rules,
-        depth_limit,
-        items: schedule.units,
-    })
+    rules_at(alloc, &Place::Member(Member::Rules), version, &scope, heads)
 }
 
 /// The script that a JSON value says.
-#[tactic(auto, unfolding(hp_model::specs::Decode::decode))]
+#[tactic(auto, unfolding(hp_model::specs::Decode::decode, hp_model::specs::Decode::script_from))]
 fn script_at(alloc: Global, value: &Value) -> Result<Script, DecodeError>
-    ensures { Gives script result (script_at (view value.now)) }
+    ensures own { IfOk result (λ s. AreOf s.library.value s.items.items) }
+    ensures reads { Gives script result (script_at (view value.now)) }
 {
     let Some(root) = root_of(value) else {
         return Err(misshapen(alloc, &Place::Root));
@@ -110,14 +100,19 @@ fn script_at(alloc: Global, value: &Value) -> Result<Script, DecodeError>
     let depth_limit = depth_if_any(alloc, &Place::Member(Member::Depth), root.depth)?;
     let classes = classes_at(alloc, &Place::Member(Member::Classes), root.classes)?;
     let heads = rule_heads_at(alloc, &Place::Member(Member::Rules), root.rules)?;
-    script_from(
-        alloc,
-        version,
-        depth_limit,
-        classes,
-        heads.as_slice(),
-        root.items,
-    )
+    let heads = heads.as_slice();
+    let rules = rules_of(alloc, version, classes.as_slice(), heads)?;
+    let library = Library::of_checked(alloc, classes, rules, depth_limit)?;
+    let library = Arc::new(alloc, library)?;
+    let scope = ItemScope {
+        library: &library,
+        heads,
+    };
+    let schedule = units_at(alloc, &Place::Member(Member::Items), &scope, root.items)?;
+    Ok(Script {
+        library,
+        items: schedule.units,
+    })
 }
 
 /// The script that the bytes say.
@@ -125,10 +120,11 @@ fn script_at(alloc: Global, value: &Value) -> Result<Script, DecodeError>
 /// `Refused` tells the first fault, in the order of the grammar's checks: the size, the JSON text, the root's members,
 /// the version, the depth limit, the classes, the form and name of each rule, the other parts of each rule, and the
 /// items. `Memory` means that memory ran out, and says nothing of the bytes but that they are no more than 1,048,576:
-/// more are refused before any memory is taken.
+/// more are refused before any memory is taken. The bodies of a script are of its own library.
 #[tactic(auto, unfolding(hp_model::specs::Decode::script_of))]
 pub fn decode(alloc: Global, bytes: &[u8]) -> Result<Script, DecodeError>
     ensures reads { Gives script result (script_of bytes.now) }
+    ensures own { IfOk result (λ s. AreOf s.library.value s.items.items) }
     ensures too_long { 1048576 < length bytes.now → result ≡ Err (DecodeError.Refused (Refusal.S5 Limit.Size)) }
 {
     if bytes.len() > MAX_BYTES {

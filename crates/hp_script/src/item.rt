@@ -4,9 +4,11 @@ ghost use Rattle.std.specs.Prelude.{◌≡◌, ◌++◌, map, option_map, IfOk};
 ghost use Rattle.serde_json.specs.View.{view};
 ghost use Rattle.hp_model.specs.Cascade.{moment};
 ghost use Rattle.hp_model.specs.Decode.{item_form_of_one, item_form, item_form_at, transaction_at, clock_at, unit_at, units_at};
-ghost use Rattle.hp_rule.specs.Mapped.{rule};
-ghost use Rattle.hp_script.specs.Forms.{item_form_view, scope_view};
-ghost use Rattle.hp_script.specs.Mapped.{Gives, unit, schedule};
+ghost use Rattle.hp_rule.specs.Mapped.{rule, unit};
+ghost use Rattle.hp_script.specs.Forms.{item_form_view};
+ghost use Rattle.hp_script.specs.ItemScopes.{item_library, item_rules, item_scope};
+ghost use Rattle.hp_script.specs.Mapped.{Gives, schedule};
+ghost use Rattle.hp_script.specs.OwnBodies.{AreOf};
 ghost use Rattle.hp_script.specs.Place.{path_to};
 
 use crate::moment::due_moments;
@@ -14,11 +16,11 @@ use crate::number::number_from;
 use crate::place::{Place, misshapen};
 use crate::refusal::{DecodeError, Limit, Refusal};
 use crate::rows::no_rows;
-use crate::schedule::{Schedule, Unit};
-use crate::scope::Scope;
+use crate::schedule::Schedule;
+use crate::scope::ItemScope;
 use crate::shape::{form_of, list_of};
 use crate::statement::statements_at;
-use hp_rule::Rule;
+use hp_rule::{Body, Library, Rule, Unit};
 use serde_json::Value;
 use std::alloc::{AllocError, Global};
 
@@ -68,22 +70,26 @@ fn item_form_at<'a>(
 fn transaction_at(
     alloc: Global,
     place: &Place<'_>,
-    scope: &Scope<'_>,
+    scope: &ItemScope<'_>,
     before: Schedule,
     body: &Value,
 ) -> Result<Schedule, DecodeError>
-    ensures { Gives schedule result (transaction_at (scope_view scope.entry.now) (path_to place.now) (schedule before) (view body.now)) }
+    ensures own { IfOk result (λ s. AreOf (item_library scope.entry.now) before.units.items → AreOf (item_library scope.entry.now) s.units.items) }
+    ensures reads { Gives schedule result (transaction_at (item_scope scope.entry.now) (path_to place.now) (schedule before) (view body.now)) }
 {
     let rows = no_rows();
-    let statements = statements_at(alloc, &place.item(1), scope, &rows, body)?;
+    let of_bodies = scope.of_bodies();
+    let statements = statements_at(alloc, &place.item(1), &of_bodies, &rows, body)?;
+    let body = Body::of_checked(scope.library, statements)?;
     let Schedule { mut units, clock } = before;
-    units.push(Unit::Transaction(statements))?;
+    units.push(Unit::Transaction(body))?;
     Ok(Schedule { units, clock })
 }
 
 /// The units with these moments after them.
 fn with_moments(units: Vec<Unit>, moments: &[u64]) -> Result<Vec<Unit>, AllocError>
-    ensures { IfOk result (λ all. map unit all.items ≡ map unit units.items ++ map moment moments.now) }
+    ensures own { IfOk result (λ all. (library : Library) → AreOf library units.items → AreOf library all.items) }
+    ensures units { IfOk result (λ all. map unit all.items ≡ map unit units.items ++ map moment moments.now) }
 {
     let mut all = units;
     for moment in moments {
@@ -100,7 +106,8 @@ fn clock_at(
     before: Schedule,
     time: &Value,
 ) -> Result<Schedule, DecodeError>
-    ensures { Gives schedule result (clock_at (map rule rules.now) (path_to place.now) (schedule before) (view time.now)) }
+    ensures own { IfOk result (λ s. (library : Library) → AreOf library before.units.items → AreOf library s.units.items) }
+    ensures reads { Gives schedule result (clock_at (map rule rules.now) (path_to place.now) (schedule before) (view time.now)) }
 {
     let clock = number_from(alloc, &place.item(1), before.clock, time)?;
     let Some(moments) = due_moments(alloc, rules, before.clock, clock)? else {
@@ -115,29 +122,29 @@ fn clock_at(
 fn unit_at(
     alloc: Global,
     place: &Place<'_>,
-    scope: &Scope<'_>,
-    rules: &[Rule],
+    scope: &ItemScope<'_>,
     before: Schedule,
     value: &Value,
 ) -> Result<Schedule, DecodeError>
-    ensures { Gives schedule result (unit_at (map rule rules.now) (scope_view scope.entry.now) (path_to place.now) (schedule before) (view value.now)) }
+    ensures own { IfOk result (λ s. AreOf (item_library scope.entry.now) before.units.items → AreOf (item_library scope.entry.now) s.units.items) }
+    ensures reads { Gives schedule result (unit_at (item_rules scope.entry.now) (item_scope scope.entry.now) (path_to place.now) (schedule before) (view value.now)) }
 {
     match item_form_at(alloc, place, value)? {
         ItemForm::Transaction(body) => transaction_at(alloc, place, scope, before, body),
-        ItemForm::Clock(time) => clock_at(alloc, place, rules, before, time),
+        ItemForm::Clock(time) => clock_at(alloc, place, scope.library.rules(), before, time),
     }
 }
 
 /// The items that stand at a place, as the units that they run.
-#[tactic(auto, unfolding(hp_model::specs::Decode::units_at))]
+#[tactic(auto, using(crate::proofs::OwnBodies::none_own), unfolding(hp_model::specs::Decode::units_at))]
 pub(crate) fn units_at(
     alloc: Global,
     place: &Place<'_>,
-    scope: &Scope<'_>,
-    rules: &[Rule],
+    scope: &ItemScope<'_>,
     value: &Value,
 ) -> Result<Schedule, DecodeError>
-    ensures { Gives schedule result (units_at (map rule rules.now) (scope_view scope.entry.now) (path_to place.now) (view value.now)) }
+    ensures own { IfOk result (λ s. AreOf (item_library scope.entry.now) s.units.items) }
+    ensures reads { Gives schedule result (units_at (item_rules scope.entry.now) (item_scope scope.entry.now) (path_to place.now) (view value.now)) }
 {
     let Some(values) = list_of(value) else {
         return Err(misshapen(alloc, place));
@@ -147,7 +154,7 @@ pub(crate) fn units_at(
         clock: 0,
     };
     for (i, value) in values.iter().enumerate() {
-        schedule = unit_at(alloc, &place.item(i), scope, rules, schedule, value)?;
+        schedule = unit_at(alloc, &place.item(i), scope, schedule, value)?;
     }
     Ok(schedule)
 }

@@ -37,6 +37,5 @@ mod version;
 
 pub use decoding::decode;
 pub use refusal::{DecodeError, Limit, Member, Refusal, Step};
-pub use schedule::Unit;
 pub use script::Script;
 pub use shown::refusal_text;

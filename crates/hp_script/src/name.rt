@@ -1,36 +1,16 @@
 //! Names.
 
 ghost use Rattle.std.specs.Prelude.{◌≡◌, option_map};
-ghost use Rattle.std.specs.List.{list_all};
 ghost use Rattle.serde_json.specs.View.{view};
-ghost use Rattle.hp_model.specs.Parts.{is_name_byte, is_name, name_of, name_at};
+ghost use Rattle.hp_model.specs.Parts.{name_of, name_at};
 ghost use Rattle.hp_script.specs.Mapped.{Gives};
 ghost use Rattle.hp_script.specs.Place.{path_to};
 
 use crate::place::{Place, misshapen};
 use crate::refusal::DecodeError;
+use hp_rule::is_name;
 use serde_json::Value;
 use std::alloc::Global;
-
-fn are_name_bytes(bytes: &[u8]) -> bool
-    ensures { result ≡ list_all is_name_byte bytes.now }
-{
-    bytes
-        .iter()
-        .all(|byte| byte.is_ascii_alphanumeric() || *byte == b'_')
-}
-
-/// Whether a text can be a name: 1 to 32 letters, digits and `_`, of which the first is a letter.
-fn is_name(text: &str) -> bool
-    ensures { result ≡ is_name text.now }
-{
-    match text.as_bytes() {
-        [] => false,
-        [first, others @ ..] => {
-            first.is_ascii_alphabetic() && others.len() < 32 && are_name_bytes(others)
-        }
-    }
-}
 
 fn name_of(value: &Value) -> Option<&str>
     ensures { option_map (λ x. x.now) result ≡ name_of (view value.now) }

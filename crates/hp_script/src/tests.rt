@@ -1,4 +1,5 @@
-use crate::{DecodeError, Limit, Refusal, Script, Unit, decode, refusal_text};
+use crate::{DecodeError, Limit, Refusal, Script, decode, refusal_text};
+use hp_rule::{Stmt, Unit};
 use std::alloc::Global;
 use std::process::Abort;
 use std::test::Fail;
@@ -563,6 +564,23 @@ fn limits_moments(rt: HostRuntime) -> Result<(), Fail> {
     assert!(rt; units.len() == 1_000);
     assert!(rt; matches!(units[0], Unit::Moment(1)) && matches!(units[999], Unit::Moment(1_000)));
     assert!(rt; answer(alloc, more.as_bytes())?.as_str() == "refused S5 moments");
+    Ok(())
+}
+
+#[test]
+fn reads_parts(rt: HostRuntime) -> Result<(), Fail> {
+    let alloc = rt.alloc();
+    let text =
+        "{\"version\":1,\"depth\":3,\"classes\":[[\"acct\",[[\"bal\",\"int\"]]]],\"rules\":[[\"r\",[\"signal\",\"go\"],\"immediate\",[],\"immediate\",[]]],\"items\":[[\"tx\",[[\"abort\"]]]]}";
+    let Ok(Script { library, items }) = decode(alloc, text.as_bytes()) else {
+        return Err(Fail::from("refused"));
+    };
+    assert!(rt; library.depth_limit() == 3);
+    assert!(rt; library.classes().len() == 1 && library.rules().len() == 1);
+    let [Unit::Transaction(body)] = items.as_slice() else {
+        return Err(Fail::from("other items"));
+    };
+    assert!(rt; matches!(body.statements(), [Stmt::Abort]));
     Ok(())
 }
 

@@ -5,11 +5,9 @@ use Rattle.hp_model.specs.Values as V
 use Rattle.hp_model.specs.Rules as R
 use Rattle.hp_model.specs.Tree as T
 use Rattle.hp_model.specs.Cascade as C
-use Rattle.hp_value.specs.Mapped.{value, cause, coupling}
+use Rattle.hp_value.specs.Mapped.{value, cause, coupling, rule_operation}
 use Rattle.hp_value.specs.declared.value.Value.{Value}
 pub use Rattle.hp_tree.specs.Names.{object_name, objects_of}
-use Rattle.hp_tree.specs.declared.operation.RuleOperation.{RuleOperation}
-use Rattle.hp_tree.specs.declared.operation.RuleOperation.TheVariants.{Install, Enable, Disable, Remove}
 use Rattle.hp_tree.specs.declared.operation.Operation.{Operation}
 use Rattle.hp_tree.specs.declared.operation.Operation.TheVariants.{Create, Update, Delete, OnRule}
 use Rattle.hp_tree.specs.declared.node.ConditionEnd.{ConditionEnd}
@@ -22,12 +20,6 @@ use Rattle.hp_tree.specs.declared.node.Item.{Item, Row_of-Item, end_of-Item, mor
 use Rattle.hp_tree.specs.declared.node.Item.TheVariants.{Operation as AnOperation, Emit, Node' as ANode}
 use Rattle.hp_tree.specs.declared.report.TopReport.{TopReport}
 use Rattle.hp_tree.specs.declared.report.UnitReport.{UnitReport}
-
-abbrev pub rule_operation : RuleOperation → R.RuleOperation
-rule_operation Install = R.install
-rule_operation Enable = R.enable
-rule_operation Disable = R.disable
-rule_operation Remove = R.remove
 
 abbrev pub operation : Operation → T.Operation
 operation (Create class key new) = T.create_op class key new

@@ -15,6 +15,6 @@ mod tests;
 pub use emitted::emits;
 pub use node::{ConditionEnd, Ending, Item, Node, What};
 pub use objects::{ObjectName, Objects};
-pub use operation::{Operation, RuleOperation};
+pub use operation::Operation;
 pub use replaying::replay;
 pub use report::{TopReport, UnitReport};

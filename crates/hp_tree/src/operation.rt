@@ -1,19 +1,6 @@
 //! Operations on objects and rules.
 
-use hp_value::{ClassNo, Key, Row, RuleNo};
-
-/// What a statement makes of a rule (this project's own choice).
-#[derive(Clone, Copy, Debug, PartialEq, Eq)]
-pub enum RuleOperation {
-    /// An absent rule becomes enabled; another stays as it is.
-    Install,
-    /// A disabled rule becomes enabled.
-    Enable,
-    /// An enabled rule becomes disabled.
-    Disable,
-    /// A rule becomes absent.
-    Remove,
-}
+use hp_value::{ClassNo, Key, Row, RuleNo, RuleOperation};
 
 /// An operation that a transaction made.
 #[derive(Debug, Drop)]

@@ -1,8 +1,8 @@
 use crate::{
-    ConditionEnd, Ending, Item, Node, Objects, Operation, RuleOperation, TopReport, UnitReport,
-    What, emits, replay,
+    ConditionEnd, Ending, Item, Node, Objects, Operation, TopReport, UnitReport, What, emits,
+    replay,
 };
-use hp_value::{Cause, ClassNo, Coupling, Field, Key, Kind, Row, Value};
+use hp_value::{Cause, ClassNo, Coupling, Field, Key, Kind, Row, RuleOperation, Value};
 use std::alloc::Global;
 use std::sync::Arc;
 use std::test::Fail;

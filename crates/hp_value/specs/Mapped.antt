@@ -20,6 +20,8 @@ use Rattle.hp_value.specs.declared.occurrence.Primitive.TheVariants.{Create, Upd
 use Rattle.hp_value.specs.declared.occurrence.Occurrence.{Occurrence}
 use Rattle.hp_value.specs.declared.occurrence.Coupling.{Coupling}
 use Rattle.hp_value.specs.declared.occurrence.Coupling.TheVariants.{Immediate, Deferred, Separate, Dependent, Exclusive}
+use Rattle.hp_value.specs.declared.rule_operation.RuleOperation.{RuleOperation}
+use Rattle.hp_value.specs.declared.rule_operation.RuleOperation.TheVariants.{Install, Enable, Disable, Remove}
 use Rattle.hp_value.specs.declared.expr.Arithmetic.{Arithmetic}
 use Rattle.hp_value.specs.declared.expr.Arithmetic.TheVariants.{Plus, Minus, Times, Quotient, Remainder}
 use Rattle.hp_value.specs.declared.expr.Comparison.{Comparison}
@@ -74,6 +76,12 @@ primitive (Time t) = O.moment_reached t
 
 abbrev pub occurrence : Occurrence → O.Occurrence
 occurrence o = record { parts = map primitive o.parts.items; count = o.count }
+
+abbrev pub rule_operation : RuleOperation → R.RuleOperation
+rule_operation Install = R.install
+rule_operation Enable = R.enable
+rule_operation Disable = R.disable
+rule_operation Remove = R.remove
 
 abbrev pub coupling : Coupling → R.Coupling
 coupling Immediate = R.immediate

@@ -41,7 +41,7 @@ occurrence_same o p = pointwise primitive_same o.parts p.parts && nat_eq o.count
 
 -- ---- true exactly where the two are equal
 
-both_decide : {P Q R : Type 0} (a b : Bool) → Decides a P → Decides b Q → (P → Q → R) → (R → P × Q) → Decides (a && b) R
+pub both_decide : {P Q R : Type 0} (a b : Bool) → Decides a P → Decides b Q → (P → Q → R) → (R → P × Q) → Decides (a && b) R
 both_decide true b p q make split = (λ e. make (p.0 refl) (q.0 e), λ r. q.1 (split r).1)
 both_decide false b p q make split = (λ e. absurd (true≢false (sym e)), λ r. p.1 (split r).0)
 

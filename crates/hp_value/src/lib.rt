@@ -11,6 +11,7 @@ mod halt;
 mod occurrence;
 mod operator;
 mod row;
+mod rule_operation;
 #[cfg(test)]
 mod tests;
 mod value;
@@ -21,4 +22,5 @@ pub use expr::{Arithmetic, Comparison, Expr};
 pub use halt::{Cause, Halt};
 pub use occurrence::{Coupling, Occurrence, Prim, Primitive};
 pub use row::{ClassDef, Field, KeyedRow, Row};
+pub use rule_operation::RuleOperation;
 pub use value::{ClassNo, Key, Kind, RuleNo, Value};

@@ -1,4 +1,4 @@
-mod Reading
+pub mod Reading
 mod Noting
 mod Undoing
 mod Looking

@@ -9,7 +9,7 @@ ghost use Rattle.hp_report.specs.PathMapped as model;
 use crate::device::Sink;
 use crate::output::{WriteFault, write_text};
 use crate::path::text::{put_objects, put_rules, put_units};
-use hp_fire::{State, UnitReport};
+use hp_first::{State, UnitReport};
 use hp_rule::path::Library;
 use std::alloc::{AllocError, Global};
 use std::fmt::Write;

@@ -2,7 +2,7 @@ use crate::path::{Report, write_report};
 use crate::tests::writer;
 use crate::{Sink, WriteFault};
 use hp_event::Pattern;
-use hp_fire::{Ending, ObjectName, State, Status, UnitReport};
+use hp_first::{Ending, ObjectName, State, Status, UnitReport};
 use hp_rule::path::{Library, Rule};
 use hp_value::{Cause, ClassDef, ClassNo, Field, Key, Kind, Row, Value};
 use std::alloc::Global;

@@ -4,11 +4,8 @@ use crate::text::{put_final, put_units};
 use hp_detect::EventExpr;
 use hp_event::Pattern;
 use hp_rule::Rule;
-use hp_tree::{
-    ConditionEnd, Ending, Item, Node, Objects, Operation, RuleOperation, TopReport, UnitReport,
-    What,
-};
-use hp_value::{Cause, ClassDef, Coupling, Field, Key, Kind, Row, RuleNo, Value};
+use hp_tree::{ConditionEnd, Ending, Item, Node, Objects, Operation, TopReport, UnitReport, What};
+use hp_value::{Cause, ClassDef, Coupling, Field, Key, Kind, Row, RuleNo, RuleOperation, Value};
 use std::alloc::Global;
 use std::sync::Arc;
 use std::test::Fail;

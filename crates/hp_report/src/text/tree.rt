@@ -9,8 +9,8 @@ ghost use Rattle.hp_report.specs.Text.{Gains, spaced};
 use crate::names::Names;
 use crate::text::objects::{put_object, put_object_name};
 use crate::text::words::{mode_word, put_cause, put_ending, put_value};
-use hp_tree::{ConditionEnd, Ending, Item, Operation, RuleOperation, What};
-use hp_value::Value;
+use hp_tree::{ConditionEnd, Ending, Item, Operation, What};
+use hp_value::{RuleOperation, Value};
 use std::alloc::{AllocError, Global};
 use std::fmt::Write;
 

@@ -19,8 +19,8 @@ fn are_name_bytes(bytes: &[u8]) -> bool
         .all(|byte| byte.is_ascii_alphanumeric() || *byte == b'_')
 }
 
-/// Whether a text is a name: 1 to 32 ASCII letters, digits and `_`, of which the first is a letter.
-fn is_name(text: &str) -> bool
+/// Whether a text is a name: 1 to 32 ASCII letters, digits and `_`, of which the first is a letter (this project's own choice).
+pub fn is_name(text: &str) -> bool
     ensures { result ≡ is_name text.now }
 {
     match text.as_bytes() {

@@ -5,6 +5,7 @@ ghost use Rattle.hp_value.specs.Mapped.{class_def, primitive};
 ghost use Rattle.hp_rule.specs.PathMapped.{rule, library};
 ghost use Rattle.hp_rule.specs.Mentions.{mentioning};
 
+use crate::note::rule_number;
 use crate::path::rule::Rule;
 use hp_value::{ClassDef, ClassNo, Prim, RuleNo};
 use std::alloc::{AllocError, Global};
@@ -47,11 +48,4 @@ impl Library {
         }
         Ok(numbers)
     }
-}
-
-/// The number of the rule at a place.
-fn rule_number(place: usize) -> Result<RuleNo, AllocError>
-    ensures { IfOk result (λ n. n ≡ place) }
-{
-    RuleNo::try_from(place).map_err(|_| AllocError)
 }

@@ -6,7 +6,7 @@ ghost use Rattle.hp_report.specs.PathMapped as model;
 ghost use Rattle.hp_report.specs.Text.{Gains, spaced};
 
 use crate::text::put_fields;
-use hp_fire::ObjectName;
+use hp_first::ObjectName;
 use hp_rule::path::Library;
 use hp_value::{ClassNo, Row};
 use std::alloc::{AllocError, Global};

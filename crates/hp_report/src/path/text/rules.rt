@@ -6,7 +6,7 @@ ghost use Rattle.hp_model.specs.State.{with_status};
 ghost use Rattle.hp_report.specs.PathMapped as model;
 ghost use Rattle.hp_report.specs.Text.{Gains};
 
-use hp_fire::Status;
+use hp_first::Status;
 use hp_rule::path::Rule;
 use std::alloc::AllocError;
 use std::fmt::Write;

@@ -7,7 +7,7 @@ ghost use Rattle.hp_report.specs.Text.{Gains, emit_lines};
 
 use crate::path::text::words::put_ending;
 use crate::text::put_value;
-use hp_fire::{Ending, UnitReport};
+use hp_first::{Ending, UnitReport};
 use hp_rule::path::Library;
 use hp_value::Value;
 use std::alloc::{AllocError, Global};

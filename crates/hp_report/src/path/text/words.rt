@@ -5,7 +5,7 @@ ghost use Rattle.hp_model.specs.Report.{rule_name, cause_words, ending_words};
 ghost use Rattle.hp_report.specs.PathMapped as model;
 ghost use Rattle.hp_report.specs.Text.{Gains, spaced};
 
-use hp_fire::Ending;
+use hp_first::Ending;
 use hp_rule::path::Library;
 use hp_value::{Cause, RuleNo};
 use std::alloc::AllocError;

@@ -1,0 +1,4 @@
+mod Passed
+mod Taking
+mod Fronting
+pub mod Joining

@@ -1,0 +1,81 @@
+-- Attempts that are taken in.
+use Rattle.std.proofs.Common.{◌≡◌, sym, ap, ◌∙◌, subst, ℕ, ℤ, List, [], ◌∷◌, Option}
+use Rattle.hp_model.specs.Rules.{Library}
+use Rattle.hp_model.specs.Tree.{Task}
+use Rattle.hp_model.specs.Cells.{Cell, CellValue, Cells, cells, over, Read, cell_read, keys_read, IsTold, AllTold, Holds, AreKeys}
+use Rattle.hp_model.specs.Firing.{fire_task}
+use Rattle.hp_model.specs.Soundness.{firing_answer, LeadsTo, Attempt, IsSound}
+use Rattle.hp_model.specs.Answers.{FaithfulFiring}
+use Rattle.hp_model.proofs.BridgesCells.{stacked, over-over, Holds-front}
+use Rattle.hp_model.proofs.BridgesKeys.{one_list}
+use Rattle.hp_store.specs.Changes.{Entries, changes}
+use Rattle.hp_store.specs.Stack.{cells_in}
+use Rattle.hp_view.specs.Seeing.{Seeing, beneath, written, now_in, Shows, ShowsKeys, TakesIn, OnlyReads, GoesOn}
+use Rattle.hp_view.specs.Looks.{only_reads_then}
+use Rattle.hp_view.proofs.Views.{GoesOn-then}
+use Rattle.hp_attempt.specs.Holding.{Covers}
+
+-- ---- a view that only read
+
+same_written : {old new : Seeing} → OnlyReads old new → written new ≡ written old
+same_written only = ap changes only.writes
+
+same_now : {old new : Seeing} → OnlyReads old new → now_in new ≡ now_in old
+same_now only = λ i. over (cells_in (only.base i)) (same_written only i)
+
+held_first : {old new : Seeing} → OnlyReads old new → (base : Cells) → Holds base new.reads → Holds base old.reads
+held_first {old} only base held = Holds-front base old.reads only.reads.0 (subst (Holds base) only.reads.1 held)
+
+-- ---- the reads of an attempt, one by one
+
+-- a read is read by the view: it holds under the view's writes wherever the view's reads hold
+abbrev pub Again : Seeing → Seeing → Read → Type 0
+Again old new r = IsTold (now_in old) r → (base : Cells) → Holds base new.reads → IsTold (over base (written new)) r
+
+pub again_cell : (old new : Seeing) (cell : Cell) (value : Option CellValue) → Shows new cell (now_in old cell) → Again old new (cell_read cell value)
+again_cell old new cell value shows told base held = shows.everywhere base held ∙ told
+
+pub again_keys : {old new : Seeing} (class : ℕ) (keys recorded : List ℤ) → OnlyReads old new → ShowsKeys new class keys → Holds (beneath new) new.reads → Again old new (keys_read class recorded)
+again_keys {old} {new} class keys recorded only shows was told base held =
+    subst (AreKeys (over base (written new)) class) (one_list (shows.everywhere (beneath new) was) (subst (λ c. AreKeys c class recorded) (sym (same_now only)) told)) (shows.everywhere base held)
+
+pub record Recorded (first now : Seeing) (rest all : List Read) : Type 0 where
+  pub only : OnlyReads first now
+  pub on : GoesOn first now
+  pub left : AllTold (now_in first) rest
+  pub covers : (base : Cells) → Holds base now.reads → AllTold (over base (written now)) rest → AllTold (over base (written now)) all
+
+pub record_more : {first old new : Seeing} {left rest all : List Read} (r : Read) → left ≡ r ∷ rest
+    → OnlyReads first old → GoesOn first old → AllTold (now_in first) left → ((base : Cells) → Holds base old.reads → AllTold (over base (written old)) left → AllTold (over base (written old)) all)
+    → OnlyReads old new → GoesOn old new → Again old new r → Recorded first new rest all
+record_more {first} {old} {new} {left} {rest} {all} r is only on told covers only' on' again =
+    let both : AllTold (now_in first) (r ∷ rest) = subst (AllTold (now_in first)) is told in
+    let same : written new ≡ written old = same_written only' in
+    record {
+      only = only_reads_then first old new only only';
+      on = GoesOn-then on on';
+      left = both.1;
+      covers = λ base held others.
+          let here = again (subst (λ c. IsTold c r) (sym (same_now only)) both.0) base held in
+          let whole : AllTold (over base (written old)) left = subst (AllTold (over base (written old))) (sym is) (subst (λ w. AllTold (over base w) (r ∷ rest)) same (here, others)) in
+          subst (λ w. AllTold (over base w) all) (sym same) (covers base (held_first only' base held) whole);
+    }
+
+-- all of them are read
+pub covers_all : {v : Seeing} {left all : List Read} → left ≡ [] → ((base : Cells) → Holds base v.reads → AllTold (over base (written v)) left → AllTold (over base (written v)) all) → Covers v all
+covers_all {v} none covers = record { everywhere = λ base held. record { told = covers base held (subst (AllTold (over base (written v))) (sym none) tt) } }
+
+-- ---- an attempt
+
+-- a sound attempt whose reads hold, and which is taken in, stands for the firing
+pub faithful_settled : (library : Library) (a : Attempt) (t : Task) (layer : Entries) {first read new : Seeing} → IsSound library a → a.task ≡ t → changes layer ≡ a.layer
+    → OnlyReads first read → Covers read a.reads → TakesIn read new layer
+    → FaithfulFiring library (λ S. fire_task library S t) new.reads (written first) (written new) a.answer
+faithful_settled library a t layer {first} {read} {new} sound for same only covers takes = record {
+  from = λ base held S ordered is.
+      let at : cells library S ≡ over base (written read) = is ∙ ap (over base) (sym (same_written only)) in
+      let here : Holds (cells library S) a.reads = subst (λ c. Holds c a.reads) (sym at) (covers.everywhere base (subst (Holds base) takes.reads held)) in
+      let to : over (cells library S) a.layer ≡ over base (written new) = ap (λ c. over c a.layer) at ∙ over-over base (written read) a.layer ∙ ap (over base) (ap (stacked (written read)) (sym same) ∙ sym takes.changes) in
+      subst (λ u. LeadsTo library (firing_answer (fire_task library S u)) (fire_task library S u).state a.answer (over base (written new))) for
+      (subst (LeadsTo library (firing_answer (fire_task library S a.task)) (fire_task library S a.task).state a.answer) to (sound.from S ordered here));
+}

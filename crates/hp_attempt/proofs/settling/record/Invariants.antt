@@ -1,0 +1,13 @@
+use Rattle.std.proofs.Common.{map}
+use Rattle.hp_model.specs.Cells.{Cells, Holds, AllTold, over}
+use Rattle.hp_view.specs.Mapped.{read}
+use Rattle.hp_view.specs.Seeing.{GoesOn, OnlyReads, written, now_in}
+use Rattle.hp_attempt.proofs.settling.record.Given as goal
+
+abbrev pub invariant-loop-seen : goal.invariant-loop-seen
+invariant-loop-seen l = record {
+  only : OnlyReads l.fn.view l.view;
+  on : GoesOn l.fn.view l.view;
+  left : AllTold (now_in l.fn.view) (map read l.seen-iterator);
+  covers : (base : Cells) → Holds base l.view.reads → AllTold (over base (written l.view)) (map read l.seen-iterator) → AllTold (over base (written l.view)) l.reads;
+}

@@ -1,0 +1,66 @@
+-- What settling the front of a row of attempts does.
+use Rattle.std.specs.Prelude.{◌≡◌, ℕ, Bool, true, false, List, [], ◌∷◌, Option, Some, None, map, take, length}
+use Rattle.hp_model.specs.Rules.{Library}
+use Rattle.hp_model.specs.Tree.{Task}
+use Rattle.hp_model.specs.Cells.{Cells, Holds}
+use Rattle.hp_model.specs.Firing.{siblings, fire_task}
+use Rattle.hp_model.specs.Soundness.{IsSound}
+use Rattle.hp_model.specs.Answers.{FaithfulFiring, FaithfulSiblings}
+use Rattle.hp_rule.specs.Mapped.{task}
+use Rattle.hp_view.specs.Seeing.{Seeing, written, now_in}
+use Rattle.hp_attempt.specs.Mapped.{firing, attempt}
+use Rattle.hp_attempt.specs.declared.outcome.Outcome.{Outcome}
+use Rattle.hp_attempt.specs.declared.outcome.Attempt.{Attempt}
+
+-- each attempt that is there is sound
+abbrev pub AreSound : Library → List (Option Attempt) → Type 0
+AreSound library [] = Unit {0}
+AreSound library (None ∷ attempts) = AreSound library attempts
+AreSound library (Some a ∷ attempts) = IsSound library (attempt a) × AreSound library attempts
+
+-- the end of the last outcome; before the first it is the given one
+abbrev pub last_end : Option ℕ → List Outcome → Option ℕ
+last_end end [] = end
+last_end end (o ∷ outcomes) = last_end o.end outcomes
+
+-- the veto at which the firings stopped, where they stop at one
+abbrev pub stopped_by : (stops : Bool) → List Outcome → Option ℕ
+stopped_by false outcomes = None
+stopped_by true outcomes = last_end None outcomes
+
+-- the first attempt can't be taken in for the task: there is none, it is for another task, or its reads don't hold
+abbrev pub Stays : Cells → Task → List (Option Attempt) → Type 0
+Stays now t [] = Unit {0}
+Stays now t (None ∷ attempts) = Unit {0}
+Stays now t (Some a ∷ attempts) = (task a.task ≡ t) × Holds now a.reads → ⊥
+
+abbrev pub StopsAt : Cells → List Task → List (Option Attempt) → Type 0
+StopsAt now [] attempts = Unit {0}
+StopsAt now (t ∷ tasks) attempts = Stays now t attempts
+
+-- it is the longest front: it stopped at a veto, or no task is left, or the first attempt that is left can't be taken in
+abbrev pub IsLongest : (stopped_by : Option ℕ) → Cells → (tasks : List Task) → (left : List (Option Attempt)) → Type 0
+IsLongest (Some r) now tasks left = Unit {0}
+IsLongest None now tasks left = StopsAt now tasks left
+
+-- The outcomes are those of the first tasks, as many as there are, fired one after the other as siblings, if their attempts
+-- are sound
+pub record FrontIs (stops : Bool) (tasks : List Task) (attempts : List (Option Attempt)) (outcomes : List Outcome) (old new : Seeing) : Type 0 where
+  pub faithful : (library : Library) → AreSound library (take (length outcomes) attempts)
+      → FaithfulSiblings library (siblings (fire_task library) stops (take (length outcomes) tasks)) new.reads (written old) (written new)
+      (record { firings = map firing outcomes; vetoed_by = stopped_by stops outcomes })
+
+-- ---- one attempt
+
+-- the first attempt is taken in, and gives its outcome
+pub record TakesFirst (t : Task) (old new : Seeing) (before after : List (Option Attempt)) (outcome : Outcome) : Type 0 where
+  pub taken : Attempt
+  pub first : before ≡ Some taken ∷ after
+  pub gives : taken.outcome ≡ outcome
+  pub faithful : (library : Library) → IsSound library (attempt taken) → FaithfulFiring library (λ S. fire_task library S t) new.reads (written old) (written new) (firing outcome)
+
+-- it is left
+pub record LeavesFirst (t : Task) (old new : Seeing) (before after : List (Option Attempt)) : Type 0 where
+  pub attempts : after ≡ before
+  pub view : new ≡ old
+  pub stays : Stays (now_in new) t after

@@ -1,0 +1,28 @@
+-- Reads that hold, and the first that doesn't.
+use Rattle.std.specs.Prelude.{◌≡◌, List, ◌∷◌, ◌++◌}
+use Rattle.hp_model.specs.Cells.{Cells, over, Read, cell_read, keys_read, IsTold, Holds}
+use Rattle.hp_value.specs.Mapped.{cell}
+use Rattle.hp_view.specs.declared.reads.Seen.{Seen}
+use Rattle.hp_view.specs.declared.reads.Seen.TheVariants.{Cell as OfCell, Keys as OfKeys}
+use Rattle.hp_view.specs.Seeing.{Seeing, written}
+
+-- a read of this cell, or of this class's keys
+abbrev pub IsReadOf : Seen → Read → Type 0
+IsReadOf (OfCell q) (cell_read c value) = c ≡ cell q
+IsReadOf (OfCell q) (keys_read class keys) = ⊥
+IsReadOf (OfKeys n) (cell_read c value) = ⊥
+IsReadOf (OfKeys n) (keys_read class keys) = class ≡ n
+
+-- the first of the reads that doesn't hold looked there: those before it hold
+pub record FirstFailed (base : Cells) (reads : List Read) (seen : Seen) : Type 0 where
+  pub before : List Read
+  pub after : List Read
+  pub first : Read
+  pub split : reads ≡ before ++ first ∷ after
+  pub held : Holds base before
+  pub fails : IsTold base first → ⊥
+  pub looked : IsReadOf seen first
+
+-- wherever the view's reads hold, these hold under its writes
+pub record Covers (v : Seeing) (reads : List Read) : Type 0 where
+  pub everywhere : (base : Cells) → Holds base v.reads → Holds (over base (written v)) reads

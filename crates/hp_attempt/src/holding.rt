@@ -1,0 +1,57 @@
+//! Whether what was read still holds.
+
+ghost use Rattle.std.specs.Prelude.{◌≡◌, ◌↔◌, IsTrue, IfSome, option_map, is_none};
+ghost use Rattle.hp_model.specs.Cells.{Holds, IsTold};
+ghost use Rattle.hp_store.specs.Mapped.{cell_value};
+ghost use Rattle.hp_view.specs.Mapped.{read};
+ghost use Rattle.hp_view.specs.Seeing.{now_in};
+ghost use Rattle.hp_attempt.specs.Holding.{FirstFailed};
+
+use hp_store::CellValue;
+use hp_view::{Found, Reads, Seen, View};
+
+/// Whether all reads hold in a view's cells: each cell has the value or the absence that was found, and each class the
+/// keys.
+///
+/// Nothing is recorded, and no memory is taken.
+pub fn holds(reads: &Reads, view: &View) -> bool
+    ensures { IsTrue result ↔ Holds (now_in view.now) reads.now }
+{
+    first_failed(reads, view).is_none()
+}
+
+/// The first of some reads that doesn't hold in a view's cells: where it looked. None where all of them hold.
+///
+/// Nothing is recorded, and no memory is taken.
+pub fn first_failed<'a>(reads: &'a Reads, view: &View) -> Option<&'a Seen>
+    ensures none { IsTrue (is_none result) ↔ Holds (now_in view.now) reads.now }
+    ensures some { IfSome result (λ seen. FirstFailed (now_in view.now) reads.now seen.now) }
+{
+    for (seen, found) in reads.iter() {
+        if !is_told(view, seen, found) {
+            return Some(seen);
+        }
+    }
+    None
+}
+
+// Whether this is found in a view's cells.
+fn is_told(view: &View, seen: &Seen, found: &Found) -> bool
+    ensures { IsTrue result ↔ IsTold (now_in view.now) (read (seen.now, found.now)) }
+{
+    match seen {
+        Seen::Cell(cell) => are_same(view.peek(*cell), found.value()),
+        Seen::Keys(class) => view.has_keys(*class, found.keys()),
+    }
+}
+
+// Whether two cells hold the same, or both are empty.
+fn are_same(value: Option<&CellValue>, other: Option<&CellValue>) -> bool
+    ensures { IsTrue result ↔ (option_map (λ v. cell_value v.now) value.entry ≡ option_map (λ v. cell_value v.now) other.entry) }
+{
+    match (value, other) {
+        (Some(value), Some(other)) => *value == *other,
+        (None, None) => true,
+        _ => false,
+    }
+}

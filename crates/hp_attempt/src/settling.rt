@@ -1,0 +1,81 @@
+//! How an attempt is taken in.
+
+ghost use Rattle.std.specs.Prelude.{◌≡◌, ◌↔◌, IsTrue, IsOk, IfOk, OnOk, OnErr};
+ghost use Rattle.hp_model.specs.Rules.{Library};
+ghost use Rattle.hp_model.specs.Cells.{Holds};
+ghost use Rattle.hp_model.specs.Firing.{fire_task};
+ghost use Rattle.hp_model.specs.Soundness.{IsSound};
+ghost use Rattle.hp_model.specs.Answers.{FaithfulFiring};
+ghost use Rattle.hp_model.proofs.BridgesCells.{stacked};
+ghost use Rattle.hp_rule.specs.Mapped.{task as task_of};
+ghost use Rattle.hp_store.specs.Changes.{changes};
+ghost use Rattle.hp_view.specs.Seeing.{now_in, written, OnlyReads, GoesOn, Restores};
+ghost use Rattle.hp_attempt.specs.Mapped.{firing, attempt as attempt_of};
+ghost use Rattle.hp_attempt.specs.Holding.{Covers};
+
+use crate::holding::holds;
+use crate::outcome::Attempt;
+use hp_rule::Task;
+use hp_view::{Reads, Seen, View};
+use std::alloc::{AllocError, Global};
+
+/// Whether an attempt was taken in.
+#[derive(Clone, Copy, Debug, PartialEq, Eq)]
+pub enum Settled {
+    /// It was: the view is as if the task had fired on it.
+    Accepted,
+    /// It wasn't, since it is for another task, or since something that it read has changed.
+    Rejected,
+}
+
+/// Takes in an attempt, if it is for this task and its reads hold in the view's cells. Else the view stays as it is.
+///
+/// What an accepted attempt read is then read by the view, and what it wrote is written over the view's writes, so that
+/// the view is as if the task had fired on it.
+///
+/// A rejection takes no memory. An error means that memory ran out as the attempt was taken in: no cell of the view has
+/// then changed, but reads that hold may have been recorded.
+pub fn settle(
+    alloc: Global,
+    view: &mut View,
+    task: &Task,
+    attempt: &Attempt,
+) -> Result<Settled, AllocError>
+    ensures accepted { IfOk result (λ r. (r ≡ Settled.Accepted) ↔ ((task_of attempt.now.task ≡ task_of task.now) × Holds (now_in view.old) attempt.now.reads)) }
+    ensures rejected { IfOk result (λ r. r ≡ Settled.Rejected → view.new ≡ view.old) }
+    ensures spares { ((task_of attempt.now.task ≡ task_of task.now) × Holds (now_in view.old) attempt.now.reads → ⊥) → IsOk result }
+    ensures faithful { IfOk result (λ r. r ≡ Settled.Accepted → (library : Library) → IsSound library (attempt_of attempt.now) → FaithfulFiring library (λ S. fire_task library S (task_of task.now)) view.new.reads (written view.old) (written view.new) (firing attempt.now.outcome)) }
+    ensures takes { IfOk result (λ r. r ≡ Settled.Accepted → written view.new ≡ stacked (written view.old) (changes attempt.now.layer.value)) }
+    ensures goes_on { GoesOn view.old view.new }
+    ensures err { OnErr result (Restores view.old view.new) }
+{
+    if !may_stand(attempt, view, task) {
+        return Ok(Settled::Rejected);
+    }
+    record(alloc, view, &attempt.reads)?;
+    view.take_in(&attempt.layer)?;
+    Ok(Settled::Accepted)
+}
+
+// Whether an attempt may stand for the firing of this task on the view. It takes no memory.
+fn may_stand(attempt: &Attempt, view: &View, task: &Task) -> bool
+    ensures { IsTrue result ↔ ((task_of attempt.now.task ≡ task_of task.now) × Holds (now_in view.now) attempt.now.reads) }
+{
+    attempt.task == *task && holds(&attempt.reads, view)
+}
+
+// Reads what an attempt read, so that the attempt's reads hold under the view's writes wherever the view's reads hold.
+fn record(alloc: Global, view: &mut View, reads: &Reads) -> Result<(), AllocError>
+    requires { Holds (now_in view.old) reads.now }
+    ensures only { OnlyReads view.old view.new }
+    ensures goes_on { GoesOn view.old view.new }
+    ensures covers { OnOk result (Covers view.new reads.now) }
+{
+    for (seen, _) in reads.iter() {
+        match seen {
+            Seen::Cell(cell) => view.read(*cell)?,
+            Seen::Keys(class) => drop(view.keys(alloc, *class)?),
+        }
+    }
+    Ok(())
+}

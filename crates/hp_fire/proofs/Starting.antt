@@ -1,0 +1,89 @@
+-- Signals and the tasks that they start.
+use Rattle.std.proofs.Common.{arith, ◌≡◌, refl, sym, ap, ◌∙◌, subst, ℕ, suc, ◌+◌, ◌*◌, ◌<◌, ◌≤◌, ◌-◌, List, [], ◌∷◌, Bool, true, false, map, length}
+use Rattle.std.specs.Prelude.{filter, if◌then◌else◌}
+use Prim.Native.Nat.{max}
+use Rattle.std.proofs.Common.{mul-le-mul_right, suc-mul}
+use denote.Param.Weighed.{most}
+use Rattle.hp_model.specs.Occurrences.{Primitive}
+use Rattle.hp_model.specs.Rules.{Library, is_immediate}
+use Rattle.hp_model.specs.Tree.{Task}
+use Rattle.hp_model.specs.Firing.{level_at, siblings, fire_task, start, signal_in}
+use Rattle.hp_model.specs.Soundness.{Answer}
+use Rattle.hp_model.specs.Answers.{SiblingsAnswer, ended, followed, placing, group_answer}
+use Rattle.hp_model.specs.Transactions.{done}
+use Rattle.hp_model.proofs.FaithfulFirings.{AreAt, faithful_start_none, faithful_start, faithful_signal}
+use Rattle.hp_rule.specs.declared.library.Library.{Library as RustLibrary}
+use Rattle.hp_rule.specs.declared.task.Task.{Task as RustTask}
+use Rattle.hp_rule.specs.Mapped.{library, task}
+use Rattle.hp_ops.specs.Triggers.{IsTriggered}
+use Rattle.hp_view.specs.Seeing.{Seeing, GoesOn}
+use Rattle.hp_view.proofs.Views.{GoesOn-same, GoesOn-then}
+use Rattle.hp_fire.specs.Runs.{Runs, RunsGroup, AreReady}
+use Rattle.hp_fire.specs.Weights.{deepest, levels, left, group_levels}
+use Rattle.hp_fire.proofs.Steps.{grows, runs_answer}
+
+pub signal_runs : {library : Library} {depth : ℕ} {p : Primitive} {tasks : List Task} {v w z : Seeing} {a : Answer} → IsTriggered library depth p v w tasks → GoesOn v w
+    → Runs library (start (level_at library depth).below tasks) w z a → Runs library (signal_in (level_at library depth) p) v z a
+signal_runs {library} {depth} {p} told on r = record { goes_on = GoesOn-then on r.goes_on; faithful = faithful_signal (level_at library depth) p (grows r.goes_on) told.heard r.faithful }
+
+pub start_none : (library : Library) (depth : ℕ) {tasks : List Task} → tasks ≡ [] → (v : Seeing) (a : Answer) → a ≡ ended done → Runs library (start (level_at library depth).below tasks) v v a
+start_none library depth {tasks} none v a is =
+    subst (λ ts. Runs library (start (level_at library depth).below ts) v v a) (sym none)
+    (runs_answer is (record { goes_on = GoesOn-same v; faithful = faithful_start_none (level_at library depth).below }))
+
+-- ---- tasks of a depth
+
+at_filter : (d : ℕ) (f : Task → Bool) (ts : List Task) → AreAt d ts → AreAt d (filter f ts)
+at_filter d f [] at = tt
+at_filter d f (t ∷ ts) at = by (f t) at.0 (at_filter d f ts at.1)
+  where
+    by : (b : Bool) → t.depth ≡ d → AreAt d (filter f ts) → AreAt d (if b then t ∷ filter f ts else filter f ts)
+    by true here rest = (here, rest)
+    by false here rest = rest
+
+pub start_runs : {library : Library} {depth : ℕ} {v w : Seeing} {g : SiblingsAnswer} (tasks : List Task) → AreReady library depth tasks → (tasks ≡ [] → ⊥)
+    → RunsGroup library (siblings (fire_task library) true (filter (λ (u : Task). is_immediate u.place) tasks)) v w g
+    → Runs library (start (level_at library depth).below tasks) v w (followed (placing tasks) (group_answer g))
+start_runs [] ready some r = absurd (some refl)
+start_runs {library} {depth} (t ∷ ts) ready some r = record {
+  goes_on = r.goes_on;
+  faithful = faithful_start depth t ts (ready.within t ts refl) (at_filter (suc depth) (λ (u : Task). is_immediate u.place) (t ∷ ts) ready.at) r.faithful;
+}
+
+-- no more firings can nest in a group of a depth than at that depth
+pub levels_at : (lib : RustLibrary) (d : ℕ) (ts : List RustTask) → AreAt d (map task ts) → group_levels lib ts ≤ levels lib d
+levels_at lib d [] at = omega arith
+levels_at lib d (t ∷ ts) at =
+    let here : levels lib t.depth ≡ levels lib d = ap (levels lib) at.0 in
+    let rest = levels_at lib d ts at.1 in
+    subst (λ n. max n (group_levels lib ts) ≤ levels lib d) (sym here) (least (levels lib d) (group_levels lib ts) rest)
+  where
+    least : (m n : ℕ) → n ≤ m → max m n ≤ m
+    least m n h = omega (arith, h)
+
+-- a group has less left than the signal that starts it
+pub group_falls : (firings below deepest : ℕ) → suc below ≤ firings → 8 * (below * (deepest + 2) + deepest) + 4 < 8 * (firings * (deepest + 2) + 0) + 1
+group_falls firings below deepest less =
+    let more : suc below * (deepest + 2) ≤ firings * (deepest + 2) = mul-le-mul_right (deepest + 2) less in
+    let one : suc below * (deepest + 2) ≡ below * (deepest + 2) + (deepest + 2) = suc-mul below (deepest + 2) in
+    omega (arith, more, one)
+
+-- the immediate tasks of those that may start
+pub group_measure : (lib : RustLibrary) (depth : ℕ) (tasks now : List RustTask) → AreReady (library lib) depth (map task tasks) → (tasks ≡ [] → ⊥)
+    → map task now ≡ filter (λ (u : Task). is_immediate u.place) (map task tasks)
+    → 8 * left lib (group_levels lib now) (deepest lib) + 4 < 8 * left lib (levels lib depth) 0 + 1
+group_measure lib depth [] now ready some is = absurd (some refl)
+group_measure lib depth (t ∷ ts) now ready some is =
+    let at : AreAt (suc depth) (map task now) = subst (AreAt (suc depth)) (sym is) (at_filter (suc depth) (λ (u : Task). is_immediate u.place) (map task (t ∷ ts)) ready.at) in
+    let fewer = levels_at lib (suc depth) now at in
+    let low : depth < lib.depth_limit = ready.within (task t) (map task ts) refl in
+    let less : suc (group_levels lib now) ≤ levels lib depth = omega (arith, fewer, low) in
+    group_falls (levels lib depth) (group_levels lib now) (deepest lib) less
+
+pub none_long : {X : Type 0} (xs : List X) → length xs ≡ 0 → xs ≡ []
+none_long [] e = refl
+none_long (x ∷ xs) e = cc
+
+pub map_none : {X Y : Type 0} (f : X → Y) (xs : List X) → map f xs ≡ [] → xs ≡ []
+map_none f [] e = refl
+map_none f (x ∷ xs) e = cc

@@ -1,0 +1,116 @@
+-- Statements by their parts.
+use Rattle.std.proofs.Common.{◌≡◌, refl, sym, ap, ◌∙◌, subst, ℕ, ℤ, List, [], ◌∷◌, Bool, true, false, map}
+use Rattle.std.specs.Prelude.{Result, Ok, Err, String, string_bytes}
+use Rattle.std.specs.Global.{Global, Vec, Box}
+use Rattle.std.proofs.Common.{rules}
+use Rattle.hp_model.specs.Values.{Name, Value, KeyedRow, Cause, Outcome}
+use Rattle.hp_model.specs.Occurrences.{Primitive, signalled}
+use Rattle.hp_model.specs.Expressions.{Expression}
+use Rattle.hp_model.specs.Rules as R
+use Rattle.hp_model.specs.Rules.{Library, Statement, fire}
+use Rattle.hp_model.specs.State.{State, Status, absent, enabled, disabled, rule_state}
+use Rattle.hp_model.specs.Tree.{Task}
+use Rattle.hp_model.specs.Transactions.{Work, with_value, abort_by}
+use Rattle.hp_model.specs.Firing.{Level, level_at, Context, run_statement, start, start_fired, fired_task}
+use Rattle.hp_model.specs.Soundness.{Answer}
+use Rattle.hp_model.specs.Answers.{FaithfulWork, ended}
+use Rattle.hp_model.proofs.Faithful.{finds_more}
+use Rattle.hp_model.proofs.FaithfulOperations.{faithful_fire}
+use Rattle.hp_value.specs.declared.halt.Halt.{Halt}
+use Rattle.hp_value.specs.declared.halt.Halt.TheVariants.{Cause as ByCause, Memory}
+use Rattle.hp_value.specs.Mapped.{Meets, cause}
+use Rattle.hp_ops.specs.Triggers.{IsFired, Fires}
+use Rattle.hp_value.specs.declared.expr.Expr.{Expr}
+use Rattle.hp_value.specs.Mapped.{expression}
+use Rattle.hp_rule.specs.declared.stmt.Stmt.{Stmt}
+use Rattle.hp_rule.specs.declared.stmt.Stmt.TheVariants.{With}
+use Rattle.hp_rule.specs.declared.stmt.Stmt.TheViews.{the_lemmas}
+use Rattle.hp_rule.specs.Mapped.{statement, body_in}
+use Rattle.hp_rule.proofs.Bodies.{row_body_lem}
+use Rattle.hp_view.specs.Seeing.{Seeing, written, OnlyReads}
+use Rattle.hp_view.proofs.Views.{GoesOn-then}
+use Rattle.hp_view.proofs.Reading.{GoesOn-only}
+use Rattle.hp_fire.specs.declared.course.Course.{Course}
+use Rattle.hp_fire.specs.Runs.{Runs, Steps, Finding, Looks}
+use Rattle.hp_fire.specs.Signals.{signal_of}
+use Rattle.hp_fire.proofs.Making.{steps_halt}
+use Rattle.hp_fire.proofs.Steps.{runs_as, found_cause, grows, only_written}
+
+-- ---- the same statement
+
+pub steps_at : (library : Library) (level : Level) (context : Context) (v w : Seeing) (result : Result Course Halt) {x y : Statement} → x ≡ y → Steps library (run_statement x level context) v w result
+    → Steps library (run_statement y level context) v w result
+steps_at library level context v w result is p = subst (λ s. Steps library (run_statement s level context) v w result) is p
+
+pub runs_at : {library : Library} (level : Level) (context : Context) {v w : Seeing} {a : Answer} {x y : Statement} → x ≡ y → Runs library (run_statement x level context) v w a → Runs library (run_statement y level context) v w a
+runs_at {library} level context {v} {w} {a} is p = subst (λ s. Runs library (run_statement s level context) v w a) is p
+
+-- ---- signals
+
+pub signal_halt : (x : Name) (next : List Value → Work) (o : Outcome (List Value)) (h : Halt) (library : Library) (v : Seeing) {X : Type 0} (f : X → Primitive) → Meets f (Err h) (signal_of x o)
+    → Steps library (λ S. with_value o next S) v v (Err h)
+signal_halt x next (Ok vs) (ByCause c) library v f is = cc
+signal_halt x next (Err d) (ByCause c) library v f is = steps_halt (λ (vs : List Value). vs) (λ S. next) (Err d) (ByCause c) library v (cause_same is)
+  where
+    cause_same : ◌≡◌ {A = Outcome Primitive} (Err (cause c)) (Err d) → ◌≡◌ {A = Outcome (List Value)} (Err (cause c)) (Err d)
+    cause_same e = ap (λ (o : Outcome Primitive). as_values o) e
+      where
+        as_values : Outcome Primitive → Outcome (List Value)
+        as_values (Ok p) = Ok []
+        as_values (Err e) = Err e
+signal_halt x next o Memory library v f is = tt
+
+steps_as : (library : Library) (f g : Work) (v w : Seeing) (result : Result Course Halt) → ((S : State) → g S ≡ f S) → Steps library f v w result → Steps library g v w result
+steps_as library f g v w (Ok c) same p = runs_as f g same p
+steps_as library f g v w (Err (ByCause c)) same p = runs_as f g same p
+steps_as library f g v w (Err Memory) same p = tt
+
+pub signal_steps : (x : Name) (signals : Primitive → Work) (o : Outcome (List Value)) (p : Primitive) (library : Library) (v w : Seeing) (result : Result Course Halt) → Ok p ≡ signal_of x o
+    → Steps library (signals p) v w result → Steps library (λ S. with_value o (λ vs. signals (signalled x vs)) S) v w result
+signal_steps x signals (Ok vs) p library v w result is s = steps_as library (signals p) (signals (signalled x vs)) v w result (λ S. ap (λ q. signals q S) (sym (the_value is))) s
+  where
+    the_value : ◌≡◌ {A = Outcome Primitive} (Ok p) (Ok (signalled x vs)) → p ≡ signalled x vs
+    the_value e = ap (λ (o : Outcome Primitive). or_it o) e
+      where
+        or_it : Outcome Primitive → Primitive
+        or_it (Ok q) = q
+        or_it (Err c) = p
+signal_steps x signals (Err c) p library v w result is s = cc
+
+-- ---- what is found
+
+pub found_halt : {A X : Type 0} (f : X → A) (next : A → Work) (of : State → Outcome A) (h : Halt) (library : Library) (v w : Seeing) → Looks f library of v w (Err h) → Steps library (λ S. with_value (of S) next S) v w (Err h)
+found_halt f next of (ByCause c) library v w found = found_cause next found
+found_halt f next of Memory library v w found = tt
+
+-- ---- the statement that fires a rule
+
+pub fire_halt : (library : Library) (context : Context) (depth n : ℕ) (h : Halt) (v w : Seeing) → OnlyReads v w → Fires library depth n w (Err h) → Steps library (run_statement (fire n) (level_at library depth) context) v w (Err h)
+fire_halt library context depth n (ByCause c) v w only fires = record {
+  goes_on = GoesOn-only only;
+  faithful = subst (λ b. FaithfulWork library (run_statement (fire n) (level_at library depth) context) w.reads b (written w) (ended (abort_by (cause c)))) (only_written only) fires;
+}
+fire_halt library context depth n Memory v w only fires = tt
+
+starts : (library : Library) (depth n : ℕ) (s : Status) → (s ≡ absent → ⊥) → (S : State) → start_fired s (level_at library depth) n S ≡ start (level_at library depth).below (fired_task (level_at library depth) n ∷ []) S
+starts library depth n absent there S = absurd (there refl)
+starts library depth n enabled there S = refl
+starts library depth n disabled there S = refl
+
+pub fire_runs : {library : Library} (context : Context) {depth n : ℕ} {v w z : Seeing} {t : Task} {a : Answer} → OnlyReads v w → IsFired library depth n w t → Runs library (start (level_at library depth).below (t ∷ [])) w z a
+    → Runs library (run_statement (fire n) (level_at library depth) context) v z a
+fire_runs {library} context {depth} {n} {v} {w} {z} {t} {a} only fired r =
+    let fires : Runs library (start_fired fired.status (level_at library depth) n) w z a =
+    runs_as (start (level_at library depth).below (t ∷ [])) (start_fired fired.status (level_at library depth) n)
+    (λ S. starts library depth n fired.status fired.there S ∙ ap (λ (u : Task). start (level_at library depth).below (u ∷ []) S) (sym fired.is)) r in
+    record {
+      goes_on = GoesOn-then (GoesOn-only only) r.goes_on;
+      faithful = subst (λ b. FaithfulWork library (run_statement (fire n) (level_at library depth) context) z.reads b (written z) a) (only_written only)
+          (faithful_fire (level_at library depth) n (finds_more (grows r.goes_on) fired.finds) fires.faithful);
+    }
+
+-- ---- a statement with a body, by its parts
+
+pub with_is : (s : Stmt) (variable : String Global) (class : ℕ) (key : Box Expr) (body : Vec Stmt) → s ≡ With variable class key body
+    → R.with_object (string_bytes variable) class (expression key.value) (body_in body.items) ≡ statement s
+with_is s variable class key body is = search (rules, the_lemmas, row_body_lem)

@@ -1,0 +1,38 @@
+-- What is to come of a firing.
+use Rattle.std.specs.Prelude.{List}
+use Rattle.hp_model.specs.Rules.{Library}
+use Rattle.hp_model.specs.State.{State}
+use Rattle.hp_model.specs.Conditions.{Answers}
+use Rattle.hp_model.specs.Tree.{Task, Node}
+use Rattle.hp_model.specs.Firing.{Firing, level_at, follow, run_action, fire_task}
+use Rattle.hp_model.specs.Cells.{Read, Changes}
+use Rattle.hp_model.specs.Soundness.{FiringAnswer}
+use Rattle.hp_model.specs.Answers.{FaithfulFiring}
+use Rattle.hp_model.specs.Rules.{rule_at}
+use Rattle.hp_model.proofs.Faithful.{Grows}
+use Rattle.hp_value.specs.Mapped.{answers}
+use Rattle.hp_tree.specs.Mapped.{what}
+use Rattle.hp_attempt.specs.Mapped.{firing}
+use Rattle.hp_view.specs.Seeing.{Seeing, written, GoesOn}
+use Rattle.hp_fire.specs.declared.deciding.Decision.{Decision}
+use Rattle.hp_fire.specs.declared.deciding.Decision.TheVariants.{Over, Acts}
+use Rattle.hp_fire.specs.Runs.{RunsFiring}
+
+-- the firing is what the action's is, once that has run
+pub record ThenActs (library : Library) (fire : State → Firing) (t : Task) (old new : Seeing) (node : Node) (found : Answers) : Type 0 where
+  pub goes_on : GoesOn old new
+  pub then_action : {more : List Read} {after : Changes} {f : FiringAnswer} → Grows new.reads more → FaithfulFiring library (run_action node (level_at library t.depth) t found) more (written new) after f
+      → FaithfulFiring library fire more (written old) after f
+
+-- the firing is over, or its action is to run
+abbrev pub DecidesFor : Library → (State → Firing) → Task → Seeing → Seeing → Decision → Type 0
+DecidesFor library fire t old new (Over o) = RunsFiring library fire old new (firing o)
+DecidesFor library fire t old new (Acts node found) = ThenActs library fire t old new (what node) (answers found.value.items)
+
+-- of a task
+abbrev pub Decides : Library → Task → Seeing → Seeing → Decision → Type 0
+Decides library t old new d = DecidesFor library (λ S. fire_task library S t) t old new d
+
+-- of a satisfied condition with these answers, on each view
+abbrev pub Follows : Library → Task → Answers → Decision → Type 0
+Follows library t found d = (view : Seeing) → DecidesFor library (follow (rule_at library t.rule).action_coupling (level_at library t.depth) t found) t view view d

@@ -1,0 +1,22 @@
+-- How much there is left to run: what a nested call has less of.
+use Rattle.std.specs.Prelude.{ℕ, ◌+◌, ◌*◌, ◌-◌, List}
+use denote.Param.Weighed.{most}
+use Rattle.hp_rule.specs.declared.stmt.Stmt.{size-Stmt}
+use Rattle.hp_rule.specs.declared.library.Library.{Library}
+use Rattle.hp_rule.specs.declared.task.Task.{Task}
+
+-- how deep statements nest in the library's actions
+abbrev pub deepest : Library → ℕ
+deepest lib = most (λ rule. most size-Stmt rule.action.items) lib.rules.items
+
+-- how many firings can still nest in a transaction of a depth
+abbrev pub levels : Library → (depth : ℕ) → ℕ
+levels lib depth = lib.depth_limit - depth
+
+-- so many firings, and statements so deep: a firing counts for more than any action
+abbrev pub left : Library → ℕ → ℕ → ℕ
+left lib firings size = firings * (deepest lib + 2) + size
+
+-- how many firings can still nest in those of a group
+abbrev pub group_levels : Library → List Task → ℕ
+group_levels lib tasks = most (λ t. levels lib t.depth) tasks

@@ -1,0 +1,156 @@
+//! The calls for the layers above.
+
+ghost use Rattle.std.specs.Prelude.{IfOk, map};
+ghost use Rattle.hp_model.specs.Cells.{Holds};
+ghost use Rattle.hp_model.specs.Firing as model;
+ghost use Rattle.hp_model.specs.Firing.{level_at, siblings, fire_task, signal_in};
+ghost use Rattle.hp_model.specs.Cascade.{no_context};
+ghost use Rattle.hp_model.specs.Soundness.{IsSound};
+ghost use Rattle.hp_value.specs.Mapped.{primitive};
+ghost use Rattle.hp_rule.specs.Mapped.{body_in, library, task as task_of};
+ghost use Rattle.hp_store.specs.Stack.{cells_in};
+ghost use Rattle.hp_attempt.specs.Mapped.{attempt, firing as firing_of};
+ghost use Rattle.hp_fire.specs.Mapped.{course, group as group_of};
+ghost use Rattle.hp_fire.specs.Runs.{Runs, RunsFiring, RunsGroup};
+
+use crate::context::{Context, Site};
+use crate::course::{Course, GroupOutcome};
+use crate::gate::{Gate, NoGate};
+use crate::running::{firing, group, signal, statements};
+use crate::settling::settled;
+use hp_attempt::{Attempt, Outcome};
+use hp_rule::{Library, Stmt, Task};
+use hp_store::Snapshot;
+use hp_value::Prim;
+use hp_view::View;
+use std::alloc::{AllocError, Global};
+use std::thread::Threads;
+
+/// Runs the body of a script in a transaction of a depth: its statements in order, up to the first that isn't done.
+///
+/// A group of firings inside uses at most `width` threads. An error means that memory ran out; the view may then hold a
+/// part of the effects.
+pub fn run_body<R: Threads + Sync>(
+    rt: &R,
+    alloc: Global,
+    lib: &Library,
+    view: &mut View,
+    body: &[Stmt],
+    depth: u8,
+    width: usize,
+) -> Result<Course, AllocError>
+    ensures { IfOk result (λ c. Runs (library lib.now) (model.run_body (body_in body.now) (level_at (library lib.now) depth) no_context) view.old view.new (course c)) }
+{
+    let site = Site {
+        rt,
+        gate: &NoGate,
+        lib,
+        width,
+    };
+    let context = Context::of_script(depth);
+    let course = statements(&site, alloc, view, body, &context)?;
+    Ok(course)
+}
+
+/// Signals an occurrence in a transaction of a depth: the rules that it triggers are placed, and the immediate ones fire as
+/// siblings.
+///
+/// A group of firings uses at most `width` threads. An error means that memory ran out; the view may then hold a part of
+/// the effects.
+pub fn run_signal<R: Threads + Sync>(
+    rt: &R,
+    alloc: Global,
+    lib: &Library,
+    view: &mut View,
+    prim: &Prim,
+    depth: u8,
+    width: usize,
+) -> Result<Course, AllocError>
+    ensures { IfOk result (λ c. Runs (library lib.now) (signal_in (level_at (library lib.now) depth) (primitive prim.now)) view.old view.new (course c)) }
+{
+    let site = Site {
+        rt,
+        gate: &NoGate,
+        lib,
+        width,
+    };
+    let result = signal(&site, alloc, view, prim, depth);
+    let course = settled(alloc, result)?;
+    Ok(course)
+}
+
+/// Fires a task on the view, as a subtransaction.
+///
+/// A group of firings inside uses at most `width` threads. An error means that memory ran out; the view may then hold a
+/// part of the effects.
+pub fn run_firing<R: Threads + Sync>(
+    rt: &R,
+    alloc: Global,
+    lib: &Library,
+    view: &mut View,
+    task: &Task,
+    width: usize,
+) -> Result<Outcome, AllocError>
+    ensures { IfOk result (λ o. RunsFiring (library lib.now) (λ S. fire_task (library lib.now) S (task_of task.now)) view.old view.new (firing_of o)) }
+{
+    let site = Site {
+        rt,
+        gate: &NoGate,
+        lib,
+        width,
+    };
+    let outcome = firing(&site, alloc, view, task)?;
+    Ok(outcome)
+}
+
+/// Fires the tasks of a group on the view, as siblings: HiPAC's rules of one event are sibling subtransactions, equal to some
+/// serial order, which here is the order of the tasks. Where `stop_at_veto` is set, nothing fires after a vetoed one.
+///
+/// An error means that memory ran out; the view may then hold a part of the effects.
+pub fn run_group<R: Threads + Sync, G: Gate + Sync>(
+    rt: &R,
+    alloc: Global,
+    lib: &Library,
+    view: &mut View,
+    tasks: &[Task],
+    stop_at_veto: bool,
+    width: usize,
+    gate: &G,
+) -> Result<GroupOutcome, AllocError>
+    ensures { IfOk result (λ g. RunsGroup (library lib.now) (siblings (fire_task (library lib.now)) stop_at_veto (map task_of tasks.now)) view.old view.new (group_of g)) }
+{
+    let site = Site {
+        rt,
+        gate,
+        lib,
+        width,
+    };
+    let outcome = group(&site, alloc, view, tasks, stop_at_veto)?;
+    Ok(outcome)
+}
+
+/// Tries a task on a snapshot. The attempt may stand for the task's firing on each state where its reads hold.
+///
+/// A group of firings inside uses at most `width` threads. An error means that memory ran out.
+pub fn run_task<R: Threads + Sync>(
+    rt: &R,
+    alloc: Global,
+    lib: &Library,
+    snapshot: Snapshot,
+    task: &Task,
+    width: usize,
+) -> Result<Attempt, AllocError>
+    ensures sound { IfOk result (λ a. IsSound (library lib.now) (attempt a)) }
+    ensures so_it_was { IfOk result (λ a. Holds (cells_in snapshot) a.reads) }
+{
+    let copy = task.clone()?;
+    let mut view = View::new(alloc, snapshot)?;
+    let outcome = run_firing(rt, alloc, lib, &mut view, task, width)?;
+    let (reads, layer) = view.into_parts();
+    Ok(Attempt {
+        task: copy,
+        reads,
+        layer,
+        outcome,
+    })
+}

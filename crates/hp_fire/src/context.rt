@@ -1,0 +1,90 @@
+//! What statements run in.
+
+ghost use Rattle.std.specs.Prelude.{◌≡◌, IfSome, map, [], None, option_map};
+ghost use Rattle.hp_model.specs.Firing.{with_row, action_context, answer_named};
+ghost use Rattle.hp_model.specs.Cascade.{no_context};
+ghost use Rattle.hp_value.specs.Mapped.{keyed_row, answers};
+ghost use Rattle.hp_rule.specs.Mapped.{task as task_of};
+ghost use Rattle.hp_fire.specs.Mapped as mapped;
+
+use hp_rule::{Library, Task};
+use hp_value::{Answer, Env, Key, KeyedRow, Row, RuleNo};
+
+/// Where firings take place, and who helps.
+#[derive_where(Clone, Copy)]
+pub(crate) struct Site<'a, R, G> {
+    /// What starts threads.
+    pub(crate) rt: &'a R,
+    /// What is told of a group's tasks.
+    pub(crate) gate: &'a G,
+    /// The library.
+    pub(crate) lib: &'a Library,
+    /// How many threads a group may use.
+    pub(crate) width: usize,
+}
+
+/// What a statement runs in, beside the view.
+#[derive(Clone, Copy)]
+pub(crate) struct Context<'a> {
+    /// What its expressions are evaluated in.
+    pub(crate) env: Env<'a>,
+    /// The kept answers of the rule's condition; none in the body of a script.
+    pub(crate) answers: &'a [Answer],
+    /// The rule of whose action it is; none in the body of a script.
+    pub(crate) rule: Option<RuleNo>,
+    /// The depth of the transaction round it.
+    pub(crate) depth: u8,
+}
+
+impl<'a> Context<'a> {
+    /// What the body of a script runs in.
+    pub(crate) fn of_script(depth: u8) -> Context<'a>
+        ensures context { mapped.context result ≡ no_context }
+        ensures depth { result.depth ≡ depth }
+    {
+        Context {
+            env: Env::new(None, &[]),
+            answers: &[],
+            rule: None,
+            depth,
+        }
+    }
+
+    /// What the action of a task runs in, with the answers of the condition's queries.
+    pub(crate) fn of_action(task: &'a Task, found: &'a [Answer]) -> Context<'a>
+        ensures context { mapped.context result ≡ action_context (task_of task.entry.now) (answers found.entry.now) }
+        ensures depth { result.depth ≡ task.entry.now.depth }
+    {
+        Context {
+            env: Env::new(Some(&task.occurrence), found),
+            answers: found,
+            rule: Some(task.rule),
+            depth: task.depth,
+        }
+    }
+
+    /// The same with a name for a row.
+    pub(crate) fn bound<'b>(&'b self, name: &'b str, key: Key, row: &'b Row) -> Context<'b>
+        ensures context { mapped.context result ≡ with_row name.entry.now (record { key = key; row = row.entry.now }) (mapped.context self.entry.now) }
+        ensures depth { result.depth ≡ self.entry.now.depth }
+    {
+        Context {
+            env: self.env.bound(name, key, row),
+            answers: self.answers,
+            rule: self.rule,
+            depth: self.depth,
+        }
+    }
+
+    /// The rows of the kept answer of a query; none where no answer has this name.
+    pub(crate) fn kept(&self, query: &str) -> &[KeyedRow]
+        ensures { map keyed_row result.now ≡ answer_named (mapped.context self.now).answers query.now }
+    {
+        for answer in self.answers {
+            if query == answer.name.as_str() {
+                return &answer.rows;
+            }
+        }
+        &[]
+    }
+}

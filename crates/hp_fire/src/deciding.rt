@@ -1,0 +1,204 @@
+//! What a task's firing does before its action runs.
+
+ghost use Rattle.std.specs.Prelude.{◌≡◌, ◌≤◌, IfOk, map, [], ◌∷◌};
+ghost use Rattle.hp_model.specs.Rules.{rule_at};
+ghost use Rattle.hp_model.specs.Tree.{condition_step, fire_node, with_later_action};
+ghost use Rattle.hp_model.specs.Firing.{action_task};
+ghost use Rattle.hp_model.specs.Answers.{handing_on};
+ghost use Rattle.hp_value.specs.Mapped as mapped;
+ghost use Rattle.hp_value.specs.Mapped.{coupling};
+ghost use Rattle.hp_query.specs.Mapped.{query};
+ghost use Rattle.hp_rule.specs.Mapped.{body_in, library, task as task_of};
+ghost use Rattle.hp_tree.specs.Mapped.{what as what_of, condition as condition_end};
+ghost use Rattle.hp_attempt.specs.Mapped.{firing};
+ghost use Rattle.hp_fire.specs.Decides.{Decides, Follows};
+ghost use denote.Param.Weighed.{most};
+ghost use Rattle.hp_rule.specs.declared.stmt.Stmt.{size-Stmt};
+ghost use Rattle.hp_fire.specs.Weights.{deepest};
+
+use crate::placing::place_tasks;
+use hp_attempt::Outcome;
+use hp_query::{Query, Verdict, evaluate_condition};
+use hp_rule::{Library, Step, Stmt, Task};
+use hp_tree::{ConditionEnd, Ending, Item, Node, What};
+use hp_value::{Answer, Coupling, RuleNo};
+use hp_view::View;
+use std::alloc::{AllocError, Global};
+use std::sync::Arc;
+
+/// What is to come of a task's firing.
+#[derive(Debug, Drop)]
+pub(crate) enum Decision {
+    /// Nothing: the firing is over.
+    Over(Outcome),
+    /// The action runs, as this node, with these answers.
+    Acts(What, Arc<Vec<Answer>>),
+}
+
+/// Begins the firing of a task: a condition is evaluated, and where it is satisfied its action runs at once or is placed.
+///
+/// An error means that memory ran out.
+pub(crate) fn decide(
+    alloc: Global,
+    lib: &Library,
+    view: &mut View,
+    task: &Task,
+) -> Result<Decision, AllocError>
+    ensures { IfOk result (λ d. Decides (library lib.now) (task_of task.now) view.old view.new d) }
+{
+    match &task.step {
+        Step::Condition => {
+            let decision = decide_condition(alloc, lib, view, task)?;
+            Ok(decision)
+        }
+        Step::Action(answers) => {
+            let what = What::Act {
+                rule: task.rule,
+                place: task.place,
+            };
+            let answers = Arc::try_clone(answers)?;
+            Ok(Decision::Acts(what, answers))
+        }
+    }
+}
+
+/// Begins the firing of a condition.
+///
+/// An error means that memory ran out.
+fn decide_condition(
+    alloc: Global,
+    lib: &Library,
+    view: &mut View,
+    task: &Task,
+) -> Result<Decision, AllocError>
+    requires { (task_of task.now).step ≡ condition_step }
+    ensures { IfOk result (λ d. Decides (library lib.now) (task_of task.now) view.old view.new d) }
+{
+    let queries = condition_of(lib, task.rule);
+    match evaluate_condition(alloc, queries, &task.occurrence, view)? {
+        Verdict::Satisfied(answers) => {
+            let answers = Arc::new(alloc, answers)?;
+            let decision = follow(alloc, lib, task, answers)?;
+            Ok(decision)
+        }
+        Verdict::Unsatisfied => {
+            let outcome = quiet(alloc, fired(task, ConditionEnd::WithoutAction))?;
+            Ok(Decision::Over(outcome))
+        }
+        Verdict::Faulty(cause) => {
+            let outcome = quiet(alloc, fired(task, ConditionEnd::WithFault(cause)))?;
+            Ok(Decision::Over(outcome))
+        }
+    }
+}
+
+/// What comes of a satisfied condition: its action at once, or the task of its action.
+///
+/// An error means that memory ran out.
+fn follow(
+    alloc: Global,
+    lib: &Library,
+    task: &Task,
+    answers: Arc<Vec<Answer>>,
+) -> Result<Decision, AllocError>
+    ensures { IfOk result (Follows (library lib.now) (task_of task.now) (mapped.answers answers.value.items)) }
+{
+    match action_coupling(lib, task.rule) {
+        Coupling::Immediate => {
+            let what = fired(task, ConditionEnd::WithAction);
+            Ok(Decision::Acts(what, answers))
+        }
+        place => {
+            let outcome = later(alloc, task, place, answers)?;
+            Ok(Decision::Over(outcome))
+        }
+    }
+}
+
+/// The node of a condition's firing.
+fn fired(task: &Task, condition: ConditionEnd) -> What
+    ensures { what_of result ≡ fire_node task.now.rule (coupling task.now.place) (condition_end condition) }
+{
+    What::Fire {
+        rule: task.rule,
+        place: task.place,
+        condition,
+    }
+}
+
+/// A firing that does nothing but what its node says.
+///
+/// An error means that memory ran out.
+fn quiet(alloc: Global, what: What) -> Result<Outcome, AllocError>
+    ensures { IfOk result (λ o. firing o ≡ handing_on (what_of what) []) }
+{
+    let mut tree = Vec::new(alloc);
+    tree.push(Item::Node(Node {
+        what,
+        end: Ending::Committed,
+        items: Vec::new(alloc),
+    }))?;
+    Ok(Outcome {
+        end: None,
+        queued: Vec::new(alloc),
+        detached: Vec::new(alloc),
+        tree,
+    })
+}
+
+/// A satisfied condition's firing whose action is queued or detached.
+///
+/// An error means that memory ran out.
+fn later(
+    alloc: Global,
+    task: &Task,
+    place: Coupling,
+    answers: Arc<Vec<Answer>>,
+) -> Result<Outcome, AllocError>
+    ensures { IfOk result (λ o. firing o ≡ handing_on (fire_node task.now.rule (coupling task.now.place) with_later_action) (action_task (coupling place) (task_of task.now) (mapped.answers answers.value.items) ∷ [])) }
+{
+    let mut tasks = Vec::new(alloc);
+    tasks.push(Task {
+        rule: task.rule,
+        step: Step::Action(answers),
+        place,
+        depth: task.depth,
+        occurrence: Arc::try_clone(&task.occurrence)?,
+    })?;
+    let placed = place_tasks(alloc, tasks)?;
+    let mut outcome = quiet(alloc, fired(task, ConditionEnd::WithLaterAction))?;
+    outcome.queued = placed.queued;
+    outcome.detached = placed.detached;
+    Ok(outcome)
+}
+
+/// The queries of a rule. A rule that the library lacks has none.
+fn condition_of(lib: &Library, rule: RuleNo) -> &[Query]
+    ensures { map query result.now ≡ (rule_at (library lib.now) rule).condition }
+{
+    match lib.rule(rule) {
+        Some(rule) => &rule.condition,
+        None => &[],
+    }
+}
+
+/// The mode of a rule's action. That of a rule that the library lacks is immediate.
+fn action_coupling(lib: &Library, rule: RuleNo) -> Coupling
+    ensures { coupling result ≡ (rule_at (library lib.now) rule).action_coupling }
+{
+    match lib.rule(rule) {
+        Some(rule) => rule.ca,
+        None => Coupling::Immediate,
+    }
+}
+
+/// The action of a rule. A rule that the library lacks has an empty one.
+pub(crate) fn action_of(lib: &Library, rule: RuleNo) -> &[Stmt]
+    ensures action { body_in result.now ≡ (rule_at (library lib.now) rule).action }
+    ensures depth { most size-Stmt result.now ≤ deepest lib.now }
+{
+    match lib.rule(rule) {
+        Some(rule) => &rule.action,
+        None => &[],
+    }
+}

@@ -1,0 +1,205 @@
+//! What statements do before an event is signalled.
+
+ghost use Rattle.std.specs.Prelude.{◌≡◌, IfOk, map};
+ghost use Rattle.hp_model.specs.Tree.{without_detachments};
+ghost use Rattle.hp_model.specs.Rules as rules;
+ghost use Rattle.hp_model.specs.Firing as model;
+ghost use Rattle.hp_model.specs.Firing.{Level, level_at, values_of, boolean_value};
+ghost use Rattle.hp_model.specs.Conditions as conditions;
+ghost use Rattle.hp_model.specs.Answers.{tells};
+ghost use Rattle.hp_model.specs.Operations.{operation_items};
+ghost use Rattle.hp_value.specs.Mapped.{Meets, environment, expression, keyed_row, primitive, rule_operation};
+ghost use Rattle.hp_query.specs.Mapped.{keyed_rows};
+ghost use Rattle.hp_rule.specs.Mapped.{assignment, library};
+ghost use Rattle.hp_view.specs.Seeing.{Seeing};
+ghost use Rattle.hp_fire.specs.Mapped.{context as context_in, course as course_in};
+ghost use Rattle.hp_fire.specs.Runs.{Steps, Looks, Makes};
+ghost use Rattle.hp_fire.specs.Signals.{signal_of};
+
+use crate::context::Context;
+use crate::course::Course;
+use hp_ops::{create, delete, find_object, given_values, new_object, set_rule, update};
+use hp_query::selected_rows;
+use hp_rule::{Assignment, Library, RuleOperation};
+use hp_tree::{Item, Operation};
+use hp_value::{Cause, ClassNo, Env, Expr, Halt, KeyedRow, Prim, RuleNo, Value};
+use hp_view::View;
+use std::alloc::{AllocError, Global};
+
+/// Makes the object of a statement `create`. The answer is the occurrence that is then signalled.
+pub(crate) fn created(
+    alloc: Global,
+    lib: &Library,
+    view: &mut View,
+    context: &Context<'_>,
+    class: ClassNo,
+    key: &Expr,
+    pairs: &[Assignment],
+) -> Result<Prim, Halt>
+    ensures { let level = level_at (library lib.now) context.now.depth in
+        Makes primitive (library lib.now) level (model.run_statement (rules.create class (expression key.now) (map assignment pairs.now)) level (context_in context.now)) view.old view.new result }
+{
+    let new = new_object(alloc, lib, class, &context.env, key, pairs)?;
+    create(alloc, view, class, new.key, new.row)
+}
+
+/// Sets the fields of a statement `update`. The answer is the occurrence that is then signalled.
+pub(crate) fn updated(
+    alloc: Global,
+    lib: &Library,
+    view: &mut View,
+    context: &Context<'_>,
+    class: ClassNo,
+    key: &Expr,
+    pairs: &[Assignment],
+) -> Result<Prim, Halt>
+    ensures { let level = level_at (library lib.now) context.now.depth in
+        Makes primitive (library lib.now) level (model.run_statement (rules.update class (expression key.now) (map assignment pairs.now)) level (context_in context.now)) view.old view.new result }
+{
+    let (key, given) = given_values(alloc, lib, class, &context.env, key, pairs)?;
+    update(alloc, view, class, key, &given)
+}
+
+/// Deletes the object of a statement `delete`. The answer is the occurrence that is then signalled.
+pub(crate) fn deleted(
+    alloc: Global,
+    lib: &Library,
+    view: &mut View,
+    context: &Context<'_>,
+    class: ClassNo,
+    key: &Expr,
+) -> Result<Prim, Halt>
+    ensures { let level = level_at (library lib.now) context.now.depth in
+        Makes primitive (library lib.now) level (model.run_statement (rules.delete class (expression key.now)) level (context_in context.now)) view.old view.new result }
+{
+    let key = integer(alloc, &context.env, key)?;
+    delete(alloc, view, class, key)
+}
+
+/// The value of an expression that is a whole number.
+fn integer(alloc: Global, env: &Env<'_>, expr: &Expr) -> Result<i64, Halt>
+    ensures { Meets (λ k. k) result (model.integer_value (environment env.now) (expression expr.now)) }
+{
+    let value = expr.eval(alloc, env)?;
+    Ok(value.as_int()?)
+}
+
+/// Whether the condition of a statement `if` is true.
+pub(crate) fn is_true(alloc: Global, env: &Env<'_>, expr: &Expr) -> Result<bool, Halt>
+    ensures { Meets (λ b. b) result (boolean_value (environment env.now) (expression expr.now)) }
+{
+    let value = expr.eval(alloc, env)?;
+    Ok(value.as_bool()?)
+}
+
+/// The occurrence of a statement `signal`.
+pub(crate) fn signalled(
+    alloc: Global,
+    env: &Env<'_>,
+    name: &str,
+    arguments: &[Expr],
+) -> Result<Prim, Halt>
+    ensures { Meets primitive result (signal_of name.now (values_of (environment env.now) (map expression arguments.now))) }
+{
+    let mut args = Vec::new(alloc);
+    for argument in arguments {
+        let value = argument.eval(alloc, env)?;
+        args.push(value).map_err(AllocError::from)?;
+    }
+    let name = String::from_str(alloc, name)?;
+    Ok(Prim::Signal { name, args })
+}
+
+/// Emits the value of a statement `emit`.
+pub(crate) fn emitted(alloc: Global, context: &Context<'_>, expr: &Expr) -> Result<Course, Halt>
+    ensures { (view : Seeing) (lib : rules.Library) (level : Level) → Steps lib (model.run_statement (rules.emit (expression expr.now)) level (context_in context.now)) view view result }
+{
+    let value = expr.eval(alloc, &context.env)?;
+    let course = Course::of_item(alloc, Item::Emit(value))?;
+    Ok(course)
+}
+
+/// Installs, enables, disables or removes a rule.
+pub(crate) fn rule_changed(
+    alloc: Global,
+    lib: &Library,
+    view: &mut View,
+    operation: RuleOperation,
+    rule: RuleNo,
+) -> Result<Course, Halt>
+    ensures { (level : Level) (context : model.Context) → Steps (library lib.now) (model.run_statement (rules.on_rule (rule_operation operation) rule) level context) view.old view.new result }
+{
+    set_rule(alloc, view, lib, operation, rule)?;
+    let course = Course::of_item(
+        alloc,
+        Item::Operation(Operation::OnRule { operation, rule }),
+    )?;
+    Ok(course)
+}
+
+/// The rows of a statement `each`, found whole.
+pub(crate) fn selected(
+    alloc: Global,
+    lib: &Library,
+    view: &mut View,
+    context: &Context<'_>,
+    variable: &str,
+    class: ClassNo,
+    predicate: &Expr,
+) -> Result<Vec<KeyedRow>, Halt>
+    ensures { Looks keyed_rows (library lib.now) (λ S. conditions.answer (context_in context.now).environment variable.now class (expression predicate.now) S.objects) view.old view.new result }
+{
+    selected_rows(alloc, variable, class, predicate, &context.env, view)
+}
+
+/// The object of a statement `with`, as it now is. `Missing` means that it isn't there.
+pub(crate) fn named_object(
+    alloc: Global,
+    lib: &Library,
+    view: &mut View,
+    context: &Context<'_>,
+    class: ClassNo,
+    key: &Expr,
+) -> Result<KeyedRow, Halt>
+    ensures { Looks keyed_row (library lib.now) (λ S. model.named_object S.objects (context_in context.now).environment class (expression key.now)) view.old view.new result }
+{
+    let key = integer(alloc, &context.env, key)?;
+    match find_object(alloc, view, class, key)? {
+        Some(row) => Ok(KeyedRow { key, row }),
+        None => Err(Halt::Cause(Cause::Missing)),
+    }
+}
+
+/// An operation as what was done.
+///
+/// An error means that memory ran out. An occurrence that is no operation gives nothing.
+pub(crate) fn operation_course(alloc: Global, prim: &Prim) -> Result<Course, AllocError>
+    ensures { IfOk result (λ c. course_in c ≡ tells (without_detachments (operation_items (primitive prim.now)))) }
+{
+    let operation = match prim {
+        Prim::Create { class, key, new } => Operation::Create {
+            class: *class,
+            key: *key,
+            new: new.clone()?,
+        },
+        Prim::Update {
+            class,
+            key,
+            old: _,
+            new,
+        } => Operation::Update {
+            class: *class,
+            key: *key,
+            new: new.clone()?,
+        },
+        Prim::Delete { class, key, old: _ } => Operation::Delete {
+            class: *class,
+            key: *key,
+        },
+        Prim::Signal { .. } | Prim::Commit | Prim::Time(_) => {
+            return Ok(Course::ended(alloc, crate::course::End::Done));
+        }
+    };
+    let course = Course::of_item(alloc, Item::Operation(operation))?;
+    Ok(course)
+}

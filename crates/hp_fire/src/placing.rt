@@ -1,0 +1,120 @@
+//! Where new tasks go.
+
+ghost use Rattle.std.specs.Prelude.{◌≡◌, IfOk, OnOk, [], ◌∷◌, map, filter};
+ghost use Rattle.hp_model.specs.Rules.{is_immediate};
+ghost use Rattle.hp_model.specs.Tree.{Task as ModelTask};
+ghost use Rattle.hp_model.specs.Answers.{group_answer};
+ghost use Rattle.hp_model.specs.Transactions.{deferred_of, detached_of as detached_tasks, unreleased};
+ghost use Rattle.hp_model.specs.Firing.{end_of};
+ghost use Rattle.hp_rule.specs.Mapped.{task as task_of, detached as detached_of};
+ghost use Rattle.hp_fire.specs.Mapped.{course as course_in, group as group_in};
+ghost use Rattle.hp_fire.specs.Mapped as mapped;
+ghost use Rattle.hp_attempt.specs.Mapped.{firing};
+ghost use Rattle.hp_fire.specs.Joined.{with_firings};
+
+use crate::course::{Course, End, GroupOutcome};
+use hp_attempt::Outcome;
+use hp_rule::{Detached, Task};
+use hp_value::{Cause, Coupling, RuleNo};
+use std::alloc::{AllocError, Global};
+
+/// New tasks by where they go.
+#[derive(Debug, Drop)]
+pub(crate) struct Placed {
+    /// Those that fire at once.
+    pub(crate) immediate: Vec<Task>,
+    /// Those for the deferred rounds.
+    pub(crate) queued: Vec<Task>,
+    /// Those for transactions of their own.
+    pub(crate) detached: Vec<Detached>,
+}
+
+/// Sorts new tasks by the modes that made them, each kind in its order.
+///
+/// An error means that memory ran out.
+pub(crate) fn place_tasks(alloc: Global, tasks: Vec<Task>) -> Result<Placed, AllocError>
+    ensures immediate { IfOk result (λ p. map task_of p.immediate.items ≡ filter (λ (t : ModelTask). is_immediate t.place) (map task_of tasks.items)) }
+    ensures queued { IfOk result (λ p. map task_of p.queued.items ≡ deferred_of (map task_of tasks.items)) }
+    ensures detached { IfOk result (λ p. map detached_of p.detached.items ≡ map unreleased (detached_tasks (map task_of tasks.items))) }
+{
+    let mut immediate = Vec::new(alloc);
+    let mut queued = Vec::new(alloc);
+    let mut detached = Vec::new(alloc);
+    for task in tasks {
+        match task.place {
+            Coupling::Immediate => immediate.push(task)?,
+            Coupling::Deferred => queued.push(task)?,
+            Coupling::Separate | Coupling::Dependent | Coupling::Exclusive => {
+                detached.push(unreleased(task))?
+            }
+        }
+    }
+    Ok(Placed {
+        immediate,
+        queued,
+        detached,
+    })
+}
+
+/// One task alone.
+///
+/// An error means that memory ran out.
+pub(crate) fn one_task(alloc: Global, task: Task) -> Result<Vec<Task>, AllocError>
+    ensures { IfOk result (λ ts. ts.items ≡ task ∷ []) }
+{
+    let mut tasks = Vec::new(alloc);
+    tasks.push(task)?;
+    Ok(tasks)
+}
+
+/// A task that is detached now.
+fn unreleased(task: Task) -> Detached
+    ensures { detached_of result ≡ unreleased (task_of task) }
+{
+    Detached {
+        task,
+        released: false,
+    }
+}
+
+/// A group of firings as a part of the transaction round it, which a veto that stopped the group aborts.
+///
+/// An error means that memory ran out.
+pub fn group_course(alloc: Global, group: GroupOutcome) -> Result<Course, AllocError>
+    ensures { IfOk result (λ c. course_in c ≡ group_answer (group_in group)) }
+{
+    let end = stopped_by(group.end);
+    let mut course = Course::ended(alloc, end);
+    for outcome in group.outcomes {
+        add_firing(&mut course, outcome)?;
+    }
+    Ok(course)
+}
+
+/// Adds what a firing gave to a course.
+///
+/// An error means that memory ran out; a part may then have been added.
+fn add_firing(course: &mut Course, outcome: Outcome) -> Result<(), AllocError>
+    ensures { OnOk result (course_in course.new ≡ with_firings (course_in course.old) (firing outcome ∷ [])) }
+{
+    let Outcome {
+        end: _,
+        mut queued,
+        mut detached,
+        mut tree,
+    } = outcome;
+    course.queued.append(&mut queued)?;
+    course.detached.append(&mut detached)?;
+    course.items.append(&mut tree)?;
+    Ok(())
+}
+
+/// The end of the transaction round a group that this rule's veto stopped, or none.
+fn stopped_by(veto: Option<RuleNo>) -> End
+    ensures { mapped.end result ≡ end_of veto }
+{
+    match veto {
+        None => End::Done,
+        Some(rule) => End::Abort(Cause::Vetoed(rule)),
+    }
+}

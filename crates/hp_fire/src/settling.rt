@@ -1,0 +1,34 @@
+//! How statements end that do nothing more.
+
+ghost use Rattle.std.specs.Prelude.{◌≡◌, IfOk};
+ghost use Rattle.hp_model.specs.Rules.{Library};
+ghost use Rattle.hp_model.specs.Transactions.{Work};
+ghost use Rattle.hp_model.specs.Firing.{vetoes};
+ghost use Rattle.hp_view.specs.Seeing.{Seeing};
+ghost use Rattle.hp_fire.specs.Mapped.{course as course_in};
+ghost use Rattle.hp_fire.specs.Runs.{Runs, Steps};
+
+use crate::course::{Course, End};
+use hp_value::{Halt, RuleNo};
+use std::alloc::{AllocError, Global};
+
+/// A course that ends at once, where a cause ended it before anything was done.
+pub(crate) fn settled(alloc: Global, given: Result<Course, Halt>) -> Result<Course, AllocError>
+    ensures { IfOk result (λ c. (library : Library) (work : Work) (old new : Seeing) → Steps library work old new given → Runs library work old new (course_in c)) }
+{
+    match given {
+        Ok(course) => Ok(course),
+        Err(Halt::Cause(cause)) => Ok(Course::ended(alloc, End::Abort(cause))),
+        Err(Halt::Memory) => Err(AllocError),
+    }
+}
+
+/// The course of a veto. In the body of a script it does nothing; a checked body has none.
+pub(crate) fn vetoed(alloc: Global, rule: Option<RuleNo>) -> Course
+    ensures { (library : Library) (view : Seeing) → Runs library (vetoes rule) view view (course_in result) }
+{
+    match rule {
+        Some(rule) => Course::ended(alloc, End::Veto(rule)),
+        None => Course::ended(alloc, End::Done),
+    }
+}

@@ -1,0 +1,11 @@
+pub mod Items
+pub mod Firings
+pub mod Groups
+pub mod Signals
+pub mod GivenRows
+pub mod Objects
+pub mod Statements
+pub mod Bodies
+pub mod Installs
+pub mod UnitReports
+pub mod Texts

@@ -1,0 +1,6 @@
+pub mod Worlds
+mod GivenRows
+mod Operating
+mod Ruling
+mod Told
+mod Triggering

@@ -1,0 +1,22 @@
+use Rattle.std.proofs.Common.{rules, ◌≡◌, subst, true, false}
+use Rattle.std.specs.Prelude.{option_map}
+use Rattle.hp_model.specs.Events.{is_pure}
+use Rattle.hp_value.specs.Mapped.{occurrence as occurrence_of, primitive}
+use Rattle.hp_detect.specs.Mapped.{event as event_of}
+use Rattle.hp_rule.specs.Mapped.{rule as rule_of}
+use Rattle.hp_ops.specs.Hears.{StepsOn}
+use Rattle.hp_ops.proofs.Told.{hears_pure, hears_stepped}
+use Rattle.hp_ops.proofs.telling.hear.Goals as goal
+
+pub returns-then-is_pure-clause-hears : goal.returns-then-is_pure-clause-hears
+returns-then-is_pure-clause-hears c = λ lib at.
+    let pure : is_pure (event_of c.args.rule.now.event.value) ≡ true = search rules in
+    hears_pure lib (primitive c.args.prim.now) c.args.number (rule_of c.args.rule.now) at c.args.view.now (option_map occurrence_of c.in_ok-occurrence.occurrence) pure c.in_ok-occurrence.ensures
+
+pub returns-clause-hears : goal.returns-clause-hears
+returns-clause-hears c = λ lib at.
+    let impure : is_pure (event_of c.args.rule.now.event.value) ≡ false = search rules in
+    let event : c.deref-2.result.now ≡ c.args.rule.now.event.value = search rules in
+    hears_stepped lib (primitive c.args.prim.now) c.args.number (rule_of c.args.rule.now) at c.args.view.now c.step_detector.new.view (option_map occurrence_of c.in_ok-occurrence-2.occurrence) impure
+    c.in_ok-occurrence-2.ensures.goes_on
+    (subst (λ e. StepsOn (event_of e) (primitive c.args.prim.now) c.args.number c.args.view.now c.step_detector.new.view (option_map occurrence_of c.in_ok-occurrence-2.occurrence)) event c.in_ok-occurrence-2.ensures.steps)

@@ -1,0 +1,4 @@
+pub mod Given
+pub mod Performs
+pub mod Hears
+pub mod Triggers

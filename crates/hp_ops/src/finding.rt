@@ -1,0 +1,58 @@
+//! What a view shows of objects and rules.
+
+ghost use Rattle.std.specs.Prelude.{◌≡◌, IfOk, option_map};
+ghost use Rattle.hp_model.specs.Rules.{Library};
+ghost use Rattle.hp_model.specs.State as model;
+ghost use Rattle.hp_model.specs.Cells.{Cells, rule_cell, over, Holds};
+ghost use Rattle.hp_model.specs.Answers.{Finds};
+ghost use Rattle.hp_model.proofs.BridgesReads.{status_at};
+ghost use Rattle.hp_store.specs.Mapped.{cell_value};
+ghost use Rattle.hp_view.specs.Seeing.{written, GoesOn, OnlyReads};
+ghost use Rattle.hp_ops.specs.Performs.{status_of};
+
+use hp_query::Look;
+use hp_store::{CellValue, Status};
+use hp_value::{Cell, ClassNo, Key, Row, RuleNo};
+use hp_view::View;
+use std::alloc::{AllocError, Global};
+
+/// The row of an object, or none where it isn't there. The row is shared.
+///
+/// An error means that memory ran out; the view may then have recorded the read.
+pub fn find_object(
+    alloc: Global,
+    view: &mut View,
+    class: ClassNo,
+    key: Key,
+) -> Result<Option<Row>, AllocError>
+    ensures finds { IfOk result (λ row. (lib : Library) → Finds lib (λ S. model.find_object S.objects class key) view.new.reads (written view.new) row) }
+    ensures only { OnlyReads view.old view.new }
+    ensures goes_on { GoesOn view.old view.new }
+{
+    let row = view.row(alloc, class, key)?;
+    Ok(row)
+}
+
+/// The status of a rule, or none where it is absent.
+///
+/// An error means that memory ran out; the view is then as before.
+pub fn find_status(view: &mut View, rule: RuleNo) -> Result<Option<Status>, AllocError>
+    ensures finds { IfOk result (λ status. (lib : Library) → Finds lib (λ S. (model.rule_state S rule).status) view.new.reads (written view.new) (status_of status)) }
+    ensures shows { IfOk result (λ status. (base : Cells) → Holds base view.new.reads → status_at (over base (written view.new) (rule_cell rule)) ≡ status_of status) }
+    ensures only { OnlyReads view.old view.new }
+    ensures goes_on { GoesOn view.old view.new }
+{
+    view.read(Cell::Rule(rule))?;
+    let status = status_in(view.peek(Cell::Rule(rule)));
+    Ok(status)
+}
+
+/// The status that a rule's cell holds.
+fn status_in(value: Option<&CellValue>) -> Option<Status>
+    ensures { status_of result ≡ status_at (option_map (λ v. cell_value v.now) value.entry) }
+{
+    match value {
+        Some(CellValue::Status(status)) => Some(*status),
+        _ => None,
+    }
+}

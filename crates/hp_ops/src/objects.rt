@@ -1,0 +1,84 @@
+//! Operations on objects.
+
+ghost use Rattle.std.specs.Prelude.{OnErr};
+ghost use Rattle.hp_model.specs.Rules.{Library};
+ghost use Rattle.hp_model.specs.Operations.{create_object, update_object, delete_object};
+ghost use Rattle.hp_value.specs.Mapped.{primitive};
+ghost use Rattle.hp_view.specs.Seeing.{GoesOn, OnlyReads};
+ghost use Rattle.hp_ops.specs.Given.{given_in};
+ghost use Rattle.hp_ops.specs.Performs.{Performs};
+
+use crate::finding::find_object;
+use crate::rows::{Given, changed_row};
+use hp_store::CellValue;
+use hp_value::{Cause, Cell, ClassNo, Halt, Key, Prim, Row};
+use hp_view::View;
+use std::alloc::Global;
+
+/// Makes a new object. The answer is the occurrence that is to be signalled.
+///
+/// `Exists` means that the object is there; then nothing is written. Only the object's cell is read, and not the keys of
+/// its class. `Memory` means that memory ran out; then nothing is written.
+pub fn create(
+    alloc: Global,
+    view: &mut View,
+    class: ClassNo,
+    key: Key,
+    new: Row,
+) -> Result<Prim, Halt>
+    ensures operation { (lib : Library) → Performs primitive lib (create_object class key new) view.old view.new result }
+    ensures goes_on { GoesOn view.old view.new }
+    ensures refused { OnErr result (OnlyReads view.old view.new) }
+{
+    if find_object(alloc, view, class, key)?.is_some() {
+        return Err(Halt::Cause(Cause::Exists));
+    }
+    let written = new.clone()?;
+    view.put(Cell::Object(class, key), CellValue::Row(written))?;
+    Ok(Prim::Create { class, key, new })
+}
+
+/// Writes the given values over an object's. The answer is the occurrence that is to be signalled.
+///
+/// `Missing` means that the object isn't there; then nothing is written. `Memory` means that memory ran out; then nothing
+/// is written.
+pub fn update(
+    alloc: Global,
+    view: &mut View,
+    class: ClassNo,
+    key: Key,
+    given: &[Given<'_>],
+) -> Result<Prim, Halt>
+    ensures operation { (lib : Library) → Performs primitive lib (update_object class key (given_in given.now)) view.old view.new result }
+    ensures goes_on { GoesOn view.old view.new }
+    ensures refused { OnErr result (OnlyReads view.old view.new) }
+{
+    let Some(old) = find_object(alloc, view, class, key)? else {
+        return Err(Halt::Cause(Cause::Missing));
+    };
+    let new = changed_row(alloc, &old, given)?;
+    let written = new.clone()?;
+    view.put(Cell::Object(class, key), CellValue::Row(written))?;
+    Ok(Prim::Update {
+        class,
+        key,
+        old,
+        new,
+    })
+}
+
+/// Deletes an object. The answer is the occurrence that is to be signalled.
+///
+/// `Missing` means that the object isn't there; then nothing is written. `Memory` means that memory ran out; then nothing
+/// is written.
+pub fn delete(alloc: Global, view: &mut View, class: ClassNo, key: Key) -> Result<Prim, Halt>
+    ensures operation { (lib : Library) → Performs primitive lib (delete_object class key) view.old view.new result }
+    ensures goes_on { GoesOn view.old view.new }
+    ensures refused { OnErr result (OnlyReads view.old view.new) }
+{
+    let Some(old) = find_object(alloc, view, class, key)? else {
+        return Err(Halt::Cause(Cause::Missing));
+    };
+    view.cut(Cell::Object(class, key))?;
+    Ok(Prim::Delete { class, key, old })
+}

@@ -1,0 +1,71 @@
+//! What a signal triggers, and the statement that fires a rule.
+
+ghost use Rattle.hp_value.specs.Mapped.{primitive};
+ghost use Rattle.hp_rule.specs.Mapped.{library};
+ghost use Rattle.hp_view.specs.Seeing.{GoesOn, OnlyReads};
+ghost use Rattle.hp_ops.specs.Triggers.{Triggers, Fires};
+
+use crate::finding::find_status;
+use crate::telling::{new_task, tell_all};
+use hp_rule::{Library, Task};
+use hp_value::{Cause, Halt, Occurrence, Prim, RuleNo};
+use hp_view::View;
+use std::alloc::Global;
+
+/// Signals an occurrence in a transaction of a depth: the detectors of the enabled rules that it concerns go one place on.
+/// The answer is the tasks of those whose event occurs, in rule order.
+///
+/// `Depth` means that a rule is triggered, and that its firing would be too deep. `Memory` means that memory ran out; some
+/// of the detectors may then have gone on.
+pub fn trigger(
+    alloc: Global,
+    view: &mut View,
+    lib: &Library,
+    prim: &Prim,
+    depth: u8,
+) -> Result<Vec<Task>, Halt>
+    ensures triggers { Triggers (library lib.now) depth (primitive prim.now) view.old view.new result }
+    ensures goes_on { GoesOn view.old view.new }
+{
+    let tasks = tell_all(alloc, view, lib, prim, depth.saturating_add(1))?;
+    if tasks.is_empty() {
+        return Ok(tasks);
+    }
+    if depth >= lib.depth_limit() {
+        return Err(Halt::Cause(Cause::Depth));
+    }
+    Ok(tasks)
+}
+
+/// The task of a rule that a statement fires, in a transaction of a depth, without an occurrence of its event.
+///
+/// `Missing` means that the rule is absent, `Depth` that its firing would be too deep; `Missing` comes first. `Memory` means
+/// that memory ran out. Nothing is written.
+pub fn fire(
+    alloc: Global,
+    view: &mut View,
+    lib: &Library,
+    rule: RuleNo,
+    depth: u8,
+) -> Result<Task, Halt>
+    ensures fires { Fires (library lib.now) depth rule view.new result }
+    ensures only { OnlyReads view.old view.new }
+    ensures goes_on { GoesOn view.old view.new }
+{
+    let status = find_status(view, rule)?;
+    let Some(known) = lib.rule(rule) else {
+        return Err(Halt::Cause(Cause::Missing));
+    };
+    if status.is_none() {
+        return Err(Halt::Cause(Cause::Missing));
+    }
+    if depth >= lib.depth_limit() {
+        return Err(Halt::Cause(Cause::Depth));
+    }
+    let nothing = Occurrence {
+        parts: Vec::new(alloc),
+        count: 0,
+    };
+    let task = new_task(alloc, rule, known.ec, depth + 1, nothing)?;
+    Ok(task)
+}

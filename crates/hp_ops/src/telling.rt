@@ -1,0 +1,190 @@
+//! Telling rules of an occurrence.
+
+ghost use Rattle.std.specs.Prelude.{◌≡◌, ◌↔◌, ◌∷◌, true, Some, IsTrue, IfOk, map, option_map};
+ghost use Rattle.hp_model.specs.Occurrences.{History};
+ghost use Rattle.hp_model.specs.Events as model;
+ghost use Rattle.hp_model.specs.Rules.{Library as ModelLibrary, rule_at};
+ghost use Rattle.hp_model.specs.State.{enabled};
+ghost use Rattle.hp_model.proofs.FaithfulFirings.{AreAt};
+ghost use Rattle.hp_value.specs.Mapped.{coupling as coupling_of, occurrence as occurrence_of, primitive};
+ghost use Rattle.hp_detect.specs.Mapped.{event as event_of};
+ghost use Rattle.hp_store.specs.Mapped.{cell_value};
+ghost use Rattle.hp_rule.specs.declared.task.Task.{Task as AnyTask};
+ghost use Rattle.hp_rule.specs.Mapped.{library, rule as rule_of, task as task_of};
+ghost use Rattle.hp_view.specs.Seeing.{GoesOn};
+ghost use Rattle.hp_ops.specs.Performs.{status_of};
+ghost use Rattle.hp_ops.specs.Hears.{AllHear, GoesOnePlace, Hears, HearsOccurrence, StepsOn, condition_task};
+
+use crate::finding::find_status;
+use hp_detect::{Detector, EventExpr, Knowledge, is_pure};
+use hp_rule::{Library, Rule, Step, Task};
+use hp_store::{CellValue, Status};
+use hp_value::{Cell, Coupling, Occurrence, Prim, RuleNo};
+use hp_view::View;
+use std::alloc::{AllocError, Global};
+use std::sync::Arc;
+
+/// Tells all rules of an occurrence that it concerns. The answer is the tasks, of this depth, of those that are enabled and
+/// whose event occurs, in rule order.
+///
+/// An error means that memory ran out; some of the rules may have been told.
+pub(crate) fn tell_all(
+    alloc: Global,
+    view: &mut View,
+    lib: &Library,
+    prim: &Prim,
+    depth: u8,
+) -> Result<Vec<Task>, AllocError>
+    ensures heard { IfOk result (λ tasks. AllHear (library lib.now) (primitive prim.now) view.old view.new (map task_of tasks.items)) }
+    ensures depth { IfOk result (λ tasks. AreAt depth (map task_of tasks.items)) }
+    ensures goes_on { GoesOn view.old view.new }
+{
+    let numbers = lib.mentions(alloc, prim)?;
+    let mut tasks = Vec::new(alloc);
+    for number in &numbers {
+        if let Some(task) = tell(alloc, view, lib, *number, prim, depth)? {
+            tasks.push(task)?;
+        }
+    }
+    Ok(tasks)
+}
+
+/// Tells a rule of an occurrence. The answer is its task, of this depth, if it is enabled and its event occurs.
+///
+/// An error means that memory ran out; the rule's detector is then as before.
+fn tell(
+    alloc: Global,
+    view: &mut View,
+    lib: &Library,
+    number: RuleNo,
+    prim: &Prim,
+    depth: u8,
+) -> Result<Option<Task>, AllocError>
+    ensures hears { IfOk result (λ task. Hears (library lib.now) (primitive prim.now) number view.old view.new (option_map task_of task)) }
+    ensures depth { IfOk result (λ task. (t : AnyTask) → task ≡ Some t → t.depth ≡ depth) }
+    ensures goes_on { GoesOn view.old view.new }
+{
+    let status = find_status(view, number)?;
+    if !is_enabled(status) {
+        return Ok(None);
+    }
+    let Some(rule) = lib.rule(number) else {
+        return Ok(None);
+    };
+    let Some(occurrence) = hear(alloc, view, number, rule, prim)? else {
+        return Ok(None);
+    };
+    let task = new_task(alloc, number, rule.ec, depth, occurrence)?;
+    Ok(Some(task))
+}
+
+/// Whether a status is that of an enabled rule.
+fn is_enabled(status: Option<Status>) -> bool
+    ensures { IsTrue result ↔ (status_of status ≡ enabled) }
+{
+    matches!(status, Some(Status::Enabled))
+}
+
+/// Tells an enabled rule of an occurrence: the occurrence of the rule's event, if it occurs.
+///
+/// An error means that memory ran out; the detector is then as before.
+fn hear(
+    alloc: Global,
+    view: &mut View,
+    number: RuleNo,
+    rule: &Rule,
+    prim: &Prim,
+) -> Result<Option<Occurrence>, AllocError>
+    ensures hears { IfOk result (λ o. (lib : ModelLibrary) → rule_at lib number ≡ rule_of rule.now → HearsOccurrence lib (primitive prim.now) number view.old view.new (option_map occurrence_of o)) }
+    ensures goes_on { GoesOn view.old view.new }
+{
+    if is_pure(&rule.event) {
+        let occurrence = occurs_now(alloc, &rule.event, prim)?;
+        return Ok(occurrence);
+    }
+    let occurrence = step_detector(alloc, view, number, &rule.event, prim)?;
+    Ok(occurrence)
+}
+
+/// The occurrence of an event that doesn't look back, if it occurs.
+///
+/// An error means that memory ran out.
+fn occurs_now(
+    alloc: Global,
+    event: &Arc<EventExpr>,
+    prim: &Prim,
+) -> Result<Option<Occurrence>, AllocError>
+    requires { model.is_pure (event_of event.now.value) ≡ true }
+    ensures { IfOk result (λ o. (past : History) → option_map occurrence_of o ≡ model.occurrence_of (event_of event.now.value) (primitive prim.now ∷ past)) }
+{
+    let mut detector = Detector::fresh(alloc, event)?;
+    let occurrence = detector.step(alloc, prim)?;
+    Ok(occurrence)
+}
+
+/// Steps a rule's detector: the occurrence of its event, if it occurs.
+///
+/// An error means that memory ran out; the detector is then as before.
+fn step_detector(
+    alloc: Global,
+    view: &mut View,
+    number: RuleNo,
+    event: &EventExpr,
+    prim: &Prim,
+) -> Result<Option<Occurrence>, AllocError>
+    ensures steps { IfOk result (λ o. StepsOn (event_of event.now) (primitive prim.now) number view.old view.new (option_map occurrence_of o)) }
+    ensures goes_on { GoesOn view.old view.new }
+{
+    view.read(Cell::Detector(number))?;
+    let known = view.peek(Cell::Detector(number));
+    let (occurrence, next) = stepped(alloc, known, event, prim)?;
+    view.put(Cell::Detector(number), CellValue::Detector(next))?;
+    Ok(occurrence)
+}
+
+/// One step of what a detector's cell knows: the occurrence of its event, if it occurs, and what is known then. A cell that
+/// knows nothing, which no enabled rule has, counts as one that knows of no past.
+///
+/// An error means that memory ran out.
+fn stepped(
+    alloc: Global,
+    value: Option<&CellValue>,
+    event: &EventExpr,
+    prim: &Prim,
+) -> Result<(Option<Occurrence>, Knowledge), AllocError>
+    ensures { IfOk result (λ r. GoesOnePlace (event_of event.now) (primitive prim.now) (option_map (λ v. cell_value v.now) value.entry) (option_map occurrence_of r.0) r.1) }
+{
+    match value {
+        Some(CellValue::Detector(known)) => {
+            let next = known.step(alloc, event, prim)?;
+            Ok(next)
+        }
+        _ => {
+            let known = Knowledge::fresh(alloc, event)?;
+            let next = known.step(alloc, event, prim)?;
+            Ok(next)
+        }
+    }
+}
+
+/// The task of a rule's condition, for an occurrence of its event.
+///
+/// An error means that memory ran out.
+pub(crate) fn new_task(
+    alloc: Global,
+    rule: RuleNo,
+    place: Coupling,
+    depth: u8,
+    occurrence: Occurrence,
+) -> Result<Task, AllocError>
+    ensures { IfOk result (λ t. task_of t ≡ condition_task rule (coupling_of place) depth (occurrence_of occurrence)) }
+{
+    let occurrence = Arc::new(alloc, occurrence)?;
+    Ok(Task {
+        rule,
+        step: Step::Condition,
+        place,
+        depth,
+        occurrence,
+    })
+}

@@ -1,0 +1,5 @@
+pub mod Gathered
+pub mod Coursing
+pub mod Ended
+pub mod Cascading
+pub mod Attempted

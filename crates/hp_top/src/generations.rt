@@ -1,0 +1,107 @@
+//! Cascades: the detached tasks of a unit, in generations.
+
+ghost use Rattle.std.specs.Prelude.{◌≡◌, IfOk, map};
+ghost use Rattle.hp_model.specs.Cascade as model;
+ghost use Rattle.hp_value.specs.Mapped.{coupling};
+ghost use Rattle.hp_rule.specs.Mapped.{library, task as task_of, detached as detached_of};
+ghost use Rattle.hp_tree.specs.Mapped.{top_report};
+ghost use Rattle.hp_top.specs.Mapped.{generation_of};
+ghost use Rattle.hp_top.specs.Runs.{RunsGeneration, RunsCascade};
+
+use crate::rounds::most_rounds;
+use crate::top::run_detached;
+use hp_rule::{Detached, Library, Task};
+use hp_tree::TopReport;
+use hp_value::Coupling;
+use hp_view::View;
+use std::alloc::{AllocError, Global};
+use std::thread::Threads;
+
+/// What a generation gives, beside what it writes.
+#[derive(Debug, Drop)]
+pub(crate) struct Generation {
+    /// What is reported of its transactions, in order.
+    pub(crate) tops: Vec<TopReport>,
+    /// The tasks that they detached, in order.
+    pub(crate) detached: Vec<Detached>,
+}
+
+/// Runs the cascade of detached tasks on the view: each as a top-level transaction of its own, in order, and then those
+/// that they detached and that are due, generation by generation. It gives what is reported of each.
+///
+/// HiPAC: separate firings run in transactions of their own. An error means that memory ran out; the view may then hold a
+/// part of the effects.
+pub fn cascade<R: Threads + Sync>(
+    rt: &R,
+    alloc: Global,
+    lib: &Library,
+    view: &mut View,
+    tasks: Vec<Task>,
+    width: usize,
+) -> Result<Vec<TopReport>, AllocError>
+    ensures { IfOk result (λ reports. RunsCascade (library lib.now) (map task_of tasks.items) view.old view.new (map top_report reports.items)) }
+{
+    let most = most_rounds(lib);
+    let mut reports = Vec::new(alloc);
+    let mut next = tasks;
+    for _ in 0..most {
+        if next.is_empty() {
+            return Ok(reports);
+        }
+        let mut generation = run_generation(rt, alloc, lib, view, &next, width)?;
+        reports.append(&mut generation.tops)?;
+        next = due(alloc, generation.detached)?;
+    }
+    Ok(reports)
+}
+
+/// Runs tasks as a generation: each as a top-level transaction, in order.
+fn run_generation<R: Threads + Sync>(
+    rt: &R,
+    alloc: Global,
+    lib: &Library,
+    view: &mut View,
+    tasks: &[Task],
+    width: usize,
+) -> Result<Generation, AllocError>
+    ensures { IfOk result (λ g. RunsGeneration (library lib.now) (map task_of tasks.now) view.old view.new (generation_of g)) }
+{
+    let mut tops = Vec::new(alloc);
+    let mut detached = Vec::new(alloc);
+    for task in tasks {
+        let mut top = run_detached(rt, alloc, lib, view, task, width)?;
+        detached.append(&mut top.detached)?;
+        tops.push(TopReport {
+            task: Some((task.rule, task.place)),
+            end: top.end,
+            tree: top.tree,
+        })?;
+    }
+    Ok(Generation { tops, detached })
+}
+
+/// The detached tasks that are to run, in order: an exclusive one only where it was released.
+///
+/// An error means that memory ran out.
+pub(crate) fn due(alloc: Global, detached: Vec<Detached>) -> Result<Vec<Task>, AllocError>
+    ensures { IfOk result (λ ts. map task_of ts.items ≡ model.due (map detached_of detached.items)) }
+{
+    let mut tasks = Vec::new(alloc);
+    for one in detached {
+        if is_due(one.task.place, one.released) {
+            tasks.push(one.task)?;
+        }
+    }
+    Ok(tasks)
+}
+
+/// Whether a detached task is to run.
+fn is_due(place: Coupling, released: bool) -> bool
+    ensures { result ≡ model.due_by (coupling place) released }
+{
+    match place {
+        Coupling::Immediate | Coupling::Deferred => false,
+        Coupling::Separate | Coupling::Dependent => true,
+        Coupling::Exclusive => released,
+    }
+}

@@ -1,0 +1,87 @@
+//! Units one after the other on the committed store.
+
+ghost use Rattle.std.specs.Prelude.{◌≡◌, ◌<◌, IfOk, OnOk, OnErr, IsSome, None, length, map};
+ghost use Rattle.hp_rule.specs.Mapped.{library, unit as unit_of};
+ghost use Rattle.hp_store.specs.Stack.{cells_in};
+ghost use Rattle.hp_tree.specs.Mapped.{unit_report};
+ghost use Rattle.hp_top.specs.Units.{RanUnits, RanNext, AreReplayed, IsOpening};
+
+use crate::unit::run_unit;
+use hp_rule::{Library, Unit};
+use hp_store::Store;
+use hp_tree::UnitReport;
+use std::alloc::{AllocError, Global};
+use std::thread::Threads;
+
+/// What units gave that ran one after the other.
+#[derive(Debug, Drop)]
+pub struct Items {
+    /// What is reported of each unit that ran, in order.
+    pub reports: Vec<UnitReport>,
+    /// Why no further unit ran; none where all ran.
+    pub stopped: Option<AllocError>,
+}
+
+/// The store before a script's first unit: no object is there, and no rule.
+///
+/// An error means that memory ran out.
+pub fn opening(alloc: Global) -> Result<Store, AllocError>
+    ensures { IfOk result (λ s. IsOpening (cells_in s)) }
+{
+    let store = Store::empty(alloc)?;
+    Ok(store)
+}
+
+/// Runs units on the committed store, one after the other, each on what the former left, up to the first for which memory runs
+/// out.
+///
+/// What ran before that is reported, and the store is as the last unit left it that is reported.
+pub fn run_items<R: Threads + Sync>(
+    rt: &R,
+    alloc: Global,
+    lib: &Library,
+    store: &mut Store,
+    items: &[Unit],
+    width: usize,
+) -> Items
+    ensures ran { RanUnits (library lib.now) (map unit_of items.now) (cells_in store.old) (cells_in store.new) (map unit_report result.reports.items) }
+    ensures replayed { AreReplayed (library lib.now) (map unit_of items.now) (cells_in store.old) (map unit_report result.reports.items) }
+    ensures all { result.stopped ≡ None → length result.reports.items ≡ length items.now }
+    ensures cut { IsSome result.stopped → length result.reports.items < length items.now }
+{
+    let mut reports = Vec::new(alloc);
+    for unit in items {
+        if let Err(error) = run_next(rt, alloc, lib, store, unit, width, &mut reports) {
+            return Items {
+                reports,
+                stopped: Some(error),
+            };
+        }
+    }
+    Items {
+        reports,
+        stopped: None,
+    }
+}
+
+/// Runs one more unit, for whose report there is room before it runs.
+///
+/// An error means that memory ran out; the store and the reports are then as before.
+fn run_next<R: Threads + Sync>(
+    rt: &R,
+    alloc: Global,
+    lib: &Library,
+    store: &mut Store,
+    unit: &Unit,
+    width: usize,
+    reports: &mut Vec<UnitReport>,
+) -> Result<(), AllocError>
+    ensures ok { OnOk result (RanNext (library lib.now) (unit_of unit.now) (cells_in store.old) (cells_in store.new) (map unit_report reports.old.items) (map unit_report reports.new.items)) }
+    ensures err { OnErr result (store.new ≡ store.old) }
+    ensures none { OnErr result (reports.new.items ≡ reports.old.items) }
+{
+    reports.reserve(1)?;
+    let report = run_unit(rt, alloc, lib, store, unit, width)?;
+    reports.push_reserved(report);
+    Ok(())
+}

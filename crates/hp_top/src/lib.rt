@@ -1,0 +1,19 @@
+//! Top-level transactions, the cascades of what they detach, and units on the committed store.
+//!
+//! The types stand for those of `hp_model`: `specs/Mapped.antt` has a function for each. `specs/Runs.antt` says what a call
+//! on a view promises.
+#![tactic(auto)]
+
+mod closing;
+mod generations;
+mod items;
+mod rounds;
+#[cfg(test)]
+mod tests;
+mod top;
+mod unit;
+
+pub use generations::cascade;
+pub use items::{Items, opening, run_items};
+pub use top::{Top, run_detached, run_top};
+pub use unit::{UnitAttempt, attempt_unit, run_unit, run_unit_on};

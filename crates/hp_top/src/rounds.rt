@@ -1,0 +1,122 @@
+//! The commit event, and the rounds of deferred tasks.
+
+ghost use Rattle.std.specs.Prelude.{◌≡◌, IfOk, false};
+ghost use Rattle.hp_model.specs.Occurrences.{commit_reached};
+ghost use Rattle.hp_model.specs.Transactions.{then_do};
+ghost use Rattle.hp_model.specs.Firing.{level_at, signal_in, fire_task};
+ghost use Rattle.hp_model.specs.Cascade as model;
+ghost use Rattle.hp_model.specs.Cascade.{top_course};
+ghost use Rattle.hp_model.specs.Answers as answers;
+ghost use Rattle.hp_rule.specs.Mapped.{library};
+ghost use Rattle.hp_fire.specs.Mapped.{course as course_of};
+ghost use Rattle.hp_top.specs.Runs.{Continues, IsRound};
+
+use hp_fire::{Course, End, NoGate, group_course, run_group, run_signal};
+use hp_rule::Library;
+use hp_value::Prim;
+use hp_view::View;
+use std::alloc::{AllocError, Global};
+use std::thread::Threads;
+
+/// Goes on from the course of a top-level transaction's work to its end: the commit event at the transaction's depth, and
+/// the rounds of deferred tasks.
+///
+/// HiPAC: deferred tasks run after the last operation, before the commit. An error means that memory ran out.
+pub(crate) fn complete<R: Threads + Sync>(
+    rt: &R,
+    alloc: Global,
+    lib: &Library,
+    view: &mut View,
+    begun: Course,
+    depth: u8,
+    width: usize,
+) -> Result<Course, AllocError>
+    ensures { IfOk result (λ c. Continues (library lib.now) (top_course (library lib.now) depth) view.old view.new (course_of begun) (course_of c)) }
+{
+    let course = signal_commit(rt, alloc, lib, view, begun, depth, width)?;
+    let all = run_rounds(rt, alloc, lib, view, course, width)?;
+    Ok(all)
+}
+
+/// Signals the commit event where the course so far is done.
+fn signal_commit<R: Threads + Sync>(
+    rt: &R,
+    alloc: Global,
+    lib: &Library,
+    view: &mut View,
+    mut begun: Course,
+    depth: u8,
+    width: usize,
+) -> Result<Course, AllocError>
+    ensures { IfOk result (λ c. Continues (library lib.now) (λ work S. then_do (work S) (signal_in (level_at (library lib.now) depth) commit_reached)) view.old view.new (course_of begun) (course_of c)) }
+{
+    match begun.end {
+        End::Done => {
+            let commit = run_signal(rt, alloc, lib, view, &Prim::Commit, depth, width)?;
+            begun.join(commit)?;
+            Ok(begun)
+        }
+        End::Abort(_) => Ok(begun),
+        End::Veto(_) => Ok(begun),
+    }
+}
+
+/// Runs the queued tasks in rounds, each of which runs what the one before queued, while the course is done and tasks are
+/// queued.
+fn run_rounds<R: Threads + Sync>(
+    rt: &R,
+    alloc: Global,
+    lib: &Library,
+    view: &mut View,
+    begun: Course,
+    width: usize,
+) -> Result<Course, AllocError>
+    ensures { IfOk result (λ c. Continues (library lib.now) (λ work S. model.rounds (model.most_rounds (library lib.now)) (fire_task (library lib.now)) (work S)) view.old view.new (course_of begun) (course_of c)) }
+{
+    let most = most_rounds(lib);
+    let mut course = begun;
+    for _ in 0..most {
+        if is_settled(&course) {
+            return Ok(course);
+        }
+        course = run_round(rt, alloc, lib, view, course, width)?;
+    }
+    Ok(course)
+}
+
+/// How many rounds, or generations, there are at most: each task is deeper than the one that made it, or is the action of
+/// its condition.
+pub(crate) fn most_rounds(lib: &Library) -> u32
+    ensures { result ≡ model.most_rounds (library lib.now) }
+{
+    2 * (u32::from(lib.depth_limit()) + 1)
+}
+
+/// Whether no round follows.
+fn is_settled(course: &Course) -> bool
+    ensures { result ≡ answers.is_settled (course_of course.now).end (course_of course.now).queued }
+{
+    match course.end {
+        End::Done => course.queued.is_empty(),
+        End::Abort(_) | End::Veto(_) => true,
+    }
+}
+
+/// Runs a round: the queued tasks fire as siblings, and a veto aborts the transaction.
+fn run_round<R: Threads + Sync>(
+    rt: &R,
+    alloc: Global,
+    lib: &Library,
+    view: &mut View,
+    mut course: Course,
+    width: usize,
+) -> Result<Course, AllocError>
+    requires { answers.is_settled (course_of course).end (course_of course).queued ≡ false }
+    ensures { IfOk result (λ c. IsRound (library lib.now) view.old view.new (course_of course) (course_of c)) }
+{
+    let group = run_group(rt, alloc, lib, view, &course.queued, true, width, &NoGate)?;
+    let next = group_course(alloc, group)?;
+    course.queued = Vec::new(alloc);
+    course.join(next)?;
+    Ok(course)
+}

@@ -1,0 +1,119 @@
+//! Units: on a view, as attempts, and on the committed store.
+
+ghost use Rattle.std.specs.Prelude.{◌≡◌, IfOk, OnErr};
+ghost use Rattle.hp_model.specs.Cascade.{time_of};
+ghost use Rattle.hp_model.specs.Cells.{Holds};
+ghost use Rattle.hp_rule.specs.Mapped.{library, unit as unit_of};
+ghost use Rattle.hp_store.specs.Changes.{changes};
+ghost use Rattle.hp_store.specs.Stack.{cells_in};
+ghost use Rattle.hp_tree.specs.Mapped.{unit_report};
+ghost use Rattle.hp_top.specs.Runs.{RunsUnit};
+ghost use Rattle.hp_top.specs.Units.{IsSoundUnit, RanUnit, IsReplayed, IsLawful};
+
+use crate::generations::{cascade, due};
+use crate::top::run_top;
+use hp_rule::{Library, Unit};
+use hp_store::{Layer, Snapshot, Store};
+use hp_tree::{TopReport, UnitReport};
+use hp_view::{Reads, View};
+use std::alloc::{AllocError, Global};
+use std::sync::Arc;
+use std::thread::Threads;
+
+/// Runs a unit on the view: its own transaction, and the cascade of what that detaches. It gives what is reported of it.
+///
+/// Groups of firings inside get so much width. An error means that memory ran out; the view may then hold a part of the
+/// effects.
+pub fn run_unit_on<R: Threads + Sync>(
+    rt: &R,
+    alloc: Global,
+    lib: &Library,
+    view: &mut View,
+    unit: &Unit,
+    width: usize,
+) -> Result<UnitReport, AllocError>
+    ensures { IfOk result (λ r. RunsUnit (library lib.now) (unit_of unit.now) view.old view.new (unit_report r)) }
+{
+    let top = run_top(rt, alloc, lib, view, unit, width)?;
+    let tasks = due(alloc, top.detached)?;
+    let mut tops = Vec::new(alloc);
+    tops.push(TopReport {
+        task: None,
+        end: top.end,
+        tree: top.tree,
+    })?;
+    let mut later = cascade(rt, alloc, lib, view, tasks, width)?;
+    tops.append(&mut later)?;
+    Ok(UnitReport {
+        moment: moment_of(unit),
+        tops,
+    })
+}
+
+/// The moment of a unit, if it is one.
+fn moment_of(unit: &Unit) -> Option<u64>
+    ensures { result ≡ time_of (unit_of unit.now) }
+{
+    match unit {
+        Unit::Transaction(_) => None,
+        Unit::Moment(time) => Some(*time),
+    }
+}
+
+/// A unit as it was tried on a snapshot. It stands for the unit on each state where its reads hold.
+#[derive(Debug, Drop)]
+pub struct UnitAttempt {
+    /// What it read of the snapshot.
+    pub reads: Reads,
+    /// What it wrote over the snapshot.
+    pub layer: Arc<Layer>,
+    /// What is reported of it.
+    pub report: UnitReport,
+}
+
+/// Tries a unit on a snapshot, which is dropped.
+///
+/// An error means that memory ran out.
+pub fn attempt_unit<R: Threads + Sync>(
+    rt: &R,
+    alloc: Global,
+    lib: &Library,
+    snapshot: Snapshot,
+    unit: &Unit,
+    width: usize,
+) -> Result<UnitAttempt, AllocError>
+    ensures sound { IfOk result (λ a. IsSoundUnit (library lib.now) (unit_of unit.now) a.reads (changes a.layer.value) (unit_report a.report)) }
+    ensures so_it_was { IfOk result (λ a. Holds (cells_in snapshot) a.reads) }
+{
+    let mut view = View::new(alloc, snapshot)?;
+    let report = run_unit_on(rt, alloc, lib, &mut view, unit, width)?;
+    let (reads, layer) = view.into_parts();
+    Ok(UnitAttempt {
+        reads,
+        layer,
+        report,
+    })
+}
+
+/// Runs a unit on the committed store, and gives what is reported of it.
+///
+/// The changes go into the store in place where nobody else holds a snapshot of it, and cost no more than what they change.
+/// An error means that memory ran out; the store is then as before.
+pub fn run_unit<R: Threads + Sync>(
+    rt: &R,
+    alloc: Global,
+    lib: &Library,
+    store: &mut Store,
+    unit: &Unit,
+    width: usize,
+) -> Result<UnitReport, AllocError>
+    ensures ran { IfOk result (λ r. RanUnit (library lib.now) (unit_of unit.now) (cells_in store.old) (cells_in store.new) (unit_report r)) }
+    ensures replayed { IfOk result (λ r. IsReplayed (library lib.now) (unit_of unit.now) (cells_in store.old) (unit_report r)) }
+    ensures lawful { IfOk result (λ r. IsLawful (library lib.now) (unit_of unit.now) (cells_in store.old) (unit_report r)) }
+    ensures err { OnErr result (store.new ≡ store.old) }
+{
+    let snapshot = store.snapshot()?;
+    let attempt = attempt_unit(rt, alloc, lib, snapshot, unit, width)?;
+    store.apply(alloc, attempt.layer)?;
+    Ok(attempt.report)
+}
