@@ -1,1 +1,3 @@
+pub mod Evaluated
 pub mod Longest
+pub mod TypedReads

@@ -1,14 +1,12 @@
 -- More than the longest script is as good as any more.
-use Rattle.std.proofs.Common.{◌≡◌, ℕ, ◌<◌, ◌≤◌, List, length, take, cond, Err, inl, inr, sym, ap, ◌∙◌, arith, false}
+use Rattle.std.proofs.Common.{◌≡◌, ℕ, ◌<◌, ◌≤◌, List, length, take, cond, Err, inl, inr, sym, ap, ◌∙◌, arith, Bool}
 use Rattle.std.proofs.lemmas.Bool.{cases_lt, lt-ltb}
 use Rattle.std.proofs.lemmas.List.{take_all, length-take-le}
 use Rattle.hp_model.specs.Values.{◌>>=◌}
 use Rattle.hp_model.specs.Cascade.{Script}
 use Rattle.hp_model.specs.Refusals.{Decoded, over_limit, size_limit}
-use Rattle.hp_model.specs.Decode.{json_at}
-use Rattle.hp_model.specs.FirstDecode.{decode, script_of}
-use Rattle.hp_model.specs.Output.{text_of}
-use Rattle.hp_model.specs.FirstOutput.{first_output}
+use Rattle.hp_model.specs.Decode.{json_at, decode, script_of}
+use Rattle.hp_model.specs.Output.{text_of, output}
 use Rattle.hipac.specs.Ends.{status_for, status_of}
 
 too_long : (bytes : List ℕ) → 1048576 < length bytes → script_of bytes ≡ Err (over_limit size_limit)
@@ -25,8 +23,8 @@ cut most r input long =
 script_of_take : (input : List ℕ) → script_of (take 1048577 input) ≡ script_of input
 script_of_take input = cut 1048577 (Err (over_limit size_limit)) input (λ bytes h. too_long bytes (omega arith))
 
-pub output_of_take : (input : List ℕ) → first_output (take 1048577 input) false ≡ first_output input false
-output_of_take input = ap (text_of false) (script_of_take input)
+pub output_of_take : (input : List ℕ) (with_tree : Bool) → output (take 1048577 input) with_tree ≡ output input with_tree
+output_of_take input with_tree = ap (text_of with_tree) (script_of_take input)
 
 pub status_of_take : (input : List ℕ) → status_of (take 1048577 input) ≡ status_of input
 status_of_take input = ap status_for (script_of_take input)

@@ -1,7 +1,7 @@
 -- How runs end.
 use Rattle.std.specs.Prelude.{ℕ, List, Result, Ok, Err}
 use Rattle.hp_model.specs.Cascade.{Script}
-use Rattle.hp_model.specs.FirstDecode.{script_of}
+use Rattle.hp_model.specs.Decode.{script_of}
 use Rattle.hp_model.specs.Refusals.{Refusal}
 use Rattle.hp_report.specs.declared.input.ReadFault.{ReadFault}
 use Rattle.hp_report.specs.declared.input.ReadFault.TheVariants as reading

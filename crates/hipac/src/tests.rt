@@ -1,5 +1,8 @@
-use crate::fault::{Fault, Status};
-use crate::running::{Options, run};
+mod rows;
+
+use crate::fault::{Fault, Status, exit_code};
+use crate::running::run;
+use crate::words::{Options, WordFault, parse_words, word_code};
 use hp_report::Watched;
 use std::io;
 use std::io::{Read, Write};
@@ -13,7 +16,10 @@ const SCRIPT: &[u8] =
 
 const TEXT: &[u8] = b"unit 1 committed\nemit 2\nfinal\nobject acct 1 bal=7\nrule r enabled\nend\n";
 
-const ONE_WORKER: Options = Options { workers: 1 };
+const ONE_WORKER: Options = Options {
+    workers: 1,
+    tree: false,
+};
 
 /// A device that moves at most `step` bytes a call, and fails at one call: it answers `Err`, or takes nothing.
 #[derive(Drop)]
@@ -87,22 +93,174 @@ fn written<R: AllocGlobal + Threads + Sync>(
     Ok((writer.into_inner().output, status))
 }
 
+fn expect_with<R: Abort + AllocGlobal + Threads + Sync>(
+    rt: &R,
+    options: Options,
+    script: &[u8],
+    text: &[u8],
+    status: Status,
+) -> Result<(), Fail> {
+    let (output, ended) = written(rt, script, options)?;
+    assert_eq!(rt; output.as_slice(), text);
+    assert_eq!(rt; ended, status);
+    Ok(())
+}
+
 fn expect<R: Abort + AllocGlobal + Threads + Sync>(
     rt: &R,
     script: &[u8],
     text: &[u8],
     status: Status,
 ) -> Result<(), Fail> {
-    let (output, ended) = written(rt, script, ONE_WORKER)?;
-    assert_eq!(rt; output.as_slice(), text);
-    assert_eq!(rt; ended, status);
+    expect_with(rt, ONE_WORKER, script, text, status)
+}
+
+/// The options that words ask for, which stand behind the program's name.
+fn asked<R: AllocGlobal>(rt: &R, given: &[&str]) -> Result<Result<Options, WordFault>, Fail> {
+    let mut words = Vec::new(rt.alloc());
+    words.push(String::from_str(rt.alloc(), "hipac")?)?;
+    for word in given {
+        words.push(String::from_str(rt.alloc(), word)?)?;
+    }
+    Ok(parse_words(rt.alloc(), words.as_slice()))
+}
+
+#[test]
+fn words_that_are_taken(rt: HostRuntime) -> Result<(), Fail> {
+    assert_eq!(rt;
+        asked(&rt, &[])?,
+        Ok(Options {
+            workers: 4,
+            tree: false
+        })
+    );
+    assert_eq!(rt;
+        asked(&rt, &["--tree"])?,
+        Ok(Options {
+            workers: 4,
+            tree: true
+        })
+    );
+    assert_eq!(rt;
+        asked(&rt, &["--workers", "1"])?,
+        Ok(Options {
+            workers: 1,
+            tree: false
+        })
+    );
+    assert_eq!(rt;
+        asked(&rt, &["--workers", "64", "--tree"])?,
+        Ok(Options {
+            workers: 64,
+            tree: true
+        })
+    );
+    assert_eq!(rt;
+        asked(&rt, &["--tree", "--workers=8"])?,
+        Ok(Options {
+            workers: 8,
+            tree: true
+        })
+    );
     Ok(())
+}
+
+#[test]
+fn words_that_are_refused(rt: HostRuntime) -> Result<(), Fail> {
+    assert_eq!(rt; asked(&rt, &["--workers", "0"])?, Err(WordFault::Refused));
+    assert_eq!(rt; asked(&rt, &["--workers", "65"])?, Err(WordFault::Refused));
+    assert_eq!(rt; asked(&rt, &["--workers", "256"])?, Err(WordFault::Refused));
+    assert_eq!(rt; asked(&rt, &["--workers"])?, Err(WordFault::Refused));
+    assert_eq!(rt; asked(&rt, &["--help"])?, Err(WordFault::Refused));
+    assert_eq!(rt; asked(&rt, &["x"])?, Err(WordFault::Refused));
+    Ok(())
+}
+
+#[test]
+fn exit_statuses(rt: HostRuntime) -> Result<(), Fail> {
+    assert_eq!(rt; exit_code(&Ok(Status::Reported)), 0);
+    assert_eq!(rt; exit_code(&Ok(Status::Refused)), 2);
+    assert_eq!(rt; exit_code(&Err(Fault::NoMemory)), 4);
+    assert_eq!(rt; word_code(WordFault::Refused), 3);
+    assert_eq!(rt; word_code(WordFault::NoMemory), 4);
+    Ok(())
+}
+
+/// A script of one transaction that emits a text of so many letters.
+fn emits_letters<R: AllocGlobal>(rt: &R, letters: usize) -> Result<Vec<u8>, Fail> {
+    let mut script = Vec::new(rt.alloc());
+    script.extend_from_slice(
+        b"{\"version\":1,\"classes\":[],\"rules\":[],\"items\":[[\"tx\",[[\"emit\",\"",
+    )?;
+    for _ in 0..letters {
+        script.push(b'a')?;
+    }
+    script.extend_from_slice(b"\"]]]]}")?;
+    Ok(script)
+}
+
+#[test]
+fn longest_text_and_one_letter_more(rt: HostRuntime) -> Result<(), Fail> {
+    let script = emits_letters(&rt, 1024)?;
+    let mut text = Vec::new(rt.alloc());
+    text.extend_from_slice(b"unit 1 committed\nemit \"")?;
+    for _ in 0..1024 {
+        text.push(b'a')?;
+    }
+    text.extend_from_slice(b"\"\nfinal\nend\n")?;
+    expect(&rt, script.as_slice(), text.as_slice(), Status::Reported)?;
+    let script = emits_letters(&rt, 1025)?;
+    expect(
+        &rt,
+        script.as_slice(),
+        b"refused S5 text\n",
+        Status::Refused,
+    )
+}
+
+/// Each firing signals twice what fires it, down to the deepest level: 32,767 firings.
+#[test]
+fn deepest_firings(rt: HostRuntime) -> Result<(), Fail> {
+    let mut text = Vec::new(rt.alloc());
+    text.extend_from_slice(b"unit 1 committed\n")?;
+    for _ in 0..32_767 {
+        text.extend_from_slice(b"emit 1\n")?;
+    }
+    text.extend_from_slice(b"final\nrule r enabled\nend\n")?;
+    expect(
+        &rt,
+        b"{\"version\":1,\"classes\":[],\"rules\":[[\"r\",[\"signal\",\"go\"],\"immediate\",[],\"immediate\",[[\"emit\",1],[\"signal\",\"go\",[]],[\"signal\",\"go\",[]]]]],\"items\":[[\"tx\",[[\"install\",\"r\"],[\"signal\",\"go\",[]]]]],\"depth\":16}",
+        text.as_slice(),
+        Status::Reported,
+    )
+}
+
+#[test]
+fn most_moments(rt: HostRuntime) -> Result<(), Fail> {
+    let mut text = String::new(rt.alloc());
+    for moment in 1..=1000 {
+        writeln!(text, "unit {moment} time {moment} committed")?;
+    }
+    text.push_str("final\nrule e absent\nend\n")?;
+    expect(
+        &rt,
+        b"{\"version\":1,\"classes\":[],\"rules\":[[\"e\",[\"every\",0,1],\"immediate\",[],\"immediate\",[]]],\"items\":[[\"clock\",1000]]}",
+        text.as_bytes(),
+        Status::Reported,
+    )
 }
 
 #[test]
 fn thinnest_run_for_every_number_of_workers(rt: HostRuntime) -> Result<(), Fail> {
     for workers in [1, 2, 8, 64] {
-        let (output, status) = written(&rt, SCRIPT, Options { workers })?;
+        let (output, status) = written(
+            &rt,
+            SCRIPT,
+            Options {
+                workers,
+                tree: false,
+            },
+        )?;
         assert_eq!(rt; output.as_slice(), TEXT);
         assert_eq!(rt; status, Status::Reported);
     }

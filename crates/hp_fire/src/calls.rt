@@ -103,8 +103,9 @@ pub fn run_firing<R: Threads + Sync>(
     Ok(outcome)
 }
 
-/// Fires the tasks of a group on the view, as siblings: HiPAC's rules of one event are sibling subtransactions, equal to some
-/// serial order, which here is the order of the tasks. Where `stop_at_veto` is set, nothing fires after a vetoed one.
+/// Fires the tasks of a group on the view, as siblings. In HiPAC the rules that one event triggers fire as sibling
+/// subtransactions, whose effect is that of some serial order: here it is the order of the tasks. Where `stop_at_veto` is
+/// set, nothing fires after a vetoed one.
 ///
 /// An error means that memory ran out; the view may then hold a part of the effects.
 pub fn run_group<R: Threads + Sync, G: Gate + Sync>(

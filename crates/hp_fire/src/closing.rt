@@ -25,7 +25,7 @@ use hp_value::{Cause, Coupling, RuleNo};
 use hp_view::{Mark, View};
 use std::alloc::{AllocError, Global};
 
-/// Ends the transaction that began at a mark: what it wrote stays where it is done, and goes where it isn't (Moss).
+/// Ends the transaction that began at a mark: if it is done, what it wrote stays, and if it isn't, that is undone (Moss).
 ///
 /// An error means that memory ran out; the view is then as before.
 pub fn end_transaction(view: &mut View, mark: Mark, how: End) -> Result<(), AllocError>
@@ -44,7 +44,7 @@ pub fn end_transaction(view: &mut View, mark: Mark, how: End) -> Result<(), Allo
     }
 }
 
-/// How a transaction has ended whose course ends so. A veto aborts it by its own cause.
+/// How a transaction ends whose course ends like this. A veto aborts it by a cause that names the rule.
 pub fn ending(how: End) -> Ending
     ensures { ending_of result ≡ answers.ending_of (mapped.end how) }
 {

@@ -14,6 +14,8 @@ mod operations;
 mod placing;
 mod running;
 mod settling;
+#[cfg(test)]
+mod tests;
 
 pub use calls::{run_body, run_firing, run_group, run_signal, run_task};
 pub use closing::{detached_after, end_transaction, ending};

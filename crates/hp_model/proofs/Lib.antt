@@ -1,6 +1,5 @@
 pub mod Scripts
 pub mod Rows
-pub mod FirstDecoding
 pub mod Decoding
 pub mod Induction
 pub mod Ranks

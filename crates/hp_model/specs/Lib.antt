@@ -21,11 +21,6 @@ pub mod StatementGrammar
 pub mod RuleHeads
 pub mod Decode
 pub mod Output
-pub mod FirstExpressionGrammar
-pub mod FirstEventGrammar
-pub mod FirstStatementGrammar
-pub mod FirstDecode
-pub mod FirstOutput
 pub mod Cells
 pub mod Soundness
 pub mod Answers

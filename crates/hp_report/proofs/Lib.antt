@@ -1,6 +1,5 @@
 pub mod AnyDepth
-pub mod PathFlat
-pub mod PathLines
+pub mod Ends
 pub mod Known
 pub mod Lines
 pub mod TreeLines

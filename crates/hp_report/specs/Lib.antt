@@ -1,6 +1,6 @@
 pub mod Device
+pub mod Ending
 pub mod Mapped
 pub mod Named
-pub mod PathMapped
 pub mod Text
 pub mod Watched

@@ -4,15 +4,16 @@
 #![tactic(auto)]
 
 mod device;
+mod ending;
 mod input;
 mod names;
 mod output;
-pub mod path;
 mod report;
 mod text;
 mod watched;
 
 pub use device::{Sink, Source};
+pub use ending::{final_objects, final_state, final_statuses};
 pub use input::{ReadFault, read_up_to};
 pub use output::{WriteFault, write_text};
 pub use report::{Report, Status, write_report};

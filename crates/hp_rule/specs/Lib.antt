@@ -1,4 +1,3 @@
-pub mod PathMapped
 pub mod Mentions
 pub mod SameTasks
 pub mod Statements

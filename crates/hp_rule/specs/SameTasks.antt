@@ -1,12 +1,10 @@
 -- Whether two tasks are the same, as a test; it is true exactly where the two are equal.
-use Rattle.std.specs.Prelude.{ℕ, ◌≡◌, refl, Bool, true, false, ◌&&◌, nat_eq, List}
-use Rattle.std.proofs.Common.{ap, sym, ◌∙◌}
-use mathlib.Core.Bool.{true≢false}
+use Rattle.std.specs.Prelude.{ℕ, ◌≡◌, refl, Bool, true, false, ◌&&◌, nat_eq}
+use Rattle.std.proofs.Common.{ap}
 use lib.Pointwise.{pointwise, pointwise_decides}
 use Rattle.std.specs.Bool.{Decides}
 use Rattle.std.specs.Cmp.{IsEquivalence, decided, unsigned_Decides}
 use Rattle.hp_model.specs.Rules.{Coupling, immediate, deferred, separate, dependent, exclusive}
-use Rattle.hp_model.specs.Conditions.{Answers}
 use Rattle.hp_model.specs.Occurrences.{Occurrence}
 use Rattle.hp_model.specs.Tree.{Step, condition_step, action_step, Task}
 use Rattle.hp_value.specs.Same.{answer_same, answer_decides, occurrence_same, occurrence_decides, both_decide}

@@ -9,7 +9,6 @@ mod fault;
 mod index;
 mod library;
 mod note;
-pub mod path;
 mod rule;
 mod stmt;
 mod task;

@@ -2,7 +2,6 @@ pub mod Listed
 pub mod Bodies
 pub mod Moments
 pub mod Readings
-pub mod PathBodies
 pub mod Parsed
 pub mod ItemScopes
 pub mod OwnBodies

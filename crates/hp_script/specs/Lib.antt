@@ -5,5 +5,3 @@ pub mod Moments
 pub mod Forms
 pub mod ItemScopes
 pub mod OwnBodies
-pub mod PathMapped
-pub mod PathForms

@@ -16,7 +16,6 @@ mod moment;
 mod name;
 mod number;
 mod operation;
-pub mod path;
 mod place;
 mod query;
 mod reference;

@@ -1,0 +1,107 @@
+//! The final state of a run, as a report shows it.
+
+ghost use Rattle.std.specs.Prelude.{◌≡◌, [], IfOk, map};
+ghost use Rattle.hp_model.specs.Cells.{rule_cell};
+ghost use Rattle.hp_model.specs.Laws.{replay_transaction, replay_transactions, replay_units};
+ghost use Rattle.hp_store.specs.Stack.{cells_in};
+ghost use Rattle.hp_report.specs.Ending.{status_from, AreStatuses, AreFinal};
+ghost use Rattle.hp_report.specs.Mapped as model;
+
+use crate::report::Status;
+use hp_rule::Library;
+use hp_store::{CellValue, Store};
+use hp_tree::{Ending, Objects, TopReport, UnitReport, replay};
+use hp_value::{Cell, RuleNo};
+use std::alloc::{AllocError, Global};
+
+/// The objects and the statuses of the rules after units, from what was reported of them and from the store that they left.
+///
+/// An error means that memory ran out, or that there are more rules than there are rule numbers.
+pub fn final_state(
+    alloc: Global,
+    lib: &Library,
+    store: &Store,
+    units: &[UnitReport],
+) -> Result<(Objects, Vec<Status>), AllocError>
+    ensures { IfOk result (λ ends.
+        AreFinal (model.library lib.now) (cells_in store.now) (map model.unit_report units.now) ends.0 (map model.status ends.1.items)) }
+{
+    let objects = final_objects(alloc, units)?;
+    let statuses = final_statuses(alloc, lib, store)?;
+    Ok((objects, statuses))
+}
+
+/// The objects that units leave, the first of which found none: what their trees' committed operations make.
+///
+/// An error means that memory ran out.
+pub fn final_objects(alloc: Global, units: &[UnitReport]) -> Result<Objects, AllocError>
+    ensures { IfOk result (λ objects. objects ≡ replay_units [] (map model.unit_report units.now)) }
+{
+    let mut objects = Objects::new(alloc);
+    for unit in units {
+        objects = replay_tops(objects, &unit.tops)?;
+    }
+    Ok(objects)
+}
+
+/// The objects after the top-level transactions of a unit.
+fn replay_tops(initial: Objects, tops: &[TopReport]) -> Result<Objects, AllocError>
+    ensures { IfOk result (λ objects. objects ≡ replay_transactions initial (map model.top_report tops.now)) }
+{
+    let mut objects = initial;
+    for top in tops {
+        objects = replay_top(objects, top)?;
+    }
+    Ok(objects)
+}
+
+/// The objects after a top-level transaction.
+fn replay_top(initial: Objects, top: &TopReport) -> Result<Objects, AllocError>
+    ensures { IfOk result (λ objects. objects ≡ replay_transaction initial (model.top_report top.now)) }
+{
+    match top.end {
+        Ending::Committed => {
+            let objects = replay(initial, &top.tree)?;
+            Ok(objects)
+        }
+        Ending::Aborted(_) => Ok(initial),
+    }
+}
+
+/// The status of each rule in a store, by the rules' numbers.
+///
+/// An error means that memory ran out, or that there are more rules than there are rule numbers.
+pub fn final_statuses(
+    alloc: Global,
+    lib: &Library,
+    store: &Store,
+) -> Result<Vec<Status>, AllocError>
+    ensures { IfOk result (λ statuses. AreStatuses (model.library lib.now) (cells_in store.now) (map model.status statuses.items)) }
+{
+    let mut statuses = Vec::new(alloc);
+    for place in 0..lib.rules().len() {
+        statuses.push(status_of(store, rule_number(place)?))?;
+    }
+    Ok(statuses)
+}
+
+/// The number of the rule at a place.
+fn rule_number(place: usize) -> Result<RuleNo, AllocError>
+    ensures { IfOk result (λ number. number ≡ place) }
+{
+    RuleNo::try_from(place).map_err(|_| AllocError)
+}
+
+/// The status of a rule in a store.
+fn status_of(store: &Store, rule: RuleNo) -> Status
+    ensures { model.status result ≡ status_from (cells_in store.now (rule_cell rule)) }
+{
+    match store.get(Cell::Rule(rule)) {
+        Some(CellValue::Status(hp_store::Status::Enabled)) => Status::Enabled,
+        Some(CellValue::Status(hp_store::Status::Disabled)) => Status::Disabled,
+        Some(CellValue::Row(_) | CellValue::Detector(_)) | None => Status::Absent,
+    }
+}
+
+#[cfg(test)]
+mod tests;
