@@ -1,6 +1,6 @@
 //! The calls for the layers above.
 
-ghost use Rattle.std.specs.Prelude.{IfOk, map};
+ghost use Rattle.std.specs.Prelude.{◌≡◌, ◌+◌, IfOk, map, length};
 ghost use Rattle.hp_model.specs.Cells.{Holds};
 ghost use Rattle.hp_model.specs.Firing as model;
 ghost use Rattle.hp_model.specs.Firing.{level_at, siblings, fire_task, signal_in};
@@ -118,7 +118,8 @@ pub fn run_group<R: Threads + Sync, G: Gate + Sync>(
     width: usize,
     gate: &G,
 ) -> Result<GroupOutcome, AllocError>
-    ensures { IfOk result (λ g. RunsGroup (library lib.now) (siblings (fire_task (library lib.now)) stop_at_veto (map task_of tasks.now)) view.old view.new (group_of g)) }
+    ensures runs { IfOk result (λ g. RunsGroup (library lib.now) (siblings (fire_task (library lib.now)) stop_at_veto (map task_of tasks.now)) view.old view.new (group_of g)) }
+    ensures counted { IfOk result (λ g. g.accepted + g.reran ≡ length g.outcomes.items) }
 {
     let site = Site {
         rt,

@@ -1,6 +1,6 @@
 //! Statements, signals, groups and firings. They call one another here and nowhere else.
 
-ghost use Rattle.std.specs.Prelude.{◌≡◌, IfOk, map};
+ghost use Rattle.std.specs.Prelude.{◌≡◌, ◌+◌, IfOk, map, length};
 ghost use Rattle.hp_model.specs.Transactions.{for_each};
 ghost use Rattle.hp_model.specs.Firing as model;
 ghost use Rattle.hp_model.specs.Firing.{level_at, siblings, fire_task, signal_in, with_row};
@@ -267,7 +267,8 @@ pub(crate) fn group<R: Threads + Sync, G: Gate + Sync>(
     tasks: &[Task],
     stop_at_veto: bool,
 ) -> Result<GroupOutcome, AllocError>
-    ensures { IfOk result (λ g. RunsGroup (library site.now.lib.now) (siblings (fire_task (library site.now.lib.now)) stop_at_veto (map task_of tasks.now)) view.old view.new (group_in g)) }
+    ensures runs { IfOk result (λ g. RunsGroup (library site.now.lib.now) (siblings (fire_task (library site.now.lib.now)) stop_at_veto (map task_of tasks.now)) view.old view.new (group_in g)) }
+    ensures counted { IfOk result (λ g. g.accepted + g.reran ≡ length g.outcomes.items) }
 {
     let mut outcomes = Vec::new(alloc);
     for task in tasks {
@@ -275,20 +276,22 @@ pub(crate) fn group<R: Threads + Sync, G: Gate + Sync>(
         let end = outcome.end;
         outcomes.push(outcome)?;
         if stop_at_veto && end.is_some() {
+            let reran = outcomes.len();
             return Ok(GroupOutcome {
                 outcomes,
                 end,
                 accepted: 0,
-                reran: 0,
+                reran,
                 waves: 0,
             });
         }
     }
+    let reran = outcomes.len();
     Ok(GroupOutcome {
         outcomes,
         end: None,
         accepted: 0,
-        reran: 0,
+        reran,
         waves: 0,
     })
 }

@@ -606,7 +606,10 @@ fn a_group_is_run_by_its_owner(rt: HostRuntime) -> Result<(), Fail> {
     let tasks = tasks(alloc)?;
     let group = run_group(&rt, alloc, &lib, &mut view, &tasks, true, 1, &NoGate)?;
     assert_eq!(rt; (group.outcomes.len(), group.end), (2, None));
-    assert_eq!(rt; (group.accepted, group.waves), (0, 0));
+    assert_eq!(rt;
+        (group.accepted, group.reran, group.waves),
+        (0, group.outcomes.len(), 0)
+    );
     assert_eq!(rt; shown(&view, 3), Some(30));
     Ok(())
 }

@@ -94,14 +94,14 @@ group-loop-task-preserved g t c =
       | group-else-stop_at_veto-via-else-stop_at_veto w ↦ group_goes (task c.task-item.result) _ here after (goes_past c.args.stop_at_veto c.in_ok-outcome.outcome.end w.if-stop_at_veto.false) c.loop-task.invariant c.in_ok-outcome.ensures
     ]
 
-pub group-returns-then-is_some : goal.group-returns-then-is_some
-group-returns-then-is_some g t c =
+pub group-returns-then-is_some-clause-runs : goal.group-returns-then-is_some-clause-runs
+group-returns-then-is_some-clause-runs g t c =
     let after = ap (map firing) c.in_ok-push.ensures.items ∙ map-append firing c.loop-task.outcomes.items (c.in_ok-outcome.outcome ∷ []) in
     let here = ap (map task) (split_at c.args.tasks.now c.loop-task.task-index c.task-item.result c.loop-task-test.true c.task-item.is) in
     group_stops (task c.task-item.result) _ here after c.if-stop_at_veto.true (sym c.is_some.ensures ∙ c.if-is_some.true) c.loop-task.invariant c.in_ok-outcome.ensures
 
-pub group-returns : goal.group-returns
-group-returns g t c = group_ends (ap (map task) (drop_of_length-le c.args.tasks.now c.loop-task-test.false)) c.loop-task.invariant
+pub group-returns-clause-runs : goal.group-returns-clause-runs
+group-returns-clause-runs g t c = group_ends (ap (map task) (drop_of_length-le c.args.tasks.now c.loop-task-test.false)) c.loop-task.invariant
 
 -- ---- operations and actions
 
@@ -148,7 +148,7 @@ start-returns g t c =
     runs_answer
     (c.in_ok-join.ensures ∙ (λ i. followed (record { end = done; queued = c.in_ok-immediate.ensures.queued i; detached = c.in_ok-immediate.ensures.detached i; items = ap items_in c.new.ensures.items i }) (c.in_ok-group_course.ensures i)))
     (start_runs (map task c.args.tasks.items) c.requires (λ e. some (map_none task c.args.tasks.items e))
-    (subst (λ ts. RunsGroup (library c.args.site.now.lib.now) (siblings (fire_task (library c.args.site.now.lib.now)) true ts) c.args.view.now c.group.new.view (group c.in_ok-group.group)) now c.in_ok-group.ensures))
+    (subst (λ ts. RunsGroup (library c.args.site.now.lib.now) (siblings (fire_task (library c.args.site.now.lib.now)) true ts) c.args.view.now c.group.new.view (group c.in_ok-group.group)) now c.in_ok-group.ensures.runs))
 
 -- ---- the statements
 

@@ -12,7 +12,7 @@ use Rattle.hp_top.proofs.rounds.run_round.Goals as goal
 pub returns : goal.returns
 returns g c =
     let L = library c.args.lib.now in
-    let ran = subst (λ ts. RunsGroup L (siblings (fire_task L) true (map task ts)) c.args.view.now c.run_group.new.view (group c.in_ok-group.group)) c.deref.ensures.value c.in_ok-group.ensures in
+    let ran = subst (λ ts. RunsGroup L (siblings (fire_task L) true (map task ts)) c.args.view.now c.run_group.new.view (group c.in_ok-group.group)) c.deref.ensures.value c.in_ok-group.ensures.runs in
     let so_far = course c.args.course in
     subst (λ a. IsRound L c.args.view.now c.run_group.new.view (course c.args.course) a)
     (sym (c.in_ok-join.ensures ∙ (λ i. followed (record { end = done; queued = ap (map task) c.new.ensures.items i; detached = so_far.detached; items = so_far.items }) (c.in_ok-next.ensures i))))
