@@ -3,11 +3,11 @@ use Rattle.std.proofs.Common.{◌≡◌, refl, sym, ap, subst, ◌∙◌, List, 
 use Rattle.std.proofs.lemmas.List.{take_all}
 use Rattle.hp_model.specs.State as S
 use Rattle.hp_model.specs.State.{State, RuleState, Objects, initial_state, with_status}
-use Rattle.hp_model.specs.Cascade.{Script, UnitReport, Evaluation, run_units, evaluate}
+use Rattle.hp_model.specs.Cascade.{Script, UnitReport, run_units, evaluate}
 use Rattle.hp_model.specs.Cells.{Cells}
 use Rattle.hp_model.specs.Soundness.{LeadsTo}
 use Rattle.hp_model.specs.Laws.{replay_units}
-use Rattle.hp_model.specs.Report.{Bytes, line, units_text, objects_text, rules_text, report_text}
+use Rattle.hp_model.specs.Report.{Bytes, line, units_text, objects_text, report_text}
 use Rattle.hp_model.specs.Refusals.{Refusal}
 use Rattle.hp_model.specs.Decode.{script_of}
 use Rattle.hp_model.specs.Output.{refusal_text, text_of, output}

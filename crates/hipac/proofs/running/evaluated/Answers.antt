@@ -1,4 +1,4 @@
-use Rattle.std.proofs.Common.{◌≡◌, ◌∙◌, ap, sym, subst, map, length, List, Bool}
+use Rattle.std.proofs.Common.{◌≡◌, ◌∙◌, ap, sym, subst, map, length}
 use Rattle.std.proofs.lemmas.List.{length-map}
 use Rattle.hp_rule.specs.Mapped.{unit as unit_of}
 use Rattle.hp_store.specs.Stack.{cells_in}
