@@ -195,7 +195,7 @@ fn two_attempts_apart_are_taken_in_in_both_orders(rt: HostRuntime) -> Result<(),
     Ok(())
 }
 
-// The tasks of the rules 1, 2 and 3.
+// The tasks of three rules, one each.
 fn tasks(alloc: Global) -> Result<Vec<Task>, AllocError> {
     let mut tasks = Vec::new(alloc);
     for rule in 1..4 {

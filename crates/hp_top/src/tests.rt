@@ -35,7 +35,7 @@ fn detached(
     Ok(Detached { task, released })
 }
 
-// A task of each mode, in this order: rule 1 is separate, 2 dependent, 3 exclusive, and 4 exclusive and released.
+// A task of each mode, each of another rule; of the two exclusive ones the last was released.
 fn all_modes(alloc: Global) -> Result<Vec<Detached>, AllocError> {
     let mut all = Vec::new(alloc);
     all.push(detached(alloc, 1, Coupling::Separate, false)?)?;
@@ -52,7 +52,7 @@ fn assert_rules(rt: &impl Abort, tasks: &[Task], wanted: &[RuleNo]) {
     }
 }
 
-// A transaction that disabled rule 0 and detached a task of each mode, ended so. Rule 0 was enabled before.
+// A transaction that disabled an enabled rule and detached a task of each mode, ended so.
 fn ended(alloc: Global, view: &mut View, end: End) -> Result<Top, AllocError> {
     view.put(Cell::Rule(0), CellValue::Status(Status::Enabled))?;
     let mark = view.enter();
