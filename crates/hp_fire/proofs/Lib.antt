@@ -1,5 +1,7 @@
 mod Attempting
 mod Decisions
+mod Helping
+pub mod Sending
 mod Making
 mod Starting
 mod Stating

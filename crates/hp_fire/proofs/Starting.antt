@@ -62,7 +62,7 @@ levels_at lib d (t ∷ ts) at =
     least m n h = omega (arith, h)
 
 -- a group has less left than the signal that starts it
-pub group_falls : (firings below deepest : ℕ) → suc below ≤ firings → 8 * (below * (deepest + 2) + deepest) + 4 < 8 * (firings * (deepest + 2) + 0) + 1
+pub group_falls : (firings below deepest : ℕ) → suc below ≤ firings → 16 * (below * (deepest + 2) + deepest) + 13 < 16 * (firings * (deepest + 2) + 0) + 1
 group_falls firings below deepest less =
     let more : suc below * (deepest + 2) ≤ firings * (deepest + 2) = mul-le-mul_right (deepest + 2) less in
     let one : suc below * (deepest + 2) ≡ below * (deepest + 2) + (deepest + 2) = suc-mul below (deepest + 2) in
@@ -71,7 +71,7 @@ group_falls firings below deepest less =
 -- the immediate tasks of those that may start
 pub group_measure : (lib : RustLibrary) (depth : ℕ) (tasks now : List RustTask) → AreReady (library lib) depth (map task tasks) → (tasks ≡ [] → ⊥)
     → map task now ≡ filter (λ (u : Task). is_immediate u.place) (map task tasks)
-    → 8 * left lib (group_levels lib now) (deepest lib) + 4 < 8 * left lib (levels lib depth) 0 + 1
+    → 16 * left lib (group_levels lib now) (deepest lib) + 13 < 16 * left lib (levels lib depth) 0 + 1
 group_measure lib depth [] now ready some is = absurd (some refl)
 group_measure lib depth (t ∷ ts) now ready some is =
     let at : AreAt (suc depth) (map task now) = subst (AreAt (suc depth)) (sym is) (at_filter (suc depth) (λ (u : Task). is_immediate u.place) (map task (t ∷ ts)) ready.at) in

@@ -1,4 +1,5 @@
 pub mod Decides
+pub mod Groups
 pub mod Joined
 pub mod Mapped
 pub mod Runs

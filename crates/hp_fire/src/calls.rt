@@ -1,6 +1,6 @@
 //! The calls for the layers above.
 
-ghost use Rattle.std.specs.Prelude.{◌≡◌, ◌+◌, IfOk, map, length};
+ghost use Rattle.std.specs.Prelude.{◌≡◌, ◌+◌, ◌<◌, ◌≤◌, IfOk, map, length};
 ghost use Rattle.hp_model.specs.Cells.{Holds};
 ghost use Rattle.hp_model.specs.Firing as model;
 ghost use Rattle.hp_model.specs.Firing.{level_at, siblings, fire_task, signal_in};
@@ -9,14 +9,14 @@ ghost use Rattle.hp_model.specs.Soundness.{IsSound};
 ghost use Rattle.hp_value.specs.Mapped.{primitive};
 ghost use Rattle.hp_rule.specs.Mapped.{body_in, library, task as task_of};
 ghost use Rattle.hp_store.specs.Stack.{cells_in};
-ghost use Rattle.hp_attempt.specs.Mapped.{attempt, firing as firing_of};
+ghost use Rattle.hp_attempt.specs.Mapped.{attempt as attempt_of, firing as firing_of};
 ghost use Rattle.hp_fire.specs.Mapped.{course, group as group_of};
 ghost use Rattle.hp_fire.specs.Runs.{Runs, RunsFiring, RunsGroup};
 
 use crate::context::{Context, Site};
 use crate::course::{Course, GroupOutcome};
 use crate::gate::{Gate, NoGate};
-use crate::running::{firing, group, signal, statements};
+use crate::running::{attempted, firing, group, signal, statements};
 use crate::settling::settled;
 use hp_attempt::{Attempt, Outcome};
 use hp_rule::{Library, Stmt, Task};
@@ -46,6 +46,7 @@ pub fn run_body<R: Threads + Sync>(
         gate: &NoGate,
         lib,
         width,
+        told: false,
     };
     let context = Context::of_script(depth);
     let course = statements(&site, alloc, view, body, &context)?;
@@ -73,6 +74,7 @@ pub fn run_signal<R: Threads + Sync>(
         gate: &NoGate,
         lib,
         width,
+        told: false,
     };
     let result = signal(&site, alloc, view, prim, depth);
     let course = settled(alloc, result)?;
@@ -98,6 +100,7 @@ pub fn run_firing<R: Threads + Sync>(
         gate: &NoGate,
         lib,
         width,
+        told: false,
     };
     let outcome = firing(&site, alloc, view, task)?;
     Ok(outcome)
@@ -106,6 +109,11 @@ pub fn run_firing<R: Threads + Sync>(
 /// Fires the tasks of a group on the view, as siblings. In HiPAC the rules that one event triggers fire as sibling
 /// subtransactions, whose effect is that of some serial order: here it is the order of the tasks. Where `stop_at_veto` is
 /// set, nothing fires after a vetoed one.
+///
+/// Where there are two tasks and a width of two at least, up to `width` workers, at most 64, try the tasks ahead of their turn
+/// in threads of their own. What they bring is taken in where it still holds, and is tried again or run by the caller where
+/// it doesn't, so that no thread changes the outcome. The gate is told of each task that a worker starts and ends, by its place
+/// in the group. A worker for which memory runs out leaves a task to the caller.
 ///
 /// An error means that memory ran out; the view may then hold a part of the effects.
 pub fn run_group<R: Threads + Sync, G: Gate + Sync>(
@@ -120,12 +128,15 @@ pub fn run_group<R: Threads + Sync, G: Gate + Sync>(
 ) -> Result<GroupOutcome, AllocError>
     ensures runs { IfOk result (λ g. RunsGroup (library lib.now) (siblings (fire_task (library lib.now)) stop_at_veto (map task_of tasks.now)) view.old view.new (group_of g)) }
     ensures counted { IfOk result (λ g. g.accepted + g.reran ≡ length g.outcomes.items) }
+    ensures waves { IfOk result (λ g. g.waves ≤ g.reran + 1) }
+    ensures alone { width < 2 → IfOk result (λ g. g.waves ≡ 0) }
 {
     let site = Site {
         rt,
         gate,
         lib,
         width,
+        told: true,
     };
     let outcome = group(&site, alloc, view, tasks, stop_at_veto)?;
     Ok(outcome)
@@ -142,17 +153,16 @@ pub fn run_task<R: Threads + Sync>(
     task: &Task,
     width: usize,
 ) -> Result<Attempt, AllocError>
-    ensures sound { IfOk result (λ a. IsSound (library lib.now) (attempt a)) }
+    ensures sound { IfOk result (λ a. IsSound (library lib.now) (attempt_of a)) }
     ensures so_it_was { IfOk result (λ a. Holds (cells_in snapshot) a.reads) }
 {
-    let copy = task.clone()?;
-    let mut view = View::new(alloc, snapshot)?;
-    let outcome = run_firing(rt, alloc, lib, &mut view, task, width)?;
-    let (reads, layer) = view.into_parts();
-    Ok(Attempt {
-        task: copy,
-        reads,
-        layer,
-        outcome,
-    })
+    let site = Site {
+        rt,
+        gate: &NoGate,
+        lib,
+        width,
+        told: false,
+    };
+    let attempt = attempted(&site, alloc, snapshot, task)?;
+    Ok(attempt)
 }

@@ -21,6 +21,8 @@ pub(crate) struct Site<'a, R, G> {
     pub(crate) lib: &'a Library,
     /// How many threads a group may use.
     pub(crate) width: usize,
+    /// Whether the gate is told of a group's tasks. Of groups inside a task it isn't.
+    pub(crate) told: bool,
 }
 
 /// What a statement runs in, beside the view.

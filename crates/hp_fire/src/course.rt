@@ -1,6 +1,6 @@
 //! What statements, signals and groups give.
 
-ghost use Rattle.std.specs.Prelude.{◌≡◌, IfOk, OnOk, []};
+ghost use Rattle.std.specs.Prelude.{◌≡◌, IfOk, OnOk, [], length};
 ghost use Rattle.hp_model.specs.Answers.{ended, followed, is_done};
 ghost use Rattle.hp_model.specs.Tree.{no_items};
 ghost use Rattle.hp_tree.specs.Mapped.{before};
@@ -50,6 +50,22 @@ pub struct GroupOutcome {
     pub reran: usize,
     /// In how many waves workers ran; 0 where none were started.
     pub waves: usize,
+}
+
+impl GroupOutcome {
+    /// A group whose owner ran each firing.
+    pub(crate) fn of_owner(outcomes: Vec<Outcome>, end: Option<RuleNo>) -> GroupOutcome
+        ensures { result ≡ record { outcomes = outcomes; end = end; accepted = 0; reran = length outcomes.items; waves = 0 } }
+    {
+        let reran = outcomes.len();
+        GroupOutcome {
+            outcomes,
+            end,
+            accepted: 0,
+            reran,
+            waves: 0,
+        }
+    }
 }
 
 impl Course {

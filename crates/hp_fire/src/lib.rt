@@ -12,10 +12,12 @@ mod deciding;
 mod gate;
 mod operations;
 mod placing;
+mod progress;
 mod running;
 mod settling;
 #[cfg(test)]
 mod tests;
+mod wave;
 
 pub use calls::{run_body, run_firing, run_group, run_signal, run_task};
 pub use closing::{detached_after, end_transaction, ending};

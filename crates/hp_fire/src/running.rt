@@ -1,6 +1,9 @@
 //! Statements, signals, groups and firings. They call one another here and nowhere else.
 
-ghost use Rattle.std.specs.Prelude.{◌≡◌, ◌+◌, IfOk, map, length};
+ghost use Rattle.std.specs.Prelude.{◌≡◌, ◌+◌, ◌^◌, ◌<◌, ◌≤◌, None, IfOk, OnOk, IfSome, All, map, length};
+ghost use Rattle.std.specs.Thread.{IsSync};
+ghost use Rattle.hp_model.specs.Cells.{Holds};
+ghost use Rattle.hp_model.specs.Soundness.{IsSound};
 ghost use Rattle.hp_model.specs.Transactions.{for_each};
 ghost use Rattle.hp_model.specs.Firing as model;
 ghost use Rattle.hp_model.specs.Firing.{level_at, siblings, fire_task, signal_in, with_row};
@@ -9,9 +12,14 @@ ghost use Rattle.hp_value.specs.Mapped.{keyed_row, primitive};
 ghost use Rattle.hp_value.specs.Mapped as mapped;
 ghost use Rattle.hp_rule.specs.Mapped.{body_in, library, statement as statement_of, task as task_of};
 ghost use Rattle.hp_tree.specs.Mapped.{what as what_of};
+ghost use Rattle.hp_store.specs.Stack.{cells_in};
 ghost use Rattle.hp_view.specs.Seeing.{Seeing};
-ghost use Rattle.hp_attempt.specs.Mapped.{firing as firing_of};
+ghost use Rattle.hp_board.specs.Deal.{IsSeatOf};
+ghost use Rattle.hp_board.specs.Passes.{IsPassOf};
+ghost use Rattle.hp_attempt.specs.Fronts.{AreSound};
+ghost use Rattle.hp_attempt.specs.Mapped.{firing as firing_of, attempt as attempt_of};
 ghost use Rattle.hp_fire.specs.Mapped.{context as context_in, course as course_in, group as group_in};
+ghost use Rattle.hp_fire.specs.Groups.{IsSoFar, IsCounted, IsRetried, AreSoundTries, IsWave};
 ghost use Rattle.hp_fire.specs.Runs.{Runs, RunsFiring, RunsGroup, Steps, Made, SubRuns, AreReady};
 
 use crate::closing::{close_action, close_sub};
@@ -24,14 +32,21 @@ use crate::operations::{
     signalled, updated,
 };
 use crate::placing::{Placed, group_course, one_task, place_tasks};
+use crate::progress::{Progress, Tried, place};
 use crate::settling::{settled, vetoed};
-use hp_attempt::Outcome;
+use crate::wave::{Wave, keep, kept_layer, post_attempt, post_layer, start_of};
+use hp_attempt::{Attempt, Outcome};
+use hp_board::{Board, Pass, Seat};
 use hp_ops::{fire, trigger};
 use hp_rule::{Stmt, Task};
+use hp_store::{Layer, Snapshot};
 use hp_tree::What;
 use hp_value::{Answer, Cause, Halt, KeyedRow, Prim};
 use hp_view::View;
 use std::alloc::{AllocError, Global};
+use std::collections::VecDeque;
+use std::sync::Arc;
+use std::thread;
 use std::thread::Threads;
 
 /// Runs the statements of a body in order, up to the first that isn't done.
@@ -258,7 +273,7 @@ fn start<R: Threads + Sync, G: Gate + Sync>(
     Ok(course)
 }
 
-/// Fires the tasks of a group as siblings, in their order.
+/// Fires the tasks of a group as siblings. Where there are several tasks and threads, workers try them ahead of their turn.
 #[cycle(fire)]
 pub(crate) fn group<R: Threads + Sync, G: Gate + Sync>(
     site: &Site<'_, R, G>,
@@ -269,30 +284,278 @@ pub(crate) fn group<R: Threads + Sync, G: Gate + Sync>(
 ) -> Result<GroupOutcome, AllocError>
     ensures runs { IfOk result (λ g. RunsGroup (library site.now.lib.now) (siblings (fire_task (library site.now.lib.now)) stop_at_veto (map task_of tasks.now)) view.old view.new (group_in g)) }
     ensures counted { IfOk result (λ g. g.accepted + g.reran ≡ length g.outcomes.items) }
+    ensures waves { IfOk result (λ g. g.waves ≤ g.reran + 1) }
+    ensures alone { site.now.width < 2 → IfOk result (λ g. g.waves ≡ 0) }
 {
+    if site.width < 2 || tasks.len() < 2 {
+        let outcome = one_by_one(site, alloc, view, tasks, stop_at_veto)?;
+        return Ok(outcome);
+    }
+    let mut progress = Progress::new(alloc, tasks.len())?;
+    while progress.goes_on(tasks.len()) {
+        advance(site, alloc, view, tasks, stop_at_veto, &mut progress)?;
+    }
+    Ok(progress.into_outcome())
+}
+
+/// Fires the tasks of a group in the owner's thread, in their order.
+#[cycle(fire)]
+fn one_by_one<R: Threads + Sync, G: Gate + Sync>(
+    site: &Site<'_, R, G>,
+    alloc: Global,
+    view: &mut View,
+    tasks: &[Task],
+    stop_at_veto: bool,
+) -> Result<GroupOutcome, AllocError>
+    ensures runs { IfOk result (λ g. RunsGroup (library site.now.lib.now) (siblings (fire_task (library site.now.lib.now)) stop_at_veto (map task_of tasks.now)) view.old view.new (group_in g)) }
+    ensures counted { IfOk result (λ g. g.accepted + g.reran ≡ length g.outcomes.items) }
+    ensures alone { IfOk result (λ g. g.waves ≡ 0) }
+{
+    let inside = Site {
+        told: false,
+        ..*site
+    };
     let mut outcomes = Vec::new(alloc);
     for task in tasks {
-        let outcome = firing(site, alloc, view, task)?;
+        let outcome = firing(&inside, alloc, view, task)?;
         let end = outcome.end;
         outcomes.push(outcome)?;
         if stop_at_veto && end.is_some() {
-            let reran = outcomes.len();
-            return Ok(GroupOutcome {
-                outcomes,
-                end,
-                accepted: 0,
-                reran,
-                waves: 0,
-            });
+            return Ok(GroupOutcome::of_owner(outcomes, end));
         }
     }
-    let reran = outcomes.len();
-    Ok(GroupOutcome {
-        outcomes,
-        end: None,
-        accepted: 0,
-        reran,
-        waves: 0,
+    Ok(GroupOutcome::of_owner(outcomes, None))
+}
+
+/// Settles one task at least: from its attempt in a wave, where one is due, or else by a run in the owner's thread. Then
+/// comes the longest front of the attempts after it.
+#[cycle(fire)]
+fn advance<R: Threads + Sync, G: Gate + Sync>(
+    site: &Site<'_, R, G>,
+    alloc: Global,
+    view: &mut View,
+    tasks: &[Task],
+    stop_at_veto: bool,
+    progress: &mut Progress,
+) -> Result<(), AllocError>
+    requires going { (progress.old.end ≡ None) × (length progress.old.outcomes.items < length tasks.now) }
+    requires counted { IsCounted progress.old }
+    requires sound { AreSound (library site.now.lib.now) progress.old.attempts.items }
+    ensures more { OnOk result (length progress.old.outcomes.items < length progress.new.outcomes.items) }
+    ensures counted { OnOk result (IsCounted progress.new) }
+    ensures sound { OnOk result (AreSound (library site.now.lib.now) progress.new.attempts.items) }
+    ensures so_far { OnOk result ((first : Seeing)
+        → IsSoFar (library site.now.lib.now) stop_at_veto (map task_of tasks.now) first view.old progress.old.outcomes.items progress.old.end
+        → IsSoFar (library site.now.lib.now) stop_at_veto (map task_of tasks.now) first view.new progress.new.outcomes.items progress.new.end) }
+{
+    let taken = settle_by_wave(site, alloc, view, tasks, stop_at_veto, progress)?;
+    if taken > 0 {
+        return Ok(());
+    }
+    let first = &tasks[progress.outcomes.len()];
+    let inside = Site {
+        told: false,
+        ..*site
+    };
+    let outcome = firing(&inside, alloc, view, first)?;
+    progress.add(outcome, stop_at_veto)?;
+    progress.settle(alloc, view, tasks, stop_at_veto)?;
+    Ok(())
+}
+
+/// Has a wave run where one is due, and then takes in the longest front of the attempts. It tells how many they were.
+#[cycle(fire)]
+fn settle_by_wave<R: Threads + Sync, G: Gate + Sync>(
+    site: &Site<'_, R, G>,
+    alloc: Global,
+    view: &mut View,
+    tasks: &[Task],
+    stop_at_veto: bool,
+    progress: &mut Progress,
+) -> Result<usize, AllocError>
+    requires going { (progress.old.end ≡ None) × (length progress.old.outcomes.items < length tasks.now) }
+    requires counted { IsCounted progress.old }
+    requires sound { AreSound (library site.now.lib.now) progress.old.attempts.items }
+    ensures taken { IfOk result (λ taken. length progress.new.outcomes.items ≡ length progress.old.outcomes.items + taken) }
+    ensures none { IfOk result (λ taken. taken ≡ 0 → progress.new.end ≡ None) }
+    ensures counted { IfOk result (λ taken. 0 < taken → IsCounted progress.new) }
+    ensures owes { OnOk result ((progress.new.accepted ≤ length progress.new.outcomes.items) × (progress.new.waves + progress.new.accepted ≤ length progress.new.outcomes.items + 2)) }
+    ensures sound { OnOk result (AreSound (library site.now.lib.now) progress.new.attempts.items) }
+    ensures so_far { OnOk result ((first : Seeing)
+        → IsSoFar (library site.now.lib.now) stop_at_veto (map task_of tasks.now) first view.old progress.old.outcomes.items progress.old.end
+        → IsSoFar (library site.now.lib.now) stop_at_veto (map task_of tasks.now) first view.new progress.new.outcomes.items progress.new.end) }
+{
+    if !progress.is_wave_due(view, site.width) {
+        return Ok(0);
+    }
+    wave(site, alloc, view, tasks, progress);
+    let taken = progress.settle(alloc, view, tasks, stop_at_veto)?;
+    Ok(taken)
+}
+
+/// Has workers try the tasks that are left. What they bring goes into the places of these tasks. Where memory runs out,
+/// places stay empty.
+#[cycle(fire)]
+fn wave<R: Threads + Sync, G: Gate + Sync>(
+    site: &Site<'_, R, G>,
+    alloc: Global,
+    view: &View,
+    tasks: &[Task],
+    progress: &mut Progress,
+)
+    requires left { length progress.old.outcomes.items < length tasks.now }
+    requires waves { progress.old.waves + 1 < 2 ^ 64 }
+    requires sound { AreSound (library site.now.lib.now) progress.old.attempts.items }
+    ensures same { progress.new ≡ record progress.old { attempts = progress.new.attempts; retried = progress.new.retried; waves = progress.old.waves + 1 } }
+    ensures sound { AreSound (library site.now.lib.now) progress.new.attempts.items }
+    ensures retried { 0 < progress.old.waves → IsRetried progress.new (length progress.old.outcomes.items) }
+{
+    progress.begin_wave(view);
+    let done = progress.outcomes.len();
+    let found = tries(site, alloc, view, tasks, done, &progress.attempts);
+    if let Ok(found) = found {
+        place(&mut progress.attempts, found);
+    }
+}
+
+/// The attempts of all workers of a wave over the tasks after the first `done`.
+#[cycle(fire)]
+fn tries<'x, R: Threads + Sync, G: Gate + Sync>(
+    site: &Site<'_, R, G>,
+    alloc: Global,
+    view: &View,
+    tasks: &'x [Task],
+    done: usize,
+    attempts: &'x VecDeque<Option<Attempt>>,
+) -> Result<Vec<Vec<Tried>>, AllocError>
+    requires { done < length tasks.now }
+    ensures { IfOk result (λ all. All (λ found. AreSoundTries (library site.now.lib.now) found.items) all.items) }
+{
+    let snapshot = view.freeze(alloc)?;
+    let left = tasks.len() - done;
+    let workers = site.width.clamp(1, 64).min(left);
+    let (board, seats) = Board::new(alloc, left, workers)?;
+    let wave = Wave {
+        tasks,
+        done,
+        attempts,
+        snapshot,
+        board,
+        told: site.told,
+    };
+    let wave = &wave;
+    let inside = Site {
+        width: (site.width / workers).max(1),
+        told: false,
+        ..*site
+    };
+    let inside = &inside;
+    let found = thread::map_vec(
+        site.rt,
+        seats,
+        &|seat| -> Vec<Tried>
+            requires { IsSync R.row × IsSync G.row × IsWave wave.now × IsSeatOf wave.now.board.deal seat }
+            ensures { AreSoundTries (library inside.entry.now.lib.now) result.items }
+        { work(inside, alloc, wave, seat) },
+    )?;
+    Ok(found)
+}
+
+/// One worker: it draws numbers until none is left, tries their tasks, and brings the attempts.
+#[cycle(fire)]
+fn work<R: Threads + Sync, G: Gate + Sync>(
+    site: &Site<'_, R, G>,
+    alloc: Global,
+    wave: &Wave<'_>,
+    mut seat: Seat,
+) -> Vec<Tried>
+    requires wave { IsWave wave.now }
+    requires seat { IsSeatOf wave.now.board.deal seat }
+    ensures { AreSoundTries (library site.now.lib.now) result.items }
+{
+    let mut found = Vec::new(alloc);
+    let Ok(mut pass) = wave.board.pass(alloc) else {
+        return found;
+    };
+    for _ in 0..wave.tasks.len() {
+        let (drawn, after) = wave.board.draw(seat);
+        seat = after;
+        let Some(number) = drawn else {
+            break;
+        };
+        let (attempt, after) = try_number(site, alloc, wave, number, pass);
+        pass = after;
+        keep(&mut found, number, attempt);
+    }
+    found
+}
+
+/// Tries the task of a number, and posts what it wrote. Of a task whose attempt is kept that attempt's layer is posted.
+#[cycle(fire)]
+fn try_number<R: Threads + Sync, G: Gate + Sync>(
+    site: &Site<'_, R, G>,
+    alloc: Global,
+    wave: &Wave<'_>,
+    number: usize,
+    pass: Pass<Arc<Layer>>,
+) -> (Option<Attempt>, Pass<Arc<Layer>>)
+    requires wave { IsWave wave.now }
+    requires number { number < length wave.now.board.cells }
+    requires pass { IsPassOf wave.now.board.cells pass }
+    ensures sound { IfSome result.0 (λ a. IsSound (library site.now.lib.now) (attempt_of a)) }
+    ensures pass { IsPassOf wave.now.board.cells result.1 }
+{
+    if let Some(layer) = kept_layer(wave, number) {
+        let (_, pass) = post_layer(alloc, wave, number, layer, pass);
+        return (None, pass);
+    }
+    let place = wave.done + number;
+    if wave.told {
+        site.gate.started(place);
+    }
+    let (start, pass) = start_of(alloc, wave, number, pass);
+    let tried = try_from(site, alloc, start, &wave.tasks[place]);
+    let (attempt, pass) = post_attempt(alloc, wave, number, tried, pass);
+    if wave.told {
+        site.gate.ended(place);
+    }
+    (attempt, pass)
+}
+
+/// Tries a task, if there is something to start from.
+#[cycle(fire)]
+fn try_from<R: Threads + Sync, G: Gate + Sync>(
+    site: &Site<'_, R, G>,
+    alloc: Global,
+    start: Result<Snapshot, AllocError>,
+    task: &Task,
+) -> Result<Attempt, AllocError>
+    ensures { IfOk result (λ a. IsSound (library site.now.lib.now) (attempt_of a)) }
+{
+    let attempt = attempted(site, alloc, start?, task)?;
+    Ok(attempt)
+}
+
+/// Tries a task on a snapshot.
+#[cycle(fire)]
+pub(crate) fn attempted<R: Threads + Sync, G: Gate + Sync>(
+    site: &Site<'_, R, G>,
+    alloc: Global,
+    snapshot: Snapshot,
+    task: &Task,
+) -> Result<Attempt, AllocError>
+    ensures sound { IfOk result (λ a. IsSound (library site.now.lib.now) (attempt_of a)) }
+    ensures so_it_was { IfOk result (λ a. Holds (cells_in snapshot) a.reads) }
+{
+    let copy = task.clone()?;
+    let mut view = View::new(alloc, snapshot)?;
+    let outcome = firing(site, alloc, &mut view, task)?;
+    let (reads, layer) = view.into_parts();
+    Ok(Attempt {
+        task: copy,
+        reads,
+        layer,
+        outcome,
     })
 }
 

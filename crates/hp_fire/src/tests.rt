@@ -1,5 +1,7 @@
 //! Statements, signals and groups over a small bank, with answers worked out by hand.
 
+mod waves;
+
 use crate::{
     Course, End, NoGate, detached_after, end_transaction, ending, group_course, run_body,
     run_firing, run_group, run_signal, run_task,
@@ -28,7 +30,7 @@ fn text(alloc: Global, s: &str) -> Result<String, AllocError> {
 }
 
 fn number(alloc: Global, n: i64) -> Result<Box<Expr>, AllocError> {
-    Ok(Box::new(alloc, Expr::Constant(Value::Int(n)))?)
+    Ok(Box::new(alloc, Expr::literal(Value::Int(n)))?)
 }
 
 fn fields(alloc: Global) -> Result<Arc<Vec<Field>>, AllocError> {

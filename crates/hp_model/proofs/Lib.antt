@@ -28,3 +28,8 @@ pub mod WellFormedParts
 pub mod WellFormedExpressions
 pub mod WellFormedStatements
 pub mod WellFormedScripts
+pub mod FitValues
+pub mod FitStates
+pub mod FitRows
+pub mod FitCourses
+pub mod FitUnits

@@ -28,5 +28,6 @@ pub mod Mentions
 pub mod Operations
 pub mod Checked
 pub mod Groups
+pub mod Ranges
 pub mod Sessions
 pub mod Laws

@@ -17,7 +17,11 @@ IsSerialRun library S (e ∷ es) now =
     (unit_report (transaction e.body) (run_unit library (transaction e.body) S) ≡ e.reply)
     × IsSerialRun library (run_unit library (transaction e.body) S).state es now
 
--- there is a fit state with the opening cells, and from each ordered one the history is a serial run
+-- a fit state has these cells
+abbrev pub HasFitState : Library → Cells → Type 0
+HasFitState library now = (S : State) × IsFit library S × (cells library S ≡ now)
+
+-- a fit state has the opening cells, and from each ordered one the history is a serial run
 pub record IsLegal (library : Library) (opening now : Cells) (history : List Entry) : Type 0 where
-  pub opened : (S : State) × IsFit library S × (cells library S ≡ opening)
+  pub opened : HasFitState library opening
   pub serial : (S : State) → IsOrdered library S → cells library S ≡ opening → IsSerialRun library S history now

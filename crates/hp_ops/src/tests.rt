@@ -191,7 +191,7 @@ fn assignments(alloc: Global, field: &str, number: bool) -> Result<Vec<Assignmen
     let mut pairs = Vec::new(alloc);
     pairs.push(Assignment {
         field: text(alloc, field)?,
-        value: Box::new(alloc, Expr::Constant(value))?,
+        value: Box::new(alloc, Expr::literal(value))?,
     })?;
     Ok(pairs)
 }
@@ -201,7 +201,7 @@ fn statements_give_rows_and_values(rt: HostRuntime) -> Result<(), Fail> {
     let alloc = rt.alloc();
     let library = library(alloc)?;
     let env = Env::new(None, &[]);
-    let key = Expr::Constant(Value::Int(9));
+    let key = Expr::literal(Value::Int(9));
     let pairs = assignments(alloc, "bal", true)?;
     let made = new_object(alloc, &library, 0, &env, &key, &pairs)?;
     assert_eq!(rt; (made.key, balance(&made.row)), (9, Some(4)));

@@ -17,7 +17,7 @@ fn text(alloc: Global, s: &str) -> Result<String, AllocError> {
 }
 
 fn number(alloc: Global, z: i64) -> Result<Box<Expr>, AllocError> {
-    Ok(Box::new(alloc, Expr::Constant(Value::Int(z)))?)
+    Ok(Box::new(alloc, Expr::literal(Value::Int(z)))?)
 }
 
 fn balance_of(alloc: Global, variable: &str) -> Result<Box<Expr>, AllocError> {

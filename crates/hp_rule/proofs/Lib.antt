@@ -2,3 +2,4 @@ pub mod Numbers
 pub mod Mentioned
 pub mod Bodies
 pub mod WellNamedLemmas
+pub mod Fitting

@@ -1,7 +1,7 @@
 -- What is checked is well named.
 use Rattle.std.proofs.Common.{◌≡◌, ℕ, zero, suc, nat_lt, Bool, true, false, not, cond, ◌&&◌, ◌||◌, List, [], ◌∷◌, ◌++◌, length, map, Ok, Err, refl, sym, ap, ◌∙◌, bytes_eq, subst, append_assoc, append-nil}
 use Rattle.std.specs.Prelude.{⊤, codes}
-use Rattle.std.specs.List.{list_all, list_any, IsDistinct}
+use Rattle.std.specs.List.{list_all, list_any, IsDistinct, AllByRecursion}
 use Rattle.std.specs.Cmp.{IsEquivalence, decided}
 use lib.Pointwise.{bytes_decides}
 use Rattle.std.proofs.lemmas.List.{map-append}
@@ -307,6 +307,31 @@ unfolding C.classes_check
 classes_distinct path classes is =
     each_distinct C.class_definition_check (λ (c : ClassDef). c.name) class_differs path [] 0 classes (then_passed _ (C.each_check C.class_definition_check path [] 0 classes) is) none_distinct
 
+field_differs : (before : List Field) (path : Path) (f : Field) → Passed (C.field_definition_check before path f) → C.is_known (C.field_names before) f.name ≡ false
+unfolding C.field_definition_check
+field_differs before path f is = allowed (C.is_known (C.field_names before) f.name) (item_at path 0) f.name is
+
+fields_distinct : (path : Path) (fields : List Field) → Passed (C.fields_check path fields) → IsDistinct bytes_eq (C.field_names fields)
+unfolding C.fields_check
+fields_distinct path fields is =
+    each_distinct C.field_definition_check (λ (f : Field). f.name) field_differs path [] 0 fields (then_passed _ (C.each_check C.field_definition_check path [] 0 fields) is) none_distinct
+
+class_fields_distinct : (before : List ClassDef) (path : Path) (c : ClassDef) → Passed (C.class_definition_check before path c) → IsDistinct bytes_eq (C.field_names c.fields)
+unfolding C.class_definition_check
+class_fields_distinct before path c is = fields_distinct (item_at path 1) c.fields (then_passed (C.new_name_check (C.class_names before) (item_at path 0) c.name) _ is)
+
+each_class_distinct : (path : Path) (before : List ClassDef) (i : ℕ) (classes : List ClassDef) → Passed (C.each_check C.class_definition_check path before i classes)
+    → AllByRecursion (λ (c : ClassDef). IsDistinct bytes_eq (C.field_names c.fields)) classes
+each_class_distinct path before i [] is = tt
+each_class_distinct path before i (c ∷ cs) is = (
+  class_fields_distinct before (item_at path i) c (first_passed (C.class_definition_check before (item_at path i) c) _ is),
+  each_class_distinct path (before ++ c ∷ []) (suc i) cs (then_passed (C.class_definition_check before (item_at path i) c) _ is),
+)
+
+classes_fields_distinct : (path : Path) (classes : List ClassDef) → Passed (C.classes_check path classes) → AllByRecursion (λ (c : ClassDef). IsDistinct bytes_eq (C.field_names c.fields)) classes
+unfolding C.classes_check
+classes_fields_distinct path classes is = each_class_distinct path [] 0 classes (then_passed _ (C.each_check C.class_definition_check path [] 0 classes) is)
+
 rule_differs : (before : List Rule) (path : Path) (r : Rule) → Passed (C.head_check before path r) → C.is_known (C.rule_names before) r.name ≡ false
 unfolding C.head_check
 rule_differs before path r is = allowed (C.is_known (C.rule_names before) r.name) (item_at path 0) r.name is
@@ -332,6 +357,13 @@ library_is_well_named library is =
       rules_know = each_passes (λ _. C.rule_check library.classes (length library.rules)) (λ r. W.knows_rule library.classes (length library.rules) r)
           (λ before path r. rule_knows library.classes (length library.rules) path r) (under_root (codes "rules")) [] 0 library.rules last;
     }
+
+-- no class of it has two fields of one name
+pub library_fields_differ : (library : Library) → Passed (C.library_check library) → AllByRecursion (λ (c : ClassDef). IsDistinct bytes_eq (C.field_names c.fields)) library.classes
+unfolding C.library_check
+library_fields_differ library is =
+    let classes = C.classes_check (under_root (codes "classes")) library.classes in
+    classes_fields_distinct (under_root (codes "classes")) library.classes (first_passed classes _ (then_passed (C.depth_check library.depth_limit) _ is))
 
 pub body_is_well_named : (library : Library) (path : Path) (b : Body) → Passed (C.script_body_check library path b) → W.IsWellNamedBody library b
 body_is_well_named library path b is = whole_body_knows (C.script_scope library) [] path b is

@@ -15,12 +15,12 @@ fn text(alloc: Global, s: &str) -> Result<String, AllocError> {
 }
 
 fn number(alloc: Global, z: i64) -> Result<Box<Expr>, AllocError> {
-    Ok(Box::new(alloc, Expr::Constant(Value::Int(z)))?)
+    Ok(Box::new(alloc, Expr::literal(Value::Int(z)))?)
 }
 
 // A truth value under so many `not`s.
 fn nested(alloc: Global, nots: usize) -> Result<Box<Expr>, AllocError> {
-    let mut expr = Box::new(alloc, Expr::Constant(Value::Bool(true)))?;
+    let mut expr = Box::new(alloc, Expr::literal(Value::Bool(true)))?;
     for _ in 0..nots {
         expr = Box::new(alloc, Expr::Not(expr))?;
     }
@@ -488,7 +488,7 @@ fn long_text(alloc: Global, length: usize) -> Result<Box<Faulty>, AllocError> {
     for _ in 0..length {
         long.push('x')?;
     }
-    emits(alloc, Box::new(alloc, Expr::Constant(Value::Text(long)))?)
+    emits(alloc, Box::new(alloc, Expr::literal(Value::Text(long)))?)
 }
 
 fn amounts(alloc: Global) -> Result<Vec<(Box<Faulty>, Wanted)>, AllocError> {

@@ -168,7 +168,7 @@ fn text_at(alloc: Global, text: &str) -> Result<Expr, DecodeError>
         return Err(DecodeError::Refused(Refusal::S5(Limit::Text)));
     }
     let text = String::from_str(alloc, text)?;
-    Ok(Expr::Constant(Constant::Text(text)))
+    Ok(Expr::literal(Constant::Text(text)))
 }
 
 #[tactic(auto, unfolding(hp_model::specs::ExpressionGrammar::field_of_at))]
@@ -283,8 +283,8 @@ fn expression_within(
     }
     let levels = levels - 1;
     match form {
-        ExpressionForm::Integer(integer) => Ok(Expr::Constant(Constant::Int(integer))),
-        ExpressionForm::Truth(truth) => Ok(Expr::Constant(Constant::Bool(truth))),
+        ExpressionForm::Integer(integer) => Ok(Expr::literal(Constant::Int(integer))),
+        ExpressionForm::Truth(truth) => Ok(Expr::literal(Constant::Bool(truth))),
         ExpressionForm::Text(text) => text_at(alloc, text),
         ExpressionForm::Arithmetic(operator, left, right) => {
             let (left, right) = operands_at(alloc, place, rows, levels, left, right)?;

@@ -2,7 +2,7 @@
 use Rattle.std.proofs.Common.{◌≡◌, refl, sym, ap, ◌∙◌, subst, ℕ, ◌+◌, ◌<◌, ◌≤◌, List, [], ◌∷◌, ◌++◌, Option, None, map, take, length, get_or, length-append, arith}
 use Rattle.std.proofs.lemmas.List.{map-append, take-map, take_more, length-map}
 use Rattle.hp_model.specs.Rules.{Library}
-use Rattle.hp_model.specs.State.{State, IsOrdered}
+use Rattle.hp_model.specs.State.{State, IsOrdered, initial_state}
 use Rattle.hp_model.specs.Cascade as model
 use Rattle.hp_model.specs.Cascade.{top, unit_work, due, time_of, run_unit, run_units, unit_report}
 use Rattle.hp_model.specs.Cells.{Cells, Cell, cells, over, Changes, Read, Holds}
@@ -12,6 +12,7 @@ use Rattle.hp_model.proofs.FaithfulTops.{faithful_unit}
 use Rattle.hp_model.proofs.Replayed.{unit_after, units_replayed}
 use Rattle.hp_model.proofs.Lawful.{lawful}
 use Rattle.hp_model.proofs.UnitRuns.{units_push, initial_cells, initial_ordered}
+use Rattle.hp_model.proofs.FitStates.{initial_fits}
 use Rattle.hp_rule.specs.declared.task.Task.{Task}
 use Rattle.hp_rule.specs.declared.unit.Unit.{Unit}
 use Rattle.hp_rule.specs.Mapped.{task, detached, unit}
@@ -120,4 +121,6 @@ units_are_replayed {library} {us} {before} {now} {reports} ran = record {
 
 -- the opening's cells
 pub opening_cells : (base : Cells) → ((q : Cell) → base q ≡ None) → IsOpening base
-opening_cells base empty = record { cells = λ library. λ i q. (initial_cells library q ∙ sym (empty q)) i; ordered = initial_ordered }
+opening_cells base empty =
+    let same : (library : Library) → cells library (initial_state library) ≡ base = λ library. λ i q. (initial_cells library q ∙ sym (empty q)) i in
+    record { cells = same; ordered = initial_ordered; fit = λ library. (initial_state library, initial_fits library, same library) }

@@ -3,3 +3,4 @@ pub mod Coursing
 pub mod Ended
 pub mod Cascading
 pub mod Attempted
+pub mod Keeping

@@ -1,16 +1,24 @@
 -- What runs of units on the committed store, and attempts at them, mean.
-use Rattle.std.specs.Prelude.{◌≡◌, ◌≤◌, List, [], ◌∷◌, ◌++◌, length, take, map, flat_map}
+use Rattle.std.specs.Prelude.{◌≡◌, ◌≤◌, pos, IsTrue, List, [], ◌∷◌, ◌++◌, length, take, map, flat_map, Ok}
+use Rattle.hp_model.specs.Values.{fits_64}
 use Rattle.hp_model.specs.Rules.{Library}
 use Rattle.hp_model.specs.State.{State, IsOrdered, initial_state}
-use Rattle.hp_model.specs.Cascade.{Unit, Generation, run_unit, UnitReport, unit_report, transaction_report, run_units}
+use Rattle.hp_model.specs.Cascade.{Unit, transaction, moment, Generation, run_unit, UnitReport, unit_report, transaction_report, run_units}
 use Rattle.hp_model.specs.Cells.{Cells, cells, Changes, over, Read, Holds}
 use Rattle.hp_model.specs.Soundness.{LeadsTo}
+use Rattle.hp_model.specs.Checked.{script_body_check}
+use Rattle.hp_model.specs.Sessions.{HasFitState}
 use Rattle.hp_model.specs.Laws.{replay_transactions, replay_units, AreLawful}
 
 -- an attempt at a unit is sound if it stands for the unit on every ordered state where its reads hold
 pub record IsSoundUnit (library : Library) (unit : Unit) (reads : List Read) (layer : Changes) (report : UnitReport) : Type 0 where
   pub from : (S : State) → IsOrdered library S → Holds (cells library S) reads
       → LeadsTo library (unit_report unit (run_unit library unit S)) (run_unit library unit S).state report (over (cells library S) layer)
+
+-- a unit of the library: a body that is well formed with it, or a moment of 64 bits
+abbrev pub IsUnitOf : Library → Unit → Type 0
+IsUnitOf library (transaction body) = script_body_check library [] body ≡ Ok tt
+IsUnitOf library (moment t) = IsTrue (fits_64 (pos t))
 
 -- the unit ran: from every ordered state that has the former cells it is reported so, and leaves an ordered state that has the
 -- later ones
@@ -45,7 +53,8 @@ pub record AreReplayed (library : Library) (units : List Unit) (before : Cells) 
   pub from : (S : State) → IsOrdered library S → cells library S ≡ before
       → (run_units library (take (length reports) units) S).state.objects ≡ replay_units S.objects reports
 
--- the cells are those of the initial state, whatever the library
+-- the cells are those of the initial state, which is fit, whatever the library
 pub record IsOpening (base : Cells) : Type 0 where
   pub cells : (library : Library) → cells library (initial_state library) ≡ base
   pub ordered : (library : Library) → IsOrdered library (initial_state library)
+  pub fit : (library : Library) → HasFitState library base

@@ -1,10 +1,12 @@
 //! Units one after the other on the committed store.
 
 ghost use Rattle.std.specs.Prelude.{◌≡◌, ◌<◌, IfOk, OnOk, OnErr, IsSome, None, length, map};
+ghost use Rattle.std.specs.List.{AllByRecursion};
+ghost use Rattle.hp_model.specs.Sessions.{HasFitState};
 ghost use Rattle.hp_rule.specs.Mapped.{library, unit as unit_of};
 ghost use Rattle.hp_store.specs.Stack.{cells_in};
 ghost use Rattle.hp_tree.specs.Mapped.{unit_report};
-ghost use Rattle.hp_top.specs.Units.{RanUnits, RanNext, AreReplayed, IsOpening};
+ghost use Rattle.hp_top.specs.Units.{RanUnits, RanNext, AreReplayed, IsOpening, IsUnitOf};
 
 use crate::unit::run_unit;
 use hp_rule::{Library, Unit};
@@ -46,6 +48,7 @@ pub fn run_items<R: Threads + Sync>(
 ) -> Items
     ensures ran { RanUnits (library lib.now) (map unit_of items.now) (cells_in store.old) (cells_in store.new) (map unit_report result.reports.items) }
     ensures replayed { AreReplayed (library lib.now) (map unit_of items.now) (cells_in store.old) (map unit_report result.reports.items) }
+    ensures fit { AllByRecursion (λ u. IsUnitOf (library lib.now) u) (map unit_of items.now) → HasFitState (library lib.now) (cells_in store.old) → HasFitState (library lib.now) (cells_in store.new) }
     ensures all { result.stopped ≡ None → length result.reports.items ≡ length items.now }
     ensures cut { IsSome result.stopped → length result.reports.items < length items.now }
 {

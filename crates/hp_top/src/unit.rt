@@ -3,12 +3,13 @@
 ghost use Rattle.std.specs.Prelude.{◌≡◌, IfOk, OnErr};
 ghost use Rattle.hp_model.specs.Cascade.{time_of};
 ghost use Rattle.hp_model.specs.Cells.{Holds};
+ghost use Rattle.hp_model.specs.Sessions.{HasFitState};
 ghost use Rattle.hp_rule.specs.Mapped.{library, unit as unit_of};
 ghost use Rattle.hp_store.specs.Changes.{changes};
 ghost use Rattle.hp_store.specs.Stack.{cells_in};
 ghost use Rattle.hp_tree.specs.Mapped.{unit_report};
 ghost use Rattle.hp_top.specs.Runs.{RunsUnit};
-ghost use Rattle.hp_top.specs.Units.{IsSoundUnit, RanUnit, IsReplayed, IsLawful};
+ghost use Rattle.hp_top.specs.Units.{IsSoundUnit, RanUnit, IsReplayed, IsLawful, IsUnitOf};
 
 use crate::generations::{cascade, due};
 use crate::top::run_top;
@@ -110,6 +111,7 @@ pub fn run_unit<R: Threads + Sync>(
     ensures ran { IfOk result (λ r. RanUnit (library lib.now) (unit_of unit.now) (cells_in store.old) (cells_in store.new) (unit_report r)) }
     ensures replayed { IfOk result (λ r. IsReplayed (library lib.now) (unit_of unit.now) (cells_in store.old) (unit_report r)) }
     ensures lawful { IfOk result (λ r. IsLawful (library lib.now) (unit_of unit.now) (cells_in store.old) (unit_report r)) }
+    ensures fit { IfOk result (λ r. IsUnitOf (library lib.now) (unit_of unit.now) → HasFitState (library lib.now) (cells_in store.old) → HasFitState (library lib.now) (cells_in store.new)) }
     ensures err { OnErr result (store.new ≡ store.old) }
 {
     let snapshot = store.snapshot()?;

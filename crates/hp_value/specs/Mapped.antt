@@ -106,7 +106,7 @@ comparison Greater = E.greater
 comparison AtLeast = E.at_least
 
 abbrev pub expression : Expr → E.Expression
-expression (Constant v) = E.constant (value v)
+expression (Constant c) = E.constant (value c.value)
 expression (Arithmetic' op p a q b) = E.arithmetic (arithmetic op) (expression a) (expression b)
 expression (Comparison' op p a q b) = E.compared (comparison op) (expression a) (expression b)
 expression (Negated' p a) = E.negated (expression a)

@@ -21,7 +21,7 @@ impl Expr {
         ensures { Meets value result (value_of (environment env.now) (expression self.now)) }
     {
         match self {
-            Expr::Constant(v) => Ok(v.clone()?),
+            Expr::Constant(constant) => Ok(constant.value().clone()?),
             Expr::Arithmetic(op, a, b) => {
                 let v = a.eval(alloc, env)?;
                 let w = b.eval(alloc, env)?;

@@ -1,5 +1,6 @@
 //! Expressions.
 
+use crate::constant::Constant;
 use crate::value::Value;
 
 /// The whole-number operators.
@@ -38,7 +39,7 @@ pub enum Comparison {
 #[derive(Debug, Drop)]
 pub enum Expr {
     /// A value as it is written.
-    Constant(Value),
+    Constant(Constant),
     /// An operator on two whole numbers.
     Arithmetic(Arithmetic, Box<Expr>, Box<Expr>),
     /// A comparison of two values.
@@ -96,4 +97,17 @@ pub enum Expr {
     },
     /// How many occurrences the occurrence stands for.
     Count,
+}
+
+impl Expr {
+    ghost use Rattle.std.specs.Prelude.{◌≡◌};
+    ghost use Rattle.hp_model.specs.Expressions.{constant};
+    ghost use Rattle.hp_value.specs.Mapped.{value as value_of, expression};
+
+    /// The expression that is a constant.
+    pub fn literal(value: Value) -> Expr
+        ensures { expression result ≡ constant (value_of value) }
+    {
+        Expr::Constant(Constant::new(value))
+    }
 }

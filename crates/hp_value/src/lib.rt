@@ -4,6 +4,7 @@
 #![tactic(auto)]
 
 mod cell;
+mod constant;
 mod env;
 mod eval;
 mod expr;
@@ -17,6 +18,7 @@ mod tests;
 mod value;
 
 pub use cell::Cell;
+pub use constant::Constant;
 pub use env::{Answer, Env, Names};
 pub use expr::{Arithmetic, Comparison, Expr};
 pub use halt::{Cause, Halt};

@@ -10,11 +10,11 @@ use std::sync::Arc;
 use std::test::Fail;
 
 fn int(z: i64) -> Expr {
-    Expr::Constant(Value::Int(z))
+    Expr::literal(Value::Int(z))
 }
 
 fn truth(b: bool) -> Expr {
-    Expr::Constant(Value::Bool(b))
+    Expr::literal(Value::Bool(b))
 }
 
 fn text(alloc: Global, s: &str) -> Result<Value, AllocError> {
@@ -374,7 +374,7 @@ fn memory_or_the_value(rt: HostRuntime) -> Result<(), Fail> {
         alloc,
         Comparison::Equal,
         name,
-        Expr::Constant(text(alloc, "bolt")?),
+        Expr::literal(text(alloc, "bolt")?),
     )?;
     let found = same.eval(alloc, &env);
     assert!(rt; found == Ok(Value::Bool(true)) || found == Err(Halt::Memory));

@@ -163,7 +163,7 @@ fn all_rows(alloc: Global) -> Result<Query, AllocError> {
     Ok(Query {
         name: String::from_str(alloc, "x")?,
         class: 0,
-        predicate: Box::new(alloc, Expr::Constant(Value::Bool(true)))?,
+        predicate: Box::new(alloc, Expr::literal(Value::Bool(true)))?,
     })
 }
 

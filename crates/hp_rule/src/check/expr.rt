@@ -69,7 +69,7 @@ fn check_levels(
     }
     let levels = levels - 1;
     match expr {
-        Expr::Constant(constant) => check_constant(constant),
+        Expr::Constant(constant) => check_constant(constant.value()),
         Expr::Arithmetic(_, a, b) | Expr::Comparison(_, a, b) | Expr::And(a, b) | Expr::Or(a, b) =>
             { check_operands(alloc, place, names, levels, a, b) }
         Expr::Negated(a) | Expr::Not(a) => check_levels(alloc, &place.item(1), names, levels, a),

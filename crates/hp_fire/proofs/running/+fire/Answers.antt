@@ -1,4 +1,4 @@
-use Rattle.std.proofs.Common.{rules, arith, ◌≡◌, refl, ap, sym, ◌∙◌, subst, [], ◌∷◌, map, length, true, false}
+use Rattle.std.proofs.Common.{rules, arith, ◌≡◌, refl, ap, sym, ◌∙◌, subst, ℕ, ◌<◌, ◌≤◌, [], ◌∷◌, None, drop, map, length, true, false}
 use Rattle.std.proofs.Common.{SFits, w64, of_z, to_z, Ok, Err}
 use Rattle.std.proofs.lemmas.Int.{to_z-of_z}
 use Rattle.std.proofs.lemmas.Result.{err_from_is_err_and}
@@ -28,10 +28,27 @@ use Rattle.hp_fire.specs.Mapped.{context, course, group}
 use Rattle.hp_fire.specs.Runs.{Runs, RunsGroup, Finding, SubRuns}
 use Rattle.hp_fire.proofs.Making.{steps_halt}
 use Rattle.hp_fire.proofs.Stating.{with_is, steps_at, runs_at, signal_halt, signal_steps, found_halt, fire_halt, fire_runs}
-use Rattle.hp_fire.proofs.Steps.{runs_answer, runs_ends, runs_value, found_value, runs_signal, sub_over, sub_then, body_each, loop_starts, loop_next, loop_stops, loop_ends, group_goes, group_stops, group_ends, goes_unvetoed, goes_past}
+use Rattle.hp_fire.proofs.Steps.{runs_answer, runs_ends, runs_value, found_value, runs_signal, sub_over, sub_then, body_each, loop_starts, loop_next, loop_stops, loop_ends, group_goes, group_stops, group_ends, goes_unvetoed, goes_past, group_starts}
 use Rattle.hp_fire.proofs.Starting.{signal_runs, start_none, start_runs, group_measure, none_long, map_none}
+use Rattle.hp_model.specs.Cells.{Holds}
+use Rattle.hp_store.specs.Changes.{changes}
+use Rattle.hp_store.specs.Stack.{Stack, cells_in}
+use Rattle.hp_fire.proofs.Attempting.{attempt_sound}
+use Rattle.hp_fire.specs.declared.course.GroupOutcome.{GroupOutcome}
+use Rattle.std.proofs.lemmas.List.{drop-map, length-map}
+use Rattle.hp_fire.specs.declared.progress.Progress.{Progress}
+use Rattle.hp_fire.specs.Groups.{IsSoFar, IsCounted}
+use denote.Param.{param}
+use denote.Param.Send.{IsSync, param_sync, sendable}
+use denote.Ref.{NamedLft}
+use mir.Syntax.{named}
+use Rattle.hp_fire.specs.contracts.context.Site as Site
+use Rattle.hp_fire.specs.contracts.wave.Wave as Wave
+use Rattle.std.proofs.Crossing as heap
+use Rattle.hp_fire.proofs.Sending.{tried_send, site_sync, wave_sync}
+use Rattle.hp_fire.proofs.Helping.{false_true, not_less, so_far_starts, so_far_ran, so_far_ends}
 use Rattle.hp_fire.proofs.running.+fire.Goals as goal
-use Rattle.hp_fire.proofs.running.+fire.Goals.{group-else-stop_at_veto-via-then-stop_at_veto+else-is_some, group-else-stop_at_veto-via-else-stop_at_veto}
+use Rattle.hp_fire.proofs.running.+fire.Goals.{one_by_one-else-stop_at_veto-via-then-stop_at_veto+else-is_some, one_by_one-else-stop_at_veto-via-else-stop_at_veto}
 
 -- ---- statements, one after another
 
@@ -85,23 +102,96 @@ each_row-returns g t c = loop_ends (ap (map keyed_row) (drop_of_length-le c.args
 
 -- ---- groups
 
-pub group-loop-task-preserved : goal.group-loop-task-preserved
-group-loop-task-preserved g t c =
+pub one_by_one-loop-task-preserved : goal.one_by_one-loop-task-preserved
+one_by_one-loop-task-preserved g t c =
     let after = ap (map firing) c.in_ok-push.ensures.items ∙ map-append firing c.loop-task.outcomes.items (c.in_ok-outcome.outcome ∷ []) in
     let here = ap (map task) (split_at c.args.tasks.now c.loop-task.task-index c.task-item.result c.loop-task-test.true c.task-item.is) in
     elim c.else-stop_at_veto.branch [
-      | group-else-stop_at_veto-via-then-stop_at_veto+else-is_some w ↦ group_goes (task c.task-item.result) _ here after (goes_unvetoed c.args.stop_at_veto c.in_ok-outcome.outcome.end (sym w.is_some.ensures ∙ w.if-is_some.false)) c.loop-task.invariant c.in_ok-outcome.ensures
-      | group-else-stop_at_veto-via-else-stop_at_veto w ↦ group_goes (task c.task-item.result) _ here after (goes_past c.args.stop_at_veto c.in_ok-outcome.outcome.end w.if-stop_at_veto.false) c.loop-task.invariant c.in_ok-outcome.ensures
+      | one_by_one-else-stop_at_veto-via-then-stop_at_veto+else-is_some w ↦ group_goes (task c.task-item.result) _ here after (goes_unvetoed c.args.stop_at_veto c.in_ok-outcome.outcome.end (sym w.is_some.ensures ∙ w.if-is_some.false)) c.loop-task.invariant c.in_ok-outcome.ensures
+      | one_by_one-else-stop_at_veto-via-else-stop_at_veto w ↦ group_goes (task c.task-item.result) _ here after (goes_past c.args.stop_at_veto c.in_ok-outcome.outcome.end w.if-stop_at_veto.false) c.loop-task.invariant c.in_ok-outcome.ensures
     ]
 
-pub group-returns-then-is_some-clause-runs : goal.group-returns-then-is_some-clause-runs
-group-returns-then-is_some-clause-runs g t c =
+pub one_by_one-loop-task-init : goal.one_by_one-loop-task-init
+one_by_one-loop-task-init g t c = group_starts c.args.view.now _ (ap (map firing) c.new-outcomes.ensures.items)
+
+pub one_by_one-returns-then-is_some-clause-runs : goal.one_by_one-returns-then-is_some-clause-runs
+one_by_one-returns-then-is_some-clause-runs g t c =
     let after = ap (map firing) c.in_ok-push.ensures.items ∙ map-append firing c.loop-task.outcomes.items (c.in_ok-outcome.outcome ∷ []) in
     let here = ap (map task) (split_at c.args.tasks.now c.loop-task.task-index c.task-item.result c.loop-task-test.true c.task-item.is) in
-    group_stops (task c.task-item.result) _ here after c.if-stop_at_veto.true (sym c.is_some.ensures ∙ c.if-is_some.true) c.loop-task.invariant c.in_ok-outcome.ensures
+    subst (λ (o : GroupOutcome). RunsGroup (library c.args.site.now.lib.now) (siblings (fire_task (library c.args.site.now.lib.now)) c.args.stop_at_veto (map task c.args.tasks.now)) c.args.view.now c.firing.new.view (group o)) (sym c.of_owner.ensures)
+    (group_stops (task c.task-item.result) _ here after c.if-stop_at_veto.true (sym c.is_some.ensures ∙ c.if-is_some.true) c.loop-task.invariant c.in_ok-outcome.ensures)
+
+pub one_by_one-returns-clause-runs : goal.one_by_one-returns-clause-runs
+one_by_one-returns-clause-runs g t c =
+    subst (λ (o : GroupOutcome). RunsGroup (library c.args.site.now.lib.now) (siblings (fire_task (library c.args.site.now.lib.now)) c.args.stop_at_veto (map task c.args.tasks.now)) c.args.view.now c.loop-task.view (group o)) (sym c.of_owner-2.ensures)
+    (group_ends (ap (map task) (drop_of_length-le c.args.tasks.now c.loop-task-test.false)) c.loop-task.invariant)
+
+pub group-loop-alloc-init : goal.group-loop-alloc-init
+group-loop-alloc-init g t c =
+    let b = c.in_ok-progress.ensures.begins in
+    let none : length c.in_ok-progress.progress.outcomes.items ≡ 0 = ap length b.0 in
+    let counted : IsCounted c.in_ok-progress.progress = (omega (arith, none, b.2), omega (arith, none, b.2, b.3)) in
+    (counted, c.in_ok-progress.ensures.sound (library c.args.site.now.lib.now), so_far_starts c.in_ok-progress.progress.outcomes.items c.in_ok-progress.progress.end b.0 b.1)
 
 pub group-returns-clause-runs : goal.group-returns-clause-runs
-group-returns-clause-runs g t c = group_ends (ap (map task) (drop_of_length-le c.args.tasks.now c.loop-task-test.false)) c.loop-task.invariant
+group-returns-clause-runs g t c =
+    subst (λ (o : GroupOutcome). RunsGroup (library c.args.site.now.lib.now) (siblings (fire_task (library c.args.site.now.lib.now)) c.args.stop_at_veto (map task c.args.tasks.now)) c.args.view.now c.loop-alloc.view (group o)) (sym c.into_outcome.ensures)
+    (so_far_ends c.loop-alloc.progress.outcomes.items c.loop-alloc.progress.end c.loop-alloc.invariant.2
+    (λ none. subst (λ n. n ≤ length c.loop-alloc.progress.outcomes.items) (sym (length-map c.args.tasks.now task))
+    (not_less (length c.loop-alloc.progress.outcomes.items) (length c.args.tasks.now) (λ less. false_true (sym c.loop-alloc-test.false ∙ c.goes_on.ensures.1 (none, less))))))
+
+pub advance-returns-then-taken-gt0-clause-sound : goal.advance-returns-then-taken-gt0-clause-sound
+advance-returns-then-taken-gt0-clause-sound g t c = c.in_ok-taken.ensures.sound
+
+pub advance-returns-clause-sound : goal.advance-returns-clause-sound
+advance-returns-clause-sound g t c = let lib = library c.args.site.now.lib.now in c.in_ok-settle.ensures.sound lib (c.in_ok-add.ensures.sound lib c.in_ok-taken.ensures.sound)
+
+pub advance-returns-clause-so_far : goal.advance-returns-clause-so_far
+advance-returns-clause-so_far g t c = λ first so_far.
+    let lib = library c.args.site.now.lib.now in
+    let zero : c.in_ok-taken.taken ≡ 0 = omega (arith, c.if-taken-gt0.false) in
+    let none : c.settle_by_wave.new.progress.end ≡ None = c.in_ok-taken.ensures.none zero in
+    let at : c.len.result ≡ length c.settle_by_wave.new.progress.outcomes.items = search rules in
+    let here = ap (λ n. drop n (map task c.args.tasks.now)) (sym at) ∙ drop-map task c.len.result c.args.tasks.now ∙ ap (map task) (split_at c.args.tasks.now c.len.result c.index-tasks-len.result (omega (arith, at, zero, c.in_ok-taken.ensures.taken, c.requires.going.1)) c.index-tasks-len.is) in
+    c.in_ok-settle.ensures.so_far lib first (c.in_ok-add.ensures.sound lib c.in_ok-taken.ensures.sound)
+    (so_far_ran c.settle_by_wave.new.progress.outcomes.items c.add.new.self.outcomes.items c.settle_by_wave.new.progress.end c.add.new.self.end (task c.index-tasks-len.result) _ c.in_ok-outcome.outcome none here
+    c.in_ok-add.ensures.outcomes c.in_ok-add.ensures.end (c.in_ok-taken.ensures.so_far first so_far) c.in_ok-outcome.ensures)
+
+pub settle_by_wave-returns-clause-so_far : goal.settle_by_wave-returns-clause-so_far
+settle_by_wave-returns-clause-so_far g t c = λ first so_far.
+    let lib = library c.args.site.now.lib.now in
+    c.in_ok-taken.ensures.so_far lib first c.wave.ensures.sound
+    (subst (λ (p : Progress). IsSoFar lib c.args.stop_at_veto (map task c.args.tasks.now) first c.args.view.now p.outcomes.items p.end) (sym c.wave.ensures.same) so_far)
+
+pub settle_by_wave-returns-clause-sound : goal.settle_by_wave-returns-clause-sound
+settle_by_wave-returns-clause-sound g t c = c.in_ok-taken.ensures.sound (library c.args.site.now.lib.now) c.wave.ensures.sound
+
+pub tries-map_vec-requires-send-X : goal.tries-map_vec-requires-send-X
+tries-map_vec-requires-send-X g t c = λ κs lives. search (tried_send, heap.crosses, sendable) depth 12
+
+pub tries-map_vec-requires-sync-F : goal.tries-map_vec-requires-sync-F
+tries-map_vec-requires-sync-F g t c = λ κs lives.
+    let r : IsSync g.row.R = search rules in
+    let s : IsSync g.row.G = search rules in
+    let site : (κ : NamedLft) → IsSync (Site.the_row κ (param 0 g.row.R) (param 1 g.row.G)) = λ κ. site_sync κ (param 0 g.row.R) (param 1 g.row.G) (param_sync 0 g.row.R r) (param_sync 1 g.row.G s) in
+    record { shared = λ x b o κ. ((((λ q. tt), (site (record { mir = named 8; lft = κs.1.1.1.1.1.1.1.1.0 })).shared x.0.now x.0.ref_ptr.0 x.0.ref_ptr.1 κs.1.1.1.1.1.1.1.0), (((λ q. tt), heap.sync.shared x.1.now x.1.ref_ptr.0 x.1.ref_ptr.1 κs.1.1.1.1.1.1.1.1.1.0), (((λ q. tt), (wave_sync (record { mir = named 11; lft = κs.1.1.1.1.1.1.1.1.1.1.1.0 })).shared x.2.now x.2.ref_ptr.0 x.2.ref_ptr.1 κs.1.1.1.1.1.1.1.1.1.1.0), tt))), λ q. tt) }
+
+pub wave-returns-in-Ok-clause-sound : goal.wave-returns-in-Ok-clause-sound
+wave-returns-in-Ok-clause-sound g t c = let lib = library c.args.site.now.lib.now in c.place.ensures lib (c.begin_wave.ensures.sound lib c.requires.sound) c.in-Ok.ensures
+
+pub wave-returns-in_default-clause-sound : goal.wave-returns-in_default-clause-sound
+wave-returns-in_default-clause-sound g t c = c.begin_wave.ensures.sound (library c.args.site.now.lib.now) c.requires.sound
+
+-- ---- attempts
+
+pub attempted-returns-clause-sound : goal.attempted-returns-clause-sound
+attempted-returns-clause-sound g t c =
+    attempt_sound (library c.args.site.now.lib.now) (task c.args.task.now) c.in_ok-view.view c.firing.new.view (firing c.in_ok-outcome.outcome) c.in_ok-view.ensures.writes c.in_ok-outcome.ensures
+    _ _ _ c.in_ok-copy.ensures.cases c.into_parts-reads.ensures.reads (ap changes c.into_parts-reads.ensures.layer)
+
+pub attempted-returns-clause-so_it_was : goal.attempted-returns-clause-so_it_was
+attempted-returns-clause-so_it_was g t c =
+    subst (λ (s : Stack). Holds (cells_in s) c.into_parts-reads.result.0) (c.in_ok-outcome.ensures.goes_on.base ∙ c.in_ok-view.ensures.base) c.into_parts-reads.ensures.so_it_was
 
 -- ---- operations and actions
 

@@ -5,6 +5,7 @@ use Rattle.hp_store.specs.Stack.{cells_in}
 use Rattle.hp_tree.specs.declared.report.UnitReport.{UnitReport}
 use Rattle.hp_tree.specs.Mapped.{unit_report}
 use Rattle.hp_top.proofs.Attempted.{RanSoFar, ran_none, ran_one, ran_units, stopped_after, units_are_replayed}
+use Rattle.hp_top.proofs.Keeping.{units_keep}
 use Rattle.hp_top.proofs.items.run_items.Goals as goal
 
 pub loop-unit-init : goal.loop-unit-init
@@ -22,6 +23,9 @@ returns-in-Err-clause-ran g c = stopped_after c.in-Err.ensures.err c.in-Err.ensu
 pub returns-in-Err-clause-replayed : goal.returns-in-Err-clause-replayed
 returns-in-Err-clause-replayed g c = units_are_replayed (returns-in-Err-clause-ran g c)
 
+pub returns-in-Err-clause-fit : goal.returns-in-Err-clause-fit
+returns-in-Err-clause-fit g c = units_keep c.args.lib.now c.args.items.now (returns-in-Err-clause-ran g c)
+
 pub returns-in-Err-clause-cut : goal.returns-in-Err-clause-cut
 returns-in-Err-clause-cut g c = λ some.
     let many = c.loop-unit.invariant.many in
@@ -32,3 +36,6 @@ returns-clause-ran g c = ran_units (omega arith) c.loop-unit.invariant
 
 pub returns-clause-replayed : goal.returns-clause-replayed
 returns-clause-replayed g c = units_are_replayed (returns-clause-ran g c)
+
+pub returns-clause-fit : goal.returns-clause-fit
+returns-clause-fit g c = units_keep c.args.lib.now c.args.items.now (returns-clause-ran g c)

@@ -1,0 +1,171 @@
+#!/usr/bin/env python3
+"""Measures firings per second, and prints the table of bench/README.md.
+
+    bench/bench.py PROGRAM [--times N] [--only WORD]
+
+PROGRAM is the built hipac (`./hipac` builds it and says where it lies). Each workload is a script of its own, made
+here; each is run N times (5), and the shortest time counts. Workloads (c) and (d) are also run as triggers by sqlite3
+over an in-memory database, in the same run.
+"""
+
+import argparse
+import json
+import os
+import subprocess
+import sys
+import tempfile
+import time
+
+WORKERS = (1, 2, 4)
+
+
+def script(classes, rules, items, depth=None):
+    whole = {"version": 1, "classes": classes, "rules": rules, "items": items}
+    if depth:
+        whole["depth"] = depth
+    return json.dumps(whole, separators=(",", ":"))
+
+
+ACCOUNT = ["acct", [["bal", "int"]]]
+
+
+def create(key, balance):
+    return ["create", "acct", key, [["bal", balance]]]
+
+
+def plus(key):
+    """Adds 1 to the balance of an account."""
+    update = ["update", "acct", key, [["bal", ["+", ["of", "x", "bal"], 1]]]]
+    return ["with", "x", "acct", key, [update]]
+
+
+def on_go(name, condition, action):
+    return [name, ["signal", "go"], "immediate", condition, "immediate", action]
+
+
+GO = ["signal", "go", []]
+
+
+def installs(rules):
+    return [["install", rule[0]] for rule in rules]
+
+
+def wide_scans(siblings=64, objects=400, rounds=12):
+    """Siblings that each scan a class of their own world and write one object of their own."""
+    classes = [ACCOUNT, ["seen", [["count", "int"]]]]
+    richest = [["rich", "acct", [">", ["*", ["of", "rich", "bal"], 3], ["-", 3 * objects, 9]]]]
+    rules = []
+    for n in range(siblings):
+        note = ["with", "s", "seen", n, [["update", "seen", n, [["count", ["+", ["of", "s", "count"], 1]]]]]]
+        rules.append(on_go(f"r{n}", richest, [note]))
+    begin = installs(rules) + [create(k, k) for k in range(objects)]
+    begin += [["create", "seen", n, [["count", 0]]] for n in range(siblings)]
+    items = [["tx", begin]] + [["tx", [GO]] for _ in range(rounds)]
+    return script(classes, rules, items), siblings * rounds
+
+
+def conflict(siblings=64, rounds=60):
+    """Siblings that all read and write one object."""
+    rules = [on_go(f"r{n}", [], [plus(1)]) for n in range(siblings)]
+    items = [["tx", installs(rules) + [create(1, 0)]]] + [["tx", [GO]] for _ in range(rounds)]
+    return script([ACCOUNT], rules, items), siblings * rounds
+
+
+def single_firings(updates=16000):
+    """A long list of updates, of which each triggers one rule that writes another object."""
+    rule = ["note", ["update", "acct"], "immediate", [], "immediate",
+            [["with", "s", "seen", 1, [["update", "seen", 1, [["sum", ["+", ["of", "s", "sum"], ["-", ["new", 0, "bal"], ["old", 0, "bal"]]]]]]]]]]
+    classes = [ACCOUNT, ["seen", [["sum", "int"]]]]
+    begin = installs([rule]) + [create(1, 0), ["create", "seen", 1, [["sum", 0]]]]
+    body = [["update", "acct", 1, [["bal", n]]] for n in range(updates)]
+    return script(classes, [rule], [["tx", begin], ["tx", body]]), updates
+
+
+def single_firings_sql(updates=16000):
+    lines = ["create table acct(id integer primary key, bal integer);",
+             "create table seen(id integer primary key, sum integer);",
+             "create trigger note after update on acct begin update seen set sum = sum + new.bal - old.bal where id = 1; end;",
+             "insert into acct values(1, 0);", "insert into seen values(1, 0);", "begin;"]
+    lines += [f"update acct set bal = {n} where id = 1;" for n in range(updates)]
+    lines += ["commit;", "select id, bal from acct;", "select id, sum from seen;"]
+    return "\n".join(lines) + "\n"
+
+
+def deep_chains(depth=15, chains=2000):
+    """Updates of which each sets off a chain of firings, one inside the other."""
+    rule = ["up", ["update", "acct"], "immediate", [], "immediate",
+            [["if", ["<", ["new", 0, "bal"], depth], [["update", "acct", 1, [["bal", ["+", ["new", 0, "bal"], 1]]]]], []]]]
+    body = [["update", "acct", 1, [["bal", 1]]] for _ in range(chains)]
+    items = [["tx", installs([rule]) + [create(1, 0)]], ["tx", body]]
+    return script([ACCOUNT], [rule], items, depth=16), depth * chains
+
+
+def deep_chains_sql(depth=15, chains=2000):
+    lines = ["pragma recursive_triggers = on;",
+             "create table acct(id integer primary key, bal integer);",
+             f"create trigger up after update on acct when new.bal < {depth} begin update acct set bal = new.bal + 1 where id = 1; end;",
+             "insert into acct values(1, 0);", "begin;"]
+    lines += ["update acct set bal = 1 where id = 1;" for _ in range(chains)]
+    lines += ["commit;", "select id, bal from acct;"]
+    return "\n".join(lines) + "\n"
+
+
+WORKLOADS = [
+    ("a", "64 disjoint siblings, each scanning 400 objects", wide_scans, None),
+    ("b", "64 siblings in full conflict", conflict, None),
+    ("c", "a long list of single firings", single_firings, single_firings_sql),
+    ("d", "chains of 15 firings, each inside the other", deep_chains, deep_chains_sql),
+]
+
+
+def shortest(command, text, times):
+    """The shortest wall time of the command over this input, and what it printed."""
+    best, out = None, None
+    for _ in range(times):
+        begun = time.perf_counter()
+        done = subprocess.run(command, input=text.encode(), stdout=subprocess.PIPE, check=False)
+        took = time.perf_counter() - begun
+        if done.returncode != 0:
+            sys.exit(f"{command}: status {done.returncode}: {done.stdout[:200]!r}")
+        best = took if best is None else min(best, took)
+        out = done.stdout
+    return best, out
+
+
+def main():
+    words = argparse.ArgumentParser(description=__doc__.splitlines()[0])
+    words.add_argument("program")
+    words.add_argument("--times", type=int, default=5)
+    words.add_argument("--only", default="")
+    words.add_argument("--keep", metavar="FOLDER", help="also writes the scripts there")
+    given = words.parse_args()
+    print("| Workload | Firings | " + " | ".join(f"{w} worker{'s' if w > 1 else ''}" for w in WORKERS) + " | sqlite3 |")
+    print("|---|---|" + "---|" * (len(WORKERS) + 1))
+    for letter, title, make, make_sql in WORKLOADS:
+        if given.only and letter not in given.only:
+            continue
+        text, firings = make()
+        if len(text) > 1 << 20:
+            sys.exit(f"({letter}) is {len(text)} bytes long")
+        if given.keep:
+            os.makedirs(given.keep, exist_ok=True)
+            with open(os.path.join(given.keep, f"{letter}.json"), "w") as file:
+                file.write(text)
+        cells, outputs = [], set()
+        for workers in WORKERS:
+            took, out = shortest([given.program, "--workers", str(workers)], text, given.times)
+            outputs.add(out)
+            cells.append(f"{took * 1000:.0f} ms, {firings / took:,.0f}/s")
+        if len(outputs) != 1:
+            sys.exit(f"({letter}): the reports differ")
+        if make_sql:
+            with tempfile.TemporaryDirectory() as folder:
+                took, _ = shortest(["sqlite3", "-batch", ":memory:"], make_sql(), given.times)
+            cells.append(f"{took * 1000:.0f} ms, {firings / took:,.0f}/s")
+        else:
+            cells.append("")
+        print(f"| ({letter}) {title} | {firings:,} | " + " | ".join(cells) + " |", flush=True)
+
+
+if __name__ == "__main__":
+    main()

@@ -1,0 +1,40 @@
+-- How far a group of firings has come that workers help with.
+use Rattle.std.specs.Prelude.{◌≡◌, ℕ, ◌+◌, ◌≤◌, Bool, true, List, Option, Some, None, All, map, drop, length}
+use Rattle.std.specs.List.{slice_index_or}
+use Rattle.hp_model.specs.Rules.{Library}
+use Rattle.hp_model.specs.Tree.{Task}
+use Rattle.hp_model.specs.Firing.{siblings, fire_task}
+use Rattle.hp_model.specs.Soundness.{IsSound}
+use Rattle.hp_model.specs.Answers.{FaithfulSiblings}
+use Rattle.hp_model.proofs.FaithfulFirings.{GroupCompletes}
+use Rattle.hp_view.specs.Seeing.{Seeing, GoesOn, written}
+use Rattle.hp_attempt.specs.declared.outcome.Outcome.{Outcome}
+use Rattle.hp_attempt.specs.Mapped.{firing, attempt}
+use Rattle.hp_fire.specs.declared.progress.Tried.{Tried}
+use Rattle.hp_fire.specs.declared.progress.Progress.{Progress}
+use Rattle.hp_fire.specs.declared.wave.Wave.{Wave}
+
+-- From one view to another the group has come so far: with the firings of the tasks that are left these are the whole's, or
+-- these are the whole's, which a veto stopped.
+pub record IsSoFar (library : Library) (stops : Bool) (tasks : List Task) (first now : Seeing) (outcomes : List Outcome) (end : Option ℕ) : Type 0 where
+  pub goes_on : GoesOn first now
+  pub goes : end ≡ None
+      → GroupCompletes library (fire_task library) stops tasks (written first) (drop (length outcomes) tasks) now.reads (written now) (map firing outcomes)
+  pub stopped : (r : ℕ) → end ≡ Some r
+      → FaithfulSiblings library (siblings (fire_task library) stops tasks) now.reads (written first) (written now) (record { firings = map firing outcomes; vetoed_by = Some r })
+
+-- what a worker brings is sound
+abbrev pub AreSoundTries : Library → List Tried → Type 0
+AreSoundTries library tries = All (λ t. IsSound library (attempt t.attempt)) tries
+
+-- the task of this number was tried anew after the first wave
+abbrev pub IsRetried : Progress → ℕ → Type 0
+IsRetried p number = slice_index_or p.retried.items number true ≡ true
+
+-- no more is accepted than is settled, and each wave but the first has led to a rerun
+abbrev pub IsCounted : Progress → Type 0
+IsCounted p = (p.accepted ≤ length p.outcomes.items) × (p.waves + p.accepted ≤ length p.outcomes.items + 1)
+
+-- the board has a number for each task that isn't settled
+abbrev pub IsWave : Wave → Type 0
+IsWave w = w.done + length w.board.cells ≡ length w.tasks.now

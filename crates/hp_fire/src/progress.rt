@@ -1,0 +1,288 @@
+//! How far a group has come that workers help with.
+
+ghost use Rattle.std.specs.Prelude.{◌≡◌, ◌+◌, ◌-◌, ◌^◌, ◌<◌, ◌≤◌, ◌↔◌, [], ◌∷◌, ◌++◌, None, Ok, true, IsTrue, IfOk, OnOk, All, length, drop, map};
+ghost use Rattle.std.specs.List.{slice_index_or};
+ghost use Rattle.hp_model.specs.Rules.{Library as ModelLibrary};
+ghost use Rattle.hp_rule.specs.Mapped.{task as task_of};
+ghost use Rattle.hp_view.specs.Seeing.{Seeing};
+ghost use Rattle.hp_attempt.specs.Fronts.{AreSound, stopped_by};
+ghost use Rattle.hp_fire.specs.Groups.{IsSoFar, AreSoundTries, IsRetried};
+
+use crate::course::GroupOutcome;
+use hp_attempt::{Attempt, Outcome, holds, settle_front};
+use hp_rule::Task;
+use hp_value::RuleNo;
+use hp_view::View;
+use std::alloc::{AllocError, Global};
+use std::collections::VecDeque;
+use std::mem;
+
+/// What a worker brings of one task.
+#[derive(Debug, Drop)]
+pub(crate) struct Tried {
+    /// The task's number in the wave.
+    pub(crate) number: usize,
+    /// The attempt at it.
+    pub(crate) attempt: Attempt,
+}
+
+/// How far a group has come: what of it is settled, and the attempts at what is left.
+#[derive(Debug, Drop)]
+pub(crate) struct Progress {
+    /// What the settled tasks gave, in order.
+    pub(crate) outcomes: Vec<Outcome>,
+    /// The rule whose veto stopped the group; none where no veto did.
+    pub(crate) end: Option<RuleNo>,
+    /// A place for each task that is left, in order: the attempt at it, where there is one.
+    pub(crate) attempts: VecDeque<Option<Attempt>>,
+    /// For each task of the group, whether it was tried anew after the first wave.
+    pub(crate) retried: Vec<bool>,
+    /// How many tasks were settled from their attempts of the first wave.
+    pub(crate) accepted: usize,
+    /// In how many waves workers ran.
+    pub(crate) waves: usize,
+}
+
+impl Progress {
+    /// A group of so many tasks, of which none is settled and none was tried.
+    ///
+    /// An error means that memory ran out.
+    pub(crate) fn new(alloc: Global, tasks: usize) -> Result<Progress, AllocError>
+        ensures begins { IfOk result (λ p. (p.outcomes.items ≡ []) × (p.end ≡ None) × (p.accepted ≡ 0) × (p.waves ≡ 0)) }
+        ensures sound { IfOk result (λ p. (library : ModelLibrary) → AreSound library p.attempts.items) }
+    {
+        let mut attempts = VecDeque::new(alloc);
+        let mut retried = Vec::with_capacity(alloc, tasks)?;
+        for _ in 0..tasks {
+            attempts.push_back(None)?;
+            retried.push(false)?;
+        }
+        Ok(Progress {
+            outcomes: Vec::new(alloc),
+            end: None,
+            attempts,
+            retried,
+            accepted: 0,
+            waves: 0,
+        })
+    }
+
+    /// Whether a task is left to settle, of so many.
+    pub(crate) fn goes_on(&self, tasks: usize) -> bool
+        ensures { IsTrue result ↔ ((self.now.end ≡ None) × (length self.now.outcomes.items < tasks)) }
+    {
+        self.end.is_none() && self.outcomes.len() < tasks
+    }
+
+    /// Whether workers are to try the tasks that are left: there are several workers, and several tasks without an
+    /// attempt that may stand for them in the view's cells.
+    pub(crate) fn is_wave_due(&self, view: &View, width: usize) -> bool {
+        if width < 2 {
+            return false;
+        }
+        let mut lacks_one = false;
+        for place in &self.attempts {
+            if may_stand(place, view) {
+                continue;
+            }
+            if lacks_one {
+                return true;
+            }
+            lacks_one = true;
+        }
+        false
+    }
+
+    /// Begins a wave. The first attempt, which doesn't stand, is dropped, and so are the others that don't stand in the
+    /// view's cells.
+    pub(crate) fn begin_wave(&mut self, view: &View)
+        requires { self.old.waves + 1 < 2 ^ 64 }
+        ensures same { self.new ≡ record self.old { attempts = self.new.attempts; retried = self.new.retried; waves = self.old.waves + 1 } }
+        ensures sound { (library : ModelLibrary) → AreSound library self.old.attempts.items → AreSound library self.new.attempts.items }
+        ensures retried { 0 < self.old.waves → IsRetried self.new (length self.old.outcomes.items) }
+    {
+        drop_stale(&mut self.attempts, view);
+        if self.waves > 0 {
+            self.mark_retried();
+        }
+        self.waves += 1;
+    }
+
+    // Marks the tasks that this wave tries anew. The first one left is among them.
+    fn mark_retried(&mut self)
+        ensures same { self.new ≡ record self.old { retried = self.new.retried } }
+        ensures retried { IsRetried self.new (length self.old.outcomes.items) }
+    {
+        let done = self.outcomes.len();
+        for number in 0..self.attempts.len() {
+            if self.attempts[number].is_none() {
+                mark(&mut self.retried, done + number);
+            }
+        }
+        mark(&mut self.retried, done);
+    }
+
+    /// Takes in the longest front of the attempts, and tells how many they were.
+    ///
+    /// An error means that memory ran out.
+    pub(crate) fn settle(
+        &mut self,
+        alloc: Global,
+        view: &mut View,
+        tasks: &[Task],
+        stop_at_veto: bool,
+    ) -> Result<usize, AllocError>
+        requires { self.old.accepted ≤ length self.old.outcomes.items }
+        ensures taken { IfOk result (λ taken. length self.new.outcomes.items ≡ length self.old.outcomes.items + taken) }
+        ensures none { IfOk result (λ taken. taken ≡ 0 → self.old.end ≡ None → self.new.end ≡ None) }
+        ensures waves { OnOk result (self.new.waves ≡ self.old.waves) }
+        ensures accepted { IfOk result (λ taken. self.new.accepted ≤ self.old.accepted + taken) }
+        ensures retried { IfOk result (λ taken. 0 < taken → IsRetried self.old (length self.old.outcomes.items) → self.new.accepted < self.old.accepted + taken) }
+        ensures sound { OnOk result ((library : ModelLibrary) → AreSound library self.old.attempts.items → AreSound library self.new.attempts.items) }
+        ensures so_far { OnOk result ((library : ModelLibrary) (first : Seeing) → AreSound library self.old.attempts.items
+            → IsSoFar library stop_at_veto (map task_of tasks.now) first view.old self.old.outcomes.items self.old.end
+            → IsSoFar library stop_at_veto (map task_of tasks.now) first view.new self.new.outcomes.items self.new.end) }
+    {
+        if self.end.is_some() {
+            return Ok(0);
+        }
+        let done = self.outcomes.len();
+        let attempts = mem::replace(&mut self.attempts, VecDeque::new(alloc));
+        let left = left_of(tasks, done);
+        let (mut front, rest) = settle_front(alloc, view, left, attempts, stop_at_veto)?;
+        let taken = front.len();
+        self.attempts = rest;
+        self.accepted += of_first_wave(&self.retried, done, taken);
+        self.end = veto_of(&front, stop_at_veto);
+        self.outcomes.append(&mut front)?;
+        Ok(taken)
+    }
+
+    /// Adds the firing of the first task that is left, which the owner ran.
+    ///
+    /// An error means that memory ran out.
+    pub(crate) fn add(&mut self, outcome: Outcome, stop_at_veto: bool) -> Result<(), AllocError>
+        ensures outcomes { OnOk result (self.new.outcomes.items ≡ self.old.outcomes.items ++ outcome ∷ []) }
+        ensures end { OnOk result (self.new.end ≡ stopped_by stop_at_veto (outcome ∷ [])) }
+        ensures same { OnOk result ((self.new.accepted ≡ self.old.accepted) × (self.new.waves ≡ self.old.waves)) }
+        ensures sound { OnOk result ((library : ModelLibrary) → AreSound library self.old.attempts.items → AreSound library self.new.attempts.items) }
+    {
+        drop(self.attempts.pop_front());
+        self.end = if stop_at_veto { outcome.end } else { None };
+        self.outcomes.push(outcome)?;
+        Ok(())
+    }
+
+    /// What the group gives.
+    pub(crate) fn into_outcome(self) -> GroupOutcome
+        requires { self.accepted ≤ length self.outcomes.items }
+        ensures { result ≡ record { outcomes = self.outcomes; end = self.end; accepted = self.accepted; reran = length self.outcomes.items - self.accepted; waves = self.waves } }
+    {
+        let Progress {
+            outcomes,
+            end,
+            attempts: _,
+            retried: _,
+            accepted,
+            waves,
+        } = self;
+        let reran = outcomes.len() - accepted;
+        GroupOutcome {
+            outcomes,
+            end,
+            accepted,
+            reran,
+            waves,
+        }
+    }
+}
+
+// Whether there is an attempt, and what it read is so in the view's cells.
+fn may_stand(place: &Option<Attempt>, view: &View) -> bool {
+    match place {
+        Some(attempt) => holds(&attempt.reads, view),
+        None => false,
+    }
+}
+
+/// Puts what the workers of a wave have brought into the places of the tasks.
+pub(crate) fn place(attempts: &mut VecDeque<Option<Attempt>>, found: Vec<Vec<Tried>>)
+    ensures { (library : ModelLibrary) → AreSound library attempts.old.items → All (λ tries. AreSoundTries library tries.items) found.items → AreSound library attempts.new.items }
+{
+    for tries in found {
+        place_each(attempts, tries);
+    }
+}
+
+fn place_each(attempts: &mut VecDeque<Option<Attempt>>, tries: Vec<Tried>)
+    ensures { (library : ModelLibrary) → AreSound library attempts.old.items → AreSoundTries library tries.items → AreSound library attempts.new.items }
+{
+    for tried in tries {
+        let Tried { number, attempt } = tried;
+        if number < attempts.len() {
+            attempts[number] = Some(attempt);
+        }
+    }
+}
+
+// Drops the first attempt, and those that don't stand.
+fn drop_stale(attempts: &mut VecDeque<Option<Attempt>>, view: &View)
+    ensures { (library : ModelLibrary) → AreSound library attempts.old.items → AreSound library attempts.new.items }
+{
+    for number in 0..attempts.len() {
+        if number == 0 || !may_stand(&attempts[number], view) {
+            attempts[number] = None;
+        }
+    }
+}
+
+// A task was tried anew.
+fn mark(retried: &mut Vec<bool>, number: usize)
+    ensures { slice_index_or retried.new.items number true ≡ true }
+{
+    if let Some(place) = retried.get_mut(number) {
+        *place = true;
+    }
+}
+
+// How many of so many tasks from a number on have their attempts from the first wave.
+fn of_first_wave(retried: &[bool], from: usize, count: usize) -> usize
+    requires { from + count < 2 ^ 64 }
+    ensures most { result ≤ count }
+    ensures retried { 0 < count → slice_index_or retried.now from true ≡ true → result < count }
+{
+    let mut first = 0usize;
+    for number in 0..count {
+        if !was_retried(retried, from + number) {
+            first += 1;
+        }
+    }
+    first
+}
+
+// Whether a task was tried anew.
+fn was_retried(retried: &[bool], number: usize) -> bool
+    ensures { result ≡ slice_index_or retried.now number true }
+{
+    match retried.get(number) {
+        Some(retried) => *retried,
+        None => true,
+    }
+}
+
+// The tasks after so many.
+fn left_of(tasks: &[Task], done: usize) -> &[Task]
+    ensures { result.now ≡ drop done tasks.now }
+{
+    &tasks[done.min(tasks.len())..]
+}
+
+// The veto at which the firings stopped, where they stop at one.
+fn veto_of(front: &[Outcome], stop_at_veto: bool) -> Option<RuleNo>
+    ensures { result ≡ stopped_by stop_at_veto front.now }
+{
+    if !stop_at_veto {
+        return None;
+    }
+    front.last()?.end
+}

@@ -1,0 +1,339 @@
+//! Groups that workers help with. A gate holds one worker until another has come as far as the test wants, for a million
+//! turns at most.
+
+use super::{account, alone, balance_in, fields, make, number, on_go, shown, task, text};
+use crate::{Gate, GroupOutcome, NoGate, run_group};
+use hp_ops::create;
+use hp_rule::{Assignment, CheckError, Library, Rule, Stmt, Task};
+use hp_store::Snapshot;
+use hp_value::{Arithmetic, ClassDef, Coupling, Expr, Halt, Key, RuleNo};
+use hp_view::View;
+use std::alloc::{AllocError, Global};
+use std::process::Abort;
+use std::sync::atomic::AtomicU64;
+use std::sync::atomic::Ordering::SeqCst;
+use std::test::Fail;
+use std::thread;
+use std::thread::Threads;
+
+const TURNS: u32 = 1_000_000;
+
+// Whether a count comes to so many.
+fn comes_to(count: &AtomicU64, many: u64) -> bool {
+    for _ in 0..TURNS {
+        if count.load(SeqCst) >= many {
+            return true;
+        }
+        thread::yield_now();
+    }
+    false
+}
+
+// Whom a gate waits for.
+#[derive(Clone, Copy, PartialEq, Eq)]
+enum Awaited {
+    Start(usize),
+    End(usize),
+}
+
+// Holds the start of one task until the awaited.
+#[derive(Drop)]
+struct Hold {
+    held: usize,
+    until: Awaited,
+    come: AtomicU64,
+    late: AtomicU64,
+}
+
+impl Hold {
+    fn of(held: usize, until: Awaited) -> Hold {
+        Hold {
+            held,
+            until,
+            come: AtomicU64::new(0),
+            late: AtomicU64::new(0),
+        }
+    }
+
+    fn was_late(&self) -> bool {
+        self.late.load(SeqCst) != 0
+    }
+
+    fn comes(&self, what: Awaited) {
+        if what == self.until {
+            self.come.store(1, SeqCst);
+        }
+    }
+}
+
+impl Gate for Hold {
+    fn started(&self, place: usize) {
+        self.comes(Awaited::Start(place));
+        if place == self.held && !comes_to(&self.come, 1) {
+            self.late.store(1, SeqCst);
+        }
+    }
+
+    fn ended(&self, place: usize) {
+        self.comes(Awaited::End(place));
+    }
+}
+
+// An action that sets the balance of one account by that of another.
+#[derive(Clone, Copy)]
+struct Deed {
+    account: Key,
+    by: Key,
+    how: Arithmetic,
+    number: i64,
+}
+
+// Adds 1 to the balance of an account.
+fn plus(account: Key) -> Deed {
+    Deed {
+        account,
+        by: account,
+        how: Arithmetic::Plus,
+        number: 1,
+    }
+}
+
+// Doubles the balance of account 1.
+const DOUBLES: Deed = Deed {
+    account: 1,
+    by: 1,
+    how: Arithmetic::Times,
+    number: 2,
+};
+
+// Sets the balance of an account to that of account 1.
+fn copies_to(account: Key) -> Deed {
+    Deed {
+        account,
+        by: 1,
+        how: Arithmetic::Plus,
+        number: 0,
+    }
+}
+
+fn action(alloc: Global, deed: Deed) -> Result<Vec<Stmt>, AllocError> {
+    let value = Expr::Arithmetic(
+        deed.how,
+        balance_in(alloc, "row")?,
+        number(alloc, deed.number)?,
+    );
+    let mut pairs = Vec::new(alloc);
+    pairs.push(Assignment {
+        field: text(alloc, "bal")?,
+        value: Box::new(alloc, value)?,
+    })?;
+    let update = Stmt::Update {
+        class: 0,
+        key: number(alloc, deed.account)?,
+        pairs,
+    };
+    let with = Stmt::With {
+        variable: text(alloc, "row")?,
+        class: 0,
+        key: number(alloc, deed.by)?,
+        body: alone(alloc, update)?,
+    };
+    alone(alloc, with)
+}
+
+// The names of the rules, in rule order.
+const NAMES: [&str; 4] = ["first", "second", "third", "fourth"];
+
+// One class of accounts, and a rule for each action.
+fn library(alloc: Global, actions: Vec<Vec<Stmt>>) -> Result<Library, CheckError> {
+    let mut classes = Vec::new(alloc);
+    classes.push(ClassDef {
+        name: text(alloc, "account")?,
+        fields: fields(alloc)?,
+    })?;
+    let mut rules: Vec<Rule> = Vec::new(alloc);
+    for action in actions {
+        let name = NAMES[rules.len() % NAMES.len()];
+        rules.push(on_go(alloc, name, Coupling::Immediate, action)?)?;
+    }
+    Library::check(alloc, classes, rules, 2)
+}
+
+fn of_deeds(alloc: Global, deeds: &[Deed]) -> Result<Library, CheckError> {
+    let mut actions = Vec::new(alloc);
+    for deed in deeds {
+        actions.push(action(alloc, *deed)?)?;
+    }
+    library(alloc, actions)
+}
+
+// Accounts with these keys and balances.
+fn bank(alloc: Global, accounts: &[(Key, i64)]) -> Result<View, Halt> {
+    let mut view = View::new(alloc, Snapshot::empty(alloc)?)?;
+    for (key, balance) in accounts {
+        let _ = create(alloc, &mut view, 0, *key, account(alloc, *balance)?)?;
+    }
+    Ok(view)
+}
+
+// The tasks of so many rules, in rule order.
+fn tasks(alloc: Global, count: RuleNo) -> Result<Vec<Task>, AllocError> {
+    let mut tasks = Vec::new(alloc);
+    for rule in 0..count {
+        tasks.push(task(alloc, rule, Coupling::Immediate)?)?;
+    }
+    Ok(tasks)
+}
+
+fn counts(group: &GroupOutcome) -> (usize, usize, usize) {
+    (group.accepted, group.reran, group.waves)
+}
+
+#[test]
+fn two_siblings_are_in_flight(rt: HostRuntime) -> Result<(), Fail> {
+    let alloc = rt.alloc();
+    let lib = of_deeds(alloc, &[plus(1), plus(2), plus(3), plus(4)])?;
+    let mut view = bank(alloc, &[(1, 0), (2, 0), (3, 0), (4, 0)])?;
+    let gate = Hold::of(0, Awaited::Start(1));
+    let tasks = tasks(alloc, 4)?;
+    let group = run_group(&rt, alloc, &lib, &mut view, &tasks, true, 2, &gate)?;
+    assert!(rt; !gate.was_late());
+    assert_eq!(rt; counts(&group), (4, 0, 1));
+    for key in [1, 2, 3, 4] {
+        assert_eq!(rt; shown(&view, key), Some(1));
+    }
+    Ok(())
+}
+
+// Fires two tasks, of which the gate holds one until the other has ended.
+fn fired(
+    rt: &(impl Threads + Abort + Sync),
+    alloc: Global,
+    deeds: &[Deed],
+    held: usize,
+) -> Result<(i64, (usize, usize, usize)), Fail> {
+    let lib = of_deeds(alloc, deeds)?;
+    let mut view = bank(alloc, &[(1, 10), (2, 20)])?;
+    let gate = Hold::of(held, Awaited::End(1 - held % 2));
+    let tasks = tasks(alloc, 2)?;
+    let group = run_group(rt, alloc, &lib, &mut view, &tasks, true, 2, &gate)?;
+    assert!(rt; !gate.was_late());
+    Ok((shown(&view, 1).unwrap_or(0), counts(&group)))
+}
+
+#[test]
+fn an_elder_is_seen(rt: HostRuntime) -> Result<(), Fail> {
+    let alloc = rt.alloc();
+    // The younger starts from what the elder has posted.
+    assert_eq!(rt; fired(&rt, alloc, &[plus(1), DOUBLES], 1)?, (22, (2, 0, 1)));
+    // The younger has ended before the elder started: what it read is no longer so.
+    assert_eq!(rt; fired(&rt, alloc, &[plus(1), DOUBLES], 0)?, (22, (1, 1, 1)));
+    // The same where it reads nothing that the elder writes.
+    assert_eq!(rt; fired(&rt, alloc, &[plus(1), plus(2)], 0)?, (11, (2, 0, 1)));
+    Ok(())
+}
+
+#[test]
+fn disjoint_siblings_are_accepted(rt: HostRuntime) -> Result<(), Fail> {
+    let alloc = rt.alloc();
+    let lib = of_deeds(alloc, &[plus(1), plus(2)])?;
+    let mut view = bank(alloc, &[(1, 10), (2, 20)])?;
+    let tasks = tasks(alloc, 2)?;
+    let group = run_group(&rt, alloc, &lib, &mut view, &tasks, true, 8, &NoGate)?;
+    assert_eq!(rt; counts(&group), (2, 0, 1));
+    assert_eq!(rt; (shown(&view, 1), shown(&view, 2)), (Some(11), Some(21)));
+    Ok(())
+}
+
+// Two that make objects of one class don't collide: a creation doesn't read the class's keys.
+#[test]
+fn creations_do_not_collide(rt: HostRuntime) -> Result<(), Fail> {
+    let alloc = rt.alloc();
+    let mut actions = Vec::new(alloc);
+    for key in [1, 2] {
+        actions.push(alone(alloc, make(alloc, key, 5)?)?)?;
+    }
+    let lib = library(alloc, actions)?;
+    let mut view = bank(alloc, &[])?;
+    let tasks = tasks(alloc, 2)?;
+    let group = run_group(&rt, alloc, &lib, &mut view, &tasks, true, 2, &NoGate)?;
+    assert_eq!(rt; counts(&group), (2, 0, 1));
+    assert_eq!(rt; (shown(&view, 1), shown(&view, 2)), (Some(5), Some(5)));
+    Ok(())
+}
+
+// Holds task 0 until the two others have ended, and in the second wave task 1 until task 2 has started again.
+#[derive(Drop)]
+struct TwoReruns {
+    ends: AtomicU64,
+    starts_of_1: AtomicU64,
+    starts_of_2: AtomicU64,
+    late: AtomicU64,
+}
+
+impl TwoReruns {
+    fn hold(&self, count: &AtomicU64) {
+        if !comes_to(count, 2) {
+            self.late.store(1, SeqCst);
+        }
+    }
+}
+
+impl Gate for TwoReruns {
+    fn started(&self, place: usize) {
+        match place {
+            0 => self.hold(&self.ends),
+            1 => {
+                if self.starts_of_1.fetch_add(1, SeqCst) == 1 {
+                    self.hold(&self.starts_of_2);
+                }
+            }
+            _ => drop(self.starts_of_2.fetch_add(1, SeqCst)),
+        }
+    }
+
+    fn ended(&self, place: usize) {
+        if place > 0 {
+            let _ = self.ends.fetch_add(1, SeqCst);
+        }
+    }
+}
+
+#[test]
+fn two_reruns_are_in_flight(rt: HostRuntime) -> Result<(), Fail> {
+    let alloc = rt.alloc();
+    let lib = of_deeds(alloc, &[plus(1), copies_to(2), copies_to(3)])?;
+    let mut view = bank(alloc, &[(1, 10), (2, 0), (3, 0)])?;
+    let gate = TwoReruns {
+        ends: AtomicU64::new(0),
+        starts_of_1: AtomicU64::new(0),
+        starts_of_2: AtomicU64::new(0),
+        late: AtomicU64::new(0),
+    };
+    let tasks = tasks(alloc, 3)?;
+    let group = run_group(&rt, alloc, &lib, &mut view, &tasks, true, 3, &gate)?;
+    assert_eq!(rt; gate.late.load(SeqCst), 0);
+    assert_eq!(rt; counts(&group), (1, 2, 2));
+    for key in [1, 2, 3] {
+        assert_eq!(rt; shown(&view, key), Some(11));
+    }
+    Ok(())
+}
+
+// In full conflict each attempt but the first goes stale, whatever the threads do; the counts add up, and the balance is
+// that of one thread.
+#[test]
+fn siblings_in_conflict_give_the_same_at_any_width(rt: HostRuntime) -> Result<(), Fail> {
+    let alloc = rt.alloc();
+    let lib = of_deeds(alloc, &[plus(1), DOUBLES, plus(1), DOUBLES])?;
+    let tasks = tasks(alloc, 4)?;
+    for width in [1, 2, 3, 4, 64] {
+        let mut view = bank(alloc, &[(1, 10)])?;
+        let group = run_group(&rt, alloc, &lib, &mut view, &tasks, true, width, &NoGate)?;
+        assert_eq!(rt; shown(&view, 1), Some(46));
+        assert_eq!(rt; group.accepted + group.reran, 4);
+        assert!(rt; group.waves <= group.reran + 1);
+        assert_eq!(rt; group.waves == 0, width == 1);
+    }
+    Ok(())
+}

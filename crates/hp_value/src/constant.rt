@@ -1,0 +1,31 @@
+//! Constants of expressions.
+
+ghost use Rattle.std.specs.Prelude.{◌≡◌, true};
+ghost use Rattle.hp_model.specs.Values.{value_fits};
+ghost use Rattle.hp_value.specs.Rows.{value as value_of};
+
+use crate::value::Value;
+
+/// A value as it is written in an expression.
+#[derive(Debug, Drop)]
+pub struct Constant {
+    value: Value,
+    // A whole number is within its type's bounds.
+    pub ghost fits: { value_fits (value_of value) ≡ true },
+}
+
+impl Constant {
+    /// The constant of a value.
+    pub fn new(value: Value) -> Constant
+        ensures { value_of result.value ≡ value_of value }
+    {
+        Constant { value }
+    }
+
+    /// Its value.
+    pub fn value(&self) -> &Value
+        ensures { result.now ≡ self.now.value }
+    {
+        &self.value
+    }
+}
