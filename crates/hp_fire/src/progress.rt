@@ -41,7 +41,14 @@ pub(crate) struct Progress {
     pub(crate) accepted: usize,
     /// In how many waves workers ran.
     pub(crate) waves: usize,
+    /// How many tasks these waves were to try, a task counted for each of them.
+    pub(crate) tried: usize,
+    /// How many tasks were settled from attempts.
+    pub(crate) kept: usize,
 }
+
+// A wave pays where at least one in so many of its tasks is settled from its attempt.
+const PAYS: usize = 4;
 
 impl Progress {
     /// A group of so many tasks, of which none is settled and none was tried.
@@ -64,6 +71,8 @@ impl Progress {
             retried,
             accepted: 0,
             waves: 0,
+            tried: 0,
+            kept: 0,
         })
     }
 
@@ -74,10 +83,15 @@ impl Progress {
         self.end.is_none() && self.outcomes.len() < tasks
     }
 
+    // Whether the waves so far were worth their work. In a group in full conflict they aren't: each settles one task.
+    fn do_waves_pay(&self) -> bool {
+        self.tried <= self.kept.saturating_mul(PAYS)
+    }
+
     /// Whether workers are to try the tasks that are left: there are several workers, and several tasks without an
-    /// attempt that may stand for them in the view's cells.
+    /// attempt that may stand for them in the view's cells, and the waves before this one were worth their work.
     pub(crate) fn is_wave_due(&self, view: &View, width: usize) -> bool {
-        if width < 2 {
+        if width < 2 || !self.do_waves_pay() {
             return false;
         }
         let mut lacks_one = false;
@@ -97,7 +111,7 @@ impl Progress {
     /// view's cells.
     pub(crate) fn begin_wave(&mut self, view: &View)
         requires { self.old.waves + 1 < 2 ^ 64 }
-        ensures same { self.new ≡ record self.old { attempts = self.new.attempts; retried = self.new.retried; waves = self.old.waves + 1 } }
+        ensures same { self.new ≡ record self.old { attempts = self.new.attempts; retried = self.new.retried; waves = self.old.waves + 1; tried = self.new.tried } }
         ensures sound { (library : ModelLibrary) → AreSound library self.old.attempts.items → AreSound library self.new.attempts.items }
         ensures retried { 0 < self.old.waves → IsRetried self.new (length self.old.outcomes.items) }
     {
@@ -106,6 +120,7 @@ impl Progress {
             self.mark_retried();
         }
         self.waves += 1;
+        self.tried = self.tried.saturating_add(self.attempts.len());
     }
 
     // Marks the tasks that this wave tries anew. The first one left is among them.
@@ -153,6 +168,7 @@ impl Progress {
         let taken = front.len();
         self.attempts = rest;
         self.accepted += of_first_wave(&self.retried, done, taken);
+        self.kept = self.kept.saturating_add(taken);
         self.end = veto_of(&front, stop_at_veto);
         self.outcomes.append(&mut front)?;
         Ok(taken)
@@ -185,6 +201,8 @@ impl Progress {
             retried: _,
             accepted,
             waves,
+            tried: _,
+            kept: _,
         } = self;
         let reran = outcomes.len() - accepted;
         GroupOutcome {

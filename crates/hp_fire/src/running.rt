@@ -406,7 +406,7 @@ fn wave<R: Threads + Sync, G: Gate + Sync>(
     requires left { length progress.old.outcomes.items < length tasks.now }
     requires waves { progress.old.waves + 1 < 2 ^ 64 }
     requires sound { AreSound (library site.now.lib.now) progress.old.attempts.items }
-    ensures same { progress.new ≡ record progress.old { attempts = progress.new.attempts; retried = progress.new.retried; waves = progress.old.waves + 1 } }
+    ensures same { progress.new ≡ record progress.old { attempts = progress.new.attempts; retried = progress.new.retried; waves = progress.old.waves + 1; tried = progress.new.tried } }
     ensures sound { AreSound (library site.now.lib.now) progress.new.attempts.items }
     ensures retried { 0 < progress.old.waves → IsRetried progress.new (length progress.old.outcomes.items) }
 {

@@ -3,7 +3,6 @@ use Rattle.hp_model.specs.Soundness.{IsSound}
 use Rattle.hp_attempt.specs.declared.outcome.Attempt.{Attempt}
 use Rattle.hp_attempt.specs.Mapped.{attempt}
 use Rattle.hp_fire.specs.Groups.{AreSoundTries}
-use Rattle.hp_fire.proofs.Sending.{tried_send}
 use Rattle.hp_fire.proofs.Helping.{tries_more}
 use Rattle.hp_fire.proofs.wave.keep.Goals as goal
 
