@@ -5,6 +5,7 @@ ghost use Rattle.hp_rule.specs.Statements.{body_in};
 ghost use Rattle.hp_rule.specs.Libraries as libraries;
 ghost use Rattle.hp_model.specs.Checked.{script_body_check};
 
+use crate::check::context::Context;
 use crate::check::names::Names;
 use crate::check::place::Place;
 use crate::check::scope::Scope;
@@ -50,13 +51,13 @@ impl Library {
             in_action: false,
             queries: &[],
         };
-        check_whole_body(
+        let context = Context {
             alloc,
-            &Place::Root,
-            &scope,
-            &Names::Queries(&[]),
-            &statements,
-        )?;
+            place: Place::Root,
+            scope,
+            names: Names::Queries(&[]),
+        };
+        check_whole_body(&context, &statements)?;
         Ok(Body::of_checked(shared, statements)?)
     }
 }

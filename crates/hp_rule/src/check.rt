@@ -3,6 +3,7 @@
 //! Each check has the shape of its definition in `hp_model`, and passes or fails exactly as that does.
 
 pub(crate) mod classes;
+pub(crate) mod context;
 pub(crate) mod event;
 pub(crate) mod expr;
 pub(crate) mod name;

@@ -9,6 +9,7 @@ ghost use Rattle.hp_rule.specs.Faults.{Passes};
 ghost use Rattle.hp_rule.specs.Places.{steps};
 
 use crate::check::classes::check_classes;
+use crate::check::context::Context;
 use crate::check::event::check_event;
 use crate::check::expr::check_expr;
 use crate::check::name::{check_limit, check_number, check_unless};
@@ -126,8 +127,13 @@ fn check_rule(
         in_action: true,
         queries: &whole.condition,
     };
-    let names = Names::Queries(&whole.condition);
-    check_whole_body(alloc, &place.item(5), &scope, &names, &whole.action)
+    let context = Context {
+        alloc,
+        place: place.item(5),
+        scope,
+        names: Names::Queries(&whole.condition),
+    };
+    check_whole_body(&context, &whole.action)
 }
 
 fn check_rules(

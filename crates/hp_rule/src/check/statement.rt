@@ -1,8 +1,10 @@
 //! Statements and bodies.
 
 ghost use Rattle.std.specs.Prelude.{◌≡◌, map};
-ghost use Rattle.hp_value.specs.Mapped.{expression};
+ghost use Rattle.hp_value.specs.Mapped.{expression, field};
 ghost use Rattle.hp_rule.specs.Statements.{assignment, statement, body_in};
+ghost use Rattle.hp_model.specs.Refusals.{item_at};
+ghost use Rattle.hp_model.specs.Checked.{number_check, class_check, new_name_check, whole_expression_check, assignments_check};
 ghost use Rattle.hp_model.specs.Checked.{create_check, update_check, delete_check, arguments_check, signal_check, when_check, each_row_check, for_answer_check, with_object_check, subtransaction_check};
 ghost use Rattle.hp_model.specs.Checked.{is_veto, veto_check, statement_parts_check, statement_check, body_check, whole_body_check};
 ghost use Rattle.hp_rule.specs.Faults.{Passes};
@@ -10,103 +12,131 @@ ghost use Rattle.hp_rule.specs.Named.{names_in};
 ghost use Rattle.hp_rule.specs.Places.{steps};
 ghost use Rattle.hp_rule.specs.Scopes.{scope_of};
 
+use crate::check::context::Context;
 use crate::check::expr::check_expr;
 use crate::check::name::{check_limit, check_name, check_number, check_unless};
-use crate::check::names::{Names, is_query};
+use crate::check::names::is_query;
 use crate::check::pairs::check_pairs;
-use crate::check::place::{Place, beyond, misnamed, misshapen};
-use crate::check::scope::Scope;
+use crate::check::place::{beyond, misnamed, misshapen};
 use crate::fault::{CheckError, Limit};
 use crate::stmt::{Assignment, Stmt};
-use hp_value::{ClassNo, Expr};
-use std::alloc::Global;
+use hp_value::{ClassNo, Expr, Field, RuleNo};
 
 const MAX_ARGUMENTS: usize = 32;
 
 const MAX_LEVELS: usize = 16;
 
+/// A class that a part names.
+fn check_class(context: &Context<'_>, position: usize, class: ClassNo) -> Result<(), CheckError>
+    ensures { Passes result (class_check (scope_of context.now.scope) (item_at (steps context.now.place) position) class) }
+{
+    let classes = context.scope.classes.len();
+    check_number(context.alloc, &context.place.item(position), classes, class)
+}
+
+/// A rule that a part names.
+fn check_rule(context: &Context<'_>, position: usize, rule: RuleNo) -> Result<(), CheckError>
+    ensures { Passes result (number_check (scope_of context.now.scope).rules (item_at (steps context.now.place) position) rule) }
+{
+    let rules = context.scope.rules;
+    check_number(context.alloc, &context.place.item(position), rules, rule)
+}
+
+/// An expression that is a part.
+fn check_value(context: &Context<'_>, position: usize, expr: &Expr) -> Result<(), CheckError>
+    ensures { Passes result (whole_expression_check (names_in context.now.names) (item_at (steps context.now.place) position) (expression expr.now)) }
+{
+    check_expr(
+        context.alloc,
+        &context.place.item(position),
+        &context.names,
+        expr,
+    )
+}
+
+/// A name that no row has yet, first among the parts.
+fn check_variable(context: &Context<'_>, variable: &str) -> Result<(), CheckError>
+    ensures { Passes result (new_name_check (names_in context.now.names) (item_at (steps context.now.place) 1) variable.now) }
+{
+    let is_known = context.names.knows(variable);
+    check_unless(context.alloc, &context.place.item(1), variable, is_known)
+}
+
+/// What fields are set to, third among the parts.
+fn check_assignments(
+    context: &Context<'_>,
+    fields: &[Field],
+    pairs: &[Assignment],
+) -> Result<(), CheckError>
+    ensures { Passes result (assignments_check (map field fields.now) (names_in context.now.names) (item_at (steps context.now.place) 3) (map assignment pairs.now)) }
+{
+    check_pairs(
+        context.alloc,
+        &context.place.item(3),
+        fields,
+        &context.names,
+        pairs,
+    )
+}
+
 #[tactic(auto, unfolding(hp_model::specs::Checked::create_check))]
 fn check_create(
-    alloc: Global,
-    place: &Place<'_>,
-    scope: &Scope<'_>,
-    names: &Names<'_>,
+    context: &Context<'_>,
     class: ClassNo,
     key: &Expr,
     pairs: &[Assignment],
 ) -> Result<(), CheckError>
-    ensures { Passes result (create_check (scope_of scope.now) (names_in names.now) (steps place.now) class (expression key.now) (map assignment pairs.now)) }
+    ensures { Passes result (create_check (scope_of context.now.scope) (names_in context.now.names) (steps context.now.place) class (expression key.now) (map assignment pairs.now)) }
 {
-    check_number(alloc, &place.item(1), scope.classes.len(), class)?;
-    check_expr(alloc, &place.item(2), names, key)?;
-    let fields = scope.fields_of(class);
-    check_pairs(alloc, &place.item(3), fields, names, pairs)?;
+    check_class(context, 1, class)?;
+    check_value(context, 2, key)?;
+    let fields = context.scope.fields_of(class);
+    check_assignments(context, fields, pairs)?;
     if pairs.len() < fields.len() {
-        return Err(misnamed(alloc, &place.item(3)));
+        return Err(misnamed(context.alloc, &context.place.item(3)));
     }
     Ok(())
 }
 
 #[tactic(auto, unfolding(hp_model::specs::Checked::update_check))]
 fn check_update(
-    alloc: Global,
-    place: &Place<'_>,
-    scope: &Scope<'_>,
-    names: &Names<'_>,
+    context: &Context<'_>,
     class: ClassNo,
     key: &Expr,
     pairs: &[Assignment],
 ) -> Result<(), CheckError>
-    ensures { Passes result (update_check (scope_of scope.now) (names_in names.now) (steps place.now) class (expression key.now) (map assignment pairs.now)) }
+    ensures { Passes result (update_check (scope_of context.now.scope) (names_in context.now.names) (steps context.now.place) class (expression key.now) (map assignment pairs.now)) }
 {
-    check_number(alloc, &place.item(1), scope.classes.len(), class)?;
-    check_expr(alloc, &place.item(2), names, key)?;
-    check_pairs(alloc, &place.item(3), scope.fields_of(class), names, pairs)
+    check_class(context, 1, class)?;
+    check_value(context, 2, key)?;
+    check_assignments(context, context.scope.fields_of(class), pairs)
 }
 
 #[tactic(auto, unfolding(hp_model::specs::Checked::delete_check))]
-fn check_delete(
-    alloc: Global,
-    place: &Place<'_>,
-    scope: &Scope<'_>,
-    names: &Names<'_>,
-    class: ClassNo,
-    key: &Expr,
-) -> Result<(), CheckError>
-    ensures { Passes result (delete_check (scope_of scope.now) (names_in names.now) (steps place.now) class (expression key.now)) }
+fn check_delete(context: &Context<'_>, class: ClassNo, key: &Expr) -> Result<(), CheckError>
+    ensures { Passes result (delete_check (scope_of context.now.scope) (names_in context.now.names) (steps context.now.place) class (expression key.now)) }
 {
-    check_number(alloc, &place.item(1), scope.classes.len(), class)?;
-    check_expr(alloc, &place.item(2), names, key)
+    check_class(context, 1, class)?;
+    check_value(context, 2, key)
 }
 
 #[tactic(auto, unfolding(hp_model::specs::Checked::arguments_check))]
-fn check_arguments(
-    alloc: Global,
-    place: &Place<'_>,
-    names: &Names<'_>,
-    arguments: &[Expr],
-) -> Result<(), CheckError>
-    ensures { Passes result (arguments_check (names_in names.now) (steps place.now) (map expression arguments.now)) }
+fn check_arguments(context: &Context<'_>, arguments: &[Expr]) -> Result<(), CheckError>
+    ensures { Passes result (arguments_check (names_in context.now.names) (steps context.now.place) (map expression arguments.now)) }
 {
     check_limit(MAX_ARGUMENTS, Limit::Arguments, arguments.len())?;
     for (i, argument) in arguments.iter().enumerate() {
-        check_expr(alloc, &place.item(i), names, argument)?;
+        check_value(context, i, argument)?;
     }
     Ok(())
 }
 
 #[tactic(auto, unfolding(hp_model::specs::Checked::signal_check))]
-fn check_signal(
-    alloc: Global,
-    place: &Place<'_>,
-    names: &Names<'_>,
-    signal: &str,
-    arguments: &[Expr],
-) -> Result<(), CheckError>
-    ensures { Passes result (signal_check (names_in names.now) (steps place.now) signal.now (map expression arguments.now)) }
+fn check_signal(context: &Context<'_>, signal: &str, arguments: &[Expr]) -> Result<(), CheckError>
+    ensures { Passes result (signal_check (names_in context.now.names) (steps context.now.place) signal.now (map expression arguments.now)) }
 {
-    check_name(alloc, &place.item(1), signal)?;
-    check_arguments(alloc, &place.item(2), names, arguments)
+    check_name(context.alloc, &context.place.item(1), signal)?;
+    check_arguments(&context.item(2), arguments)
 }
 
 fn is_veto(s: &Stmt) -> bool
@@ -119,16 +149,11 @@ fn is_veto(s: &Stmt) -> bool
 }
 
 /// A veto stands in actions alone.
-fn check_veto(
-    alloc: Global,
-    place: &Place<'_>,
-    scope: &Scope<'_>,
-    s: &Stmt,
-) -> Result<(), CheckError>
-    ensures { Passes result (veto_check (scope_of scope.now) (steps place.now) (statement s.now)) }
+fn check_veto(context: &Context<'_>, s: &Stmt) -> Result<(), CheckError>
+    ensures { Passes result (veto_check (scope_of context.now.scope) (steps context.now.place) (statement s.now)) }
 {
-    if is_veto(s) && !scope.in_action {
-        return Err(misshapen(alloc, place));
+    if is_veto(s) && !context.scope.in_action {
+        return Err(misshapen(context.alloc, &context.place));
     }
     Ok(())
 }
@@ -136,246 +161,147 @@ fn check_veto(
 #[cycle(statement)]
 #[tactic(auto, unfolding(hp_model::specs::Checked::when_check))]
 fn check_if(
-    alloc: Global,
-    place: &Place<'_>,
-    scope: &Scope<'_>,
-    names: &Names<'_>,
+    context: &Context<'_>,
     levels: usize,
     condition: &Expr,
     then_body: &[Stmt],
     else_body: &[Stmt],
 ) -> Result<(), CheckError>
-    ensures { Passes result (when_check (statement_check (scope_of scope.now) levels) (names_in names.now) (steps place.now) (expression condition.now) (body_in then_body.now) (body_in else_body.now)) }
+    ensures { Passes result (when_check (statement_check (scope_of context.now.scope) levels) (names_in context.now.names) (steps context.now.place) (expression condition.now) (body_in then_body.now) (body_in else_body.now)) }
 {
-    check_expr(alloc, &place.item(1), names, condition)?;
-    check_body(alloc, &place.item(2), scope, names, levels, then_body)?;
-    check_body(alloc, &place.item(3), scope, names, levels, else_body)
+    check_value(context, 1, condition)?;
+    check_body(&context.item(2), levels, then_body)?;
+    check_body(&context.item(3), levels, else_body)
 }
 
 #[cycle(statement)]
 #[tactic(auto, unfolding(hp_model::specs::Checked::each_row_check))]
 fn check_each(
-    alloc: Global,
-    place: &Place<'_>,
-    scope: &Scope<'_>,
-    names: &Names<'_>,
+    context: &Context<'_>,
     levels: usize,
     variable: &str,
     class: ClassNo,
     predicate: &Expr,
     body: &[Stmt],
 ) -> Result<(), CheckError>
-    ensures { Passes result (each_row_check (scope_of scope.now) (statement_check (scope_of scope.now) levels) (names_in names.now) (steps place.now) variable.now class (expression predicate.now) (body_in body.now)) }
+    ensures { Passes result (each_row_check (scope_of context.now.scope) (statement_check (scope_of context.now.scope) levels) (names_in context.now.names) (steps context.now.place) variable.now class (expression predicate.now) (body_in body.now)) }
 {
-    check_unless(alloc, &place.item(1), variable, names.knows(variable))?;
-    check_number(alloc, &place.item(2), scope.classes.len(), class)?;
-    let inner = (&*names).bound(variable);
-    check_expr(alloc, &place.item(3), &inner, predicate)?;
-    check_body(alloc, &place.item(4), scope, &inner, levels, body)
+    check_variable(context, variable)?;
+    check_class(context, 2, class)?;
+    let inner = (&*context).bound(variable);
+    check_value(&inner, 3, predicate)?;
+    check_body(&inner.item(4), levels, body)
 }
 
 #[cycle(statement)]
 #[tactic(auto, unfolding(hp_model::specs::Checked::for_answer_check))]
 fn check_for(
-    alloc: Global,
-    place: &Place<'_>,
-    scope: &Scope<'_>,
-    names: &Names<'_>,
+    context: &Context<'_>,
     levels: usize,
     query: &str,
     body: &[Stmt],
 ) -> Result<(), CheckError>
-    ensures { Passes result (for_answer_check (scope_of scope.now) (statement_check (scope_of scope.now) levels) (names_in names.now) (steps place.now) query.now (body_in body.now)) }
+    ensures { Passes result (for_answer_check (scope_of context.now.scope) (statement_check (scope_of context.now.scope) levels) (names_in context.now.names) (steps context.now.place) query.now (body_in body.now)) }
 {
-    check_unless(
-        alloc,
-        &place.item(1),
-        query,
-        !is_query(scope.queries, query),
-    )?;
-    check_body(alloc, &place.item(2), scope, names, levels, body)
+    let is_unknown = !is_query(context.scope.queries, query);
+    check_unless(context.alloc, &context.place.item(1), query, is_unknown)?;
+    check_body(&context.item(2), levels, body)
 }
 
 #[cycle(statement)]
 #[tactic(auto, unfolding(hp_model::specs::Checked::with_object_check))]
 fn check_with(
-    alloc: Global,
-    place: &Place<'_>,
-    scope: &Scope<'_>,
-    names: &Names<'_>,
+    context: &Context<'_>,
     levels: usize,
     variable: &str,
     class: ClassNo,
     key: &Expr,
     body: &[Stmt],
 ) -> Result<(), CheckError>
-    ensures { Passes result (with_object_check (scope_of scope.now) (statement_check (scope_of scope.now) levels) (names_in names.now) (steps place.now) variable.now class (expression key.now) (body_in body.now)) }
+    ensures { Passes result (with_object_check (scope_of context.now.scope) (statement_check (scope_of context.now.scope) levels) (names_in context.now.names) (steps context.now.place) variable.now class (expression key.now) (body_in body.now)) }
 {
-    check_unless(alloc, &place.item(1), variable, names.knows(variable))?;
-    check_number(alloc, &place.item(2), scope.classes.len(), class)?;
-    check_expr(alloc, &place.item(3), names, key)?;
-    let inner = (&*names).bound(variable);
-    check_body(alloc, &place.item(4), scope, &inner, levels, body)
+    check_variable(context, variable)?;
+    check_class(context, 2, class)?;
+    check_value(context, 3, key)?;
+    let inner = (&*context).bound(variable);
+    check_body(&inner.item(4), levels, body)
 }
 
 #[cycle(statement)]
 #[tactic(auto, unfolding(hp_model::specs::Checked::subtransaction_check))]
 fn check_sub(
-    alloc: Global,
-    place: &Place<'_>,
-    scope: &Scope<'_>,
-    names: &Names<'_>,
+    context: &Context<'_>,
     levels: usize,
     body: &[Stmt],
     otherwise: &[Stmt],
 ) -> Result<(), CheckError>
-    ensures { Passes result (subtransaction_check (statement_check (scope_of scope.now) levels) (names_in names.now) (steps place.now) (body_in body.now) (body_in otherwise.now)) }
+    ensures { Passes result (subtransaction_check (statement_check (scope_of context.now.scope) levels) (names_in context.now.names) (steps context.now.place) (body_in body.now) (body_in otherwise.now)) }
 {
-    check_body(alloc, &place.item(1), scope, names, levels, body)?;
-    check_body(alloc, &place.item(2), scope, names, levels, otherwise)
+    check_body(&context.item(1), levels, body)?;
+    check_body(&context.item(2), levels, otherwise)
 }
 
 /// The parts of a statement, with the statements in it of at most so many levels.
 #[cycle(statement)]
-fn check_parts(
-    alloc: Global,
-    place: &Place<'_>,
-    scope: &Scope<'_>,
-    names: &Names<'_>,
-    levels: usize,
-    s: &Stmt,
-) -> Result<(), CheckError>
-    ensures { Passes result (statement_parts_check (scope_of scope.now) (statement_check (scope_of scope.now) levels) (names_in names.now) (steps place.now) (statement s.now)) }
+fn check_parts(context: &Context<'_>, levels: usize, s: &Stmt) -> Result<(), CheckError>
+    ensures { Passes result (statement_parts_check (scope_of context.now.scope) (statement_check (scope_of context.now.scope) levels) (names_in context.now.names) (steps context.now.place) (statement s.now)) }
 {
     match s {
-        Stmt::Create { class, key, pairs } => check_create(
-            alloc, place, scope, names, *class, key, pairs,
-        ),
-        Stmt::Update { class, key, pairs } => check_update(
-            alloc, place, scope, names, *class, key, pairs,
-        ),
-        Stmt::Delete { class, key } => check_delete(alloc, place, scope, names, *class, key),
-        Stmt::Signal { name, arguments } => check_signal(
-            alloc,
-            place,
-            names,
-            name.as_str(),
-            arguments,
-        ),
-        Stmt::Emit(value) => check_expr(alloc, &place.item(1), names, value),
+        Stmt::Create { class, key, pairs } => check_create(context, *class, key, pairs),
+        Stmt::Update { class, key, pairs } => check_update(context, *class, key, pairs),
+        Stmt::Delete { class, key } => check_delete(context, *class, key),
+        Stmt::Signal { name, arguments } => check_signal(context, name.as_str(), arguments),
+        Stmt::Emit(value) => check_value(context, 1, value),
         Stmt::If {
             condition,
             then_body,
             else_body,
-        } => {
-            check_if(
-                alloc, place, scope, names, levels, condition, then_body, else_body,
-            )
-        }
+        } => check_if(context, levels, condition, then_body, else_body),
         Stmt::Each {
             variable,
             class,
             predicate,
             body,
-        } => {
-            check_each(
-                alloc,
-                place,
-                scope,
-                names,
-                levels,
-                variable.as_str(),
-                *class,
-                predicate,
-                body,
-            )
-        }
-        Stmt::For { query, body } => check_for(
-            alloc,
-            place,
-            scope,
-            names,
-            levels,
-            query.as_str(),
-            body,
-        ),
+        } => check_each(context, levels, variable.as_str(), *class, predicate, body),
+        Stmt::For { query, body } => check_for(context, levels, query.as_str(), body),
         Stmt::With {
             variable,
             class,
             key,
             body,
-        } => {
-            check_with(
-                alloc,
-                place,
-                scope,
-                names,
-                levels,
-                variable.as_str(),
-                *class,
-                key,
-                body,
-            )
-        }
-        Stmt::Sub { body, otherwise } => check_sub(
-            alloc, place, scope, names, levels, body, otherwise,
-        ),
+        } => check_with(context, levels, variable.as_str(), *class, key, body),
+        Stmt::Sub { body, otherwise } => check_sub(context, levels, body, otherwise),
         Stmt::Abort | Stmt::Veto => Ok(()),
-        Stmt::OnRule { rule, .. } | Stmt::Fire(rule) => check_number(
-            alloc,
-            &place.item(1),
-            scope.rules,
-            *rule,
-        ),
+        Stmt::OnRule { rule, .. } | Stmt::Fire(rule) => check_rule(context, 1, *rule),
     }
 }
 
-/// The statement at a place, of at most so many levels.
+/// The statement, of at most so many levels.
 #[cycle(statement)]
 #[tactic(auto, unfolding(hp_model::specs::Checked::statement_check))]
-fn check_statement(
-    alloc: Global,
-    place: &Place<'_>,
-    scope: &Scope<'_>,
-    names: &Names<'_>,
-    levels: usize,
-    s: &Stmt,
-) -> Result<(), CheckError>
-    ensures { Passes result (statement_check (scope_of scope.now) levels (names_in names.now) (steps place.now) (statement s.now)) }
+fn check_statement(context: &Context<'_>, levels: usize, s: &Stmt) -> Result<(), CheckError>
+    ensures { Passes result (statement_check (scope_of context.now.scope) levels (names_in context.now.names) (steps context.now.place) (statement s.now)) }
 {
-    check_veto(alloc, place, scope, s)?;
+    check_veto(context, s)?;
     if levels == 0 {
         return Err(beyond(Limit::Nesting));
     }
-    check_parts(alloc, place, scope, names, levels - 1, s)
+    check_parts(context, levels - 1, s)
 }
 
 #[cycle(statement)]
-fn check_body(
-    alloc: Global,
-    place: &Place<'_>,
-    scope: &Scope<'_>,
-    names: &Names<'_>,
-    levels: usize,
-    body: &[Stmt],
-) -> Result<(), CheckError>
-    ensures { Passes result (body_check (statement_check (scope_of scope.now) levels) (names_in names.now) (steps place.now) (body_in body.now)) }
+fn check_body(context: &Context<'_>, levels: usize, body: &[Stmt]) -> Result<(), CheckError>
+    ensures { Passes result (body_check (statement_check (scope_of context.now.scope) levels) (names_in context.now.names) (steps context.now.place) (body_in body.now)) }
 {
     for (i, s) in body.iter().enumerate() {
-        check_statement(alloc, &place.item(i), scope, names, levels, s)?;
+        check_statement(&context.item(i), levels, s)?;
     }
     Ok(())
 }
 
-/// The body at a place.
-pub(crate) fn check_whole_body(
-    alloc: Global,
-    place: &Place<'_>,
-    scope: &Scope<'_>,
-    names: &Names<'_>,
-    body: &[Stmt],
-) -> Result<(), CheckError>
-    ensures { Passes result (whole_body_check (scope_of scope.now) (names_in names.now) (steps place.now) (body_in body.now)) }
+/// The body that stands here.
+pub(crate) fn check_whole_body(context: &Context<'_>, body: &[Stmt]) -> Result<(), CheckError>
+    ensures { Passes result (whole_body_check (scope_of context.now.scope) (names_in context.now.names) (steps context.now.place) (body_in body.now)) }
 {
-    check_body(alloc, place, scope, names, MAX_LEVELS, body)
+    check_body(context, MAX_LEVELS, body)
 }

@@ -33,5 +33,5 @@ decreases-check_parts l = 4 * l.levels + 3
 -- what is left of the body passes or fails as the whole body does
 abbrev pub invariant-check_body-loop-i : goal.invariant-check_body-loop-i
 invariant-check_body-loop-i l =
-    statements_check (statement_check (scope_of l.scope) l.levels) (names_in l.names) (steps l.place) l.i (body_in (drop l.i l.body))
-    ≡ statements_check (statement_check (scope_of l.scope) l.levels) (names_in l.names) (steps l.place) 0 (body_in l.body)
+    statements_check (statement_check (scope_of l.context.scope) l.levels) (names_in l.context.names) (steps l.context.place) l.i (body_in (drop l.i l.body))
+    ≡ statements_check (statement_check (scope_of l.context.scope) l.levels) (names_in l.context.names) (steps l.context.place) 0 (body_in l.body)

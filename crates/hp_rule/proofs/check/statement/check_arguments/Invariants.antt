@@ -7,5 +7,5 @@ use Rattle.hp_rule.proofs.check.statement.check_arguments.Given as goal
 
 abbrev pub invariant-loop-i : goal.invariant-loop-i
 invariant-loop-i l =
-    each_check (λ _. whole_expression_check (names_in l.names)) (steps l.place) (map expression (take l.i l.arguments)) l.i (map expression (drop l.i l.arguments))
-    ≡ each_check (λ _. whole_expression_check (names_in l.names)) (steps l.place) [] 0 (map expression l.arguments)
+    each_check (λ _. whole_expression_check (names_in l.context.names)) (steps l.context.place) (map expression (take l.i l.arguments)) l.i (map expression (drop l.i l.arguments))
+    ≡ each_check (λ _. whole_expression_check (names_in l.context.names)) (steps l.context.place) [] 0 (map expression l.arguments)
