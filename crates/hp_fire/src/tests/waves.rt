@@ -142,7 +142,7 @@ fn action(alloc: Global, deed: Deed) -> Result<Vec<Stmt>, AllocError> {
 }
 
 // The names of the rules, in rule order.
-const NAMES: [&str; 4] = ["first", "second", "third", "fourth"];
+const NAMES: [&str; 5] = ["first", "second", "third", "fourth", "fifth"];
 
 // One class of accounts, and a rule for each action.
 fn library(alloc: Global, actions: Vec<Vec<Stmt>>) -> Result<Library, CheckError> {
@@ -317,6 +317,22 @@ fn two_reruns_are_in_flight(rt: HostRuntime) -> Result<(), Fail> {
     for key in [1, 2, 3] {
         assert_eq!(rt; shown(&view, key), Some(11));
     }
+    Ok(())
+}
+
+// The elder starts when the others have ended, so that one task of five is settled from its attempt: the owner runs the
+// others, with no wave more.
+#[test]
+fn a_wave_that_does_not_pay_is_the_last(rt: HostRuntime) -> Result<(), Fail> {
+    let alloc = rt.alloc();
+    let lib = of_deeds(alloc, &[plus(1), plus(1), plus(1), plus(1), plus(1)])?;
+    let mut view = bank(alloc, &[(1, 10)])?;
+    let gate = Hold::of(0, Awaited::End(4));
+    let tasks = tasks(alloc, 5)?;
+    let group = run_group(&rt, alloc, &lib, &mut view, &tasks, true, 2, &gate)?;
+    assert!(rt; !gate.was_late());
+    assert_eq!(rt; counts(&group), (1, 4, 1));
+    assert_eq!(rt; shown(&view, 1), Some(15));
     Ok(())
 }
 
