@@ -3,11 +3,36 @@
 use super::expect_with;
 use crate::fault::Status;
 use crate::words::Options;
+use std::process::Abort;
 use std::test::Fail;
+use std::thread::Threads;
+
+/// How the scripts of each version begin here.
+const FIRST: &[u8] = b"{\"version\":1,";
+
+const SECOND: &[u8] = b"{\"version\":2,";
+
+/// A script of the first version is one of the second too, with the same report.
+fn expect_in_both<R: Abort + AllocGlobal + Threads + Sync>(
+    rt: &R,
+    options: Options,
+    script: &[u8],
+    text: &[u8],
+    status: Status,
+) -> Result<(), Fail> {
+    expect_with(rt, options, script, text, status)?;
+    let Some(rest) = script.strip_prefix(FIRST) else {
+        return Ok(());
+    };
+    let mut second = Vec::new(rt.alloc());
+    second.extend_from_slice(SECOND)?;
+    second.extend_from_slice(rest)?;
+    expect_with(rt, options, second.as_slice(), text, status)
+}
 
 #[test]
 fn first_programs(rt: HostRuntime) -> Result<(), Fail> {
-    expect_with(
+    expect_in_both(
         &rt,
         Options {
             workers: 4,
@@ -17,7 +42,7 @@ fn first_programs(rt: HostRuntime) -> Result<(), Fail> {
         b"unit 1 committed\nemit 2\nfinal\nobject acct 1 bal=7\nrule r enabled\nend\n",
         Status::Reported,
     )?;
-    expect_with(
+    expect_in_both(
         &rt,
         Options {
             workers: 4,
@@ -27,7 +52,7 @@ fn first_programs(rt: HostRuntime) -> Result<(), Fail> {
         b"final\nend\n",
         Status::Reported,
     )?;
-    expect_with(
+    expect_in_both(
         &rt,
         Options {
             workers: 4,
@@ -37,7 +62,7 @@ fn first_programs(rt: HostRuntime) -> Result<(), Fail> {
         b"unit 1 committed\nfinal\nobject acct 1 bal=22\nrule inc enabled\nrule dbl enabled\nend\n",
         Status::Reported,
     )?;
-    expect_with(
+    expect_in_both(
         &rt,
         Options {
             workers: 4,
@@ -47,7 +72,7 @@ fn first_programs(rt: HostRuntime) -> Result<(), Fail> {
         b"unit 1 committed\nfinal\nobject acct 1 bal=11\nobject acct 2 bal=21\nrule a enabled\nrule b enabled\nend\n",
         Status::Reported,
     )?;
-    expect_with(
+    expect_in_both(
         &rt,
         Options {
             workers: 4,
@@ -57,7 +82,7 @@ fn first_programs(rt: HostRuntime) -> Result<(), Fail> {
         b"unit 1 committed\nemit 1\nfinal\nobject mark 1\nrule mk enabled\nrule see enabled\nend\n",
         Status::Reported,
     )?;
-    expect_with(
+    expect_in_both(
         &rt,
         Options {
             workers: 4,
@@ -67,7 +92,7 @@ fn first_programs(rt: HostRuntime) -> Result<(), Fail> {
         b"unit 1 committed\nfinal\nobject mark 1\nobject mark 2\nrule a enabled\nrule b enabled\nend\n",
         Status::Reported,
     )?;
-    expect_with(
+    expect_in_both(
         &rt,
         Options {
             workers: 4,
@@ -82,7 +107,7 @@ fn first_programs(rt: HostRuntime) -> Result<(), Fail> {
 
 #[test]
 fn trees(rt: HostRuntime) -> Result<(), Fail> {
-    expect_with(
+    expect_in_both(
         &rt,
         Options {
             workers: 4,
@@ -92,7 +117,7 @@ fn trees(rt: HostRuntime) -> Result<(), Fail> {
         b"unit 1 committed\nemit 9\n  op install v\n  op install s2\n  op install s3\n  op install sep\n  sub aborted A9 v\n    fire v immediate satisfied aborted A9 v\n  emit 9\nfinal\nrule v enabled\nrule s2 enabled\nrule s3 enabled\nrule sep enabled\nend\n",
         Status::Reported,
     )?;
-    expect_with(
+    expect_in_both(
         &rt,
         Options {
             workers: 4,
@@ -102,7 +127,7 @@ fn trees(rt: HostRuntime) -> Result<(), Fail> {
         b"unit 1 committed\nemit 9\nfinal\nrule v enabled\nrule s2 enabled\nrule s3 enabled\nrule sep enabled\nend\n",
         Status::Reported,
     )?;
-    expect_with(
+    expect_in_both(
         &rt,
         Options {
             workers: 4,
@@ -112,7 +137,7 @@ fn trees(rt: HostRuntime) -> Result<(), Fail> {
         b"unit 1 committed\nemit 9\n  op install v\n  op install s2\n  op install s3\n  op install sep\n  sub aborted A9 v\n    fire v immediate satisfied aborted A9 v\n  emit 9\nfinal\nrule v enabled\nrule s2 enabled\nrule s3 enabled\nrule sep enabled\nend\n",
         Status::Reported,
     )?;
-    expect_with(
+    expect_in_both(
         &rt,
         Options {
             workers: 4,
@@ -122,7 +147,7 @@ fn trees(rt: HostRuntime) -> Result<(), Fail> {
         b"unit 1 committed\n  op install up\n  op create acct 1 bal=0\n  op update acct 1 bal=1\n  fire up immediate satisfied committed\n    op update acct 1 bal=2\n    fire up immediate satisfied committed\n      op update acct 1 bal=3\n      fire up immediate satisfied aborted A7\n        op update acct 1 bal=4\nfinal\nobject acct 1 bal=3\nrule up enabled\nend\n",
         Status::Reported,
     )?;
-    expect_with(
+    expect_in_both(
         &rt,
         Options {
             workers: 4,
@@ -132,7 +157,7 @@ fn trees(rt: HostRuntime) -> Result<(), Fail> {
         b"unit 1 committed\nfinal\nobject acct 1 bal=3\nrule up enabled\nend\n",
         Status::Reported,
     )?;
-    expect_with(
+    expect_in_both(
         &rt,
         Options {
             workers: 4,
@@ -142,7 +167,7 @@ fn trees(rt: HostRuntime) -> Result<(), Fail> {
         b"unit 1 committed\n  op install m\n  op install z\n  op create acct 1 bal=5\n  fire z immediate satisfied committed\n    op update acct 1 bal=6\nseparate m committed\nemit 6\n  fire m separate satisfied later\n  fire z immediate satisfied committed\n    op update acct 1 bal=7\n  act m deferred committed\n    emit 6\nfinal\nobject acct 1 bal=7\nrule m enabled\nrule z enabled\nend\n",
         Status::Reported,
     )?;
-    expect_with(
+    expect_in_both(
         &rt,
         Options {
             workers: 4,
@@ -157,7 +182,7 @@ fn trees(rt: HostRuntime) -> Result<(), Fail> {
 
 #[test]
 fn later_programs(rt: HostRuntime) -> Result<(), Fail> {
-    expect_with(
+    expect_in_both(
         &rt,
         Options {
             workers: 4,
@@ -167,7 +192,7 @@ fn later_programs(rt: HostRuntime) -> Result<(), Fail> {
         b"unit 1 committed\nemit 1\nemit 3\nemit 2\nemit 4\nfinal\nrule q enabled\nend\n",
         Status::Reported,
     )?;
-    expect_with(
+    expect_in_both(
         &rt,
         Options {
             workers: 4,
@@ -177,7 +202,7 @@ fn later_programs(rt: HostRuntime) -> Result<(), Fail> {
         b"unit 1 committed\nemit 2\nemit 8\nfinal\nrule c enabled\nend\n",
         Status::Reported,
     )?;
-    expect_with(
+    expect_in_both(
         &rt,
         Options {
             workers: 4,
@@ -187,7 +212,7 @@ fn later_programs(rt: HostRuntime) -> Result<(), Fail> {
         b"unit 1 committed\nfinal\nrule q enabled\nend\n",
         Status::Reported,
     )?;
-    expect_with(
+    expect_in_both(
         &rt,
         Options {
             workers: 4,
@@ -197,7 +222,7 @@ fn later_programs(rt: HostRuntime) -> Result<(), Fail> {
         b"unit 1 committed\nunit 2 aborted A8\nseparate ind committed\nemit 1\nfinal\nrule ind enabled\nrule dep enabled\nend\n",
         Status::Reported,
     )?;
-    expect_with(
+    expect_in_both(
         &rt,
         Options {
             workers: 4,
@@ -207,7 +232,7 @@ fn later_programs(rt: HostRuntime) -> Result<(), Fail> {
         b"unit 1 committed\nemit 1\nfinal\nobject acct 1 bal=9223372036854775807\nrule o enabled\nend\n",
         Status::Reported,
     )?;
-    expect_with(
+    expect_in_both(
         &rt,
         Options {
             workers: 4,
@@ -217,7 +242,7 @@ fn later_programs(rt: HostRuntime) -> Result<(), Fail> {
         b"unit 1 committed\nemit 1\nemit 2\nfinal\nrule q enabled\nend\n",
         Status::Reported,
     )?;
-    expect_with(
+    expect_in_both(
         &rt,
         Options {
             workers: 4,
@@ -227,7 +252,7 @@ fn later_programs(rt: HostRuntime) -> Result<(), Fail> {
         b"unit 1 committed\nunit 2 time 5 committed\nemit 5\nunit 3 time 15 committed\nemit 15\nunit 4 time 25 committed\nemit 25\nfinal\nrule t enabled\nend\n",
         Status::Reported,
     )?;
-    expect_with(
+    expect_in_both(
         &rt,
         Options {
             workers: 4,
@@ -242,7 +267,7 @@ fn later_programs(rt: HostRuntime) -> Result<(), Fail> {
 
 #[test]
 fn refused_scripts(rt: HostRuntime) -> Result<(), Fail> {
-    expect_with(
+    expect_in_both(
         &rt,
         Options {
             workers: 4,
@@ -252,7 +277,7 @@ fn refused_scripts(rt: HostRuntime) -> Result<(), Fail> {
         b"refused S1\n",
         Status::Refused,
     )?;
-    expect_with(
+    expect_in_both(
         &rt,
         Options {
             workers: 4,
@@ -262,7 +287,7 @@ fn refused_scripts(rt: HostRuntime) -> Result<(), Fail> {
         b"refused S6\n",
         Status::Refused,
     )?;
-    expect_with(
+    expect_in_both(
         &rt,
         Options {
             workers: 4,
@@ -272,7 +297,7 @@ fn refused_scripts(rt: HostRuntime) -> Result<(), Fail> {
         b"refused S4 /items/0/1/0/1\n",
         Status::Refused,
     )?;
-    expect_with(
+    expect_in_both(
         &rt,
         Options {
             workers: 4,
@@ -282,7 +307,7 @@ fn refused_scripts(rt: HostRuntime) -> Result<(), Fail> {
         b"refused S3 /items/0/1/0/1\n",
         Status::Refused,
     )?;
-    expect_with(
+    expect_in_both(
         &rt,
         Options {
             workers: 4,
@@ -292,7 +317,7 @@ fn refused_scripts(rt: HostRuntime) -> Result<(), Fail> {
         b"refused S5 depth\n",
         Status::Refused,
     )?;
-    expect_with(
+    expect_in_both(
         &rt,
         Options {
             workers: 4,
@@ -302,7 +327,7 @@ fn refused_scripts(rt: HostRuntime) -> Result<(), Fail> {
         b"refused S1\n",
         Status::Refused,
     )?;
-    expect_with(
+    expect_in_both(
         &rt,
         Options {
             workers: 4,
@@ -317,7 +342,7 @@ fn refused_scripts(rt: HostRuntime) -> Result<(), Fail> {
 
 #[test]
 fn detectors_and_queries(rt: HostRuntime) -> Result<(), Fail> {
-    expect_with(
+    expect_in_both(
         &rt,
         Options {
             workers: 4,
@@ -327,7 +352,7 @@ fn detectors_and_queries(rt: HostRuntime) -> Result<(), Fail> {
         b"unit 1 aborted A1\nfinal\nend\n",
         Status::Reported,
     )?;
-    expect_with(
+    expect_in_both(
         &rt,
         Options {
             workers: 4,
@@ -337,7 +362,7 @@ fn detectors_and_queries(rt: HostRuntime) -> Result<(), Fail> {
         b"unit 1 committed\nemit 4\nemit 5\nfinal\nrule v enabled\nrule w enabled\nend\n",
         Status::Reported,
     )?;
-    expect_with(
+    expect_in_both(
         &rt,
         Options {
             workers: 4,
@@ -347,7 +372,7 @@ fn detectors_and_queries(rt: HostRuntime) -> Result<(), Fail> {
         b"unit 1 aborted A9 v\nfinal\nrule v absent\nend\n",
         Status::Reported,
     )?;
-    expect_with(
+    expect_in_both(
         &rt,
         Options {
             workers: 4,
@@ -357,7 +382,7 @@ fn detectors_and_queries(rt: HostRuntime) -> Result<(), Fail> {
         b"unit 1 committed\nemit 5\nfinal\nrule del enabled\nend\n",
         Status::Reported,
     )?;
-    expect_with(
+    expect_in_both(
         &rt,
         Options {
             workers: 4,
@@ -367,7 +392,7 @@ fn detectors_and_queries(rt: HostRuntime) -> Result<(), Fail> {
         b"unit 1 committed\nemit -3\nemit -1\nfinal\nobject acct 1 bal=0\nrule f enabled\nend\n",
         Status::Reported,
     )?;
-    expect_with(
+    expect_in_both(
         &rt,
         Options {
             workers: 4,
@@ -382,7 +407,7 @@ fn detectors_and_queries(rt: HostRuntime) -> Result<(), Fail> {
 
 #[test]
 fn couplings_and_cascades(rt: HostRuntime) -> Result<(), Fail> {
-    expect_with(
+    expect_in_both(
         &rt,
         Options {
             workers: 4,
@@ -392,7 +417,7 @@ fn couplings_and_cascades(rt: HostRuntime) -> Result<(), Fail> {
         b"unit 1 committed\nemit 3\nemit 2\nfinal\nrule k enabled\nend\n",
         Status::Reported,
     )?;
-    expect_with(
+    expect_in_both(
         &rt,
         Options {
             workers: 4,
@@ -402,7 +427,7 @@ fn couplings_and_cascades(rt: HostRuntime) -> Result<(), Fail> {
         b"unit 1 committed\nfinal\nrule q enabled\nend\n",
         Status::Reported,
     )?;
-    expect_with(
+    expect_in_both(
         &rt,
         Options {
             workers: 4,
@@ -412,7 +437,7 @@ fn couplings_and_cascades(rt: HostRuntime) -> Result<(), Fail> {
         b"unit 1 committed\nemit 0\nfinal\nrule r disabled\nend\n",
         Status::Reported,
     )?;
-    expect_with(
+    expect_in_both(
         &rt,
         Options {
             workers: 4,
@@ -422,7 +447,7 @@ fn couplings_and_cascades(rt: HostRuntime) -> Result<(), Fail> {
         b"unit 1 committed\nemit 0\nemit 1\nemit 3\nemit 2\nfinal\nrule d1 enabled\nrule d2 enabled\nrule d3 enabled\nend\n",
         Status::Reported,
     )?;
-    expect_with(
+    expect_in_both(
         &rt,
         Options {
             workers: 4,
@@ -432,7 +457,7 @@ fn couplings_and_cascades(rt: HostRuntime) -> Result<(), Fail> {
         b"unit 1 aborted A9 v\nfinal\nrule v absent\nend\n",
         Status::Reported,
     )?;
-    expect_with(
+    expect_in_both(
         &rt,
         Options {
             workers: 4,
@@ -442,7 +467,7 @@ fn couplings_and_cascades(rt: HostRuntime) -> Result<(), Fail> {
         b"refused S5 moments\n",
         Status::Refused,
     )?;
-    expect_with(
+    expect_in_both(
         &rt,
         Options {
             workers: 4,
@@ -457,7 +482,7 @@ fn couplings_and_cascades(rt: HostRuntime) -> Result<(), Fail> {
 
 #[test]
 fn workers_and_limits(rt: HostRuntime) -> Result<(), Fail> {
-    expect_with(
+    expect_in_both(
         &rt,
         Options {
             workers: 4,
@@ -467,7 +492,7 @@ fn workers_and_limits(rt: HostRuntime) -> Result<(), Fail> {
         b"unit 1 committed\nemit -1\nfinal\nend\n",
         Status::Reported,
     )?;
-    expect_with(
+    expect_in_both(
         &rt,
         Options {
             workers: 1,
@@ -477,7 +502,7 @@ fn workers_and_limits(rt: HostRuntime) -> Result<(), Fail> {
         b"unit 1 committed\nemit 1\nemit 1\nemit 1\nemit 1\nemit 1\nemit 1\nemit 1\nemit 1\nemit 1\nemit 1\nemit 1\nemit 1\nemit 1\nemit 1\nemit 1\nemit 1\nemit 1\nemit 1\nemit 1\nemit 1\nemit 1\nemit 1\nemit 1\nemit 1\nemit 1\nemit 1\nemit 1\nemit 1\nemit 1\nemit 1\nemit 1\nemit 1\nemit 1\nemit 1\nemit 1\nemit 1\nemit 1\nemit 1\nemit 1\nemit 1\nemit 1\nemit 1\nemit 1\nemit 1\nemit 1\nemit 1\nemit 1\nemit 1\nemit 1\nemit 1\nemit 1\nemit 1\nemit 1\nemit 1\nemit 1\nemit 1\nemit 1\nemit 1\nemit 1\nemit 1\nemit 1\nemit 1\nfinal\nrule r1 enabled\nrule r2 enabled\nend\n",
         Status::Reported,
     )?;
-    expect_with(
+    expect_in_both(
         &rt,
         Options {
             workers: 64,
@@ -507,7 +532,7 @@ fn workers_and_limits(rt: HostRuntime) -> Result<(), Fail> {
         b"refused S2 /rules/0/2\n",
         Status::Refused,
     )?;
-    expect_with(
+    expect_in_both(
         &rt,
         Options {
             workers: 4,
@@ -517,7 +542,7 @@ fn workers_and_limits(rt: HostRuntime) -> Result<(), Fail> {
         b"final\nend\n",
         Status::Reported,
     )?;
-    expect_with(
+    expect_in_both(
         &rt,
         Options {
             workers: 64,
@@ -527,7 +552,7 @@ fn workers_and_limits(rt: HostRuntime) -> Result<(), Fail> {
         b"final\nend\n",
         Status::Reported,
     )?;
-    expect_with(
+    expect_in_both(
         &rt,
         Options {
             workers: 1,
@@ -537,7 +562,7 @@ fn workers_and_limits(rt: HostRuntime) -> Result<(), Fail> {
         b"unit 1 committed\nemit 12\nfinal\nobject acct 1 bal=12\nrule inc enabled\nrule deep enabled\nrule d1 enabled\nrule d2 enabled\nend\n",
         Status::Reported,
     )?;
-    expect_with(
+    expect_in_both(
         &rt,
         Options {
             workers: 2,
@@ -547,7 +572,7 @@ fn workers_and_limits(rt: HostRuntime) -> Result<(), Fail> {
         b"unit 1 committed\nemit 12\nfinal\nobject acct 1 bal=12\nrule inc enabled\nrule deep enabled\nrule d1 enabled\nrule d2 enabled\nend\n",
         Status::Reported,
     )?;
-    expect_with(
+    expect_in_both(
         &rt,
         Options {
             workers: 64,
@@ -557,7 +582,7 @@ fn workers_and_limits(rt: HostRuntime) -> Result<(), Fail> {
         b"unit 1 committed\nemit 12\nfinal\nobject acct 1 bal=12\nrule inc enabled\nrule deep enabled\nrule d1 enabled\nrule d2 enabled\nend\n",
         Status::Reported,
     )?;
-    expect_with(
+    expect_in_both(
         &rt,
         Options {
             workers: 8,
