@@ -15,8 +15,6 @@ mod placing;
 mod progress;
 mod running;
 mod settling;
-#[cfg(test)]
-mod tests;
 mod wave;
 
 pub use calls::{run_body, run_firing, run_group, run_signal, run_task};

@@ -1,5 +1,7 @@
 //! Endings of top-level transactions and what is left to run after them, with values worked out by hand.
 
+mod firing;
+
 use crate::closing::close;
 use crate::generations::due;
 use crate::items::opening;

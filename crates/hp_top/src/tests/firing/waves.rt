@@ -2,7 +2,7 @@
 //! turns at most.
 
 use super::{account, alone, balance_in, fields, make, number, on_go, shown, task, text};
-use crate::{Gate, GroupOutcome, NoGate, run_group};
+use hp_fire::{Gate, GroupOutcome, NoGate, run_group};
 use hp_ops::create;
 use hp_rule::{Assignment, CheckError, Library, Rule, Stmt, Task};
 use hp_store::Snapshot;

@@ -1,13 +1,15 @@
-//! Statements, signals and groups over a small bank, with answers worked out by hand.
+//! What `hp_fire` gives for statements, signals and groups over a small bank, with answers worked out by hand.
+//!
+//! They stand here since the tests of a crate have it proved once more, and `hp_fire` takes the longest of all.
 
 mod waves;
 
-use crate::{
+use hp_attempt::{Settled, settle};
+use hp_event::Pattern;
+use hp_fire::{
     Course, End, NoGate, detached_after, end_transaction, ending, group_course, run_body,
     run_firing, run_group, run_signal, run_task,
 };
-use hp_attempt::{Settled, settle};
-use hp_event::Pattern;
 use hp_ops::{create, set_rule};
 use hp_rule::{
     Assignment, CheckError, Detached, EventExpr, Library, Query, Rule, RuleOperation, Step, Stmt,
