@@ -26,7 +26,7 @@ const MAX_ARGUMENTS: usize = 32;
 
 const MAX_LEVELS: usize = 16;
 
-/// A class that a part names.
+/// The number of a class, at a position among the parts.
 fn check_class(context: &Context<'_>, position: usize, class: ClassNo) -> Result<(), CheckError>
     ensures { Passes result (class_check (scope_of context.now.scope) (item_at (steps context.now.place) position) class) }
 {
@@ -34,15 +34,15 @@ fn check_class(context: &Context<'_>, position: usize, class: ClassNo) -> Result
     check_number(context.alloc, &context.place.item(position), classes, class)
 }
 
-/// A rule that a part names.
-fn check_rule(context: &Context<'_>, position: usize, rule: RuleNo) -> Result<(), CheckError>
-    ensures { Passes result (number_check (scope_of context.now.scope).rules (item_at (steps context.now.place) position) rule) }
+/// The number of a rule, first among the parts.
+fn check_rule(context: &Context<'_>, rule: RuleNo) -> Result<(), CheckError>
+    ensures { Passes result (number_check (scope_of context.now.scope).rules (item_at (steps context.now.place) 1) rule) }
 {
     let rules = context.scope.rules;
-    check_number(context.alloc, &context.place.item(position), rules, rule)
+    check_number(context.alloc, &context.place.item(1), rules, rule)
 }
 
-/// An expression that is a part.
+/// An expression, at a position among the parts.
 fn check_value(context: &Context<'_>, position: usize, expr: &Expr) -> Result<(), CheckError>
     ensures { Passes result (whole_expression_check (names_in context.now.names) (item_at (steps context.now.place) position) (expression expr.now)) }
 {
@@ -272,7 +272,7 @@ fn check_parts(context: &Context<'_>, levels: usize, s: &Stmt) -> Result<(), Che
         } => check_with(context, levels, variable.as_str(), *class, key, body),
         Stmt::Sub { body, otherwise } => check_sub(context, levels, body, otherwise),
         Stmt::Abort | Stmt::Veto => Ok(()),
-        Stmt::OnRule { rule, .. } | Stmt::Fire(rule) => check_rule(context, 1, *rule),
+        Stmt::OnRule { rule, .. } | Stmt::Fire(rule) => check_rule(context, *rule),
     }
 }
 
