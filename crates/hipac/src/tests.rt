@@ -1,3 +1,4 @@
+mod hostile;
 mod rows;
 
 use crate::fault::{Fault, Status, exit_code};
@@ -350,35 +351,60 @@ fn byte_by_byte(rt: HostRuntime) -> Result<(), Fail> {
     Ok(())
 }
 
-#[test]
-fn each_read_fails(rt: HostRuntime) -> Result<(), Fail> {
-    for call in 1..=SCRIPT.len() + 1 {
-        let mut reader = slow_device(&rt, SCRIPT, 1);
+/// A reader of so many bytes a call fails at each of its calls: the fault of reads, and nothing written.
+fn expect_read_faults<R: Abort + AllocGlobal + Threads + Sync>(
+    rt: &R,
+    script: &[u8],
+    step: usize,
+    calls: usize,
+) {
+    for call in 1..=calls {
+        let mut reader = slow_device(rt, script, step);
         reader.fails_at = call;
         let mut reader = Watched::new(reader);
-        let mut writer = Watched::new(slow_device(&rt, b"", 1));
-        let ended = run(&rt, rt.alloc(), &mut reader, &mut writer, ONE_WORKER);
-        assert_eq!(rt; ended, Err(Fault::Read));
-        assert_eq!(rt; writer.into_inner().output.len(), 0);
+        let mut writer = Watched::new(slow_device(rt, b"", 1));
+        let ended = run(rt, rt.alloc(), &mut reader, &mut writer, ONE_WORKER);
+        assert_eq!(*rt; ended, Err(Fault::Read), "call {call}");
+        let writer = writer.into_inner();
+        assert_eq!(*rt; (writer.output.len(), writer.calls), (0, 0), "call {call}");
     }
-    Ok(())
 }
 
 #[test]
-fn each_write_fails(rt: HostRuntime) -> Result<(), Fail> {
-    for call in 1..=TEXT.len() {
-        for takes_none in [false, true] {
-            let mut reader = Watched::new(slow_device(&rt, SCRIPT, 4096));
-            let mut writer = slow_device(&rt, b"", 1);
-            writer.fails_at = call;
-            writer.takes_none = takes_none;
-            let mut writer = Watched::new(writer);
-            let ended = run(&rt, rt.alloc(), &mut reader, &mut writer, ONE_WORKER);
-            assert_eq!(rt; ended, Err(Fault::Write));
-            let output = writer.into_inner().output;
-            assert_eq!(rt; output.len() + 1, call);
-            assert!(rt; TEXT.starts_with(output.as_slice()));
-        }
-    }
+fn each_read_fails(rt: HostRuntime) -> Result<(), Fail> {
+    let spaces = vec![in rt.alloc(); 32; 1_048_576]?;
+    expect_read_faults(&rt, SCRIPT, 1, SCRIPT.len() + 1);
+    expect_read_faults(&rt, spaces.as_slice(), 4096, 257);
     Ok(())
+}
+
+/// A writer of one byte a call fails, or takes nothing, at each of its calls: the fault of writes, and a beginning of the
+/// text.
+fn expect_write_faults<R: Abort + AllocGlobal + Threads + Sync>(
+    rt: &R,
+    script: &[u8],
+    text: &[u8],
+    takes_none: bool,
+) {
+    for call in 1..=text.len() {
+        let mut reader = Watched::new(slow_device(rt, script, 4096));
+        let mut writer = slow_device(rt, b"", 1);
+        writer.fails_at = call;
+        writer.takes_none = takes_none;
+        let mut writer = Watched::new(writer);
+        let ended = run(rt, rt.alloc(), &mut reader, &mut writer, ONE_WORKER);
+        assert_eq!(*rt; ended, Err(Fault::Write), "call {call}");
+        let writer = writer.into_inner();
+        assert_eq!(*rt; writer.calls, call);
+        assert_eq!(*rt; writer.output.as_slice(), &text[..call - 1]);
+    }
+}
+
+#[test]
+fn each_write_fails(rt: HostRuntime) {
+    let rows: [(&[u8], &[u8]); 2] = [(SCRIPT, TEXT), (b"{", b"refused S1\n")];
+    for (script, text) in rows {
+        expect_write_faults(&rt, script, text, false);
+        expect_write_faults(&rt, script, text, true);
+    }
 }
