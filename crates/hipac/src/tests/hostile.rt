@@ -9,13 +9,13 @@ use std::test::Fail;
 /// The bytes that a script may have.
 const MOST_BYTES: usize = 1_048_576;
 
-/// All but the last three digits of the longest names.
+/// The longest names without their three digits.
 const NAME: &str = "aaaaaaaaaaaaaaaaaaaaaaaaaaaaa";
 
-/// A statement that emits the greatest number within 15 `neg`, and what that reports.
+/// What is reported where the greatest number within 15 `neg` is emitted.
 const LEAST: &str = "emit -9223372036854775807\n";
 
-/// So many periods lie between 0 and the greatest number as one move of the clock may have moments.
+/// One move of the clock up to the greatest number has 1,000 of these periods, which are the most moments.
 const PERIOD: u64 = 9_223_372_036_854_775;
 
 fn put_times(text: &mut String, piece: &str, times: usize) -> Result<(), Fail> {
@@ -196,7 +196,8 @@ fn put_first_transaction(text: &mut String, letters: &str) -> Result<(), Fail> {
     Ok(())
 }
 
-/// A transaction that emits so many of the longest texts that the script has its size, less what a closing takes.
+/// A transaction that aborts, and one that emits so many of the longest texts as the script has room for. It tells how many
+/// they are.
 fn put_last_transaction(text: &mut String, alloc: Global, letters: &str) -> Result<usize, Fail> {
     let emit = format!(in alloc; ",[\"emit\",\"{letters}\"]")?;
     text.push_str("[\"tx\",[[\"abort\"]]],[\"tx\",[[\"emit\",1]")?;
