@@ -1,9 +1,9 @@
 #!/usr/bin/env python3
 """Measures firings per second, and prints the table of bench/README.md.
 
-    bench/bench.py PROGRAM [--times N] [--only WORD]
+    bench/bench.py PROGRAM [--times N] [--only LETTERS] [--keep FOLDER]
 
-PROGRAM is the built hipac (`./hipac` builds it and says where it lies). Each workload is a script of its own, made
+PROGRAM is crates/hipac/out/hipac, which `./hipac` builds. Each workload is a script of its own, made
 here; each is run N times (5), and the shortest time counts. Workloads (c) and (d) are also run as triggers by sqlite3
 over an in-memory database, in the same run.
 """
@@ -13,7 +13,6 @@ import json
 import os
 import subprocess
 import sys
-import tempfile
 import time
 
 WORKERS = (1, 2, 4)
@@ -136,7 +135,7 @@ def main():
     words = argparse.ArgumentParser(description=__doc__.splitlines()[0])
     words.add_argument("program")
     words.add_argument("--times", type=int, default=5)
-    words.add_argument("--only", default="")
+    words.add_argument("--only", metavar="LETTERS", default="", help="runs these workloads alone, as in --only ab")
     words.add_argument("--keep", metavar="FOLDER", help="also writes the scripts there")
     given = words.parse_args()
     print("| Workload | Firings | " + " | ".join(f"{w} worker{'s' if w > 1 else ''}" for w in WORKERS) + " | sqlite3 |")
@@ -159,8 +158,7 @@ def main():
         if len(outputs) != 1:
             sys.exit(f"({letter}): the reports differ")
         if make_sql:
-            with tempfile.TemporaryDirectory() as folder:
-                took, _ = shortest(["sqlite3", "-batch", ":memory:"], make_sql(), given.times)
+            took, _ = shortest(["sqlite3", "-batch", ":memory:"], make_sql(), given.times)
             cells.append(f"{took * 1000:.0f} ms, {firings / took:,.0f}/s")
         else:
             cells.append("")
