@@ -122,7 +122,7 @@ fn as_part(alloc: Global, what: What, course: Course, after: End) -> Result<Cour
         detached,
         items,
     } = course;
-    let mut around = Vec::new(alloc);
+    let mut around = Vec::with_capacity(alloc, 1)?;
     around.push(Item::Node(Node {
         what,
         end: ending(end),

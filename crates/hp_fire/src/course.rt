@@ -1,6 +1,6 @@
 //! What statements, signals and groups give.
 
-ghost use Rattle.std.specs.Prelude.{◌≡◌, IfOk, OnOk, [], length};
+ghost use Rattle.std.specs.Prelude.{◌≡◌, ◌++◌, IfOk, OnOk, [], length};
 ghost use Rattle.hp_model.specs.Answers.{ended, followed, is_done};
 ghost use Rattle.hp_model.specs.Tree.{no_items};
 ghost use Rattle.hp_tree.specs.Mapped.{before};
@@ -87,7 +87,7 @@ impl Course {
     pub(crate) fn of_item(alloc: Global, item: Item) -> Result<Course, AllocError>
         ensures { IfOk result (λ c. course c ≡ record { end = end End.Done; queued = []; detached = []; items = before item no_items }) }
     {
-        let mut items = Vec::new(alloc);
+        let mut items = Vec::with_capacity(alloc, 1)?;
         items.push(item)?;
         Ok(Course {
             end: End::Done,
@@ -115,14 +115,28 @@ impl Course {
     {
         let Course {
             end,
-            mut queued,
-            mut detached,
-            mut items,
+            queued,
+            detached,
+            items,
         } = more;
-        self.queued.append(&mut queued)?;
-        self.detached.append(&mut detached)?;
-        self.items.append(&mut items)?;
+        append(&mut self.queued, queued)?;
+        append(&mut self.detached, detached)?;
+        append(&mut self.items, items)?;
         self.end = end;
         Ok(())
     }
+}
+
+/// Adds a list at the end of another. Where that one is empty, nothing is copied.
+///
+/// An error means that memory ran out.
+pub(crate) fn append<T: Drop>(all: &mut Vec<T>, mut more: Vec<T>) -> Result<(), AllocError>
+    ensures items { OnOk result (all.new.items ≡ all.old.items ++ more.items) }
+{
+    if all.is_empty() {
+        *all = more;
+        return Ok(());
+    }
+    all.append(&mut more)?;
+    Ok(())
 }

@@ -132,7 +132,7 @@ fn fired(task: &Task, condition: ConditionEnd) -> What
 fn quiet(alloc: Global, what: What) -> Result<Outcome, AllocError>
     ensures { IfOk result (λ o. firing o ≡ handing_on (what_of what) []) }
 {
-    let mut tree = Vec::new(alloc);
+    let mut tree = Vec::with_capacity(alloc, 1)?;
     tree.push(Item::Node(Node {
         what,
         end: Ending::Committed,
@@ -157,7 +157,7 @@ fn later(
 ) -> Result<Outcome, AllocError>
     ensures { IfOk result (λ o. firing o ≡ handing_on (fire_node task.now.rule (coupling task.now.place) with_later_action) (action_task (coupling place) (task_of task.now) (mapped.answers answers.value.items) ∷ [])) }
 {
-    let mut tasks = Vec::new(alloc);
+    let mut tasks = Vec::with_capacity(alloc, 1)?;
     tasks.push(Task {
         rule: task.rule,
         step: Step::Action(answers),

@@ -12,7 +12,7 @@ ghost use Rattle.hp_fire.specs.Mapped as mapped;
 ghost use Rattle.hp_attempt.specs.Mapped.{firing};
 ghost use Rattle.hp_fire.specs.Joined.{with_firings};
 
-use crate::course::{Course, End, GroupOutcome};
+use crate::course::{Course, End, GroupOutcome, append};
 use hp_attempt::Outcome;
 use hp_rule::{Detached, Task};
 use hp_value::{Cause, Coupling, RuleNo};
@@ -62,7 +62,7 @@ pub(crate) fn place_tasks(alloc: Global, tasks: Vec<Task>) -> Result<Placed, All
 pub(crate) fn one_task(alloc: Global, task: Task) -> Result<Vec<Task>, AllocError>
     ensures { IfOk result (λ ts. ts.items ≡ task ∷ []) }
 {
-    let mut tasks = Vec::new(alloc);
+    let mut tasks = Vec::with_capacity(alloc, 1)?;
     tasks.push(task)?;
     Ok(tasks)
 }
@@ -99,13 +99,13 @@ fn add_firing(course: &mut Course, outcome: Outcome) -> Result<(), AllocError>
 {
     let Outcome {
         end: _,
-        mut queued,
-        mut detached,
-        mut tree,
+        queued,
+        detached,
+        tree,
     } = outcome;
-    course.queued.append(&mut queued)?;
-    course.detached.append(&mut detached)?;
-    course.items.append(&mut tree)?;
+    append(&mut course.queued, queued)?;
+    append(&mut course.detached, detached)?;
+    append(&mut course.items, tree)?;
     Ok(())
 }
 

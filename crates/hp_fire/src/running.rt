@@ -315,7 +315,7 @@ fn one_by_one<R: Threads + Sync, G: Gate + Sync>(
         told: false,
         ..*site
     };
-    let mut outcomes = Vec::new(alloc);
+    let mut outcomes = Vec::with_capacity(alloc, tasks.len())?;
     for task in tasks {
         let outcome = firing(&inside, alloc, view, task)?;
         let end = outcome.end;

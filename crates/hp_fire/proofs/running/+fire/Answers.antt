@@ -112,7 +112,7 @@ one_by_one-loop-task-preserved g t c =
     ]
 
 pub one_by_one-loop-task-init : goal.one_by_one-loop-task-init
-one_by_one-loop-task-init g t c = group_starts c.args.view.now _ (ap (map firing) c.new-outcomes.ensures.items)
+one_by_one-loop-task-init g t c = group_starts c.args.view.now _ (ap (map firing) c.in_ok-outcomes.ensures.items)
 
 pub one_by_one-returns-then-is_some-clause-runs : goal.one_by_one-returns-then-is_some-clause-runs
 one_by_one-returns-then-is_some-clause-runs g t c =
