@@ -35,6 +35,7 @@ use Rattle.hp_fire.proofs.Sending.{event_sync, stmt_sync, library_sync, item_sen
 use Rattle.hp_sessions.specs.declared.name.BookName as name
 use Rattle.hp_sessions.specs.contracts.book.Book as Book
 use Rattle.hp_sessions.specs.contracts.entry.Entry as Entry
+use Rattle.hp_sessions.specs.contracts.receipt.Receipt as Receipt
 
 -- ---- libraries and bodies
 
@@ -86,7 +87,7 @@ report_send = search (top_send, heap.crosses, sendable) depth 12
 report_sync : IsSync UnitReport.the_row
 report_sync = search (top_sync, heap.crosses, sendable) depth 12
 
-pub reply_send : IsSend (Arc.the_row UnitReport.the_row Heap.the_row ghosts)
+reply_send : IsSend (Arc.the_row UnitReport.the_row Heap.the_row ghosts)
 reply_send = search (report_send, report_sync, heap.crosses, sendable) depth 12
 
 -- ---- books
@@ -101,3 +102,8 @@ ruleset book_parts = (shared_library_send, snapshot_send, store_send, entry_send
 
 pub book_send : (K : RattleType) (g : name.Ghosts K.Denot) → IsSend K → IsSend (Book.the_row K g)
 book_send K g k = search book_parts depth 30 fits 20000
+
+-- ---- receipts
+
+pub receipt_send : (K : RattleType) (g : name.Ghosts K.Denot) → IsSend K → IsSend (Receipt.the_row K g)
+receipt_send K g k = search (reply_send, entry_send, seat.the_send, heap.crosses, sendable) depth 30 fits 20000

@@ -97,6 +97,13 @@ IsUnable b body (Refusal.HistoryFull n) = (rules.library body.library.value ≡ 
 IsUnable b body (Refusal.Stale entries cell) = ⊥
 IsUnable b body Refusal.NoMemory = MayCome b body
 
+-- a refusal that isn't for what a unit read
+abbrev pub IsNotStale : Refusal → Type 0
+IsNotStale Refusal.OtherLibrary = Unit {0}
+IsNotStale (Refusal.HistoryFull n) = Unit {0}
+IsNotStale (Refusal.Stale entries cell) = ⊥
+IsNotStale Refusal.NoMemory = Unit {0}
+
 -- what a session that was told of the number last holds of this table
 abbrev pub IsMemory : TableId → ℕ → Option (Seat Entry View) → Type 0
 IsMemory table last None = last ≡ 0

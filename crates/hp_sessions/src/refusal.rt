@@ -22,6 +22,11 @@ pub enum Refusal {
 }
 
 impl From<AllocError> for Refusal {
+    ghost use Rattle.std.specs.Prelude.{◌≡◌};
+    ghost use Rattle.hp_sessions.specs.declared.refusal.Refusal.TheVariants.{NoMemory};
+
+    ghost from_gives = { λ _ e. e ≡ NoMemory };
+
     fn from(_error: AllocError) -> Refusal {
         Refusal::NoMemory
     }

@@ -1,7 +1,7 @@
 //! Sessions, each of one caller.
 
-ghost use Rattle.std.specs.Prelude.{◌≡◌, ◌<◌, ◌≤◌, IfOk, OnErr};
-ghost use Rattle.hp_sessions.specs.Books.{IsOf};
+ghost use Rattle.std.specs.Prelude.{◌≡◌, ◌<◌, ◌≤◌, IfOk, IfErr};
+ghost use Rattle.hp_sessions.specs.Books.{IsOf, IsNotStale};
 
 use crate::book::Book;
 use crate::name::BookName;
@@ -65,7 +65,7 @@ impl<'a, K: BookName> Session<'a, K> {
         gate: &G,
     ) -> Result<Receipt<K>, Refusal>
         ensures ok { IfOk result (λ r. IsOf self.old.number body r.entry × (self.old.last < r.number) × (self.new ≡ record { number = self.old.number; last = r.number })) }
-        ensures err { OnErr result (self.new ≡ self.old) }
+        ensures err { IfErr result (λ e. (self.new ≡ self.old) × IsNotStale e) }
     {
         let snapshot = self.book.lock(rt).snapshot()?;
         gate.started(self.number as usize);

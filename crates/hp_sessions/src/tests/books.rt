@@ -1,5 +1,7 @@
 //! What one thread sees of a book.
 
+ghost use Rattle.std.specs.Prelude.{◌≡◌};
+
 use crate::laws::{apart, kept, legal};
 use crate::tests::bank::{aborting, adding, balance, begun, ending, library};
 use crate::{Blank, Book, BookName, NoGate, Refusal, Session, Unit};
@@ -38,12 +40,32 @@ fn stale<K: BookName, R: Threads + Abort + Sync>(
     Ok(())
 }
 
-// Catches a book that answers with a refusal for what it has committed (`commits_then_refuses`).
 #[test]
 fn a_unit_is_stale(rt: HostRuntime) -> Result<(), Fail> {
     let library = library(rt.alloc(), "acct")?;
     let blank = begun(&rt, rt.alloc(), &library, 1)?;
     stale::<Brand, _>(&rt, rt.alloc(), &library, blank)
+}
+
+// One body that aborts, one that commits, and one of another library.
+fn thrice<K: BookName, R: Threads + Wait + Abort + Sync>(
+    rt: &R,
+    alloc: Global,
+    library: &Arc<Library>,
+    other: &Arc<Library>,
+    lock: &Mutex<Book<K>>,
+) -> Result<(), Fail> {
+    let mut session = Session::new(1, lock);
+    let one = session.submit(rt, alloc, aborting(alloc, library)?, &NoGate);
+    let one = one.ok().ok_or("a receipt")?;
+    assert_eq!(rt; one.number(), 1);
+    assert_eq!(rt; ending(one.reply()), Some(Ending::Aborted(Cause::Asked)));
+    let two = session.submit(rt, alloc, adding(alloc, library, 1)?, &NoGate);
+    let two = two.ok().ok_or("a receipt")?;
+    assert_eq!(rt; two.number(), 2);
+    let none = session.submit(rt, alloc, adding(alloc, other, 1)?, &NoGate);
+    assert!(rt; matches!(none.err(), Some(Refusal::OtherLibrary)));
+    Ok(())
 }
 
 fn aborted<K: BookName, R: Threads + Wait + Abort + Sync>(
@@ -56,16 +78,7 @@ fn aborted<K: BookName, R: Threads + Wait + Abort + Sync>(
     requires { blank.table ≡ K.table }
 {
     let book = Mutex::new(blank.open::<K>(alloc));
-    let mut session = Session::new(1, &book);
-    let one = session.submit(rt, alloc, aborting(alloc, library)?, &NoGate);
-    let one = one.ok().ok_or("a receipt")?;
-    assert_eq!(rt; one.number(), 1);
-    assert_eq!(rt; ending(one.reply()), Some(Ending::Aborted(Cause::Asked)));
-    let two = session.submit(rt, alloc, adding(alloc, library, 1)?, &NoGate);
-    let two = two.ok().ok_or("a receipt")?;
-    assert_eq!(rt; two.number(), 2);
-    let none = session.submit(rt, alloc, adding(alloc, other, 1)?, &NoGate);
-    assert!(rt; matches!(none.err(), Some(Refusal::OtherLibrary)));
+    thrice(rt, alloc, library, other, &book)?;
     let history = book.into_inner().end();
     assert_eq!(rt; balance(history.store(), 1), 1);
     assert_eq!(rt; history.entries().len(), 2);

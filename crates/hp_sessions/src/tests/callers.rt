@@ -1,5 +1,7 @@
 //! Callers on threads of their own.
 
+ghost use Rattle.std.specs.Prelude.{◌≡◌, ◌<◌};
+
 use crate::laws::{kept, legal};
 use crate::tests::bank::{accounts, adding, balance, begun, library};
 use crate::{Blank, Book, BookName, History, NoGate, Receipt, Session};
@@ -78,8 +80,8 @@ fn two_threads<K: BookName + Send + Sync, R: Threads + Wait + Abort + Sync>(
     Ok(())
 }
 
-// Catches a book that commits twice for one call (`commits_twice`), and calls that always want for memory
-// (`always_refuses_for_memory`).
+// Catches a session that commits twice for one call (`commits_twice`), or commits and then refuses (`commits_then_refuses`), and
+// calls that always want for memory (`always_refuses_for_memory`).
 #[test]
 fn two_sessions_of_fifty(rt: HostRuntime) -> Result<(), Fail> {
     let library = library(rt.alloc(), "acct")?;

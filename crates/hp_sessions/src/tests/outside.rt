@@ -1,5 +1,7 @@
 //! A unit is made outside the lock.
 
+ghost use Rattle.std.specs.Prelude.{◌≡◌};
+
 use crate::tests::bank::{adding, balance, begun, library};
 use crate::{Blank, Book, BookName, Gate, Receipt, Session};
 use hp_rule::Library;
