@@ -7,8 +7,8 @@ ghost use Rattle.hp_sessions.specs.Same.{expression_same, statement_same, body_s
 ghost use Rattle.hp_rule.specs.Statements.{statement, body_in};
 ghost use Rattle.hp_rule.specs.Libraries.{library};
 
-use hp_rule::{Assignment, Library, Rule, Stmt};
 use hp_query::Query;
+use hp_rule::{Assignment, Library, Rule, Stmt};
 use hp_value::{ClassDef, Expr, Field};
 
 /// Whether two libraries are the same: the same classes and the same rules in the same order, and the same limit of depth.

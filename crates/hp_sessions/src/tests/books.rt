@@ -2,7 +2,7 @@
 
 ghost use Rattle.std.specs.Prelude.{◌≡◌};
 
-use crate::laws::{apart, kept, legal};
+use crate::laws::apart;
 use crate::tests::bank::{aborting, adding, balance, begun, ending, library};
 use crate::{Blank, Book, BookName, NoGate, Refusal, Session, Unit};
 use hp_rule::Library;
