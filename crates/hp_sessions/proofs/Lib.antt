@@ -1,0 +1,5 @@
+pub mod Fronts
+pub mod Moves
+pub mod Legal
+pub mod Compared
+pub mod Crossing

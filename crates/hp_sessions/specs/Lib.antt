@@ -1,0 +1,6 @@
+pub mod Same
+pub mod Units
+pub mod Mapped
+pub mod Telling
+pub mod Kept
+pub mod Books

@@ -1,0 +1,27 @@
+-- What a unit is to a contract, and what it stands for.
+use Rattle.std.specs.Prelude.{List}
+use Rattle.std.specs.declared.sync.Arc.{Arc}
+use Rattle.std.specs.declared.alloc.Global.{Global}
+use Rattle.hp_model.specs.Cascade.{transaction}
+use Rattle.hp_model.specs.Cells.{Read}
+use Rattle.hp_rule.specs.declared.body.Body.{Body}
+use Rattle.hp_rule.specs.Mapped as rules
+use Rattle.hp_store.specs.Changes.{Entries, changes}
+use Rattle.hp_tree.specs.declared.report.UnitReport.{UnitReport}
+use Rattle.hp_tree.specs.Mapped.{unit_report}
+use Rattle.hp_top.specs.Units.{IsSoundUnit}
+
+-- a body that was run: what it read, what it writes, and what is reported of it
+pub record Made : Type 0 where
+  pub body : Body
+  pub reads : List Read
+  pub layer : Entries
+  pub reply : Arc UnitReport Global
+
+-- on every ordered state where the reads hold, the body as a unit is reported so, and leaves that state overwritten by the layer
+abbrev pub StandsFor : Body → List Read → Entries → Arc UnitReport Global → Type 0
+StandsFor body reads layer reply =
+    IsSoundUnit (rules.library body.library.value) (transaction (rules.body body)) reads (changes layer) (unit_report reply.value)
+
+abbrev pub IsSound : Made → Type 0
+IsSound m = StandsFor m.body m.reads m.layer m.reply

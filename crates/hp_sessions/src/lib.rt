@@ -1,0 +1,32 @@
+//! Sessions: many callers' threads submit bodies to one book under a lock, whose history is legal, and get receipts.
+//!
+//! `specs/Books.antt` says what a book, a receipt and a session are to a contract, `specs/Telling.antt` how receipts know
+//! of a history that only grows.
+#![tactic(auto)]
+
+mod blank;
+mod book;
+mod entry;
+mod history;
+pub mod laws;
+mod name;
+mod receipt;
+mod refusal;
+mod same;
+mod session;
+mod telling;
+mod unit;
+
+pub use blank::Blank;
+pub use book::{Book, MOST_UNITS};
+pub use entry::Entry;
+pub use history::History;
+pub use hp_fire::{Gate, NoGate};
+pub use name::BookName;
+pub use receipt::Receipt;
+pub use refusal::Refusal;
+pub use session::Session;
+pub use unit::Unit;
+
+#[cfg(test)]
+mod tests;

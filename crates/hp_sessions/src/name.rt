@@ -1,0 +1,16 @@
+//! Names of books.
+
+use std::marker::Brand;
+
+/// Which book it is, as contracts know it. A function that opens a book is generic over it, and is called with `Brand`.
+pub trait BookName {
+    ghost use Rattle.atomic_table.specs.Seated.{TableId};
+
+    ghost table: { TableId };
+}
+
+impl BookName for Brand {
+    ghost use Rattle.hp_sessions.specs.Telling.{no_table};
+
+    ghost table = { no_table };
+}

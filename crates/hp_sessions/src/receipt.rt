@@ -1,0 +1,52 @@
+//! Receipts.
+
+use crate::name::BookName;
+use crate::telling::Token;
+use hp_tree::UnitReport;
+use std::marker::{Model, PhantomData};
+use std::sync::Arc;
+
+/// What a submitted body was told, and at which number of the history it stands. Numbers begin at 1.
+///
+/// An aborted body has a receipt too. Contracts see the number and the entry there: also its session and its body.
+#[derive(Drop)]
+pub struct Receipt<K: BookName> {
+    pub(crate) number: u64,
+    pub(crate) reply: Arc<UnitReport>,
+    pub(crate) token: Token,
+    pub(crate) of: PhantomData<K>,
+}
+
+impl<K: BookName> Model for Receipt<K> {
+    ghost use Rattle.std.specs.Prelude.{◌≡◌, ◌<◌, ◌-◌, [], slice_get};
+    ghost use Rattle.std.specs.Coded.{codes};
+    ghost use Rattle.hp_sessions.specs.contracts.entry.Entry as of_entry;
+    ghost use Rattle.hp_sessions.specs.Books.{Told, IsReply};
+
+    ghost Value = { Told };
+
+    ghost coded = { Prim.hlevel (codes, of_entry.the_row.coded) };
+
+    ghost view = { λ r. record { number = r.number; entry = slice_get r.token.me.0.list (r.number - 1) } };
+
+    ghost invariant = { λ r. (r.token.table_id ≡ K.table) × (r.token.me.1 ≡ []) × (0 < r.number) × IsReply r.reply (slice_get r.token.me.0.list (r.number - 1)) };
+}
+
+impl<K: BookName> Receipt<K> {
+    ghost use Rattle.std.specs.Prelude.{◌≡◌};
+    ghost use Rattle.hp_sessions.specs.Books.{IsReply};
+
+    /// The number of the entry, from 1 on.
+    pub fn number(&self) -> u64
+        ensures { result ≡ self.now.number }
+    {
+        self.number
+    }
+
+    /// What is reported of the body.
+    pub fn reply(&self) -> &Arc<UnitReport>
+        ensures { IsReply result.now self.now.entry }
+    {
+        &self.reply
+    }
+}

@@ -1,0 +1,105 @@
+//! What tokens tell of a history that only grows.
+ghost use Rattle.std.specs.Prelude.{◌≡◌, [], ◌∷◌, ◌++◌};
+ghost use mathlib.Core.List.{IsPrefix};
+ghost use Rattle.hp_sessions.specs.Telling.{told_of, book_of};
+
+use crate::entry::Entry;
+use atomic_table::{Join, Play, Seat, Split, Table, TableRule};
+use std::alloc::Global;
+use std::collections::LinkedList;
+
+// What a seat knows. The book's seat keeps the list, which is the whole history. Any other list is a beginning of it, and so
+// is what the seat was shown last. No value of it is made.
+pub struct View {
+    pub keeps: bool,
+    pub list: LinkedList<Entry>,
+    pub shown: LinkedList<Entry>,
+}
+
+// The word says nothing.
+pub struct Telling;
+
+impl TableRule<Entry, View, ()> for Telling {
+    ghost use Rattle.std.specs.Prelude.{[]};
+    ghost use Rattle.hp_sessions.specs.Telling.{Kept, book_of};
+
+    ghost holds = { λ key s. Kept s.views };
+
+    ghost first = { λ key. book_of [] };
+}
+
+// The book's seat adds the entry that is said.
+pub struct Appends;
+
+impl Play<Entry, View> for Appends {
+    ghost use Rattle.hp_sessions.specs.Telling.{Appended};
+
+    ghost then = { λ step me found now. Appended step.said me now };
+}
+
+// The book's seat compares what it was shown.
+pub struct Compares;
+
+impl Play<Entry, View> for Compares {
+    ghost use Rattle.hp_sessions.specs.Telling.{Compared};
+
+    ghost then = { λ step me found now. Compared me now };
+}
+
+// Another seat with the same list, which doesn't keep it.
+pub struct Tells;
+
+impl Split<View> for Tells {
+    ghost use Rattle.hp_sessions.specs.Telling.{told_of};
+
+    ghost left = { λ v. v };
+
+    ghost right = { λ v. told_of v.list };
+}
+
+// The first is shown the list of the second.
+pub struct Shows;
+
+impl Join<View> for Shows {
+    ghost use Rattle.std.specs.Prelude.{[]};
+    ghost use Rattle.hp_sessions.specs.Telling.{told_of, shown};
+
+    ghost both = { shown };
+
+    ghost spent = { told_of [] };
+}
+
+pub type Words = Table<Entry, View, (), Telling, Global>;
+
+pub type Token = Seat<Entry, View>;
+
+// A seat with the same list, which doesn't keep it.
+pub(crate) fn tell(words: &Words, token: &mut Token) -> Token
+    requires { (token.old.table_id ≡ words.now.shared.table_id) × (words.now.shared.table_id.words ≡ 1) }
+    ensures same { (token.new.table_id ≡ token.old.table_id) × (token.new.me ≡ token.old.me) }
+    ensures told { (result.table_id ≡ token.old.table_id) × (result.me ≡ (told_of token.old.me.0.list, [])) }
+{
+    words.shared.split_seat::<Tells>(token)
+}
+
+// What the other seat has seen is a beginning of the book's list.
+pub(crate) fn recall(words: &Words, book: &mut Token, other: &mut Token)
+    requires book { (book.old.table_id ≡ words.now.shared.table_id) × (words.now.shared.table_id.words ≡ 1) × (book.old.me ≡ (book_of book.old.me.0.list, [])) }
+    requires other { other.old.table_id ≡ words.now.shared.table_id }
+    ensures same { (book.new.table_id ≡ book.old.table_id) × (book.new.me ≡ book.old.me) × (other.new.table_id ≡ other.old.table_id) × (other.new.me ≡ other.old.me) }
+    ensures seen { IsPrefix other.old.me.0.list book.old.me.0.list }
+{
+    let copy = tell(words, other);
+    words.shared.join_seat::<Shows>(book, copy);
+    words.shared.load::<Compares>(book, 0);
+}
+
+// The entry is the last of the book's list.
+pub(crate) fn append(words: &Words, book: &mut Token, entry: &Entry)
+    requires { (book.old.table_id ≡ words.now.shared.table_id) × (words.now.shared.table_id.words ≡ 1) × (book.old.me ≡ (book_of book.old.me.0.list, [])) }
+    ensures { (book.new.table_id ≡ book.old.table_id) × (book.new.me ≡ (book_of (book.old.me.0.list ++ entry.now ∷ []), [])) }
+{
+    words
+        .shared
+        .compare_exchange_with::<Appends>(book, 0, 0, 0, entry);
+}
