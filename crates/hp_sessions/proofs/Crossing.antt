@@ -31,7 +31,7 @@ use Rattle.hp_rule.specs.contracts.body.Body as Body
 use Rattle.hp_tree.specs.contracts.report.TopReport as TopReport
 use Rattle.hp_tree.specs.contracts.report.UnitReport as UnitReport
 use Rattle.hp_store.specs.contracts.store.Store as Store
-use Rattle.hp_fire.proofs.Sending.{event_sync, stmt_sync, library_sync, item_send, item_sync, snapshot_send}
+use Rattle.hp_fire.proofs.Sending.{event_sync, library_sync, item_send, item_sync, snapshot_send}
 use Rattle.hp_sessions.specs.declared.name.BookName as name
 use Rattle.hp_sessions.specs.contracts.book.Book as Book
 use Rattle.hp_sessions.specs.contracts.entry.Entry as Entry

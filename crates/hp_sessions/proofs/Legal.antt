@@ -2,9 +2,9 @@
 use Rattle.std.proofs.Common.{◌≡◌, ℕ, ◌+◌, ◌-◌, List, [], ◌∷◌, ◌++◌, length, Some, slice_get, refl, sym, ap, ap₂, ◌∙◌, subst, arith}
 use Rattle.std.proofs.lemmas.List.{map_push}
 use Rattle.hp_model.specs.Rules.{Library}
-use Rattle.hp_model.specs.State.{State, IsOrdered}
+use Rattle.hp_model.specs.State.{State}
 use Rattle.hp_model.specs.Cascade.{transaction, run_unit}
-use Rattle.hp_model.specs.Cells.{Cells, Changes, over, Read, Holds, cells}
+use Rattle.hp_model.specs.Cells.{Cells, Changes, over, Read, Holds}
 use Rattle.hp_model.specs.Sessions.{Entry, IsSerialRun, IsLegal, HasFitState}
 use Rattle.hp_top.specs.Units.{IsSoundUnit}
 use Rattle.hp_rule.specs.Mapped as rules

@@ -1,4 +1,4 @@
-use Rattle.std.proofs.Common.{rules, ◌≡◌, sym, subst}
+use Rattle.std.proofs.Common.{rules, ◌≡◌, subst}
 use Rattle.hp_model.specs.Sessions.{HasFitState}
 use Rattle.hp_rule.specs.Mapped as rule
 use Rattle.hp_store.specs.Stack.{cells_in}

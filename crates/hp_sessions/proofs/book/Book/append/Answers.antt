@@ -1,10 +1,10 @@
-use Rattle.std.proofs.Common.{rules, ◌≡◌, ℕ, ◌+◌, ◌-◌, ◌≤◌, List, [], ◌∷◌, ◌++◌, length, Some, slice_get, sym, ap, ◌∙◌, subst, arith, length-append}
+use Rattle.std.proofs.Common.{rules, ◌≡◌, ◌+◌, ◌-◌, ◌≤◌, List, [], ◌∷◌, ◌++◌, length, Some, slice_get, sym, ap, ◌∙◌, subst, arith, length-append}
 use Rattle.hp_model.specs.Cells.{over}
 use Rattle.hp_store.specs.Changes.{changes}
 use Rattle.hp_store.specs.Stack.{Stack, cells_in}
 use Rattle.hp_sessions.specs.declared.entry.Entry.{Entry}
 use Rattle.hp_sessions.specs.Telling.{book_of}
-use Rattle.hp_sessions.specs.Books.{Ledger, Told, MayBeCommitted, IsKeptBook, entry_of}
+use Rattle.hp_sessions.specs.Books.{Ledger, MayBeCommitted, IsKeptBook, entry_of}
 use Rattle.hp_sessions.proofs.Legal.{keeps, there, replies}
 use Rattle.hp_sessions.proofs.book.Book.append.Goals as goal
 
