@@ -267,7 +267,8 @@ impl<K: BookName> Book<K> {
         ensures sound { IfOk result (λ u. IsSound u) }
         ensures reads { IfOk result (λ u. Holds (cells_in self.now.store) u.reads) }
     {
-        Unit::make(rt, alloc, self.snapshot()?, body, 1)
+        let here = self.snapshot()?;
+        Unit::make(rt, alloc, here, body, 1)
     }
 
     // Commits the unit, or runs its body anew where it is stale.
