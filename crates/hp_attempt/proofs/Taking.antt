@@ -1,5 +1,6 @@
 -- Attempts that are taken in.
-use Rattle.std.proofs.Common.{◌≡◌, sym, ap, ◌∙◌, subst, ℕ, ℤ, List, [], ◌∷◌, Option}
+use Rattle.std.proofs.Common.{◌≡◌, refl, sym, ap, ◌∙◌, subst, ℕ, ℤ, List, [], ◌∷◌, Option}
+use Rattle.std.specs.Prelude.{Result, Ok, Err, OnOk}
 use Rattle.hp_model.specs.Rules.{Library}
 use Rattle.hp_model.specs.Tree.{Task}
 use Rattle.hp_model.specs.Cells.{Cell, CellValue, Cells, cells, over, Read, cell_read, keys_read, IsTold, AllTold, Holds, AreKeys}
@@ -7,13 +8,18 @@ use Rattle.hp_model.specs.Firing.{fire_task}
 use Rattle.hp_model.specs.Soundness.{firing_answer, LeadsTo, Attempt, IsSound}
 use Rattle.hp_model.specs.Answers.{FaithfulFiring}
 use Rattle.hp_model.proofs.BridgesCells.{stacked, over-over, Holds-front}
-use Rattle.hp_model.proofs.BridgesKeys.{one_list}
 use Rattle.hp_store.specs.Changes.{Entries, changes}
 use Rattle.hp_store.specs.Stack.{cells_in}
 use Rattle.hp_view.specs.Seeing.{Seeing, beneath, written, now_in, Shows, ShowsKeys, TakesIn, OnlyReads, GoesOn}
 use Rattle.hp_view.specs.Looks.{only_reads_then}
 use Rattle.hp_view.proofs.Views.{GoesOn-then}
-use Rattle.hp_attempt.specs.Holding.{Covers}
+use Rattle.hp_value.specs.declared.cell.Cell.{Cell as RustCell}
+use Rattle.hp_value.specs.Mapped.{cell}
+use Rattle.hp_view.specs.declared.reads.Found.{Found}
+use Rattle.hp_view.specs.declared.reads.Seen.{Seen}
+use Rattle.hp_view.specs.declared.reads.Seen.TheVariants.{Cell as OfCell, Keys as OfKeys}
+use Rattle.hp_view.specs.Mapped.{read}
+use Rattle.hp_attempt.specs.Holding.{IsReadOf, IsReadAgain, Covers}
 
 -- ---- a view that only read
 
@@ -28,16 +34,24 @@ held_first {old} only base held = Holds-front base old.reads only.reads.0 (subst
 
 -- ---- the reads of an attempt, one by one
 
--- a read is read by the view: it holds under the view's writes wherever the view's reads hold
-abbrev pub Again : Seeing → Seeing → Read → Type 0
-Again old new r = IsTold (now_in old) r → (base : Cells) → Holds base new.reads → IsTold (over base (written new)) r
+pub read_is_of : (seen : Seen) (found : Found) → IsReadOf seen (read (seen, found))
+read_is_of (OfCell q) found = refl
+read_is_of (OfKeys n) found = refl
 
-pub again_cell : (old new : Seeing) (cell : Cell) (value : Option CellValue) → Shows new cell (now_in old cell) → Again old new (cell_read cell value)
-again_cell old new cell value shows told base held = shows.everywhere base held ∙ told
+pub again_cell : (old new : Seeing) (q : RustCell) → Shows new (cell q) (now_in old (cell q)) → (r : Read) → IsReadOf (OfCell q) r → IsReadAgain old new r
+again_cell old new q shows (cell_read c value) is =
+    subst (λ d. IsReadAgain old new (cell_read d value)) (sym is) (λ told base held. shows.everywhere base held ∙ told)
+again_cell old new q shows (keys_read class keys) is = absurd is
 
-pub again_keys : {old new : Seeing} (class : ℕ) (keys recorded : List ℤ) → OnlyReads old new → ShowsKeys new class keys → Holds (beneath new) new.reads → Again old new (keys_read class recorded)
-again_keys {old} {new} class keys recorded only shows was told base held =
-    subst (AreKeys (over base (written new)) class) (one_list (shows.everywhere (beneath new) was) (subst (λ c. AreKeys c class recorded) (sym (same_now only)) told)) (shows.everywhere base held)
+pub again_keys : (old new : Seeing) (n : ℕ) → ((keys : List ℤ) → AreKeys (now_in old) n keys → ShowsKeys new n keys) → (r : Read) → IsReadOf (OfKeys n) r → IsReadAgain old new r
+again_keys old new n shows (cell_read c value) is = absurd is
+again_keys old new n shows (keys_read class keys) is =
+    subst (λ d. IsReadAgain old new (keys_read d keys)) (sym is) (λ told base held. (shows keys told).everywhere base held)
+
+-- what a call promises where it succeeds
+pub where_ok : {X E P Q : Type 0} (r : Result X E) → (P → Q) → OnOk r P → OnOk r Q
+where_ok (Ok x) more promise = more promise
+where_ok (Err e) more promise = tt
 
 pub record Recorded (first now : Seeing) (rest all : List Read) : Type 0 where
   pub only : OnlyReads first now
@@ -47,7 +61,7 @@ pub record Recorded (first now : Seeing) (rest all : List Read) : Type 0 where
 
 pub record_more : {first old new : Seeing} {left rest all : List Read} (r : Read) → left ≡ r ∷ rest
     → OnlyReads first old → GoesOn first old → AllTold (now_in first) left → ((base : Cells) → Holds base old.reads → AllTold (over base (written old)) left → AllTold (over base (written old)) all)
-    → OnlyReads old new → GoesOn old new → Again old new r → Recorded first new rest all
+    → OnlyReads old new → GoesOn old new → IsReadAgain old new r → Recorded first new rest all
 record_more {first} {old} {new} {left} {rest} {all} r is only on told covers only' on' again =
     let both : AllTold (now_in first) (r ∷ rest) = subst (AllTold (now_in first)) is told in
     let same : written new ≡ written old = same_written only' in

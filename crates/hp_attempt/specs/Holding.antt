@@ -4,7 +4,7 @@ use Rattle.hp_model.specs.Cells.{Cells, over, Read, cell_read, keys_read, IsTold
 use Rattle.hp_value.specs.Mapped.{cell}
 use Rattle.hp_view.specs.declared.reads.Seen.{Seen}
 use Rattle.hp_view.specs.declared.reads.Seen.TheVariants.{Cell as OfCell, Keys as OfKeys}
-use Rattle.hp_view.specs.Seeing.{Seeing, written}
+use Rattle.hp_view.specs.Seeing.{Seeing, written, now_in}
 
 -- a read of this cell, or of this class's keys
 abbrev pub IsReadOf : Seen → Read → Type 0
@@ -22,6 +22,10 @@ pub record FirstFailed (base : Cells) (reads : List Read) (seen : Seen) : Type 0
   pub held : Holds base before
   pub fails : IsTold base first → ⊥
   pub looked : IsReadOf seen first
+
+-- what was told in a view is read by it: it is told under the view's writes wherever the view's reads hold
+abbrev pub IsReadAgain : Seeing → Seeing → Read → Type 0
+IsReadAgain old new r = IsTold (now_in old) r → (base : Cells) → Holds base new.reads → IsTold (over base (written new)) r
 
 -- wherever the view's reads hold, these hold under its writes
 pub record Covers (v : Seeing) (reads : List Read) : Type 0 where

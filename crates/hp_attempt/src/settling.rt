@@ -2,7 +2,7 @@
 
 ghost use Rattle.std.specs.Prelude.{◌≡◌, ◌↔◌, IsTrue, IsOk, IfOk, OnOk, OnErr};
 ghost use Rattle.hp_model.specs.Rules.{Library};
-ghost use Rattle.hp_model.specs.Cells.{Holds};
+ghost use Rattle.hp_model.specs.Cells.{Holds, Read};
 ghost use Rattle.hp_model.specs.Firing.{fire_task};
 ghost use Rattle.hp_model.specs.Soundness.{IsSound};
 ghost use Rattle.hp_model.specs.Answers.{FaithfulFiring};
@@ -11,7 +11,7 @@ ghost use Rattle.hp_rule.specs.Mapped.{task as task_of};
 ghost use Rattle.hp_store.specs.Changes.{changes};
 ghost use Rattle.hp_view.specs.Seeing.{now_in, written, OnlyReads, GoesOn, Restores};
 ghost use Rattle.hp_attempt.specs.Mapped.{firing, attempt as attempt_of};
-ghost use Rattle.hp_attempt.specs.Holding.{Covers};
+ghost use Rattle.hp_attempt.specs.Holding.{IsReadOf, IsReadAgain, Covers};
 
 use crate::holding::holds;
 use crate::outcome::Attempt;
@@ -72,10 +72,19 @@ fn record(alloc: Global, view: &mut View, reads: &Reads) -> Result<(), AllocErro
     ensures covers { OnOk result (Covers view.new reads.now) }
 {
     for (seen, _) in reads.iter() {
-        match seen {
-            Seen::Cell(cell) => view.read(*cell)?,
-            Seen::Keys(class) => drop(view.keys(alloc, *class)?),
-        }
+        read_again(alloc, view, seen)?;
     }
     Ok(())
+}
+
+// Reads what was read there.
+fn read_again(alloc: Global, view: &mut View, seen: &Seen) -> Result<(), AllocError>
+    ensures only { OnlyReads view.old view.new }
+    ensures goes_on { GoesOn view.old view.new }
+    ensures again { OnOk result ((r : Read) → IsReadOf seen.now r → IsReadAgain view.old view.new r) }
+{
+    match seen {
+        Seen::Cell(cell) => view.read(*cell),
+        Seen::Keys(class) => view.read_keys(alloc, *class),
+    }
 }

@@ -9,6 +9,7 @@ mod closing;
 mod context;
 mod course;
 mod deciding;
+mod elders;
 mod gate;
 mod operations;
 mod placing;

@@ -26,6 +26,7 @@ use crate::closing::{close_action, close_sub};
 use crate::context::{Context, Site};
 use crate::course::{Course, End, GroupOutcome};
 use crate::deciding::{Decision, action_of, decide};
+use crate::elders::Elders;
 use crate::gate::Gate;
 use crate::operations::{
     created, deleted, emitted, is_true, named_object, operation_course, rule_changed, selected,
@@ -34,7 +35,7 @@ use crate::operations::{
 use crate::placing::{Placed, group_course, one_task, place_tasks};
 use crate::progress::{Progress, Tried, place};
 use crate::settling::{settled, vetoed};
-use crate::wave::{Wave, keep, kept_layer, post_attempt, post_layer, start_of};
+use crate::wave::{Wave, keep, kept_layer, post_attempt, post_layer};
 use hp_attempt::{Attempt, Outcome};
 use hp_board::{Board, Pass, Seat};
 use hp_ops::{fire, trigger};
@@ -477,13 +478,16 @@ fn work<R: Threads + Sync, G: Gate + Sync>(
     let Ok(mut pass) = wave.board.pass(alloc) else {
         return found;
     };
+    let Ok(mut elders) = Elders::new(alloc) else {
+        return found;
+    };
     for _ in 0..wave.tasks.len() {
         let (drawn, after) = wave.board.draw(seat);
         seat = after;
         let Some(number) = drawn else {
             break;
         };
-        let (attempt, after) = try_number(site, alloc, wave, number, pass);
+        let (attempt, after) = try_number(site, alloc, wave, number, &mut elders, pass);
         pass = after;
         keep(&mut found, number, attempt);
     }
@@ -497,6 +501,7 @@ fn try_number<R: Threads + Sync, G: Gate + Sync>(
     alloc: Global,
     wave: &Wave<'_>,
     number: usize,
+    elders: &mut Elders,
     pass: Pass<Arc<Layer>>,
 ) -> (Option<Attempt>, Pass<Arc<Layer>>)
     requires wave { IsWave wave.now }
@@ -513,7 +518,7 @@ fn try_number<R: Threads + Sync, G: Gate + Sync>(
     if wave.told {
         site.gate.started(place);
     }
-    let (start, pass) = start_of(alloc, wave, number, pass);
+    let (start, pass) = elders.start_of(alloc, wave, number, pass);
     let tried = try_from(site, alloc, start, &wave.tasks[place]);
     let (attempt, pass) = post_attempt(alloc, wave, number, tried, pass);
     if wave.told {

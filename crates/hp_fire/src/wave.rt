@@ -39,35 +39,6 @@ pub(crate) fn kept_layer<'a>(wave: &Wave<'a>, number: usize) -> Option<&'a Arc<L
     Some(&attempt.layer)
 }
 
-/// What a task starts from: the wave's snapshot, and over it in order what elders of the task have posted so far.
-pub(crate) fn start_of(
-    alloc: Global,
-    wave: &Wave<'_>,
-    number: usize,
-    mut pass: Pass<Arc<Layer>>,
-) -> (Result<Snapshot, AllocError>, Pass<Arc<Layer>>)
-    requires number { number < length wave.now.board.cells }
-    requires pass { IsPassOf wave.now.board.cells pass }
-    ensures { IsPassOf wave.now.board.cells result.1 }
-{
-    let mut elders = Layer::new(alloc);
-    for elder in 0..number {
-        let (found, after) = wave.board.look(elder, pass);
-        pass = after;
-        if let Some(layer) = found {
-            if elders.take_in(layer).is_err() {
-                return (Err(AllocError), pass);
-            }
-        }
-    }
-    (with_elders(alloc, &wave.snapshot, elders), pass)
-}
-
-fn with_elders(alloc: Global, snapshot: &Snapshot, elders: Layer) -> Result<Snapshot, AllocError> {
-    let layer = Arc::new(alloc, elders)?;
-    snapshot.with_layer(alloc, layer)
-}
-
 /// Posts what a task wrote, and says whether it did.
 pub(crate) fn post_layer(
     alloc: Global,

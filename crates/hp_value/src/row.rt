@@ -31,11 +31,18 @@ pub struct ClassDef {
 
 /// The values of an object, by the names of its class's fields.
 ///
-/// The list of fields is the class's own, and a clone shares both lists: it copies no value.
+/// The list of fields is the class's own. A clone shares both lists: it copies no value, and counts at one place, which
+/// is the row's own. So threads that clone different rows of a class don't wait for each other.
 #[derive(Debug, Drop)]
 pub struct Row {
+    lists: Arc<RowLists>,
+}
+
+/// What the clones of a row share.
+#[derive(Debug, Drop)]
+struct RowLists {
     fields: Arc<Vec<Field>>,
-    values: Arc<Vec<Value>>,
+    values: Vec<Value>,
 }
 
 impl Model for Row {
@@ -44,7 +51,7 @@ impl Model for Row {
 
     ghost Value = { model.Row };
 
-    ghost view = { λ r. row_of r.fields.value.items r.values.value.items };
+    ghost view = { λ r. row_of r.lists.value.fields.value.items r.lists.value.values.items };
 }
 
 impl Row {
@@ -59,9 +66,9 @@ impl Row {
     ) -> Result<Row, AllocError>
         ensures { IfOk result (λ r. r ≡ row_of fields.now.value.items values.items) }
     {
+        let fields = Arc::try_clone(fields)?;
         Ok(Row {
-            fields: Arc::try_clone(fields)?,
-            values: Arc::new(alloc, values)?,
+            lists: Arc::new(alloc, RowLists { fields, values })?,
         })
     }
 }
@@ -79,7 +86,7 @@ impl Row {
         ensures { IfOk result (λ r. r ≡ renewed self.now (map value values.items)) }
     {
         values.truncate(self.len());
-        Row::new(alloc, &self.fields, values)
+        Row::new(alloc, &self.lists.fields, values)
     }
 
     /// How many fields the row has.
@@ -112,7 +119,7 @@ impl Row {
     fn parts(&self) -> (&[Field], &[Value])
         ensures { row_of result.0.now result.1.now ≡ self.now }
     {
-        (&self.fields, &self.values)
+        (&self.lists.fields, &self.lists.values)
     }
 }
 
@@ -177,8 +184,7 @@ impl Clone for Row {
 
     fn clone(&self) -> Result<Row, AllocError> {
         Ok(Row {
-            fields: Arc::try_clone(&self.fields)?,
-            values: Arc::try_clone(&self.values)?,
+            lists: Arc::try_clone(&self.lists)?,
         })
     }
 }

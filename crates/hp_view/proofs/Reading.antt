@@ -1,8 +1,8 @@
 -- Reads that are noted once, and what they show wherever they hold.
 use Rattle.std.proofs.Common.{◌≡◌, refl, sym, ap, ◌∙◌, subst, ℕ, ℤ, Bool, true, false, true≢false, ◌||◌, ◌==◌, List, [], ◌∷◌, ◌++◌, append-nil, length, drop, Option, Some, None, is_some, if◌then◌else◌, arith}
-use Rattle.std.specs.Prelude.{option_map}
+use Rattle.std.specs.Prelude.{IfSome, option_map}
 use Rattle.std.proofs.lemmas.Bool.Decides.{Decides-eqb}
-use Rattle.hp_model.specs.Cells.{Cell, CellValue, Cells, changed, over, same_cell, Read, cell_read, keys_read, IsTold, AllTold, Holds, AreKeys}
+use Rattle.hp_model.specs.Cells.{Cell, CellValue, Cells, Changes, object_cell, changed, over, same_cell, Read, cell_read, keys_read, IsTold, AllTold, Holds, AreKeys}
 use Rattle.hp_model.proofs.BridgesCells.{exact_cell, Holds-push, Holds-last}
 use Rattle.hp_model.proofs.BridgesKeys.{one_list}
 use Rattle.hp_store.specs.Changes.{Entries, changes}
@@ -167,6 +167,14 @@ shows_keys_again {v} {old} class keys merged from held are again over_them =
     subst (λ u. ShowsKeys u class merged) from
     (subst (λ rs. ShowsKeys (record v { reads = rs }) class merged) (noted-again v.reads (keys_read class keys) again) (shows_keys v class keys merged held are over_them))
 
+-- reads that grew by the keys of a class
+pub noted_only : {v old : Seeing} (class : ℕ) (under : List ℤ) (reads : List Read) → v ≡ old → reads ≡ noted v.reads (keys_read class under) → OnlyReads old (record v { reads = reads })
+noted_only {v} {old} class under reads from is = only_more reads from (subst (λ rs. (more : List Read) × (rs ≡ v.reads ++ more)) (sym is) (noted-more v.reads (keys_read class under)))
+
+pub noted_held : (v : Seeing) (class : ℕ) (under : List ℤ) (reads : List Read) → Holds (beneath v) v.reads → AreKeys (beneath v) class under → reads ≡ noted v.reads (keys_read class under)
+    → Holds (beneath v) reads
+noted_held v class under reads held are is = subst (Holds (beneath v)) (sym is) (Holds-noted (beneath v) v.reads (keys_read class under) held are)
+
 -- keys that are noted
 pub record NotedKeys (v old : Seeing) (class : ℕ) (merged : List ℤ) (reads : List Read) : Type 0 where
   pub held : Holds (beneath v) reads
@@ -176,16 +184,49 @@ pub record NotedKeys (v old : Seeing) (class : ℕ) (merged : List ℤ) (reads :
 pub noted_keys : {v old : Seeing} (class : ℕ) (keys merged : List ℤ) (reads : List Read) → v ≡ old → Holds (beneath v) v.reads → AreKeys (beneath v) class keys
     → ((base : Cells) → AreKeys base class keys → AreKeys (over base (written v)) class merged) → reads ≡ noted v.reads (keys_read class keys) → NotedKeys v old class merged reads
 noted_keys {v} {old} class keys merged reads from held are over_them is = record {
-  held = subst (Holds (beneath v)) (sym is) (Holds-noted (beneath v) v.reads (keys_read class keys) held are);
+  held = noted_held v class keys reads held are is;
   shows = subst (λ rs. ShowsKeys (record v { reads = rs }) class merged) (sym is) (shows_keys v class keys merged held are over_them);
-  only = only_more reads from (subst (λ rs. (more : List Read) × (rs ≡ v.reads ++ more)) (sym is) (noted-more v.reads (keys_read class keys)));
+  only = noted_only class keys reads from is;
 }
+
+-- a layer makes the same keys of all cells with the same keys
+keys_over_same : (base other : Cells) (layer : Changes) (class : ℕ) (under keys : List ℤ) → AreKeys base class under → AreKeys other class under
+    → AreKeys (over other layer) class keys → AreKeys (over base layer) class keys
+keys_over_same base other layer class under keys here there are = record {
+  rise = are.rise;
+  has = λ key. are.has key ∙ by key (layer (object_cell class key));
+}
+  where
+    by : (key : ℤ) (change : Option (Option CellValue)) → is_some (changed (other (object_cell class key)) change) ≡ is_some (changed (base (object_cell class key)) change)
+    by key None = sym (there.has key) ∙ here.has key
+    by key (Some value) = refl
+
+-- ---- a call of `read_keys`
+
+-- keys that were read before are shown, whatever the writes made of them
+pub shows_keys_still : {v old : Seeing} (class : ℕ) (under keys : List ℤ) → v ≡ old → Holds (beneath v) v.reads → AreKeys (beneath v) class under → keys_were_read v.reads class ≡ true
+    → AreKeys (now_in old) class keys → ShowsKeys old class keys
+shows_keys_still {v} {old} class under keys from held are again now =
+    shows_keys_again class under keys from held are again
+    (λ base here. keys_over_same base (beneath v) (written v) class under keys here are (subst (λ u. AreKeys (now_in u) class keys) (sym from) now))
+
+-- keys that are noted
+pub noted_shown : {v old : Seeing} (class : ℕ) (under keys : List ℤ) (reads : List Read) → v ≡ old → Holds (beneath v) v.reads → AreKeys (beneath v) class under
+    → reads ≡ noted v.reads (keys_read class under) → AreKeys (now_in old) class keys → NotedKeys v old class keys reads
+noted_shown {v} {old} class under keys reads from held are is now =
+    noted_keys class under keys reads from held are
+    (λ base here. keys_over_same base (beneath v) (written v) class under keys here are (subst (λ u. AreKeys (now_in u) class keys) (sym from) now)) is
 
 -- what a layer makes of keys, by a layer and a list that are the same
 pub merged_over : {under keys merged : List ℤ} {class : ℕ} {es writes : Entries} → under ≡ keys → es ≡ writes
     → ((base : Cells) → AreKeys base class under → AreKeys (over base (changes es)) class merged) → (base : Cells) → AreKeys base class keys → AreKeys (over base (changes writes)) class merged
 merged_over {under} {keys} {merged} {class} {es} {writes} same shared over_them base are =
     subst (λ l. AreKeys (over base (changes l)) class merged) shared (over_them base (subst (AreKeys base class) (sym same) are))
+
+-- what is told where keys are found
+pub some_told : {A : Type 0} {P : A → Type 0} (o : Option A) → IfSome o P → is_some o ≡ true → (a : A) × P a
+some_told None told found = absurd (true≢false (sym found))
+some_told (Some a) told found = (a, told)
 
 -- an option that is seen by a function
 pub some_seen : {A B : Type 0} (f : A → B) (o : Option A) {w : Option B} → option_map f o ≡ w → is_some w ≡ is_some o

@@ -1,11 +1,11 @@
 //! A view: a snapshot, what was read of it, and what is written over it.
 
-ghost use Rattle.std.specs.Prelude.{◌≡◌, ◌↔◌, ℕ, ◌≤◌, [], length, None, Some, IsTrue, IsOk, IsSome, IfOk, OnOk, OnErr, option_map};
+ghost use Rattle.std.specs.Prelude.{◌≡◌, ◌↔◌, ℕ, ℤ, List, ◌≤◌, [], length, None, Some, IsTrue, IsOk, IsSome, IfOk, OnOk, OnErr, option_map};
 ghost use Rattle.hp_model.specs.Cells.{AreKeys, Holds};
 ghost use Rattle.hp_value.specs.Mapped as mapped;
 ghost use Rattle.hp_store.specs.Mapped.{cell_value};
 ghost use Rattle.hp_store.specs.Stack.{cells_in};
-ghost use Rattle.hp_view.specs.Seeing.{Seeing as Seen, beneath, written, now_in, read_cell, cell_was_read, Writes, TakesIn, IsSame, GoesBack, GoesOn, Restores, OnlyReads, Shows, ShowsKeys, ReadsKeys};
+ghost use Rattle.hp_view.specs.Seeing.{Seeing as Seen, beneath, written, now_in, read_cell, cell_was_read, keys_were_read, Writes, TakesIn, IsSame, GoesBack, GoesOn, Restores, OnlyReads, Shows, ShowsKeys, ReadsKeys};
 
 use crate::reads::Reads;
 use crate::undo::{Replaced, take_back, write, write_all};
@@ -91,10 +91,10 @@ impl View {
         ensures goes_on { GoesOn self.old self.new }
         ensures so_it_was { OnOk result (Holds (beneath self.new) self.new.reads) }
     {
-        if self.writes.get(cell).is_some() {
+        if self.reads.has_cell(cell) {
             return Ok(());
         }
-        if self.reads.has_cell(cell) {
+        if self.writes.get(cell).is_some() {
             return Ok(());
         }
         self.reads.note_value(cell, self.base.get(cell))?;
@@ -206,6 +206,26 @@ impl View {
 }
 
 impl View {
+    /// Reads the keys of a class's objects, which are then those that `has_keys` takes.
+    ///
+    /// They are recorded as they stand beneath the view's own writes, unless they were read before: then it takes no memory.
+    /// An error means that memory ran out; the view is then as before.
+    pub fn read_keys(&mut self, alloc: Global, class: ClassNo) -> Result<(), AllocError>
+        ensures reads { OnOk result (ReadsKeys self.old self.new class) }
+        ensures err { OnErr result (self.new ≡ self.old) }
+        ensures again { IsTrue (keys_were_read self.old.reads class) → IsOk result }
+        ensures shows { OnOk result ((keys : List ℤ) → AreKeys (now_in self.old) class keys → ShowsKeys self.new class keys) }
+        ensures only { OnlyReads self.old self.new }
+        ensures goes_on { GoesOn self.old self.new }
+    {
+        if self.reads.keys(class).is_some() {
+            return Ok(());
+        }
+        let found = self.base.keys(alloc, class)?;
+        self.reads.note_keys(class, found)?;
+        Ok(())
+    }
+
     /// The keys of a class's objects, in rising order.
     ///
     /// They are recorded as they stand beneath the view's own writes, unless they were read before. The time goes with the

@@ -5,5 +5,5 @@ use Rattle.hp_value.proofs.row.Row.with_values.Goals as goal
 
 pub returns : goal.returns
 returns c =
-    let e : c.truncate.new.self.items ≡ take (length (row_of c.self.inside.fields.value.items c.self.inside.values.value.items)) c.args.values.items = cc in
-    rw (← c.self.view_is, ← (renewed_row c.self.inside.fields.value.items c.self.inside.values.value.items c.args.values.items), ← e) c.new.ensures
+    let e : c.truncate.new.self.items ≡ take (length (row_of c.self.inside.lists.value.fields.value.items c.self.inside.lists.value.values.items)) c.args.values.items = cc in
+    rw (← c.self.view_is, ← (renewed_row c.self.inside.lists.value.fields.value.items c.self.inside.lists.value.values.items c.args.values.items), ← e, ← c.deref.ensures) c.new.ensures
