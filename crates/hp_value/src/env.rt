@@ -221,8 +221,8 @@ impl<'a> Env<'a> {
     }
 
     /// The key of the row with a name, as a value.
-    pub(crate) fn key_of(&self, variable: &str) -> Result<Value, Cause>
-        ensures { outcome value result ≡ model.value_of (environment self.now) (model.key_of variable.now) }
+    pub(crate) fn key_of(&self, variable: &str) -> Result<Value, Halt>
+        ensures { Meets value result (model.value_of (environment self.now) (model.key_of variable.now)) }
     {
         let (key, _) = self.row(variable)?;
         Ok(Value::Int(key))
@@ -245,8 +245,8 @@ impl<'a> Env<'a> {
     }
 
     /// The key of an operation's object, as a value.
-    pub(crate) fn key_in(&self, part: u16) -> Result<Value, Cause>
-        ensures { outcome value result ≡ model.value_of (environment self.now) (model.key_in part) }
+    pub(crate) fn key_in(&self, part: u16) -> Result<Value, Halt>
+        ensures { Meets value result (model.value_of (environment self.now) (model.key_in part)) }
     {
         Ok(Value::Int(self.part(part)?.key()?))
     }
@@ -259,19 +259,19 @@ impl<'a> Env<'a> {
     }
 
     /// The moment that the clock reached, as a value.
-    pub(crate) fn time_of(&self, part: u16) -> Result<Value, Cause>
-        ensures { outcome value result ≡ model.value_of (environment self.now) (model.time_of part) }
+    pub(crate) fn time_of(&self, part: u16) -> Result<Value, Halt>
+        ensures { Meets value result (model.value_of (environment self.now) (model.time_of part)) }
     {
         Ok(Value::Int(self.part(part)?.moment()?))
     }
 
     /// How many occurrences the occurrence stands for, as a value. `NoParameter` means that there is none.
-    pub(crate) fn count(&self) -> Result<Value, Cause>
-        ensures { outcome value result ≡ model.value_of (environment self.now) model.occurrence_count }
+    pub(crate) fn count(&self) -> Result<Value, Halt>
+        ensures { Meets value result (model.value_of (environment self.now) model.occurrence_count) }
     {
         match self.occurrence {
             Some(o) => Ok(Value::Int(in_range(o.count)?)),
-            None => Err(Cause::NoParameter),
+            None => Err(Halt::Cause(Cause::NoParameter)),
         }
     }
 }

@@ -1,10 +1,13 @@
 //! The value of an expression.
 
+ghost use Rattle.std.specs.Prelude.{Ok};
+ghost use Rattle.hp_model.specs.Expressions as model;
 ghost use Rattle.hp_model.specs.Expressions.{value_of};
-ghost use Rattle.hp_value.specs.Mapped.{Meets, value, environment, expression};
+ghost use Rattle.hp_value.specs.Mapped.{Meets, value, environment, expression, arithmetic, comparison};
 
+use crate::constant::Constant;
 use crate::env::Env;
-use crate::expr::Expr;
+use crate::expr::{Arithmetic, Comparison, Expr};
 use crate::halt::Halt;
 use crate::operator::negated;
 use crate::value::Value;
@@ -17,45 +20,110 @@ impl Expr {
     /// The cause is `Kind` for a value of the wrong kind or an unknown name, `Overflow` for a result outside the range
     /// of 64 bits with sign, `DivideByZero` for a zero divisor, and `NoParameter` where the occurrence lacks what is
     /// asked. `Memory` means that an allocation was refused: a text is copied.
+    #[cycle(eval)]
     pub fn eval(&self, alloc: Global, env: &Env<'_>) -> Result<Value, Halt>
         ensures { Meets value result (value_of (environment env.now) (expression self.now)) }
     {
         match self {
-            Expr::Constant(constant) => Ok(constant.value().clone()?),
-            Expr::Arithmetic(op, a, b) => {
-                let v = a.eval(alloc, env)?;
-                let w = b.eval(alloc, env)?;
-                Ok(Value::Int(op.calculate(v.as_int()?, w.as_int()?)?))
-            }
-            Expr::Comparison(op, a, b) => {
-                let v = a.eval(alloc, env)?;
-                let w = b.eval(alloc, env)?;
-                Ok(Value::Bool(op.compare(&v, &w)?))
-            }
-            Expr::Negated(a) => Ok(Value::Int(negated(a.eval(alloc, env)?.as_int()?)?)),
-            Expr::Not(a) => Ok(Value::Bool(!a.eval(alloc, env)?.as_bool()?)),
-            Expr::And(a, b) => {
-                if !a.eval(alloc, env)?.as_bool()? {
-                    return Ok(Value::Bool(false));
-                }
-                let w = b.eval(alloc, env)?;
-                Ok(Value::Bool(w.as_bool()?))
-            }
-            Expr::Or(a, b) => {
-                if a.eval(alloc, env)?.as_bool()? {
-                    return Ok(Value::Bool(true));
-                }
-                let w = b.eval(alloc, env)?;
-                Ok(Value::Bool(w.as_bool()?))
-            }
+            Expr::Constant(constant) => copied(constant),
             Expr::FieldOf { variable, field } => env.field_of(variable.as_str(), field.as_str()),
-            Expr::KeyOf { variable } => Ok(env.key_of(variable.as_str())?),
+            Expr::KeyOf { variable } => env.key_of(variable.as_str()),
             Expr::NewField { part, field } => env.new_field(*part, field.as_str()),
             Expr::OldField { part, field } => env.old_field(*part, field.as_str()),
-            Expr::KeyIn { part } => Ok(env.key_in(*part)?),
+            Expr::KeyIn { part } => env.key_in(*part),
             Expr::Argument { part, place } => env.argument(*part, *place),
-            Expr::TimeOf { part } => Ok(env.time_of(*part)?),
-            Expr::Count => Ok(env.count()?),
+            Expr::TimeOf { part } => env.time_of(*part),
+            Expr::Count => env.count(),
+            Expr::Arithmetic(op, a, b) => calculation(alloc, env, *op, a, b),
+            Expr::Comparison(op, a, b) => comparing(alloc, env, *op, a, b),
+            Expr::Negated(a) => negation(alloc, env, a),
+            Expr::Not(a) => inversion(alloc, env, a),
+            Expr::And(a, b) => both(alloc, env, a, b),
+            Expr::Or(a, b) => either(alloc, env, a, b),
         }
     }
+}
+
+// Operators and constants have functions of their own, so that a level of `eval` is small on the stack: all places for results
+// are cleared on entry, those of arms that aren't taken too.
+
+// The value of a constant.
+fn copied(constant: &Constant) -> Result<Value, Halt>
+    ensures { Meets value result (Ok (value constant.now.value)) }
+{
+    Ok(constant.value().clone()?)
+}
+
+// What an operator makes of two numbers.
+#[cycle(eval)]
+fn calculation(
+    alloc: Global,
+    env: &Env<'_>,
+    op: Arithmetic,
+    a: &Expr,
+    b: &Expr,
+) -> Result<Value, Halt>
+    ensures { Meets value result (value_of (environment env.now) (model.arithmetic (arithmetic op) (expression a.now) (expression b.now))) }
+{
+    let v = a.eval(alloc, env)?;
+    let w = b.eval(alloc, env)?;
+    Ok(Value::Int(op.calculate(v.as_int()?, w.as_int()?)?))
+}
+
+// Whether a comparison holds of two values.
+#[cycle(eval)]
+fn comparing(
+    alloc: Global,
+    env: &Env<'_>,
+    op: Comparison,
+    a: &Expr,
+    b: &Expr,
+) -> Result<Value, Halt>
+    ensures { Meets value result (value_of (environment env.now) (model.compared (comparison op) (expression a.now) (expression b.now))) }
+{
+    let v = a.eval(alloc, env)?;
+    let w = b.eval(alloc, env)?;
+    Ok(Value::Bool(op.compare(&v, &w)?))
+}
+
+// The number with the other sign.
+#[cycle(eval)]
+fn negation(alloc: Global, env: &Env<'_>, a: &Expr) -> Result<Value, Halt>
+    ensures { Meets value result (value_of (environment env.now) (model.negated (expression a.now))) }
+{
+    let v = a.eval(alloc, env)?;
+    Ok(Value::Int(negated(v.as_int()?)?))
+}
+
+// The other truth value.
+#[cycle(eval)]
+fn inversion(alloc: Global, env: &Env<'_>, a: &Expr) -> Result<Value, Halt>
+    ensures { Meets value result (value_of (environment env.now) (model.inverted (expression a.now))) }
+{
+    let v = a.eval(alloc, env)?;
+    Ok(Value::Bool(!v.as_bool()?))
+}
+
+// Whether both are true. The second is evaluated only where the first is.
+#[cycle(eval)]
+fn both(alloc: Global, env: &Env<'_>, a: &Expr, b: &Expr) -> Result<Value, Halt>
+    ensures { Meets value result (value_of (environment env.now) (model.both (expression a.now) (expression b.now))) }
+{
+    if !a.eval(alloc, env)?.as_bool()? {
+        return Ok(Value::Bool(false));
+    }
+    let w = b.eval(alloc, env)?;
+    Ok(Value::Bool(w.as_bool()?))
+}
+
+// Whether one of them is true. The second is evaluated only where the first isn't.
+#[cycle(eval)]
+fn either(alloc: Global, env: &Env<'_>, a: &Expr, b: &Expr) -> Result<Value, Halt>
+    ensures { Meets value result (value_of (environment env.now) (model.either (expression a.now) (expression b.now))) }
+{
+    if a.eval(alloc, env)?.as_bool()? {
+        return Ok(Value::Bool(true));
+    }
+    let w = b.eval(alloc, env)?;
+    Ok(Value::Bool(w.as_bool()?))
 }
