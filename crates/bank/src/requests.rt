@@ -1,0 +1,69 @@
+//! What callers ask of the bank, and why it may end early.
+
+use hp_rule::{Body, Library, Unit};
+use hp_script::{DecodeError, Script, decode};
+use hp_sessions::Refusal;
+use std::alloc::{AllocError, Global};
+use std::sync::Arc;
+use thiserror::Error;
+
+/// The bank's rule, which vetoes what would leave less than nothing, and a body for each request.
+const SCRIPT: &str = r#"{
+  "version": 1,
+  "classes": [["acct", [["bal", "int"]]]],
+  "rules": [
+    ["solvent", ["update", "acct"], "immediate", [], "immediate",
+      [["if", ["<", ["new", 0, "bal"], 0], [["veto"]], []]]]
+  ],
+  "items": [
+    ["tx", [["install", "solvent"], ["create", "acct", 1, [["bal", 0]]]]],
+    ["tx", [["with", "a", "acct", 1, [["update", "acct", 1, [["bal", ["+", ["of", "a", "bal"], 1]]]]]]]],
+    ["tx", [["with", "a", "acct", 1, [["update", "acct", 1, [["bal", ["-", ["of", "a", "bal"], 1000]]]]]]]]
+  ]
+}"#;
+
+/// A request, whose number is the place of its body in the script.
+#[derive(Clone, Copy, Debug)]
+pub enum Request {
+    /// Installs the rule and makes account 1.
+    Open = 0,
+    /// Adds 1 to its balance.
+    Deposit = 1,
+    /// Takes 1,000 from it, which it never has.
+    Withdraw = 2,
+}
+
+/// Why the bank ended early.
+#[derive(Clone, Copy, Debug, Error)]
+pub enum Fault {
+    #[error("memory ran out")]
+    Memory(#[from(alloc)] AllocError),
+    #[error("the script is refused, or has no such body")]
+    Script,
+    #[error("the book refused a body: {0:?}")]
+    Refused(Refusal),
+    #[error("account 1 isn't there")]
+    Account,
+}
+
+fn script(alloc: Global) -> Result<Script, Fault> {
+    match decode(alloc, SCRIPT.as_bytes()) {
+        Ok(script) => Ok(script),
+        Err(DecodeError::Refused(_)) => Err(Fault::Script),
+        Err(DecodeError::Memory) => Err(Fault::Memory(AllocError)),
+    }
+}
+
+/// The bank's library.
+pub fn library(alloc: Global) -> Result<Arc<Library>, Fault> {
+    Ok(script(alloc)?.library)
+}
+
+/// The body of a request. Each is read anew: the book takes it, as its library is equal to the book's.
+pub fn body(alloc: Global, request: Request) -> Result<Body, Fault> {
+    let place = request as usize;
+    match script(alloc)?.items.into_iter().nth(place) {
+        Some(Unit::Transaction(body)) => Ok(body),
+        _ => Err(Fault::Script),
+    }
+}
