@@ -2,17 +2,20 @@
 use Rattle.std.proofs.Common.{◌≡◌, refl, sym, ap, ◌∙◌, subst, ℕ, Bool, true, false, ◌||◌, ◌==◌, cond, List, [], ◌∷◌, map, Option, Some, None, is_some}
 use Rattle.std.specs.List.{list_any}
 use Rattle.std.specs.Map.{lookup}
+use Rattle.std.specs.Prelude.{IfSome}
 use Rattle.std.specs.Option.{option_copied}
 use Rattle.std.specs.Borrow.{Bor}
 use Rattle.std.proofs.lemmas.Bool.Decides.{Decides-eqb}
-use Rattle.hp_model.specs.Cells.{Cells, Read, AllTold, AreKeys}
+use Rattle.hp_model.specs.Cells.{Cells, Read, AllTold, Holds, AreKeys}
+use Rattle.hp_model.proofs.BridgesCells.{exact_cell}
+use Rattle.hp_value.specs.declared.cell.Cell.{Cell}
 use Rattle.hp_value.specs.declared.cell.Cell.TheVariants.{Object, Rule, Detector}
 use Rattle.hp_value.specs.Mapped.{cell}
 use Rattle.hp_view.specs.declared.reads.Seen.{Seen}
 use Rattle.hp_view.specs.declared.reads.Seen.TheVariants.{Cell as OfCell, Keys as OfKeys}
 use Rattle.hp_view.specs.declared.reads.Found.{Found}
 use Rattle.hp_view.specs.contracts.reads.SeenPartialEq.TheImpl as seeing
-use Rattle.hp_view.specs.Mapped.{read, keys_found}
+use Rattle.hp_view.specs.Mapped.{read, value_found, keys_found}
 use Rattle.hp_view.specs.Seeing.{reads_cell, reads_keys, was_read}
 
 -- a read of what was looked at
@@ -56,6 +59,23 @@ told_keys class found base ((OfKeys n, other) ∷ es) h told = by (class == n) r
         let same : other ≡ found = cc in
         subst (λ f. AreKeys base class (keys_found f)) same (subst (λ k. AreKeys base k (keys_found other)) (sym ((Decides-eqb class n).0 e)) told.0)
     by false e h rest = rest h
+
+-- what is recorded for a cell is told
+pub told_value : (q : Cell) (found : Found) (base : Cells) (es : List (Seen × Found)) → lookup (seeing.ghosts.eq (OfCell q)) es ≡ Some found → AllTold base (map read es) → value_found found ≡ base (cell q)
+told_value q found base [] h told = cc
+told_value q found base ((OfKeys n, other) ∷ es) h told = told_value q found base es h told.1
+told_value q found base ((OfCell p, other) ∷ es) h told = by (seeing.ghosts.eq (OfCell q) (OfCell p)) refl h (λ g. told_value q found base es g told.1)
+  where
+    by : (b : Bool) → seeing.ghosts.eq (OfCell q) (OfCell p) ≡ b → cond b (Some other) (lookup (seeing.ghosts.eq (OfCell q)) es) ≡ Some found → (lookup (seeing.ghosts.eq (OfCell q)) es ≡ Some found → value_found found ≡ base (cell q)) → value_found found ≡ base (cell q)
+    by true e h rest =
+        let same : other ≡ found = cc in
+        ap value_found (sym same) ∙ sym told.0 ∙ sym (ap base (exact_cell (cell q) (cell p) (sym (told_apart (OfCell q) (OfCell p, other)) ∙ e)))
+    by false e h rest = rest h
+
+pub value_told : (q : Cell) (r : Option (Bor Found)) (es : List (Seen × Found)) → option_copied r ≡ lookup (seeing.ghosts.eq (OfCell q)) es
+    → IfSome r (λ found. (base : Cells) → Holds base (map read es) → value_found found.now ≡ base (cell q))
+value_told q None es is = tt
+value_told q (Some found) es is = λ base held. told_value q found.now base es (sym is) held.told
 
 -- the same of a read, as `noted` asks
 pub was_recorded : (s : Seen) (found : Found) (es : List (Seen × Found)) → is_some (lookup (seeing.ghosts.eq s) es) ≡ was_read (map read es) (read (s, found))

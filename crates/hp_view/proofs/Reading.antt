@@ -6,6 +6,7 @@ use Rattle.hp_model.specs.Cells.{Cell, CellValue, Cells, Changes, object_cell, c
 use Rattle.hp_model.proofs.BridgesCells.{exact_cell, Holds-push, Holds-last}
 use Rattle.hp_model.proofs.BridgesKeys.{one_list}
 use Rattle.hp_store.specs.Changes.{Entries, changes}
+use Rattle.hp_view.specs.Keeping.{KeepsObject}
 use Rattle.hp_view.specs.Seeing.{Seeing, beneath, written, now_in, undone, cell_was_read, keys_were_read, was_read, noted, noted_unless, read_cell, OnlyReads, GoesOn, ReadsKeys, Shows, ShowsKeys}
 
 -- ---- reads that are noted
@@ -130,6 +131,15 @@ shows_again {v} {old} cell from held again =
     subst (λ u. Shows u cell (now_in u cell)) from
     (record { everywhere = λ base here. ap (λ o. changed o (written v cell)) (cell_again base (beneath v) cell v.reads here.told held.told again) })
 
+-- a cell's value that is told beneath, where no write covers it
+pub peeked : {v old : Seeing} (cell : Cell) (value : Option CellValue) → v ≡ old → Holds (beneath v) v.reads → is_some (written v cell) ≡ false
+    → ((base : Cells) → Holds base v.reads → value ≡ base cell) → value ≡ now_in old cell
+peeked {v} {old} cell value from held uncovered told = told (beneath v) held ∙ by (written v cell) uncovered ∙ ap (λ u. now_in u cell) from
+  where
+    by : (w : Option (Option CellValue)) → is_some w ≡ false → beneath v cell ≡ changed (beneath v cell) w
+    by None h = refl
+    by (Some x) h = cc
+
 pub holds_from : {v old : Seeing} → v ≡ old → Holds (beneath v) v.reads → Holds (beneath old) old.reads
 holds_from from held = subst (λ u. Holds (beneath u) u.reads) from held
 
@@ -200,6 +210,11 @@ keys_over_same base other layer class under keys here there are = record {
     by : (key : ℤ) (change : Option (Option CellValue)) → is_some (changed (other (object_cell class key)) change) ≡ is_some (changed (base (object_cell class key)) change)
     by key None = sym (there.has key) ∙ here.has key
     by key (Some value) = refl
+
+-- keys that are told beneath are those of the view, where its writes leave the class's objects where they are
+pub keys_kept : {v old : Seeing} (class : ℕ) (recorded : List ℤ) → v ≡ old → AreKeys (beneath v) class recorded → ((key : ℤ) → KeepsObject (beneath v) v.writes class key) → AreKeys (now_in old) class recorded
+keys_kept {v} {old} class recorded from are keeps =
+    subst (λ u. AreKeys (now_in u) class recorded) from (record { rise = are.rise; has = λ key. are.has key ∙ sym (keeps key) })
 
 -- ---- a call of `read_keys`
 

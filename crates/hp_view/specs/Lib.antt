@@ -1,4 +1,5 @@
 pub mod Codes
+pub mod Keeping
 pub mod Looks
 pub mod Mapped
 pub mod Seeing

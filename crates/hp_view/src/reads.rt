@@ -82,7 +82,7 @@ impl Reads {
     ghost use Rattle.hp_model.specs.Cells.{Cells, AreKeys, Holds, cell_read, keys_read};
     ghost use Rattle.hp_value.specs.Mapped as mapped;
     ghost use Rattle.hp_store.specs.Mapped.{cell_value};
-    ghost use Rattle.hp_view.specs.Mapped.{read};
+    ghost use Rattle.hp_view.specs.Mapped.{read, value_found};
     ghost use Rattle.hp_view.specs.Seeing.{noted, cell_was_read, keys_were_read};
 
     /// No reads.
@@ -92,6 +92,15 @@ impl Reads {
         Reads {
             entries: IndexMap::new(alloc),
         }
+    }
+
+    /// Makes room for more reads.
+    ///
+    /// An error means that memory ran out.
+    pub(crate) fn reserve(&mut self, more: usize) -> Result<(), AllocError>
+        ensures { self.new ≡ self.old }
+    {
+        self.entries.reserve(more)
     }
 
     /// How many reads there are.
@@ -126,8 +135,15 @@ impl Reads {
         }
     }
 
+    /// What was found in a cell, if it was read.
+    pub(crate) fn in_cell(&self, cell: Cell) -> Option<&Found>
+        ensures { IfSome result (λ found. (base : Cells) → Holds base self.now → value_found found.now ≡ base (mapped.cell cell)) }
+    {
+        self.entries.get(&Seen::Cell(cell))
+    }
+
     /// Whether a cell was read.
-    pub(crate) fn has_cell(&self, cell: Cell) -> bool
+    pub fn has_cell(&self, cell: Cell) -> bool
         ensures { result ≡ cell_was_read self.now (mapped.cell cell) }
     {
         self.entries.contains_key(&Seen::Cell(cell))

@@ -1,10 +1,11 @@
 //! A view: a snapshot, what was read of it, and what is written over it.
 
-ghost use Rattle.std.specs.Prelude.{◌≡◌, ◌↔◌, ℕ, ℤ, List, ◌≤◌, [], length, None, Some, IsTrue, IsOk, IsSome, IfOk, OnOk, OnErr, option_map};
-ghost use Rattle.hp_model.specs.Cells.{AreKeys, Holds};
+ghost use Rattle.std.specs.Prelude.{◌≡◌, ◌↔◌, ℕ, ℤ, List, ◌≤◌, [], length, None, Some, is_some, IsTrue, IsOk, IsSome, IfOk, OnOk, OnErr, option_map};
+ghost use Rattle.hp_model.specs.Cells.{AreKeys, Holds, object_cell};
 ghost use Rattle.hp_value.specs.Mapped as mapped;
 ghost use Rattle.hp_store.specs.Mapped.{cell_value};
 ghost use Rattle.hp_store.specs.Stack.{cells_in};
+ghost use Rattle.hp_view.specs.Keeping.{KeepsObject};
 ghost use Rattle.hp_view.specs.Seeing.{Seeing as Seen, beneath, written, now_in, read_cell, cell_was_read, keys_were_read, Writes, TakesIn, IsSame, GoesBack, GoesOn, Restores, OnlyReads, Shows, ShowsKeys, ReadsKeys};
 
 use crate::reads::Reads;
@@ -105,8 +106,12 @@ impl View {
     pub fn peek(&self, cell: Cell) -> Option<&CellValue>
         ensures { option_map (λ v. cell_value v.now) result ≡ now_in self.now (mapped.cell cell) }
     {
-        match self.writes.get(cell) {
-            Some(change) => change.as_ref(),
+        if let Some(change) = self.writes.get(cell) {
+            return change.as_ref();
+        }
+        // What was read is found faster among the reads.
+        match self.reads.in_cell(cell) {
+            Some(found) => found.value(),
             None => self.base.get(cell),
         }
     }
@@ -246,6 +251,8 @@ impl View {
         let beneath = self.base.keys(alloc, class)?;
         let under = Vec::from_slice(alloc, &beneath)?;
         let keys = self.writes.keys_over(alloc, class, under)?;
+        // Who asks for a class's keys is likely to read its objects.
+        self.reads.reserve(keys.len())?;
         self.reads.note_keys(class, beneath)?;
         Ok(keys)
     }
@@ -268,6 +275,13 @@ impl View {
     pub fn has_keys(&self, class: ClassNo, keys: &[Key]) -> bool
         ensures { IsTrue result ↔ AreKeys (now_in self.now) class keys.now }
     {
+        // The keys that were read are still the class's, where the view has made and deleted none of its objects. To see that
+        // pays where there are no more writes than keys.
+        if let Some(recorded) = self.reads.keys(class) {
+            if self.writes.len() <= keys.len() && keeps_objects(&self.base, &self.writes, class) {
+                return recorded == keys;
+            }
+        }
         self.base.has_keys_over(&self.writes, class, keys)
     }
 
@@ -284,5 +298,27 @@ impl View {
             undo: _,
         } = self;
         (reads, writes)
+    }
+}
+
+// Whether a layer leaves a class's objects where they are: it makes none and deletes none.
+fn keeps_objects(base: &Snapshot, layer: &Layer, class: ClassNo) -> bool
+    ensures { IsTrue result → (key : ℤ) → KeepsObject (cells_in base.now) layer.now class key }
+{
+    for (cell, change) in layer.iter() {
+        if !keeps(base, *cell, change, class) {
+            return false;
+        }
+    }
+    true
+}
+
+// Whether a change of a cell leaves an object of the class where it is.
+fn keeps(base: &Snapshot, cell: Cell, change: &Option<CellValue>, class: ClassNo) -> bool
+    ensures { IsTrue result → (key : ℤ) → mapped.cell cell ≡ object_cell class key → is_some change.now ≡ is_some (cells_in base.now (object_cell class key)) }
+{
+    match cell {
+        Cell::Object(of, _) => of != class || change.is_some() == base.get(cell).is_some(),
+        _ => true,
     }
 }

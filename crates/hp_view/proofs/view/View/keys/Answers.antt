@@ -1,6 +1,8 @@
-use Rattle.std.proofs.Common.{◌∙◌, sym, subst, int_cmp}
+use Rattle.std.proofs.Common.{◌∙◌, sym, ap, subst, int_cmp}
 use Rattle.std.specs.List.Sorted.{IsStrictlySortedBy}
+use Rattle.hp_model.specs.Cells.{keys_read}
 use Rattle.hp_store.specs.Stack.{cells_in}
+use Rattle.hp_view.specs.Seeing.{noted}
 use Rattle.hp_view.specs.contracts.view.View.{the_view}
 use Rattle.hp_view.proofs.Reading.{reads_keys_again, shows_keys_again, holds_from, NotedKeys, noted_keys, merged_over, GoesOn-only}
 use Rattle.hp_view.proofs.view.View.keys.Goals as goal
@@ -26,7 +28,7 @@ first_keys : (c : goal.In_ok-note_keys) → NotedKeys (the_view c.self.inside) c
 first_keys c =
     noted_keys c.args.class c.in_ok-beneath.beneath.items c.in_ok-keys-2.keys.items c.note_keys.new.self c.self.view_is c.self.invariant.held c.in_ok-beneath.ensures
     (merged_over (c.in_ok-under-2.ensures.items ∙ c.deref-2.ensures.value) c.deref-3.ensures c.in_ok-keys-2.ensures)
-    c.in_ok-note_keys.ensures.ok
+    (c.in_ok-note_keys.ensures.ok ∙ ap (λ rs. noted rs (keys_read c.args.class c.in_ok-beneath.beneath.items)) c.reserve.ensures)
 
 pub invariant_of-self-2 : goal.invariant_of-self-2
 invariant_of-self-2 c = record { held = (first_keys c).held; covered = c.self.invariant.covered }
