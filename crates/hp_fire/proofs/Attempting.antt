@@ -1,10 +1,9 @@
 -- Attempts at firings.
-use Rattle.std.proofs.Common.{◌≡◌, sym, ap, ◌∙◌, subst, List, []}
+use Rattle.std.proofs.Common.{◌≡◌, sym, ap, subst, List, []}
 use Rattle.hp_model.specs.Rules.{Library}
-use Rattle.hp_model.specs.State.{State, IsOrdered}
 use Rattle.hp_model.specs.Tree.{Task}
 use Rattle.hp_model.specs.Firing.{fire_task}
-use Rattle.hp_model.specs.Cells.{Changes, Read, cells, over, Holds}
+use Rattle.hp_model.specs.Cells.{Changes, Read, cells, over}
 use Rattle.hp_model.specs.Soundness.{FiringAnswer, IsSound}
 use Rattle.hp_store.specs.Changes.{changes}
 use Rattle.hp_view.specs.Seeing.{Seeing, written}

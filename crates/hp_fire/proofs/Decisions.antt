@@ -1,10 +1,10 @@
 -- What becomes of a task's firing before its action runs.
-use Rattle.std.proofs.Common.{◌≡◌, refl, sym, ap, ◌∙◌, subst, ℕ, List, [], ◌∷◌}
+use Rattle.std.proofs.Common.{◌≡◌, refl, sym, subst, [], ◌∷◌}
 use Rattle.hp_model.specs.Values.{Cause}
-use Rattle.hp_model.specs.Conditions.{Answers, Verdict, satisfied, unsatisfied, faulty, verdict}
+use Rattle.hp_model.specs.Conditions.{Answers, Verdict, unsatisfied, faulty, verdict}
 use Rattle.hp_model.specs.Rules.{Library, Coupling, immediate, deferred, separate, dependent, exclusive, rule_at}
 use Rattle.hp_model.specs.State.{State}
-use Rattle.hp_model.specs.Tree.{Step, condition_step, action_step, Task, Node, without_action, with_fault, with_action, with_later_action, fire_node, act_node}
+use Rattle.hp_model.specs.Tree.{condition_step, action_step, Task, Node, without_action, with_fault, with_action, with_later_action, fire_node, act_node}
 use Rattle.hp_model.specs.Firing.{Firing, level_at, task_environment, action_task, follow, decide, take_step, run_action, fire_task}
 use Rattle.hp_model.specs.Soundness.{FiringAnswer}
 use Rattle.hp_model.specs.Answers.{FaithfulFiring, Finds, handing_on}

@@ -1,5 +1,5 @@
 -- Groups that workers help with.
-use Rattle.std.proofs.Common.{arith, ◌⊎◌, inl, inr, ◌≡◌, refl, sym, ap, ◌∙◌, subst, ℕ, zero, suc, ◌+◌, ◌-◌, ◌<◌, ◌≤◌, Bool, true, false, List, [], ◌∷◌, ◌++◌, length, take, drop, map, Option, Some, None, IfSome, slice_set, slice_get, length-append, append_assoc}
+use Rattle.std.proofs.Common.{arith, ◌⊎◌, inl, inr, ◌≡◌, refl, sym, ap, ◌∙◌, subst, ℕ, zero, suc, ◌-◌, ◌<◌, ◌≤◌, Bool, true, false, List, [], ◌∷◌, ◌++◌, length, take, drop, map, Option, Some, None, IfSome, slice_set, slice_get, length-append}
 use Rattle.std.proofs.lemmas.Bool.{cases_lt}
 use Rattle.std.specs.Prelude.{All}
 use Rattle.std.proofs.lemmas.List.Elements.{All-append, All-cons, All-nil, All-tail}
@@ -8,8 +8,8 @@ use Rattle.std.proofs.lemmas.List.{map-append, drop-drop}
 use Rattle.hp_model.specs.Rules.{Library}
 use Rattle.hp_model.specs.Tree.{Task}
 use Rattle.hp_model.specs.Firing.{siblings, fire_task}
-use Rattle.hp_model.specs.Soundness.{IsSound, FiringAnswer}
-use Rattle.hp_model.specs.Answers.{SiblingsAnswer, FaithfulSiblings}
+use Rattle.hp_model.specs.Soundness.{IsSound}
+use Rattle.hp_model.specs.Answers.{FaithfulSiblings}
 use Rattle.hp_model.proofs.FaithfulFirings.{GroupCompletes, goes_on, group_more, group_end, group_vetoed}
 use Rattle.hp_view.specs.Seeing.{Seeing, GoesOn, written}
 use Rattle.hp_view.proofs.Views.{GoesOn-same, GoesOn-then}

@@ -1,5 +1,5 @@
 -- What statements do before an event is signalled.
-use Rattle.std.proofs.Common.{◌≡◌, refl, sym, ap, ◌∙◌, subst, ℕ, ℤ, List, [], ◌∷◌, ◌++◌, map, append_assoc}
+use Rattle.std.proofs.Common.{◌≡◌, refl, sym, ap, ◌∙◌, ℕ, ℤ, List, [], ◌∷◌, ◌++◌, append_assoc}
 use Rattle.std.specs.Prelude.{Result, Ok, Err, Option, Some, None, ⊤}
 use Rattle.hp_model.specs.Values.{Value, Row, KeyedRow, Cause, missing, Outcome, ◌>>=◌, or_cause}
 use Rattle.hp_model.specs.Occurrences.{Primitive}
@@ -8,7 +8,7 @@ use Rattle.hp_model.specs.Rules.{Library, RuleOperation, Assignment, create, upd
 use Rattle.hp_model.specs.State.{State, Objects, find_object}
 use Rattle.hp_model.specs.Tree.{no_items, operation, emission, rule_op, without_detachments}
 use Rattle.hp_model.specs.Transactions.{Work, abort_by, with_value, with_items}
-use Rattle.hp_model.specs.Firing.{Level, level_at, Context, signal_in, run_statement, keyed_row, made_row, checked_kinds, integer_value, values_of, named_object, created_if_absent, updated_if_present, deleted_if_present}
+use Rattle.hp_model.specs.Firing.{Level, Context, signal_in, run_statement, keyed_row, made_row, checked_kinds, integer_value, values_of, named_object, created_if_absent, updated_if_present, deleted_if_present}
 use Rattle.hp_model.specs.Cells.{Changes, Read}
 use Rattle.hp_model.specs.Soundness.{Answer}
 use Rattle.hp_model.specs.Answers.{FaithfulWork, Finds, ended, tells, followed}
@@ -26,8 +26,7 @@ use Rattle.hp_view.specs.Seeing.{Seeing, written, GoesOn, OnlyReads}
 use Rattle.hp_view.specs.Looks.{Allows, only_reads_same}
 use Rattle.hp_view.proofs.Reading.{GoesOn-only}
 use Rattle.hp_view.proofs.Views.{GoesOn-same}
-use Rattle.hp_fire.specs.Runs.{Runs, Steps, Finding, Looks, Made, Makes}
-use Rattle.hp_fire.specs.Signals.{signal_of}
+use Rattle.hp_fire.specs.Runs.{Runs, Steps, Finding, Looks, Makes}
 use Rattle.hp_fire.proofs.Steps.{runs_as, runs_cause, runs_value}
 
 -- ---- values that don't hang on the state

@@ -27,11 +27,7 @@ use Rattle.hp_view.specs.contracts.reads.Found as Found
 use Rattle.hp_view.proofs.reads.Seen.TheSendSync as seen
 use Rattle.hp_view.specs.contracts.reads.Reads as Reads
 use Rattle.hp_tree.specs.contracts.node.Item as Item
-use Rattle.hp_tree.specs.contracts.node.Node as Node
 use Rattle.hp_tree.proofs.node.Item.TheLaws.TheKnot as item
-use Rattle.hp_tree.proofs.node.What.TheSendSync as what
-use Rattle.hp_tree.proofs.node.Ending.TheSendSync as ending
-use Rattle.hp_tree.proofs.operation.Operation.TheSendSync as operation
 use Rattle.hp_rule.proofs.task.Task.TheSendSync as task
 use Rattle.hp_rule.proofs.task.Detached.TheSendSync as detached
 use denote.Ref.{NamedLft}
@@ -51,7 +47,6 @@ use Rattle.hp_rule.specs.contracts.stmt.Assignment as Assignment
 use Rattle.hp_value.proofs.expr.Arithmetic.TheSendSync as arithmetic
 use Rattle.hp_value.proofs.expr.Comparison.TheSendSync as comparison
 use Rattle.hp_value.proofs.row.ClassDef.TheSendSync as class
-use Rattle.hp_value.specs.contracts.row.ClassDef as ClassDef
 use Rattle.hp_event.proofs.pattern.Pattern.TheSendSync as pattern
 use Rattle.hp_rule.specs.contracts.stmt.Stmt as Stmt
 use Rattle.hp_rule.proofs.stmt.Stmt.TheLaws.TheKnot as stmt

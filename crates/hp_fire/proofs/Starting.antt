@@ -1,9 +1,8 @@
 -- Signals and the tasks that they start.
-use Rattle.std.proofs.Common.{arith, ◌≡◌, refl, sym, ap, ◌∙◌, subst, ℕ, suc, ◌+◌, ◌*◌, ◌<◌, ◌≤◌, ◌-◌, List, [], ◌∷◌, Bool, true, false, map, length}
+use Rattle.std.proofs.Common.{arith, ◌≡◌, refl, sym, ap, subst, ℕ, suc, ◌+◌, ◌*◌, ◌<◌, ◌≤◌, List, [], ◌∷◌, Bool, true, false, map, length}
 use Rattle.std.specs.Prelude.{filter, if◌then◌else◌}
 use Prim.Native.Nat.{max}
 use Rattle.std.proofs.Common.{mul-le-mul_right, suc-mul}
-use denote.Param.Weighed.{most}
 use Rattle.hp_model.specs.Occurrences.{Primitive}
 use Rattle.hp_model.specs.Rules.{Library, is_immediate}
 use Rattle.hp_model.specs.Tree.{Task}

@@ -1,14 +1,13 @@
 -- Statements by their parts.
-use Rattle.std.proofs.Common.{◌≡◌, refl, sym, ap, ◌∙◌, subst, ℕ, ℤ, List, [], ◌∷◌, Bool, true, false, map}
+use Rattle.std.proofs.Common.{◌≡◌, refl, sym, ap, ◌∙◌, subst, ℕ, List, [], ◌∷◌}
 use Rattle.std.specs.Prelude.{Result, Ok, Err, String, string_bytes}
 use Rattle.std.specs.Global.{Global, Vec, Box}
 use Rattle.std.proofs.Common.{rules}
-use Rattle.hp_model.specs.Values.{Name, Value, KeyedRow, Cause, Outcome}
+use Rattle.hp_model.specs.Values.{Name, Value, Outcome}
 use Rattle.hp_model.specs.Occurrences.{Primitive, signalled}
-use Rattle.hp_model.specs.Expressions.{Expression}
 use Rattle.hp_model.specs.Rules as R
 use Rattle.hp_model.specs.Rules.{Library, Statement, fire}
-use Rattle.hp_model.specs.State.{State, Status, absent, enabled, disabled, rule_state}
+use Rattle.hp_model.specs.State.{State, Status, absent, enabled, disabled}
 use Rattle.hp_model.specs.Tree.{Task}
 use Rattle.hp_model.specs.Transactions.{Work, with_value, abort_by}
 use Rattle.hp_model.specs.Firing.{Level, level_at, Context, run_statement, start, start_fired, fired_task}
@@ -31,7 +30,7 @@ use Rattle.hp_view.specs.Seeing.{Seeing, written, OnlyReads}
 use Rattle.hp_view.proofs.Views.{GoesOn-then}
 use Rattle.hp_view.proofs.Reading.{GoesOn-only}
 use Rattle.hp_fire.specs.declared.course.Course.{Course}
-use Rattle.hp_fire.specs.Runs.{Runs, Steps, Finding, Looks}
+use Rattle.hp_fire.specs.Runs.{Runs, Steps, Looks}
 use Rattle.hp_fire.specs.Signals.{signal_of}
 use Rattle.hp_fire.proofs.Making.{steps_halt}
 use Rattle.hp_fire.proofs.Steps.{runs_as, found_cause, grows, only_written}

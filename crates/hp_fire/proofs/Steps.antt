@@ -1,5 +1,5 @@
 -- Calls on a view, one after another.
-use Rattle.std.proofs.Common.{arith, ◌≡◌, refl, sym, ap, ◌∙◌, subst, ℕ, ◌≤◌, length, drop, List, [], ◌∷◌, ◌++◌, Bool, true, false, Option, Some, None, append-nil}
+use Rattle.std.proofs.Common.{arith, ◌≡◌, refl, sym, ap, ◌∙◌, subst, ℕ, ◌≤◌, length, drop, List, [], ◌∷◌, ◌++◌, Bool, true, false, Option, Some, None}
 use Rattle.std.proofs.Math.Seq.{drop-length}
 use Rattle.std.specs.Prelude.{Ok, Err, is_some}
 use Rattle.hp_model.specs.Values.{Cause, Outcome}
@@ -10,16 +10,16 @@ use Rattle.hp_model.specs.Conditions.{Answers}
 use Rattle.hp_model.specs.Tree.{Task, Node, sub_node, without_detachments}
 use Rattle.hp_model.specs.Transactions.{End, done, abort_by, veto_by, Work, for_each, then_do, with_value, aborts, ends}
 use Rattle.hp_model.specs.Firing.{Level, Context, signal_in, sub_in, run_statement, run_body, action_course, run_action, siblings, fire_task}
-use Rattle.hp_model.specs.Cells.{Changes, Read}
+use Rattle.hp_model.specs.Cells.{Changes}
 use Rattle.hp_model.specs.Soundness.{Answer, FiringAnswer}
-use Rattle.hp_model.specs.Answers.{FaithfulWork, FaithfulFiring, SiblingsAnswer, Finds, ended, tells, followed, is_done, kept, closing, closing_action}
+use Rattle.hp_model.specs.Answers.{FaithfulWork, FaithfulFiring, SiblingsAnswer, ended, tells, followed, is_done, kept, closing, closing_action}
 use Rattle.hp_model.specs.Operations.{operation_items}
-use Rattle.hp_model.proofs.Faithful.{Grows, Grows-same, faithful_more, finds_more, faithful_ends, faithful_as, faithful_value, faithful_cause, faithful_then, faithful_halt, Completes, each_more, each_halt, each_end, faithful_sub_done, faithful_sub_veto, faithful_sub_abort}
+use Rattle.hp_model.proofs.Faithful.{Grows, finds_more, faithful_ends, faithful_as, faithful_value, faithful_cause, faithful_then, Completes, each_more, each_halt, each_end, faithful_sub_done, faithful_sub_veto, faithful_sub_abort}
 use Rattle.hp_model.proofs.FaithfulFirings.{faithful_action, goes_on, GroupCompletes, group_more, group_end, group_vetoed}
 use Rattle.hp_rule.specs.declared.stmt.Stmt.{Stmt}
 use Rattle.hp_rule.specs.Mapped.{statement, body_in}
 use Rattle.hp_store.specs.Changes.{changes}
-use Rattle.hp_view.specs.Seeing.{Seeing, written, rewound, undone, GoesOn, GoesBack, OnlyReads}
+use Rattle.hp_view.specs.Seeing.{Seeing, written, undone, GoesOn, GoesBack, OnlyReads}
 use Rattle.hp_view.proofs.Views.{GoesOn-same, GoesOn-then}
 use Rattle.hp_fire.specs.Runs.{Runs, RunsFiring, RunsGroup, Finding, Made, SubOver, SubAborted, Closes}
 

@@ -1,6 +1,6 @@
 -- Lemmas on mapped trees and courses.
-use Rattle.std.proofs.Common.{◌≡◌, refl, ap, sym, ◌∙◌, List, [], ◌∷◌, ◌++◌, append_assoc, append-nil}
-use Rattle.hp_model.specs.Tree.{Items, no_items, append}
+use Rattle.std.proofs.Common.{◌≡◌, refl, ap, ◌∙◌, List, [], ◌∷◌, ◌++◌, append_assoc, append-nil}
+use Rattle.hp_model.specs.Tree.{Items, append}
 use Rattle.hp_tree.specs.declared.node.Item.{Item}
 use Rattle.hp_tree.specs.declared.node.Item.TheVariants.{Operation as AnOperation, Emit, Node' as ANode}
 use Rattle.hp_tree.specs.Mapped.{before, items_in}

@@ -5,7 +5,7 @@ use Rattle.hp_model.specs.Occurrences.{Primitive}
 use Rattle.hp_model.specs.Rules.{Library}
 use Rattle.hp_model.specs.State.{State}
 use Rattle.hp_model.specs.Tree.{Task, without_detachments}
-use Rattle.hp_model.specs.Transactions.{End, Work, done, abort_by}
+use Rattle.hp_model.specs.Transactions.{End, Work, abort_by}
 use Rattle.hp_model.specs.Firing.{Level, Firing, Siblings, signal_in, sub_in}
 use Rattle.hp_model.specs.Cells.{Read, Changes}
 use Rattle.hp_model.specs.Soundness.{Answer, FiringAnswer}

@@ -1,11 +1,13 @@
 //! What a worker has found of its tasks' elders.
 
-ghost use Rattle.std.specs.Prelude.{◌<◌, length};
+ghost use Rattle.std.specs.Prelude.{◌+◌, ◌^◌, ◌<◌, length};
 ghost use Rattle.hp_board.specs.Passes.{IsPassOf};
 
 use crate::wave::Wave;
+use hp_attempt::Attempt;
 use hp_board::Pass;
 use hp_store::{Layer, Snapshot};
+use hp_view::Reads;
 use std::alloc::{AllocError, Global};
 use std::sync::Arc;
 
@@ -17,7 +19,12 @@ pub(crate) struct Elders {
     layer: Arc<Layer>,
     // How many tasks, from the first on, have their layers in it.
     count: usize,
+    // How many of the worker's last attempts in a row were in conflict with an elder that isn't in it.
+    conflicts: usize,
 }
+
+// After so many conflicts in a row a worker tries no more tasks.
+const ENOUGH: usize = 2;
 
 impl Elders {
     /// Nothing is found yet.
@@ -27,6 +34,7 @@ impl Elders {
         Ok(Elders {
             layer: Arc::new(alloc, Layer::new(alloc))?,
             count: 0,
+            conflicts: 0,
         })
     }
 
@@ -38,43 +46,75 @@ impl Elders {
         alloc: Global,
         wave: &Wave<'_>,
         number: usize,
-        pass: Pass<Arc<Layer>>,
+        mut pass: Pass<Arc<Layer>>,
     ) -> (Result<Snapshot, AllocError>, Pass<Arc<Layer>>)
         requires number { number < length wave.now.board.cells }
         requires pass { IsPassOf wave.now.board.cells pass }
         ensures { IsPassOf wave.now.board.cells result.1 }
     {
-        let (gathered, pass) = self.gather(wave, number, pass);
-        if gathered.is_err() {
-            return (Err(AllocError), pass);
-        }
-        let (later, pass) = later_layers(alloc, wave, self.count, number, pass);
-        (self.over(alloc, &wave.snapshot, later), pass)
-    }
-
-    // Takes in what the next elders of a task have posted, up to one that has posted nothing so far.
-    fn gather(
-        &mut self,
-        wave: &Wave<'_>,
-        number: usize,
-        mut pass: Pass<Arc<Layer>>,
-    ) -> (Result<(), AllocError>, Pass<Arc<Layer>>)
-        requires number { number < length wave.now.board.cells }
-        requires pass { IsPassOf wave.now.board.cells pass }
-        ensures { IsPassOf wave.now.board.cells result.1 }
-    {
+        let mut later = Layer::new(alloc);
         for elder in self.count..number {
             let (found, after) = wave.board.look(elder, pass);
             pass = after;
             let Some(layer) = found else {
-                break;
+                continue;
             };
-            if self.take_in(layer).is_err() {
+            if self.take_in_next(elder, layer, &mut later).is_err() {
                 return (Err(AllocError), pass);
             }
-            self.count = elder + 1;
         }
-        (Ok(()), pass)
+        (self.over(alloc, &wave.snapshot, later), pass)
+    }
+
+    /// Whether the worker's last attempts were in conflict with their elders, so that more are likely to be in vain.
+    pub(crate) fn are_in_conflict(&self) -> bool {
+        self.conflicts >= ENOUGH
+    }
+
+    /// Notes whether the attempt at a task is in conflict with a slow elder, or one after that: whether it read what this
+    /// one wrote.
+    pub(crate) fn note(
+        &mut self,
+        wave: &Wave<'_>,
+        number: usize,
+        attempt: &Option<Attempt>,
+        mut pass: Pass<Arc<Layer>>,
+    ) -> Pass<Arc<Layer>>
+        requires number { number < length wave.now.board.cells }
+        requires pass { IsPassOf wave.now.board.cells pass }
+        ensures { IsPassOf wave.now.board.cells result }
+    {
+        let Some(attempt) = attempt else {
+            return pass;
+        };
+        for elder in self.count..number {
+            let (found, after) = wave.board.look(elder, pass);
+            pass = after;
+            if are_in_conflict(&attempt.reads, found) {
+                self.conflicts = self.conflicts.saturating_add(1);
+                return pass;
+            }
+        }
+        self.conflicts = 0;
+        pass
+    }
+
+    // Takes in what an elder has posted: over the others, where it is the next of them, and else over those that were found
+    // later.
+    fn take_in_next(
+        &mut self,
+        elder: usize,
+        layer: &Layer,
+        later: &mut Layer,
+    ) -> Result<(), AllocError>
+        requires { elder + 1 < 2 ^ 64 }
+    {
+        if elder != self.count {
+            return later.take_in(layer);
+        }
+        self.take_in(layer)?;
+        self.count = elder + 1;
+        Ok(())
     }
 
     // Takes in one layer over the others. Nobody shares them between two tasks, so nothing is copied.
@@ -89,9 +129,8 @@ impl Elders {
         &self,
         alloc: Global,
         snapshot: &Snapshot,
-        later: Result<Layer, AllocError>,
+        later: Layer,
     ) -> Result<Snapshot, AllocError> {
-        let later = later?;
         let start = snapshot.with_layer(alloc, Arc::try_clone(&self.layer)?)?;
         if later.is_empty() {
             return Ok(start);
@@ -100,27 +139,15 @@ impl Elders {
     }
 }
 
-// What elders of a task have posted so far, one layer over the other, from the elder of this number on.
-fn later_layers(
-    alloc: Global,
-    wave: &Wave<'_>,
-    from: usize,
-    number: usize,
-    mut pass: Pass<Arc<Layer>>,
-) -> (Result<Layer, AllocError>, Pass<Arc<Layer>>)
-    requires number { number < length wave.now.board.cells }
-    requires pass { IsPassOf wave.now.board.cells pass }
-    ensures { IsPassOf wave.now.board.cells result.1 }
-{
-    let mut later = Layer::new(alloc);
-    for elder in from..number {
-        let (found, after) = wave.board.look(elder, pass);
-        pass = after;
-        if let Some(layer) = found {
-            if later.take_in(layer).is_err() {
-                return (Err(AllocError), pass);
-            }
+// Whether what was posted, if anything was, names a cell that was read.
+fn are_in_conflict(reads: &Reads, posted: Option<&Arc<Layer>>) -> bool {
+    let Some(layer) = posted else {
+        return false;
+    };
+    for (cell, _) in layer.iter() {
+        if reads.has_cell(*cell) {
+            return true;
         }
     }
-    (Ok(later), pass)
+    false
 }

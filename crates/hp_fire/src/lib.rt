@@ -16,6 +16,7 @@ mod placing;
 mod progress;
 mod running;
 mod settling;
+mod statement;
 mod wave;
 
 pub use calls::{run_body, run_firing, run_group, run_signal, run_task};

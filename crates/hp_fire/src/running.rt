@@ -1,16 +1,14 @@
-//! Statements, signals, groups and firings. They call one another here and nowhere else.
+//! Signals, groups and firings. Statements signal, and a firing's action is statements: `statement` has them.
 
 ghost use Rattle.std.specs.Prelude.{◌≡◌, ◌+◌, ◌^◌, ◌<◌, ◌≤◌, None, IfOk, OnOk, IfSome, All, map, length};
 ghost use Rattle.std.specs.Thread.{IsSync};
 ghost use Rattle.hp_model.specs.Cells.{Holds};
 ghost use Rattle.hp_model.specs.Soundness.{IsSound};
-ghost use Rattle.hp_model.specs.Transactions.{for_each};
 ghost use Rattle.hp_model.specs.Firing as model;
-ghost use Rattle.hp_model.specs.Firing.{level_at, siblings, fire_task, signal_in, with_row};
-ghost use Rattle.hp_model.specs.Transactions.{Work};
-ghost use Rattle.hp_value.specs.Mapped.{keyed_row, primitive};
+ghost use Rattle.hp_model.specs.Firing.{level_at, siblings, fire_task, signal_in};
+ghost use Rattle.hp_value.specs.Mapped.{primitive};
 ghost use Rattle.hp_value.specs.Mapped as mapped;
-ghost use Rattle.hp_rule.specs.Mapped.{body_in, library, statement as statement_of, task as task_of};
+ghost use Rattle.hp_rule.specs.Mapped.{library, task as task_of};
 ghost use Rattle.hp_tree.specs.Mapped.{what as what_of};
 ghost use Rattle.hp_store.specs.Stack.{cells_in};
 ghost use Rattle.hp_view.specs.Seeing.{Seeing};
@@ -18,213 +16,33 @@ ghost use Rattle.hp_board.specs.Deal.{IsSeatOf};
 ghost use Rattle.hp_board.specs.Passes.{IsPassOf};
 ghost use Rattle.hp_attempt.specs.Fronts.{AreSound};
 ghost use Rattle.hp_attempt.specs.Mapped.{firing as firing_of, attempt as attempt_of};
-ghost use Rattle.hp_fire.specs.Mapped.{context as context_in, course as course_in, group as group_in};
+ghost use Rattle.hp_fire.specs.Mapped.{course as course_in, group as group_in};
 ghost use Rattle.hp_fire.specs.Groups.{IsSoFar, IsCounted, IsRetried, AreSoundTries, IsWave};
-ghost use Rattle.hp_fire.specs.Runs.{Runs, RunsFiring, RunsGroup, Steps, Made, SubRuns, AreReady};
+ghost use Rattle.hp_fire.specs.Runs.{Runs, RunsFiring, RunsGroup, Steps, AreReady};
 
-use crate::closing::{close_action, close_sub};
+use crate::closing::close_action;
 use crate::context::{Context, Site};
 use crate::course::{Course, End, GroupOutcome};
 use crate::deciding::{Decision, action_of, decide};
 use crate::elders::Elders;
 use crate::gate::Gate;
-use crate::operations::{
-    created, deleted, emitted, is_true, named_object, operation_course, rule_changed, selected,
-    signalled, updated,
-};
-use crate::placing::{Placed, group_course, one_task, place_tasks};
+use crate::placing::{Placed, group_course, place_tasks};
 use crate::progress::{Progress, Tried, place};
-use crate::settling::{settled, vetoed};
+use crate::statement::statements;
 use crate::wave::{Wave, keep, kept_layer, post_attempt, post_layer};
 use hp_attempt::{Attempt, Outcome};
 use hp_board::{Board, Pass, Seat};
-use hp_ops::{fire, trigger};
-use hp_rule::{Stmt, Task};
+use hp_ops::trigger;
+use hp_rule::Task;
 use hp_store::{Layer, Snapshot};
 use hp_tree::What;
-use hp_value::{Answer, Cause, Halt, KeyedRow, Prim};
+use hp_value::{Answer, Halt, Prim};
 use hp_view::View;
 use std::alloc::{AllocError, Global};
 use std::collections::VecDeque;
 use std::sync::Arc;
 use std::thread;
 use std::thread::Threads;
-
-/// Runs the statements of a body in order, up to the first that isn't done.
-#[cycle(fire)]
-pub(crate) fn statements<R: Threads + Sync, G: Gate + Sync>(
-    site: &Site<'_, R, G>,
-    alloc: Global,
-    view: &mut View,
-    body: &[Stmt],
-    context: &Context<'_>,
-) -> Result<Course, AllocError>
-    ensures { IfOk result (λ c. Runs (library site.now.lib.now) (model.run_body (body_in body.now) (level_at (library site.now.lib.now) context.now.depth) (context_in context.now)) view.old view.new (course_in c)) }
-{
-    let mut so_far = Course::ended(alloc, End::Done);
-    for stmt in body {
-        let result = statement(site, alloc, view, stmt, context);
-        let more = settled(alloc, result)?;
-        so_far.join(more)?;
-        if !so_far.is_done() {
-            return Ok(so_far);
-        }
-    }
-    Ok(so_far)
-}
-
-/// Runs a statement. A cause ends it before it has done anything.
-#[cycle(fire)]
-fn statement<R: Threads + Sync, G: Gate + Sync>(
-    site: &Site<'_, R, G>,
-    alloc: Global,
-    view: &mut View,
-    stmt: &Stmt,
-    context: &Context<'_>,
-) -> Result<Course, Halt>
-    ensures { Steps (library site.now.lib.now) (model.run_statement (statement_of stmt.now) (level_at (library site.now.lib.now) context.now.depth) (context_in context.now)) view.old view.new result }
-{
-    match stmt {
-        Stmt::Create { class, key, pairs } => {
-            let prim = created(alloc, site.lib, view, context, *class, key, pairs)?;
-            operated(site, alloc, view, prim, context.depth)
-        }
-        Stmt::Update { class, key, pairs } => {
-            let prim = updated(alloc, site.lib, view, context, *class, key, pairs)?;
-            operated(site, alloc, view, prim, context.depth)
-        }
-        Stmt::Delete { class, key } => {
-            let prim = deleted(alloc, site.lib, view, context, *class, key)?;
-            operated(site, alloc, view, prim, context.depth)
-        }
-        Stmt::Signal { name, arguments } => {
-            let prim = signalled(alloc, &context.env, name, arguments)?;
-            signal(site, alloc, view, &prim, context.depth)
-        }
-        Stmt::Emit(value) => emitted(alloc, context, value),
-        Stmt::If {
-            condition,
-            then_body,
-            else_body,
-        } => {
-            if is_true(alloc, &context.env, condition)? {
-                let course = statements(site, alloc, view, then_body, context)?;
-                Ok(course)
-            } else {
-                let course = statements(site, alloc, view, else_body, context)?;
-                Ok(course)
-            }
-        }
-        Stmt::Each {
-            variable,
-            class,
-            predicate,
-            body,
-        } => {
-            let rows = selected(alloc, site.lib, view, context, variable, *class, predicate)?;
-            let course = each_row(site, alloc, view, body, variable, &rows, context)?;
-            Ok(course)
-        }
-        Stmt::For { query, body } => {
-            let rows = (&*context).kept(query);
-            let course = each_row(site, alloc, view, body, query, rows, context)?;
-            Ok(course)
-        }
-        Stmt::With {
-            variable,
-            class,
-            key,
-            body,
-        } => {
-            let row = named_object(alloc, site.lib, view, context, *class, key)?;
-            let inner = (&*context).bound(variable, row.key, &row.row);
-            let course = statements(site, alloc, view, body, &inner)?;
-            Ok(course)
-        }
-        Stmt::Sub { body, otherwise } => {
-            let (mut course, aborted) = sub(site, alloc, view, body, context)?;
-            if !aborted {
-                return Ok(course);
-            }
-            let more = statements(site, alloc, view, otherwise, context)?;
-            course.join(more)?;
-            Ok(course)
-        }
-        Stmt::Abort => Ok(Course::ended(alloc, End::Abort(Cause::Asked))),
-        Stmt::Veto => Ok(vetoed(alloc, context.rule)),
-        Stmt::OnRule { operation, rule } => {
-            rule_changed(alloc, site.lib, view, *operation, *rule)
-        }
-        Stmt::Fire(rule) => {
-            let task = fire(alloc, view, site.lib, *rule, context.depth)?;
-            let tasks = one_task(alloc, task)?;
-            let course = start(site, alloc, view, tasks, context.depth)?;
-            Ok(course)
-        }
-    }
-}
-
-/// Runs a body for each row, which has a name in it, up to the first time that it isn't done.
-#[cycle(fire)]
-fn each_row<R: Threads + Sync, G: Gate + Sync>(
-    site: &Site<'_, R, G>,
-    alloc: Global,
-    view: &mut View,
-    body: &[Stmt],
-    variable: &str,
-    rows: &[KeyedRow],
-    context: &Context<'_>,
-) -> Result<Course, AllocError>
-    ensures { IfOk result (λ c. Runs (library site.now.lib.now)
-        (for_each (map keyed_row rows.now) (λ r. model.run_body (body_in body.now) (level_at (library site.now.lib.now) context.now.depth) (with_row variable.now r (context_in context.now)))) view.old view.new (course_in c)) }
-{
-    let mut so_far = Course::ended(alloc, End::Done);
-    for row in rows {
-        let inner = (&*context).bound(&*variable, row.key, &row.row);
-        let more = statements(site, alloc, view, body, &inner)?;
-        so_far.join(more)?;
-        if !so_far.is_done() {
-            return Ok(so_far);
-        }
-    }
-    Ok(so_far)
-}
-
-/// Runs the body of a statement `sub` as a subtransaction. The answer also says whether it aborted.
-#[cycle(fire)]
-fn sub<R: Threads + Sync, G: Gate + Sync>(
-    site: &Site<'_, R, G>,
-    alloc: Global,
-    view: &mut View,
-    body: &[Stmt],
-    context: &Context<'_>,
-) -> Result<(Course, bool), AllocError>
-    ensures { IfOk result (λ r. SubRuns (library site.now.lib.now) (model.run_body (body_in body.now) (level_at (library site.now.lib.now) context.now.depth) (context_in context.now)) view.old view.new (course_in r.0) r.1) }
-{
-    let mark = view.enter();
-    let course = statements(site, alloc, view, body, context)?;
-    let closed = close_sub(alloc, view, mark, course)?;
-    Ok(closed)
-}
-
-/// Signals the event of an operation that is made.
-#[cycle(fire)]
-fn operated<R: Threads + Sync, G: Gate + Sync>(
-    site: &Site<'_, R, G>,
-    alloc: Global,
-    view: &mut View,
-    prim: Prim,
-    depth: u8,
-) -> Result<Course, Halt>
-    ensures { (work : Work) (before : Seeing) → Made (library site.now.lib.now) (level_at (library site.now.lib.now) depth) work before view.old (primitive prim)
-        → Steps (library site.now.lib.now) work before view.new result }
-{
-    let mut course = operation_course(alloc, &prim)?;
-    let result = signal(site, alloc, view, &prim, depth);
-    let more = settled(alloc, result)?;
-    course.join(more)?;
-    Ok(course)
-}
 
 /// Signals an occurrence in a transaction of a depth.
 #[cycle(fire)]
@@ -245,7 +63,7 @@ pub(crate) fn signal<R: Threads + Sync, G: Gate + Sync>(
 /// Starts the tasks of a signal, or of a statement that fires a rule: they are placed, and the immediate ones fire as
 /// siblings.
 #[cycle(fire)]
-fn start<R: Threads + Sync, G: Gate + Sync>(
+pub(crate) fn start<R: Threads + Sync, G: Gate + Sync>(
     site: &Site<'_, R, G>,
     alloc: Global,
     view: &mut View,
@@ -462,7 +280,8 @@ fn tries<'x, R: Threads + Sync, G: Gate + Sync>(
     Ok(found)
 }
 
-/// One worker: it draws numbers until none is left, tries their tasks, and brings the attempts.
+/// One worker: it draws numbers until none is left, tries their tasks, and brings the attempts. Where they turn out to be in
+/// conflict it only draws on, so that no other worker tries in vain what is left.
 #[cycle(fire)]
 fn work<R: Threads + Sync, G: Gate + Sync>(
     site: &Site<'_, R, G>,
@@ -487,6 +306,10 @@ fn work<R: Threads + Sync, G: Gate + Sync>(
         let Some(number) = drawn else {
             break;
         };
+        if elders.are_in_conflict() {
+            // The owner runs what is left.
+            continue;
+        }
         let (attempt, after) = try_number(site, alloc, wave, number, &mut elders, pass);
         pass = after;
         keep(&mut found, number, attempt);
@@ -521,6 +344,7 @@ fn try_number<R: Threads + Sync, G: Gate + Sync>(
     let (start, pass) = elders.start_of(alloc, wave, number, pass);
     let tried = try_from(site, alloc, start, &wave.tasks[place]);
     let (attempt, pass) = post_attempt(alloc, wave, number, tried, pass);
+    let pass = elders.note(wave, number, &attempt, pass);
     if wave.told {
         site.gate.ended(place);
     }

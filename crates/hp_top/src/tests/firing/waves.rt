@@ -320,17 +320,39 @@ fn two_reruns_are_in_flight(rt: HostRuntime) -> Result<(), Fail> {
     Ok(())
 }
 
-// The elder starts when the others have ended, so that one task of five is settled from its attempt: the owner runs the
-// others, with no wave more.
+// Holds the start of the first task until the fourth has ended, and counts how often a task is started.
+#[derive(Drop)]
+struct Starts {
+    hold: Hold,
+    count: AtomicU64,
+}
+
+impl Gate for Starts {
+    fn started(&self, place: usize) {
+        let _ = self.count.fetch_add(1, SeqCst);
+        self.hold.started(place);
+    }
+
+    fn ended(&self, place: usize) {
+        self.hold.ended(place);
+    }
+}
+
+// The elder starts late. One worker meanwhile tries three of the others, of which two read what an elder of theirs wrote; so the
+// last task isn't tried. One task of five is settled from its attempt: the owner runs the others, with no wave more.
 #[test]
 fn a_wave_that_does_not_pay_is_the_last(rt: HostRuntime) -> Result<(), Fail> {
     let alloc = rt.alloc();
     let lib = of_deeds(alloc, &[plus(1), plus(1), plus(1), plus(1), plus(1)])?;
     let mut view = bank(alloc, &[(1, 10)])?;
-    let gate = Hold::of(0, Awaited::End(4));
+    let gate = Starts {
+        hold: Hold::of(0, Awaited::End(3)),
+        count: AtomicU64::new(0),
+    };
     let tasks = tasks(alloc, 5)?;
     let group = run_group(&rt, alloc, &lib, &mut view, &tasks, true, 2, &gate)?;
-    assert!(rt; !gate.was_late());
+    assert!(rt; !gate.hold.was_late());
+    assert_eq!(rt; gate.count.load(SeqCst), 4);
     assert_eq!(rt; counts(&group), (1, 4, 1));
     assert_eq!(rt; shown(&view, 1), Some(15));
     Ok(())
