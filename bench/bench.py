@@ -49,24 +49,52 @@ def installs(rules):
     return [["install", rule[0]] for rule in rules]
 
 
-def wide_scans(siblings=64, objects=400, rounds=12):
+def richest(objects):
+    """Whether an account is one of the last two: three operators."""
+    return [">", ["*", ["of", "rich", "bal"], 3], ["-", 3 * objects, 9]]
+
+
+def scored(objects):
+    """The same after four scores, which every account passes: 47 operators."""
+    whole = richest(objects)
+    for first in range(4):
+        score = ["of", "rich", "bal"]
+        for step in range(3):
+            score = ["%", ["+", ["*", score, 31], first + step], 1009]
+        whole = ["and", [">=", score, 0], whole]
+    return whole
+
+
+def wide_scans(predicate=richest, siblings=64, objects=400, rounds=12):
     """Siblings that each scan a class of their own world and write one object of their own."""
     classes = [ACCOUNT, ["seen", [["count", "int"]]]]
-    richest = [["rich", "acct", [">", ["*", ["of", "rich", "bal"], 3], ["-", 3 * objects, 9]]]]
+    condition = [["rich", "acct", predicate(objects)]]
     rules = []
     for n in range(siblings):
         note = ["with", "s", "seen", n, [["update", "seen", n, [["count", ["+", ["of", "s", "count"], 1]]]]]]
-        rules.append(on_go(f"r{n}", richest, [note]))
+        rules.append(on_go(f"r{n}", condition, [note]))
     begin = installs(rules) + [create(k, k) for k in range(objects)]
     begin += [["create", "seen", n, [["count", 0]]] for n in range(siblings)]
     items = [["tx", begin]] + [["tx", [GO]] for _ in range(rounds)]
     return script(classes, rules, items), siblings * rounds
 
 
+def wide_scores():
+    return wide_scans(scored, rounds=6)
+
+
 def conflict(siblings=64, rounds=60):
     """Siblings that all read and write one object."""
     rules = [on_go(f"r{n}", [], [plus(1)]) for n in range(siblings)]
     items = [["tx", installs(rules) + [create(1, 0)]]] + [["tx", [GO]] for _ in range(rounds)]
+    return script([ACCOUNT], rules, items), siblings * rounds
+
+
+def conflict_of_scans(siblings=64, objects=400, rounds=12):
+    """Siblings that each scan a class, and then all read and write one object of it."""
+    rules = [on_go(f"r{n}", [["rich", "acct", richest(objects)]], [plus(1)]) for n in range(siblings)]
+    begin = installs(rules) + [create(k, k) for k in range(objects)]
+    items = [["tx", begin]] + [["tx", [GO]] for _ in range(rounds)]
     return script([ACCOUNT], rules, items), siblings * rounds
 
 
@@ -114,6 +142,8 @@ WORKLOADS = [
     ("b", "64 siblings in full conflict", conflict, None),
     ("c", "a long list of single firings", single_firings, single_firings_sql),
     ("d", "chains of 15 firings, each inside the other", deep_chains, deep_chains_sql),
+    ("e", "(a) with 47 operators an object in place of 3", wide_scores, None),
+    ("f", "(b) where each scans 400 objects first", conflict_of_scans, None),
 ]
 
 
