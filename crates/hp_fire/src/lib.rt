@@ -18,6 +18,7 @@ mod running;
 mod settling;
 mod statement;
 mod wave;
+mod worth;
 
 pub use calls::{run_body, run_firing, run_group, run_signal, run_task};
 pub use closing::{detached_after, end_transaction, ending};

@@ -30,6 +30,7 @@ use crate::placing::{Placed, group_course, place_tasks};
 use crate::progress::{Progress, Tried, place};
 use crate::statement::statements;
 use crate::wave::{Wave, keep, kept_layer, post_attempt, post_layer};
+use crate::worth::are_worth_threads;
 use hp_attempt::{Attempt, Outcome};
 use hp_board::{Board, Pass, Seat};
 use hp_ops::trigger;
@@ -92,7 +93,8 @@ pub(crate) fn start<R: Threads + Sync, G: Gate + Sync>(
     Ok(course)
 }
 
-/// Fires the tasks of a group as siblings. Where there are several tasks and threads, workers try them ahead of their turn.
+/// Fires the tasks of a group as siblings. Where there are several tasks and threads, and enough to do for them, workers try
+/// the tasks ahead of their turn.
 #[cycle(fire)]
 pub(crate) fn group<R: Threads + Sync, G: Gate + Sync>(
     site: &Site<'_, R, G>,
@@ -106,7 +108,7 @@ pub(crate) fn group<R: Threads + Sync, G: Gate + Sync>(
     ensures waves { IfOk result (λ g. g.waves ≤ g.reran + 1) }
     ensures alone { site.now.width < 2 → IfOk result (λ g. g.waves ≡ 0) }
 {
-    if site.width < 2 || tasks.len() < 2 {
+    if site.width < 2 || tasks.len() < 2 || !are_worth_threads(site.lib, tasks) {
         let outcome = one_by_one(site, alloc, view, tasks, stop_at_veto)?;
         return Ok(outcome);
     }

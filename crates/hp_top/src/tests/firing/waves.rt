@@ -1,7 +1,7 @@
 //! Groups that workers help with. A gate holds one worker until another has come as far as the test wants, for a million
 //! turns at most.
 
-use super::{account, alone, balance_in, fields, make, number, on_go, shown, task, text};
+use super::{account, alone, balance_in, fields, make, number, on_go, on_rich, shown, task, text};
 use hp_fire::{Gate, GroupOutcome, NoGate, run_group};
 use hp_ops::create;
 use hp_rule::{Assignment, CheckError, Library, Rule, Stmt, Task};
@@ -373,5 +373,26 @@ fn siblings_in_conflict_give_the_same_at_any_width(rt: HostRuntime) -> Result<()
         assert!(rt; group.waves <= group.reran + 1);
         assert_eq!(rt; group.waves == 0, width == 1);
     }
+    Ok(())
+}
+
+// Threads take longer to start than many short actions take, unless conditions ask queries.
+#[test]
+fn many_short_siblings_have_no_workers(rt: HostRuntime) -> Result<(), Fail> {
+    let alloc = rt.alloc();
+    let mut tasks = Vec::new(alloc);
+    for _ in 0..9 {
+        tasks.push(task(alloc, 0, Coupling::Immediate)?)?;
+    }
+    let short = of_deeds(alloc, &[plus(1)])?;
+    let mut view = bank(alloc, &[(1, 10)])?;
+    let group = run_group(&rt, alloc, &short, &mut view, &tasks, true, 4, &NoGate)?;
+    assert_eq!(rt; counts(&group), (0, 9, 0));
+    assert_eq!(rt; shown(&view, 1), Some(19));
+    let asks = on_rich(alloc, "asks", Vec::new(alloc))?;
+    let other = on_go(alloc, "other", Coupling::Immediate, Vec::new(alloc))?;
+    let asking = super::library(alloc, asks, other)?;
+    let group = run_group(&rt, alloc, &asking, &mut view, &tasks, true, 4, &NoGate)?;
+    assert_eq!(rt; counts(&group), (9, 0, 1));
     Ok(())
 }
