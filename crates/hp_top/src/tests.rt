@@ -40,10 +40,14 @@ fn detached(
 // A task of each mode, each of another rule; of the two exclusive ones the last was released.
 fn all_modes(alloc: Global) -> Result<Vec<Detached>, AllocError> {
     let mut all = Vec::new(alloc);
-    all.push(detached(alloc, 1, Coupling::Separate, false)?)?;
-    all.push(detached(alloc, 2, Coupling::Dependent, false)?)?;
-    all.push(detached(alloc, 3, Coupling::Exclusive, false)?)?;
-    all.push(detached(alloc, 4, Coupling::Exclusive, true)?)?;
+    for (rule, place, released) in [
+        (1, Coupling::Separate, false),
+        (2, Coupling::Dependent, false),
+        (3, Coupling::Exclusive, false),
+        (4, Coupling::Exclusive, true),
+    ] {
+        all.push(detached(alloc, rule, place, released)?)?;
+    }
     Ok(all)
 }
 
@@ -54,20 +58,25 @@ fn assert_rules(rt: &impl Abort, tasks: &[Task], wanted: &[RuleNo]) {
     }
 }
 
-// A transaction that disabled an enabled rule and detached a task of each mode, ended so.
+// The course of a transaction that detached a task of each mode, ended so.
+fn course(alloc: Global, end: End) -> Result<Course, AllocError> {
+    let mut course = Course {
+        end,
+        queued: Vec::new(alloc),
+        detached: all_modes(alloc)?,
+        items: Vec::new(alloc),
+    };
+    let item = Item::Operation(Operation::Delete { class: 0, key: 5 });
+    course.items.push(item)?;
+    Ok(course)
+}
+
+// Such a transaction that disabled an enabled rule.
 fn ended(alloc: Global, view: &mut View, end: End) -> Result<Top, AllocError> {
     view.put(Cell::Rule(0), CellValue::Status(Status::Enabled))?;
     let mark = view.enter();
     view.put(Cell::Rule(0), CellValue::Status(Status::Disabled))?;
-    let mut items = Vec::new(alloc);
-    items.push(Item::Operation(Operation::Delete { class: 0, key: 5 }))?;
-    let course = Course {
-        end,
-        queued: Vec::new(alloc),
-        detached: all_modes(alloc)?,
-        items,
-    };
-    close(alloc, view, mark, course)
+    close(alloc, view, mark, course(alloc, end)?)
 }
 
 fn is_enabled(view: &View) -> bool {
@@ -77,40 +86,80 @@ fn is_enabled(view: &View) -> bool {
     )
 }
 
+// What such a transaction leaves.
+#[derive(Clone, Copy)]
+struct Remains {
+    end: Ending,
+    items: usize,
+    detached: usize,
+    is_enabled: bool,
+}
+
+fn assert_due(
+    rt: &impl Abort,
+    alloc: Global,
+    detached: Vec<Detached>,
+    wanted: &[RuleNo],
+) -> Result<(), AllocError> {
+    let tasks = due(alloc, detached)?;
+    assert_rules(rt, &tasks, wanted);
+    Ok(())
+}
+
+fn left_in(
+    rt: &impl Abort,
+    alloc: Global,
+    view: &mut View,
+    end: End,
+    wanted: &[RuleNo],
+) -> Result<Remains, AllocError> {
+    let top = ended(alloc, view, end)?;
+    let left = Remains {
+        end: top.end,
+        items: top.tree.len(),
+        detached: top.detached.len(),
+        is_enabled: is_enabled(view),
+    };
+    assert_due(rt, alloc, top.detached, wanted)?;
+    Ok(left)
+}
+
+// Ends such a transaction; tasks of the wanted rules are then due.
+fn left(
+    rt: &impl Abort,
+    alloc: Global,
+    end: End,
+    wanted: &[RuleNo],
+) -> Result<Remains, AllocError> {
+    let mut view = View::new(alloc, Snapshot::empty(alloc)?)?;
+    left_in(rt, alloc, &mut view, end, wanted)
+}
+
 #[test]
 fn a_commit_keeps_what_was_written_and_detached(rt: HostRuntime) -> Result<(), Fail> {
-    let alloc = rt.alloc();
-    let mut view = View::new(alloc, Snapshot::empty(alloc)?)?;
-    let top = ended(alloc, &mut view, End::Done)?;
-    assert!(rt; top.end == Ending::Committed);
-    assert_eq!(rt; top.tree.len(), 1);
-    assert!(rt; !is_enabled(&view));
-    assert_eq!(rt; top.detached.len(), 4);
-    assert_rules(&rt, &due(alloc, top.detached)?, &[1, 2, 4]);
+    let left = left(&rt, rt.alloc(), End::Done, &[1, 2, 4])?;
+    assert!(rt; left.end == Ending::Committed);
+    assert_eq!(rt; left.items, 1);
+    assert!(rt; !left.is_enabled);
+    assert_eq!(rt; left.detached, 4);
     Ok(())
 }
 
 #[test]
 fn an_abort_keeps_the_separate_and_releases_the_exclusive(rt: HostRuntime) -> Result<(), Fail> {
-    let alloc = rt.alloc();
-    let mut view = View::new(alloc, Snapshot::empty(alloc)?)?;
-    let top = ended(alloc, &mut view, End::Abort(Cause::Overflow))?;
-    assert!(rt; top.end == Ending::Aborted(Cause::Overflow));
-    assert_eq!(rt; top.tree.len(), 1);
-    assert!(rt; is_enabled(&view));
-    assert_eq!(rt; top.detached.len(), 3);
-    assert_rules(&rt, &due(alloc, top.detached)?, &[1, 3, 4]);
+    let left = left(&rt, rt.alloc(), End::Abort(Cause::Overflow), &[1, 3, 4])?;
+    assert!(rt; left.end == Ending::Aborted(Cause::Overflow));
+    assert_eq!(rt; left.items, 1);
+    assert!(rt; left.is_enabled);
+    assert_eq!(rt; left.detached, 3);
     Ok(())
 }
 
 #[test]
 fn a_veto_aborts(rt: HostRuntime) -> Result<(), Fail> {
-    let alloc = rt.alloc();
-    let mut view = View::new(alloc, Snapshot::empty(alloc)?)?;
-    let top = ended(alloc, &mut view, End::Veto(7))?;
-    assert!(rt; top.end == Ending::Aborted(Cause::Vetoed(7)));
-    assert!(rt; is_enabled(&view));
-    assert_rules(&rt, &due(alloc, top.detached)?, &[1, 3, 4]);
+    let left = left(&rt, rt.alloc(), End::Veto(7), &[1, 3, 4])?;
+    assert!(rt; left.end == Ending::Aborted(Cause::Vetoed(7)));
+    assert!(rt; left.is_enabled);
     Ok(())
 }
 

@@ -5,7 +5,7 @@ ghost use Rattle.hp_model.specs.Sessions.{HasFitState};
 ghost use Rattle.hp_rule.specs.Mapped as rules;
 ghost use Rattle.hp_store.specs.Stack.{cells_in};
 
-use crate::{Blank, Book};
+use crate::{Blank, Book, BookName};
 use hp_rule::{Assignment, Body, CheckError, Library, Stmt, Unit as Item};
 use hp_store::{CellValue, Store};
 use hp_top::{opening, run_unit};
@@ -26,76 +26,87 @@ fn number(alloc: Global, n: i64) -> Result<Box<Expr>, AllocError> {
 
 // The assignment of a balance.
 fn balance_is(alloc: Global, value: Box<Expr>) -> Result<Vec<Assignment>, AllocError> {
-    let mut pairs = Vec::new(alloc);
-    pairs.push(Assignment {
-        field: text(alloc, "bal")?,
-        value,
-    })?;
-    Ok(pairs)
+    let field = text(alloc, "bal")?;
+    Ok(vec![in alloc; Assignment { field, value }]?)
 }
 
 // Makes an account of no balance.
 fn make(alloc: Global, key: Key) -> Result<Stmt, AllocError> {
+    let pairs = balance_is(alloc, number(alloc, 0)?)?;
     Ok(Stmt::Create {
         class: 0,
         key: number(alloc, key)?,
-        pairs: balance_is(alloc, number(alloc, 0)?)?,
+        pairs,
+    })
+}
+
+// The balance of x.
+fn balance_of_x(alloc: Global) -> Result<Box<Expr>, AllocError> {
+    let balance = Expr::FieldOf {
+        variable: text(alloc, "x")?,
+        field: text(alloc, "bal")?,
+    };
+    Ok(Box::new(alloc, balance)?)
+}
+
+// The balance of x, and 1.
+fn sum(alloc: Global) -> Result<Box<Expr>, AllocError> {
+    let balance = balance_of_x(alloc)?;
+    let sum = Expr::Arithmetic(Arithmetic::Plus, balance, number(alloc, 1)?);
+    Ok(Box::new(alloc, sum)?)
+}
+
+// Sets an account's balance to that of x, and 1.
+fn update(alloc: Global, key: Key) -> Result<Stmt, AllocError> {
+    let pairs = balance_is(alloc, sum(alloc)?)?;
+    Ok(Stmt::Update {
+        class: 0,
+        key: number(alloc, key)?,
+        pairs,
     })
 }
 
 // Adds 1 to an account's balance.
 fn plus(alloc: Global, key: Key) -> Result<Stmt, AllocError> {
-    let balance = Expr::FieldOf {
-        variable: text(alloc, "x")?,
-        field: text(alloc, "bal")?,
-    };
-    let sum = Expr::Arithmetic(
-        Arithmetic::Plus,
-        Box::new(alloc, balance)?,
-        number(alloc, 1)?,
-    );
-    let mut body = Vec::new(alloc);
-    body.push(Stmt::Update {
-        class: 0,
-        key: number(alloc, key)?,
-        pairs: balance_is(alloc, Box::new(alloc, sum)?)?,
-    })?;
+    let body = vec![in alloc; update(alloc, key)?]?;
+    let key = number(alloc, key)?;
     Ok(Stmt::With {
         variable: text(alloc, "x")?,
         class: 0,
-        key: number(alloc, key)?,
+        key,
         body,
+    })
+}
+
+// A class of things with a balance.
+fn class(alloc: Global, name: &str) -> Result<ClassDef, AllocError> {
+    let bal = Field {
+        name: text(alloc, "bal")?,
+        kind: Kind::Int,
+    };
+    let fields = Arc::new(alloc, vec![in alloc; bal]?)?;
+    Ok(ClassDef {
+        name: text(alloc, name)?,
+        fields,
     })
 }
 
 // A library of one class, with accounts or with what has that name, and no rule.
 pub fn library(alloc: Global, name: &str) -> Result<Arc<Library>, CheckError> {
-    let mut fields = Vec::new(alloc);
-    fields.push(Field {
-        name: text(alloc, "bal")?,
-        kind: Kind::Int,
-    })?;
-    let mut classes = Vec::new(alloc);
-    classes.push(ClassDef {
-        name: text(alloc, name)?,
-        fields: Arc::new(alloc, fields)?,
-    })?;
+    let classes = vec![in alloc; class(alloc, name)?]?;
     let library = Library::check(alloc, classes, Vec::new(alloc), 16)?;
     Ok(Arc::new(alloc, library)?)
 }
 
 // The body that adds 1 to an account's balance.
 pub fn adding(alloc: Global, library: &Arc<Library>, key: Key) -> Result<Body, CheckError> {
-    let mut statements = Vec::new(alloc);
-    statements.push(plus(alloc, key)?)?;
+    let statements = vec![in alloc; plus(alloc, key)?]?;
     Library::body(library, alloc, statements)
 }
 
 // The body that adds 1 to the balance of account 1, and aborts.
 pub fn aborting(alloc: Global, library: &Arc<Library>) -> Result<Body, CheckError> {
-    let mut statements = Vec::new(alloc);
-    statements.push(plus(alloc, 1)?)?;
-    statements.push(Stmt::Abort)?;
+    let statements = vec![in alloc; plus(alloc, 1)?, Stmt::Abort]?;
     Library::body(library, alloc, statements)
 }
 
@@ -150,4 +161,10 @@ pub fn begun<R: Threads + Sync>(
 ) -> Result<Blank, Fail> {
     let store = accounts(rt, alloc, library, n)?;
     Ok(Book::begin(alloc, Arc::try_clone(library)?, store)?)
+}
+
+// The balance of account 1 at a book's end, and how many entries its history has.
+pub fn ended<K: BookName>(book: Book<K>) -> (i64, usize) {
+    let history = book.end();
+    (balance(history.store(), 1), history.entries().len())
 }

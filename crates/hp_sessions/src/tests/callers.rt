@@ -5,7 +5,7 @@ ghost use Rattle.std.specs.Prelude.{◌≡◌, ◌<◌};
 use crate::laws::{kept, legal};
 use crate::tests::bank::{accounts, adding, balance, begun, library};
 use crate::{Blank, Book, BookName, History, NoGate, Receipt, Session};
-use hp_rule::{Library, Unit as Item};
+use hp_rule::{Body, Library, Unit as Item};
 use hp_store::Store;
 use hp_top::run_unit;
 use hp_value::Key;
@@ -17,6 +17,20 @@ use std::test::Fail;
 use std::thread;
 use std::thread::Threads;
 
+// Adds 1 to the balance of an account, and the receipt to those before it.
+fn add_one<K: BookName, R: Threads + Wait + Sync>(
+    rt: &R,
+    alloc: Global,
+    library: &Arc<Library>,
+    session: &mut Session<K>,
+    receipts: &mut Vec<Receipt<K>>,
+    key: Key,
+) -> Option<()> {
+    let body = adding(alloc, library, key).ok()?;
+    let receipt = session.submit(rt, alloc, body, &NoGate).ok()?;
+    receipts.push(receipt).ok()
+}
+
 // The receipts of fifty bodies that add 1 to the balance of account 1.
 fn fifty<K: BookName, R: Threads + Wait + Sync>(
     rt: &R,
@@ -26,21 +40,37 @@ fn fifty<K: BookName, R: Threads + Wait + Sync>(
 ) -> Option<Vec<Receipt<K>>> {
     let mut receipts = Vec::with_capacity(alloc, 50).ok()?;
     for _ in 0..50 {
-        let body = adding(alloc, library, 1).ok()?;
-        let receipt = session.submit(rt, alloc, body, &NoGate).ok()?;
-        receipts.push(receipt).ok()?;
+        add_one(rt, alloc, library, &mut session, &mut receipts, 1)?;
     }
     Some(receipts)
 }
 
-// Each receipt's number is above those before it, and names its entry.
-fn check_rising<K: BookName>(rt: &impl Abort, history: &mut History<K>, receipts: Vec<Receipt<K>>) {
+// The receipt's number, which is above the one before it, and names its entry.
+fn risen<K: BookName>(
+    rt: &impl Abort,
+    history: &mut History<K>,
+    mut receipt: Receipt<K>,
+    last: u64,
+) -> u64 {
+    kept(history, &mut receipt);
+    let number = receipt.number();
+    assert!(rt; last < number);
+    number
+}
+
+// There are fifty receipts. Each one's number is above those before it, and names its entry.
+fn check_rising<K: BookName>(
+    rt: &impl Abort,
+    history: &mut History<K>,
+    receipts: Option<Vec<Receipt<K>>>,
+) -> Result<(), Fail> {
+    let receipts = receipts.ok_or("fifty receipts")?;
+    assert_eq!(rt; receipts.len(), 50);
     let mut last = 0;
-    for mut receipt in receipts {
-        kept(history, &mut receipt);
-        assert!(rt; last < receipt.number());
-        last = receipt.number();
+    for receipt in receipts {
+        last = risen(rt, history, receipt, last);
     }
+    Ok(())
 }
 
 fn entries_of<K: BookName>(history: &History<K>, session: u8) -> usize {
@@ -49,6 +79,14 @@ fn entries_of<K: BookName>(history: &History<K>, session: u8) -> usize {
         .iter()
         .filter(|e| e.session == session)
         .count()
+}
+
+fn check_hundred<K: BookName>(rt: &impl Abort, history: &History<K>) {
+    legal(history);
+    assert_eq!(rt; balance(history.store(), 1), 100);
+    assert_eq!(rt; history.entries().len(), 100);
+    assert_eq!(rt; entries_of(history, 1), 50);
+    assert_eq!(rt; entries_of(history, 2), 50);
 }
 
 fn two_threads<K: BookName + Send + Sync, R: Threads + Wait + Abort + Sync>(
@@ -66,18 +104,10 @@ fn two_threads<K: BookName + Send + Sync, R: Threads + Wait + Abort + Sync>(
         move || fifty(rt, alloc, library, Session::new(1, lock)),
         move || fifty(rt, alloc, library, Session::new(2, lock)),
     );
-    let one = one.ok_or("fifty receipts")?;
-    let two = two.ok_or("fifty receipts")?;
-    assert!(rt; one.len() == 50 && two.len() == 50);
     let mut history = book.into_inner().end();
-    legal(&history);
-    assert_eq!(rt; balance(history.store(), 1), 100);
-    assert_eq!(rt; history.entries().len(), 100);
-    assert_eq!(rt; entries_of(&history, 1), 50);
-    assert_eq!(rt; entries_of(&history, 2), 50);
-    check_rising(rt, &mut history, one);
-    check_rising(rt, &mut history, two);
-    Ok(())
+    check_hundred(rt, &history);
+    check_rising(rt, &mut history, one)?;
+    check_rising(rt, &mut history, two)
 }
 
 // Catches a session that commits twice for one call (`commits_twice`), or commits and then refuses (`commits_then_refuses`), and
@@ -103,12 +133,15 @@ fn two_hundred<K: BookName, R: Threads + Wait + Sync>(
     let mut session = Session::new(number + 1, lock);
     let mut receipts = Vec::new(alloc);
     for _ in 0..100 {
-        for key in [1, number as Key + 2] {
-            let body = adding(alloc, library, key).ok()?;
-            receipts
-                .push(session.submit(rt, alloc, body, &NoGate).ok()?)
-                .ok()?;
-        }
+        add_one(rt, alloc, library, &mut session, &mut receipts, 1)?;
+        add_one(
+            rt,
+            alloc,
+            library,
+            &mut session,
+            &mut receipts,
+            number as Key + 2,
+        )?;
     }
     Some(receipts.len())
 }
@@ -122,10 +155,50 @@ fn replayed<K: BookName, R: Threads + Sync>(
 ) -> Result<Store, Fail> {
     let mut store = accounts(rt, alloc, library, 17)?;
     for entry in history.into_entries() {
-        let unit = Item::Transaction(entry.body);
-        run_unit(rt, alloc, library, &mut store, &unit, 1)?;
+        replay(rt, alloc, library, &mut store, entry.body)?;
     }
     Ok(store)
+}
+
+fn replay<R: Threads + Sync>(
+    rt: &R,
+    alloc: Global,
+    library: &Library,
+    store: &mut Store,
+    body: Body,
+) -> Result<(), Fail> {
+    run_unit(rt, alloc, library, store, &Item::Transaction(body), 1)?;
+    Ok(())
+}
+
+// The balances of the accounts 1 to 17.
+fn balances(alloc: Global, store: &Store) -> Result<Vec<i64>, Fail> {
+    let mut balances = Vec::new(alloc);
+    for key in 1..18 {
+        balances.push(balance(store, key))?;
+    }
+    Ok(balances)
+}
+
+fn check_balances(rt: &impl Abort, balances: &[i64], store: &Store) {
+    for (i, sum) in balances.iter().enumerate() {
+        assert_eq!(rt; *sum, balance(store, i as Key + 1));
+        assert_eq!(rt; *sum, if i == 0 { 1_600 } else { 100 });
+    }
+}
+
+// The history leaves the balances that its bodies leave one after the other.
+fn check_replayed<K: BookName, R: Threads + Abort + Sync>(
+    rt: &R,
+    alloc: Global,
+    library: &Arc<Library>,
+    history: History<K>,
+) -> Result<(), Fail> {
+    assert_eq!(rt; history.entries().len(), 3_200);
+    let balances = balances(alloc, history.store())?;
+    let store = replayed(rt, alloc, library, history)?;
+    check_balances(rt, balances.as_slice(), &store);
+    Ok(())
 }
 
 fn sixteen<K: BookName + Send + Sync, R: Threads + Wait + Abort + Sync>(
@@ -147,18 +220,7 @@ fn sixteen<K: BookName + Send + Sync, R: Threads + Wait + Abort + Sync>(
     for sum in done {
         assert_eq!(rt; sum, Some(200));
     }
-    let history = book.into_inner().end();
-    assert_eq!(rt; history.entries().len(), 3_200);
-    let mut balances = Vec::new(alloc);
-    for key in 1..18 {
-        balances.push(balance(history.store(), key))?;
-    }
-    let store = replayed(rt, alloc, library, history)?;
-    for (i, sum) in balances.iter().enumerate() {
-        assert_eq!(rt; *sum, balance(&store, i as Key + 1));
-        assert_eq!(rt; *sum, if i == 0 { 1_600 } else { 100 });
-    }
-    Ok(())
+    check_replayed(rt, alloc, library, book.into_inner().end())
 }
 
 #[test]

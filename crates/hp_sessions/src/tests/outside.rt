@@ -2,7 +2,7 @@
 
 ghost use Rattle.std.specs.Prelude.{◌≡◌};
 
-use crate::tests::bank::{adding, balance, begun, library};
+use crate::tests::bank::{adding, begun, ended, library};
 use crate::{Blank, Book, BookName, Gate, Receipt, Session};
 use hp_rule::Library;
 use std::alloc::Global;
@@ -92,6 +92,30 @@ fn first_and_second<K: BookName + Send + Sync, R: Threads + Wait + Sync>(
     )
 }
 
+fn number_of<K: BookName>(answer: Answer<K>) -> Option<u64> {
+    Some(answer?.number())
+}
+
+fn check_turns<K: BookName + Send + Sync, R: Threads + Wait + Abort + Sync>(
+    rt: &R,
+    alloc: Global,
+    library: &Arc<Library>,
+    lock: &Mutex<Book<K>>,
+) -> Result<(), Fail> {
+    let turns = Turns {
+        begun: AtomicU64::new(0),
+        answered: AtomicU64::new(0),
+        late: AtomicU64::new(0),
+    };
+    let (one, two) = first_and_second(rt, alloc, library, lock, &turns);
+    let (one, two) = (number_of(one), number_of(two));
+    assert_eq!(rt; turns.late.load(SeqCst), 0);
+    let one = one.ok_or("a receipt")?;
+    let two = two.ok_or("a receipt")?;
+    assert!(rt; two == 1 && one == 2);
+    Ok(())
+}
+
 fn outside<K: BookName + Send + Sync, R: Threads + Wait + Abort + Sync>(
     rt: &R,
     alloc: Global,
@@ -101,17 +125,9 @@ fn outside<K: BookName + Send + Sync, R: Threads + Wait + Abort + Sync>(
     requires { blank.table ≡ K.table }
 {
     let book = Mutex::new(blank.open::<K>(alloc));
-    let turns = Turns {
-        begun: AtomicU64::new(0),
-        answered: AtomicU64::new(0),
-        late: AtomicU64::new(0),
-    };
-    let (one, two) = first_and_second(rt, alloc, library, &book, &turns);
-    assert_eq!(rt; turns.late.load(SeqCst), 0);
-    let one = one.ok_or("a receipt")?;
-    let two = two.ok_or("a receipt")?;
-    assert!(rt; two.number() == 1 && one.number() == 2);
-    assert_eq!(rt; balance(book.into_inner().end().store(), 1), 2);
+    check_turns(rt, alloc, library, &book)?;
+    let (sum, _) = ended(book.into_inner());
+    assert_eq!(rt; sum, 2);
     Ok(())
 }
 

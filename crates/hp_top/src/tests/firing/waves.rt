@@ -1,12 +1,14 @@
 //! Groups that workers help with. A gate holds one worker until another has come as far as the test wants, for a million
 //! turns at most.
 
-use super::{account, alone, balance_in, fields, make, number, on_go, on_rich, shown, task, text};
-use hp_fire::{Gate, GroupOutcome, NoGate, run_group};
-use hp_ops::create;
+use super::{
+    Balances, alone, balance_in, checked, fire_all_on, make, number, on_go, on_rich, stock, task,
+    tasks, text,
+};
+use hp_fire::{Gate, NoGate};
 use hp_rule::{Assignment, CheckError, Library, Rule, Stmt, Task};
 use hp_store::Snapshot;
-use hp_value::{Arithmetic, ClassDef, Coupling, Expr, Halt, Key, RuleNo};
+use hp_value::{Arithmetic, Coupling, Expr, Halt, Key};
 use hp_view::View;
 use std::alloc::{AllocError, Global};
 use std::process::Abort;
@@ -116,27 +118,33 @@ fn copies_to(account: Key) -> Deed {
     }
 }
 
-fn action(alloc: Global, deed: Deed) -> Result<Vec<Stmt>, AllocError> {
-    let value = Expr::Arithmetic(
-        deed.how,
-        balance_in(alloc, "row")?,
-        number(alloc, deed.number)?,
-    );
+// The assignment of a sum, or a product, of the balance of `row` and a number.
+fn computed(alloc: Global, deed: Deed) -> Result<Vec<Assignment>, AllocError> {
+    let balance = balance_in(alloc, "row")?;
+    let value = Expr::Arithmetic(deed.how, balance, number(alloc, deed.number)?);
     let mut pairs = Vec::new(alloc);
     pairs.push(Assignment {
         field: text(alloc, "bal")?,
         value: Box::new(alloc, value)?,
     })?;
+    Ok(pairs)
+}
+
+fn update(alloc: Global, deed: Deed) -> Result<Vec<Stmt>, AllocError> {
     let update = Stmt::Update {
         class: 0,
         key: number(alloc, deed.account)?,
-        pairs,
+        pairs: computed(alloc, deed)?,
     };
+    alone(alloc, update)
+}
+
+fn action(alloc: Global, deed: Deed) -> Result<Vec<Stmt>, AllocError> {
     let with = Stmt::With {
         variable: text(alloc, "row")?,
         class: 0,
         key: number(alloc, deed.by)?,
-        body: alone(alloc, update)?,
+        body: update(alloc, deed)?,
     };
     alone(alloc, with)
 }
@@ -144,19 +152,14 @@ fn action(alloc: Global, deed: Deed) -> Result<Vec<Stmt>, AllocError> {
 // The names of the rules, in rule order.
 const NAMES: [&str; 5] = ["first", "second", "third", "fourth", "fifth"];
 
-// One class of accounts, and a rule for each action.
+// A rule for each action.
 fn library(alloc: Global, actions: Vec<Vec<Stmt>>) -> Result<Library, CheckError> {
-    let mut classes = Vec::new(alloc);
-    classes.push(ClassDef {
-        name: text(alloc, "account")?,
-        fields: fields(alloc)?,
-    })?;
     let mut rules: Vec<Rule> = Vec::new(alloc);
     for action in actions {
         let name = NAMES[rules.len() % NAMES.len()];
         rules.push(on_go(alloc, name, Coupling::Immediate, action)?)?;
     }
-    Library::check(alloc, classes, rules, 2)
+    checked(alloc, rules)
 }
 
 fn of_deeds(alloc: Global, deeds: &[Deed]) -> Result<Library, CheckError> {
@@ -170,38 +173,53 @@ fn of_deeds(alloc: Global, deeds: &[Deed]) -> Result<Library, CheckError> {
 // Accounts with these keys and balances.
 fn bank(alloc: Global, accounts: &[(Key, i64)]) -> Result<View, Halt> {
     let mut view = View::new(alloc, Snapshot::empty(alloc)?)?;
-    for (key, balance) in accounts {
-        let _ = create(alloc, &mut view, 0, *key, account(alloc, *balance)?)?;
-    }
+    stock(alloc, &mut view, accounts)?;
     Ok(view)
 }
 
-// The tasks of so many rules, in rule order.
-fn tasks(alloc: Global, count: RuleNo) -> Result<Vec<Task>, AllocError> {
-    let mut tasks = Vec::new(alloc);
-    for rule in 0..count {
-        tasks.push(task(alloc, rule, Coupling::Immediate)?)?;
-    }
-    Ok(tasks)
+// What a group gave: how many firings were taken in from an attempt, how many were run by the owner or again, and in how
+// many waves; and the balances after it.
+type Gave = ((usize, usize, usize), Balances);
+
+fn fire_in(
+    rt: &(impl Threads + Sync),
+    alloc: Global,
+    lib: &Library,
+    view: &mut View,
+    tasks: Result<Vec<Task>, AllocError>,
+    width: usize,
+    gate: &(impl Gate + Sync),
+) -> Result<Gave, AllocError> {
+    let tasks = tasks?;
+    let siblings = fire_all_on(rt, alloc, lib, view, &tasks, true, width, gate)?;
+    Ok((siblings.counts, siblings.course.balances))
 }
 
-fn counts(group: &GroupOutcome) -> (usize, usize, usize) {
-    (group.accepted, group.reran, group.waves)
+// Fires tasks of these rules over such accounts.
+fn fire(
+    rt: &(impl Threads + Sync),
+    alloc: Global,
+    lib: Result<Library, CheckError>,
+    accounts: &[(Key, i64)],
+    tasks: Result<Vec<Task>, AllocError>,
+    width: usize,
+    gate: &(impl Gate + Sync),
+) -> Result<Gave, Fail> {
+    let lib = lib?;
+    let mut view = bank(alloc, accounts)?;
+    Ok(fire_in(rt, alloc, &lib, &mut view, tasks, width, gate)?)
 }
 
 #[test]
 fn two_siblings_are_in_flight(rt: HostRuntime) -> Result<(), Fail> {
     let alloc = rt.alloc();
-    let lib = of_deeds(alloc, &[plus(1), plus(2), plus(3), plus(4)])?;
-    let mut view = bank(alloc, &[(1, 0), (2, 0), (3, 0), (4, 0)])?;
     let gate = Hold::of(0, Awaited::Start(1));
-    let tasks = tasks(alloc, 4)?;
-    let group = run_group(&rt, alloc, &lib, &mut view, &tasks, true, 2, &gate)?;
+    let lib = of_deeds(alloc, &[plus(1), plus(2), plus(3), plus(4)]);
+    let accounts = [(1, 0), (2, 0), (3, 0), (4, 0)];
+    let (counts, balances) = fire(&rt, alloc, lib, &accounts, tasks(alloc, 4), 2, &gate)?;
     assert!(rt; !gate.was_late());
-    assert_eq!(rt; counts(&group), (4, 0, 1));
-    for key in [1, 2, 3, 4] {
-        assert_eq!(rt; shown(&view, key), Some(1));
-    }
+    assert_eq!(rt; counts, (4, 0, 1));
+    assert_eq!(rt; balances, (Some(1), Some(1), Some(1), Some(1), None));
     Ok(())
 }
 
@@ -212,13 +230,12 @@ fn fired(
     deeds: &[Deed],
     held: usize,
 ) -> Result<(i64, (usize, usize, usize)), Fail> {
-    let lib = of_deeds(alloc, deeds)?;
-    let mut view = bank(alloc, &[(1, 10), (2, 20)])?;
     let gate = Hold::of(held, Awaited::End(1 - held % 2));
-    let tasks = tasks(alloc, 2)?;
-    let group = run_group(rt, alloc, &lib, &mut view, &tasks, true, 2, &gate)?;
+    let lib = of_deeds(alloc, deeds);
+    let accounts = [(1, 10), (2, 20)];
+    let (counts, balances) = fire(rt, alloc, lib, &accounts, tasks(alloc, 2), 2, &gate)?;
     assert!(rt; !gate.was_late());
-    Ok((shown(&view, 1).unwrap_or(0), counts(&group)))
+    Ok((balances.0.unwrap_or(0), counts))
 }
 
 #[test]
@@ -236,29 +253,38 @@ fn an_elder_is_seen(rt: HostRuntime) -> Result<(), Fail> {
 #[test]
 fn disjoint_siblings_are_accepted(rt: HostRuntime) -> Result<(), Fail> {
     let alloc = rt.alloc();
-    let lib = of_deeds(alloc, &[plus(1), plus(2)])?;
-    let mut view = bank(alloc, &[(1, 10), (2, 20)])?;
-    let tasks = tasks(alloc, 2)?;
-    let group = run_group(&rt, alloc, &lib, &mut view, &tasks, true, 8, &NoGate)?;
-    assert_eq!(rt; counts(&group), (2, 0, 1));
-    assert_eq!(rt; (shown(&view, 1), shown(&view, 2)), (Some(11), Some(21)));
+    let lib = of_deeds(alloc, &[plus(1), plus(2)]);
+    let accounts = [(1, 10), (2, 20)];
+    let (counts, balances) = fire(&rt, alloc, lib, &accounts, tasks(alloc, 2), 8, &NoGate)?;
+    assert_eq!(rt; counts, (2, 0, 1));
+    assert_eq!(rt; balances, (Some(11), Some(21), None, None, None));
     Ok(())
+}
+
+// Two rules that each make an account.
+fn creating(alloc: Global) -> Result<Library, CheckError> {
+    let mut actions = Vec::new(alloc);
+    for key in [1, 2] {
+        actions.push(alone(alloc, make(alloc, key, 5)?)?)?;
+    }
+    library(alloc, actions)
 }
 
 // Two that make objects of one class don't collide: a creation doesn't read the class's keys.
 #[test]
 fn creations_do_not_collide(rt: HostRuntime) -> Result<(), Fail> {
     let alloc = rt.alloc();
-    let mut actions = Vec::new(alloc);
-    for key in [1, 2] {
-        actions.push(alone(alloc, make(alloc, key, 5)?)?)?;
-    }
-    let lib = library(alloc, actions)?;
-    let mut view = bank(alloc, &[])?;
-    let tasks = tasks(alloc, 2)?;
-    let group = run_group(&rt, alloc, &lib, &mut view, &tasks, true, 2, &NoGate)?;
-    assert_eq!(rt; counts(&group), (2, 0, 1));
-    assert_eq!(rt; (shown(&view, 1), shown(&view, 2)), (Some(5), Some(5)));
+    let (counts, balances) = fire(
+        &rt,
+        alloc,
+        creating(alloc),
+        &[],
+        tasks(alloc, 2),
+        2,
+        &NoGate,
+    )?;
+    assert_eq!(rt; counts, (2, 0, 1));
+    assert_eq!(rt; balances, (Some(5), Some(5), None, None, None));
     Ok(())
 }
 
@@ -302,21 +328,18 @@ impl Gate for TwoReruns {
 #[test]
 fn two_reruns_are_in_flight(rt: HostRuntime) -> Result<(), Fail> {
     let alloc = rt.alloc();
-    let lib = of_deeds(alloc, &[plus(1), copies_to(2), copies_to(3)])?;
-    let mut view = bank(alloc, &[(1, 10), (2, 0), (3, 0)])?;
     let gate = TwoReruns {
         ends: AtomicU64::new(0),
         starts_of_1: AtomicU64::new(0),
         starts_of_2: AtomicU64::new(0),
         late: AtomicU64::new(0),
     };
-    let tasks = tasks(alloc, 3)?;
-    let group = run_group(&rt, alloc, &lib, &mut view, &tasks, true, 3, &gate)?;
+    let lib = of_deeds(alloc, &[plus(1), copies_to(2), copies_to(3)]);
+    let accounts = [(1, 10), (2, 0), (3, 0)];
+    let (counts, balances) = fire(&rt, alloc, lib, &accounts, tasks(alloc, 3), 3, &gate)?;
     assert_eq!(rt; gate.late.load(SeqCst), 0);
-    assert_eq!(rt; counts(&group), (1, 2, 2));
-    for key in [1, 2, 3] {
-        assert_eq!(rt; shown(&view, key), Some(11));
-    }
+    assert_eq!(rt; counts, (1, 2, 2));
+    assert_eq!(rt; balances, (Some(11), Some(11), Some(11), None, None));
     Ok(())
 }
 
@@ -343,18 +366,16 @@ impl Gate for Starts {
 #[test]
 fn a_wave_that_does_not_pay_is_the_last(rt: HostRuntime) -> Result<(), Fail> {
     let alloc = rt.alloc();
-    let lib = of_deeds(alloc, &[plus(1), plus(1), plus(1), plus(1), plus(1)])?;
-    let mut view = bank(alloc, &[(1, 10)])?;
     let gate = Starts {
         hold: Hold::of(0, Awaited::End(3)),
         count: AtomicU64::new(0),
     };
-    let tasks = tasks(alloc, 5)?;
-    let group = run_group(&rt, alloc, &lib, &mut view, &tasks, true, 2, &gate)?;
+    let lib = of_deeds(alloc, &[plus(1), plus(1), plus(1), plus(1), plus(1)]);
+    let (counts, balances) = fire(&rt, alloc, lib, &[(1, 10)], tasks(alloc, 5), 2, &gate)?;
     assert!(rt; !gate.hold.was_late());
     assert_eq!(rt; gate.count.load(SeqCst), 4);
-    assert_eq!(rt; counts(&group), (1, 4, 1));
-    assert_eq!(rt; shown(&view, 1), Some(15));
+    assert_eq!(rt; counts, (1, 4, 1));
+    assert_eq!(rt; balances.0, Some(15));
     Ok(())
 }
 
@@ -363,36 +384,40 @@ fn a_wave_that_does_not_pay_is_the_last(rt: HostRuntime) -> Result<(), Fail> {
 #[test]
 fn siblings_in_conflict_give_the_same_at_any_width(rt: HostRuntime) -> Result<(), Fail> {
     let alloc = rt.alloc();
-    let lib = of_deeds(alloc, &[plus(1), DOUBLES, plus(1), DOUBLES])?;
-    let tasks = tasks(alloc, 4)?;
     for width in [1, 2, 3, 4, 64] {
-        let mut view = bank(alloc, &[(1, 10)])?;
-        let group = run_group(&rt, alloc, &lib, &mut view, &tasks, true, width, &NoGate)?;
-        assert_eq!(rt; shown(&view, 1), Some(46));
-        assert_eq!(rt; group.accepted + group.reran, 4);
-        assert!(rt; group.waves <= group.reran + 1);
-        assert_eq!(rt; group.waves == 0, width == 1);
+        let lib = of_deeds(alloc, &[plus(1), DOUBLES, plus(1), DOUBLES]);
+        let tasks = tasks(alloc, 4);
+        let (counts, balances) = fire(&rt, alloc, lib, &[(1, 10)], tasks, width, &NoGate)?;
+        let (accepted, reran, waves) = counts;
+        assert_eq!(rt; balances.0, Some(46));
+        assert_eq!(rt; accepted.saturating_add(reran), 4);
+        assert!(rt; waves <= reran.saturating_add(1));
+        assert_eq!(rt; waves == 0, width == 1);
     }
     Ok(())
+}
+
+// Nine tasks of the first rule.
+fn nine(alloc: Global) -> Result<Vec<Task>, AllocError> {
+    let mut tasks = Vec::new(alloc);
+    for _ in 0..9 {
+        tasks.push(task(alloc, 0, Coupling::Immediate)?)?;
+    }
+    Ok(tasks)
 }
 
 // Threads take longer to start than many short actions take, unless conditions ask queries.
 #[test]
 fn many_short_siblings_have_no_workers(rt: HostRuntime) -> Result<(), Fail> {
     let alloc = rt.alloc();
-    let mut tasks = Vec::new(alloc);
-    for _ in 0..9 {
-        tasks.push(task(alloc, 0, Coupling::Immediate)?)?;
-    }
-    let short = of_deeds(alloc, &[plus(1)])?;
-    let mut view = bank(alloc, &[(1, 10)])?;
-    let group = run_group(&rt, alloc, &short, &mut view, &tasks, true, 4, &NoGate)?;
-    assert_eq!(rt; counts(&group), (0, 9, 0));
-    assert_eq!(rt; shown(&view, 1), Some(19));
-    let asks = on_rich(alloc, "asks", Vec::new(alloc))?;
-    let other = on_go(alloc, "other", Coupling::Immediate, Vec::new(alloc))?;
-    let asking = super::library(alloc, asks, other)?;
-    let group = run_group(&rt, alloc, &asking, &mut view, &tasks, true, 4, &NoGate)?;
-    assert_eq!(rt; counts(&group), (9, 0, 1));
+    let short = of_deeds(alloc, &[plus(1)]);
+    let (counts, balances) = fire(&rt, alloc, short, &[(1, 10)], nine(alloc), 4, &NoGate)?;
+    assert_eq!(rt; counts, (0, 9, 0));
+    assert_eq!(rt; balances.0, Some(19));
+    let asks = on_rich(alloc, "asks", Vec::new(alloc));
+    let other = on_go(alloc, "other", Coupling::Immediate, Vec::new(alloc));
+    let asking = super::library(alloc, asks, other);
+    let (counts, _) = fire(&rt, alloc, asking, &[(1, 19)], nine(alloc), 4, &NoGate)?;
+    assert_eq!(rt; counts, (9, 0, 1));
     Ok(())
 }
