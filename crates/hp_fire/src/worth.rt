@@ -3,13 +3,14 @@
 use hp_rule::{Library, Stmt, Task};
 use hp_value::RuleNo;
 
-// So few tasks always are: what they set off may take long, and to wait for each other costs them most.
+// So few tasks always are, since what they set off may take long.
 const FEW: usize = 8;
 
-// How many statements take as long as threads take to start.
+// So many statements pay for threads. To start threads took as long as some two hundred of them (bench/README.md, (b)), and two
+// workers save half of the work at best.
 const PAYS: usize = 500;
 
-// How many statements take as long as a query, which goes through a class's objects.
+// A query goes through a class's objects, and counts as so many statements.
 const QUERY: usize = 100;
 
 /// Whether workers are to try the tasks of a group: there are few, or by the text of their rules they have enough to do.

@@ -162,7 +162,7 @@ fn checked(alloc: Global, rules: Vec<Rule>) -> Result<Library, CheckError> {
     Library::check(alloc, classes(alloc)?, rules, 2)
 }
 
-// Two rules. Here, and below, what is made may come as it was made, so that a caller holds as little as can be.
+// Two rules. Here and below rules, bodies and libraries are handed on as they were made, refused or not: so a caller owns little.
 fn library(
     alloc: Global,
     first: Result<Rule, AllocError>,
