@@ -4,8 +4,11 @@
     bench/bench.py PROGRAM [--times N] [--only LETTERS] [--keep FOLDER]
 
 PROGRAM is crates/hipac/out/hipac, which `./hipac` builds. Each workload is a script of its own, made
-here; each is run N times (5), and the shortest time counts. Workloads (c) and (d) are also run as triggers by sqlite3
-over an in-memory database, in the same run.
+here; each is run N times (5), all commands in turn, and the shortest time counts. Workloads (c) and (d) are also run as
+triggers by sqlite3 over an in-memory database, in the same run.
+
+The last column says what the machine gave: how many processors' work copies of the run with 1 worker did at once, two of
+them and four.
 """
 
 import argparse
@@ -13,9 +16,11 @@ import json
 import os
 import subprocess
 import sys
+import tempfile
 import time
 
 WORKERS = (1, 2, 4)
+COPIES = (2, 4)
 
 
 def script(classes, rules, items, depth=None):
@@ -147,18 +152,43 @@ WORKLOADS = [
 ]
 
 
-def shortest(command, text, times):
-    """The shortest wall time of the command over this input, and what it printed."""
-    best, out = None, None
-    for _ in range(times):
+def timed(command, text, copies=1):
+    """The wall time of the command over this input, run so many times at once, and what it printed."""
+    with tempfile.TemporaryDirectory() as folder:
+        script = os.path.join(folder, "script")
+        with open(script, "w") as file:
+            file.write(text)
+        reports = [os.path.join(folder, f"report{number}") for number in range(copies)]
         begun = time.perf_counter()
-        done = subprocess.run(command, input=text.encode(), stdout=subprocess.PIPE, check=False)
+        running = []
+        for report in reports:
+            with open(script, "rb") as given, open(report, "wb") as printed:
+                running.append(subprocess.Popen(command, stdin=given, stdout=printed))
+        statuses = [one.wait() for one in running]
         took = time.perf_counter() - begun
-        if done.returncode != 0:
-            sys.exit(f"{command}: status {done.returncode}: {done.stdout[:200]!r}")
-        best = took if best is None else min(best, took)
-        out = done.stdout
-    return best, out
+        with open(reports[0], "rb") as printed:
+            out = printed.read()
+    if any(statuses):
+        sys.exit(f"{command}: statuses {statuses}: {out[:200]!r}")
+    return took, out
+
+
+def measured(program, letter, text, sql, times):
+    """The shortest times: with each number of workers, of two and four copies at once, and of sqlite3."""
+    alone = [program, "--workers", "1"]
+    runs = [([program, "--workers", str(workers)], text, 1) for workers in WORKERS]
+    runs += [(alone, text, copies) for copies in COPIES]
+    runs += [(["sqlite3", "-batch", ":memory:"], sql, 1)] if sql else []
+    best, outputs = [None] * len(runs), set()
+    for _ in range(times):
+        for number, (command, given, copies) in enumerate(runs):
+            took, out = timed(command, given, copies)
+            best[number] = took if best[number] is None else min(best[number], took)
+            if number < len(WORKERS):
+                outputs.add(out)
+    if len(outputs) != 1:
+        sys.exit(f"({letter}): the reports differ")
+    return best[: len(WORKERS)], best[len(WORKERS) : len(WORKERS) + len(COPIES)], best[len(WORKERS) + len(COPIES) :]
 
 
 def main():
@@ -168,8 +198,9 @@ def main():
     words.add_argument("--only", metavar="LETTERS", default="", help="runs these workloads alone, as in --only ab")
     words.add_argument("--keep", metavar="FOLDER", help="also writes the scripts there")
     given = words.parse_args()
-    print("| Workload | Firings | " + " | ".join(f"{w} worker{'s' if w > 1 else ''}" for w in WORKERS) + " | sqlite3 |")
-    print("|---|---|" + "---|" * (len(WORKERS) + 1))
+    workers = [f"{w} worker{'s' if w > 1 else ''}" for w in WORKERS]
+    print("| Workload | Firings | " + " | ".join(workers) + " | sqlite3 | Processors |")
+    print("|---|---|" + "---|" * (len(WORKERS) + 2))
     for letter, title, make, make_sql in WORKLOADS:
         if given.only and letter not in given.only:
             continue
@@ -180,18 +211,11 @@ def main():
             os.makedirs(given.keep, exist_ok=True)
             with open(os.path.join(given.keep, f"{letter}.json"), "w") as file:
                 file.write(text)
-        cells, outputs = [], set()
-        for workers in WORKERS:
-            took, out = shortest([given.program, "--workers", str(workers)], text, given.times)
-            outputs.add(out)
-            cells.append(f"{took * 1000:.0f} ms, {firings / took:,.0f}/s")
-        if len(outputs) != 1:
-            sys.exit(f"({letter}): the reports differ")
-        if make_sql:
-            took, _ = shortest(["sqlite3", "-batch", ":memory:"], make_sql(), given.times)
-            cells.append(f"{took * 1000:.0f} ms, {firings / took:,.0f}/s")
-        else:
-            cells.append("")
+        sql = make_sql() if make_sql else None
+        times, at_once, by_sqlite = measured(given.program, letter, text, sql, given.times)
+        cells = [f"{took * 1000:.0f} ms, {firings / took:,.0f}/s" for took in times + by_sqlite]
+        cells += [] if by_sqlite else [""]
+        cells.append(", ".join(f"{copies * times[0] / took:.1f}" for copies, took in zip(COPIES, at_once)))
         print(f"| ({letter}) {title} | {firings:,} | " + " | ".join(cells) + " |", flush=True)
 
 

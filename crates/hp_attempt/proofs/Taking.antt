@@ -1,21 +1,23 @@
 -- Attempts that are taken in.
-use Rattle.std.proofs.Common.{◌≡◌, refl, sym, ap, ◌∙◌, subst, ℕ, ℤ, List, [], ◌∷◌, Option}
+use Rattle.std.proofs.Common.{◌≡◌, refl, sym, ap, ◌∙◌, subst, ℕ, ℤ, List, [], ◌∷◌}
 use Rattle.std.specs.Prelude.{Result, Ok, Err, OnOk}
 use Rattle.hp_model.specs.Rules.{Library}
 use Rattle.hp_model.specs.Tree.{Task}
-use Rattle.hp_model.specs.Cells.{Cell, CellValue, Cells, cells, over, Read, cell_read, keys_read, IsTold, AllTold, Holds, AreKeys}
+use Rattle.hp_model.specs.Values.{KeyedRow}
+use Rattle.hp_model.specs.Cells.{Cell, Cells, cells, over, Read, keys_read, objects_read, IsTold, AllTold, Holds, AreKeys, AreObjects}
 use Rattle.hp_model.specs.Firing.{fire_task}
 use Rattle.hp_model.specs.Soundness.{firing_answer, LeadsTo, Attempt, IsSound}
 use Rattle.hp_model.specs.Answers.{FaithfulFiring}
 use Rattle.hp_model.proofs.BridgesCells.{stacked, over-over, Holds-front}
 use Rattle.hp_store.specs.Changes.{Entries, changes}
 use Rattle.hp_store.specs.Stack.{cells_in}
-use Rattle.hp_view.specs.Seeing.{Seeing, beneath, written, now_in, Shows, ShowsKeys, TakesIn, OnlyReads, GoesOn}
+use Rattle.hp_view.specs.Seeing.{Seeing, written, now_in, Shows, ShowsKeys, ShowsObjects, TakesIn, OnlyReads, GoesOn}
 use Rattle.hp_view.specs.Looks.{only_reads_then}
 use Rattle.hp_view.proofs.Views.{GoesOn-then}
 use Rattle.hp_value.specs.declared.cell.Cell.{Cell as RustCell}
 use Rattle.hp_value.specs.Mapped.{cell}
 use Rattle.hp_view.specs.declared.reads.Found.{Found}
+use Rattle.hp_view.specs.declared.reads.Found.TheVariants.{Value, Keys, Objects}
 use Rattle.hp_view.specs.declared.reads.Seen.{Seen}
 use Rattle.hp_view.specs.declared.reads.Seen.TheVariants.{Cell as OfCell, Keys as OfKeys}
 use Rattle.hp_view.specs.Mapped.{read}
@@ -36,17 +38,18 @@ held_first {old} only base held = Holds-front base old.reads only.reads.0 (subst
 
 pub read_is_of : (seen : Seen) (found : Found) → IsReadOf seen (read (seen, found))
 read_is_of (OfCell q) found = refl
-read_is_of (OfKeys n) found = refl
+read_is_of (OfKeys n) (Value v) = refl
+read_is_of (OfKeys n) (Keys keys) = refl
+read_is_of (OfKeys n) (Objects objects) = refl
 
-pub again_cell : (old new : Seeing) (q : RustCell) → Shows new (cell q) (now_in old (cell q)) → (r : Read) → IsReadOf (OfCell q) r → IsReadAgain old new r
-again_cell old new q shows (cell_read c value) is =
-    subst (λ d. IsReadAgain old new (cell_read d value)) (sym is) (λ told base held. shows.everywhere base held ∙ told)
-again_cell old new q shows (keys_read class keys) is = absurd is
+pub again_cell : (old new : Seeing) (q : RustCell) (found : Found) → Shows new (cell q) (now_in old (cell q)) → IsReadAgain old new (read (OfCell q, found))
+again_cell old new q found shows = λ told base held. shows.everywhere base held ∙ told
 
-pub again_keys : (old new : Seeing) (n : ℕ) → ((keys : List ℤ) → AreKeys (now_in old) n keys → ShowsKeys new n keys) → (r : Read) → IsReadOf (OfKeys n) r → IsReadAgain old new r
-again_keys old new n shows (cell_read c value) is = absurd is
-again_keys old new n shows (keys_read class keys) is =
-    subst (λ d. IsReadAgain old new (keys_read d keys)) (sym is) (λ told base held. (shows keys told).everywhere base held)
+pub again_keys : (old new : Seeing) (n : ℕ) (keys : List ℤ) → ((ks : List ℤ) → AreKeys (now_in old) n ks → ShowsKeys new n ks) → IsReadAgain old new (keys_read n keys)
+again_keys old new n keys shows = λ told base held. (shows keys told).everywhere base held
+
+pub again_objects : (old new : Seeing) (n : ℕ) (objects : List KeyedRow) → ((os : List KeyedRow) → AreObjects (now_in old) n os → ShowsObjects new n os) → IsReadAgain old new (objects_read n objects)
+again_objects old new n objects shows = λ told base held. (shows objects told).everywhere base held
 
 -- what a call promises where it succeeds
 pub where_ok : {X E P Q : Type 0} (r : Result X E) → (P → Q) → OnOk r P → OnOk r Q

@@ -3,15 +3,16 @@
 ghost use Rattle.std.specs.Prelude.{◌≡◌, ◌↔◌, IsTrue, IfSome, option_map, is_none};
 ghost use Rattle.hp_model.specs.Cells.{Holds, IsTold};
 ghost use Rattle.hp_store.specs.Mapped.{cell_value};
-ghost use Rattle.hp_view.specs.Mapped.{read};
+ghost use Rattle.hp_view.specs.Mapped.{read, class_read};
 ghost use Rattle.hp_view.specs.Seeing.{now_in};
 ghost use Rattle.hp_attempt.specs.Holding.{FirstFailed};
 
 use hp_store::CellValue;
+use hp_value::ClassNo;
 use hp_view::{Found, Reads, Seen, View};
 
 /// Whether all reads hold in a view's cells: each cell has the value or the absence that was found, and each class the
-/// keys.
+/// keys, or the objects with their rows where it was read as a whole.
 ///
 /// Nothing is recorded, and no memory is taken.
 pub fn holds(reads: &Reads, view: &View) -> bool
@@ -41,7 +42,18 @@ fn is_told(view: &View, seen: &Seen, found: &Found) -> bool
 {
     match seen {
         Seen::Cell(cell) => are_same(view.peek(*cell), found.value()),
-        Seen::Keys(class) => view.has_keys(*class, found.keys()),
+        Seen::Keys(class) => is_class_told(view, *class, found),
+    }
+}
+
+// Whether this is found in a class, in a view's cells.
+fn is_class_told(view: &View, class: ClassNo, found: &Found) -> bool
+    ensures { IsTrue result ↔ IsTold (now_in view.now) (class_read class found.now) }
+{
+    match found {
+        Found::Objects(objects) => view.has_objects(class, objects),
+        Found::Keys(keys) => view.has_keys(class, keys),
+        Found::Value(_) => view.has_keys(class, &[]),
     }
 }
 

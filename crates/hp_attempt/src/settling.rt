@@ -2,21 +2,23 @@
 
 ghost use Rattle.std.specs.Prelude.{◌≡◌, ◌↔◌, IsTrue, IsOk, IfOk, OnOk, OnErr};
 ghost use Rattle.hp_model.specs.Rules.{Library};
-ghost use Rattle.hp_model.specs.Cells.{Holds, Read};
+ghost use Rattle.hp_model.specs.Cells.{Holds};
 ghost use Rattle.hp_model.specs.Firing.{fire_task};
 ghost use Rattle.hp_model.specs.Soundness.{IsSound};
 ghost use Rattle.hp_model.specs.Answers.{FaithfulFiring};
 ghost use Rattle.hp_model.proofs.BridgesCells.{stacked};
 ghost use Rattle.hp_rule.specs.Mapped.{task as task_of};
 ghost use Rattle.hp_store.specs.Changes.{changes};
+ghost use Rattle.hp_view.specs.Mapped.{read, class_read};
 ghost use Rattle.hp_view.specs.Seeing.{now_in, written, OnlyReads, GoesOn, Restores};
 ghost use Rattle.hp_attempt.specs.Mapped.{firing, attempt as attempt_of};
-ghost use Rattle.hp_attempt.specs.Holding.{IsReadOf, IsReadAgain, Covers};
+ghost use Rattle.hp_attempt.specs.Holding.{IsReadAgain, Covers};
 
 use crate::holding::holds;
 use crate::outcome::Attempt;
 use hp_rule::Task;
-use hp_view::{Reads, Seen, View};
+use hp_value::ClassNo;
+use hp_view::{Found, Reads, Seen, View};
 use std::alloc::{AllocError, Global};
 
 /// Whether an attempt was taken in.
@@ -71,20 +73,38 @@ fn record(alloc: Global, view: &mut View, reads: &Reads) -> Result<(), AllocErro
     ensures goes_on { GoesOn view.old view.new }
     ensures covers { OnOk result (Covers view.new reads.now) }
 {
-    for (seen, _) in reads.iter() {
-        read_again(alloc, view, seen)?;
+    for (seen, found) in reads.iter() {
+        read_again(alloc, view, seen, found)?;
     }
     Ok(())
 }
 
-// Reads what was read there.
-fn read_again(alloc: Global, view: &mut View, seen: &Seen) -> Result<(), AllocError>
+// Reads what was read there, in the same way.
+fn read_again(alloc: Global, view: &mut View, seen: &Seen, found: &Found) -> Result<(), AllocError>
     ensures only { OnlyReads view.old view.new }
     ensures goes_on { GoesOn view.old view.new }
-    ensures again { OnOk result ((r : Read) → IsReadOf seen.now r → IsReadAgain view.old view.new r) }
+    ensures again { OnOk result (IsReadAgain view.old view.new (read (seen.now, found.now))) }
 {
     match seen {
         Seen::Cell(cell) => view.read(*cell),
-        Seen::Keys(class) => view.read_keys(alloc, *class),
+        Seen::Keys(class) => read_class_again(alloc, view, *class, found),
+    }
+}
+
+// The same of a class: with the rows of its objects, where they were read with it.
+fn read_class_again(
+    alloc: Global,
+    view: &mut View,
+    class: ClassNo,
+    found: &Found,
+) -> Result<(), AllocError>
+    ensures only { OnlyReads view.old view.new }
+    ensures goes_on { GoesOn view.old view.new }
+    ensures again { OnOk result (IsReadAgain view.old view.new (class_read class found.now)) }
+{
+    match found {
+        Found::Objects(_) => view.read_objects(alloc, class),
+        Found::Keys(_) => view.read_keys(alloc, class),
+        Found::Value(_) => view.read_keys(alloc, class),
     }
 }

@@ -172,6 +172,36 @@ fn reads_hold_until_what_they_saw_changes(rt: HostRuntime) -> Result<(), Fail> {
     change(&rt, rt.alloc(), &mut view, &reads)
 }
 
+// What a look at a whole class reads.
+fn reads_of_all(alloc: Global) -> Result<Reads, AllocError> {
+    let mut view = bank(alloc)?;
+    drop(view.objects(alloc, 0)?);
+    let (reads, _) = view.into_parts();
+    Ok(reads)
+}
+
+fn change_a_row(
+    rt: &impl Abort,
+    alloc: Global,
+    view: &mut View,
+    reads: &Reads,
+) -> Result<(), Fail> {
+    assert!(rt; holds(reads, view));
+    set(alloc, view, 2, 5)?;
+    let failed = first_failed(reads, view);
+    assert!(rt; matches!(failed, Some(Seen::Keys(0))));
+    set(alloc, view, 2, 102)?;
+    assert!(rt; holds(reads, view));
+    Ok(())
+}
+
+#[test]
+fn a_class_read_as_a_whole_holds_while_its_rows_are_the_same(rt: HostRuntime) -> Result<(), Fail> {
+    let reads = reads_of_all(rt.alloc())?;
+    let mut view = bank(rt.alloc())?;
+    change_a_row(&rt, rt.alloc(), &mut view, &reads)
+}
+
 fn take_in(rt: &impl Abort, alloc: Global, view: &mut View) -> Result<(), Fail> {
     let tried = attempt(alloc, view, 7, 2, 10)?;
     assert_eq!(rt; settled(alloc, view, 7, 1, &tried)?, Settled::Accepted);

@@ -6,6 +6,7 @@ use Rattle.std.proofs.Crossing as heap
 use Rattle.std.proofs.MapsCrossing as maps
 use Rattle.hp_value.proofs.cell.Cell.TheSendSync as cell
 use Rattle.hp_value.proofs.row.Row.TheSendSync as row
+use Rattle.hp_value.proofs.objects.ObjectList.TheSendSync as objects
 use Rattle.hp_value.proofs.occurrence.Occurrence.TheSendSync as occurrence
 use Rattle.hp_value.proofs.value.Value.TheSendSync as value
 use Rattle.hp_value.proofs.occurrence.Coupling.TheSendSync as coupling
@@ -22,6 +23,7 @@ use Rattle.hp_store.proofs.value.Status.TheSendSync as status
 use Rattle.hp_store.specs.contracts.layer.Layer as Layer
 use Rattle.hp_store.specs.contracts.shared.SharedLayer as SharedLayer
 use Rattle.hp_store.specs.contracts.base.Base as Base
+use Rattle.hp_store.specs.contracts.kept.KeptList as KeptList
 use Rattle.hp_store.specs.contracts.snapshot.Snapshot as Snapshot
 use Rattle.hp_view.specs.contracts.reads.Found as Found
 use Rattle.hp_view.proofs.reads.Seen.TheSendSync as seen
@@ -126,17 +128,23 @@ small_vec_send T N s = search (data_send, heap.send, sendable) depth 12
 small_vec_sync : (T N : RattleType) → IsSync T → IsSync (SmallVec.the_field T N Heap.the_row ghosts).row
 small_vec_sync T N s = search (data_sync, heap.sync, sendable) depth 12
 
+pub kept_list_send : IsSend KeptList.the_field.row
+kept_list_send = search (objects.the_send, objects.the_sync, heap.crosses, sendable) depth 12
+
+pub kept_list_sync : IsSync KeptList.the_field.row
+kept_list_sync = search (objects.the_send, objects.the_sync, heap.crosses, sendable) depth 12
+
 pub snapshot_send : IsSend Snapshot.the_field.row
-snapshot_send = search (base_send, base_sync, shared_layer_send, small_vec_send, heap.crosses, sendable) depth 12
+snapshot_send = search (base_send, base_sync, shared_layer_send, small_vec_send, kept_list_send, heap.crosses, sendable) depth 12
 
 pub snapshot_sync : IsSync Snapshot.the_field.row
-snapshot_sync = search (base_send, base_sync, shared_layer_sync, small_vec_sync, heap.crosses, sendable) depth 12
+snapshot_sync = search (base_send, base_sync, shared_layer_sync, small_vec_sync, kept_list_sync, heap.crosses, sendable) depth 12
 
 pub found_send : IsSend Found.the_field.row
-found_send = search (cell_value_send, heap.crosses, sendable) depth 12
+found_send = search (cell_value_send, objects.the_send, objects.the_sync, heap.crosses, sendable) depth 12
 
 pub found_sync : IsSync Found.the_field.row
-found_sync = search (cell_value_sync, heap.crosses, sendable) depth 12
+found_sync = search (cell_value_sync, objects.the_send, objects.the_sync, heap.crosses, sendable) depth 12
 
 pub reads_send : IsSend Reads.the_field.row
 reads_send = search (found_send, seen.the_send, heap.crosses, sendable) depth 20

@@ -11,6 +11,7 @@ mod course;
 mod deciding;
 mod elders;
 mod gate;
+mod listing;
 mod operations;
 mod placing;
 mod progress;

@@ -26,6 +26,7 @@ use crate::course::{Course, End, GroupOutcome};
 use crate::deciding::{Decision, action_of, decide};
 use crate::elders::Elders;
 use crate::gate::Gate;
+use crate::listing::list_classes;
 use crate::placing::{Placed, group_course, place_tasks};
 use crate::progress::{Progress, Tried, place};
 use crate::statement::statements;
@@ -252,7 +253,8 @@ fn tries<'x, R: Threads + Sync, G: Gate + Sync>(
     requires { done < length tasks.now }
     ensures { IfOk result (λ all. All (λ found. AreSoundTries (library site.now.lib.now) found.items) all.items) }
 {
-    let snapshot = view.freeze(alloc)?;
+    let mut snapshot = view.freeze(alloc)?;
+    list_classes(alloc, site.lib, &tasks[done..], &mut snapshot)?;
     let left = tasks.len() - done;
     let workers = site.width.clamp(1, 64).min(left);
     let (board, seats) = Board::new(alloc, left, workers)?;

@@ -18,7 +18,7 @@ use Rattle.hp_model.proofs.WellFormedParts.{Reads, Reads-value, Reads-none, Read
 use Rattle.hp_model.proofs.WellFormedExpressions.{Passes, PartReads, expression_reads}
 
 pub whole_expression_reads : (rows : List Name) → PartReads (expression_at rows) (whole_expression_check rows)
-whole_expression_reads rows path d = expression_reads rows 16 path d
+whole_expression_reads names path d = expression_reads names 16 path d
 
 -- ---- pairs of a field and what it is set to
 

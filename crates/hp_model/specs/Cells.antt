@@ -1,9 +1,9 @@
 -- What of a state a program keeps in cells, layers of changes over cells, and the reads that hold in cells.
-use Rattle.std.specs.Prelude.{◌≡◌, ℕ, ℤ, Bool, false, ◌&&◌, ◌==◌, List, [], ◌∷◌, Option, Some, None, option_map, is_some, if◌then◌else◌}
+use Rattle.std.specs.Prelude.{◌≡◌, ℕ, ℤ, Bool, false, ◌&&◌, ◌==◌, List, [], ◌∷◌, map, All, Option, Some, None, option_map, is_some, if◌then◌else◌}
 use Rattle.std.specs.Ordering.{int_eq, int_cmp}
 use Rattle.std.specs.List.{list_any}
 use Rattle.std.specs.List.Sorted.{IsStrictlySortedBy}
-use Rattle.hp_model.specs.Values.{Row}
+use Rattle.hp_model.specs.Values.{Row, KeyedRow}
 use Rattle.hp_model.specs.Events.{is_pure}
 use Rattle.hp_model.specs.Knowledge.{Knowledge, knowledge}
 use Rattle.hp_model.specs.Rules.{Rule, Library, rule_at}
@@ -73,19 +73,27 @@ pub record AreKeys (base : Cells) (class : ℕ) (keys : List ℤ) : Type 0 where
   pub rise : IsStrictlySortedBy int_cmp keys
   pub has : (key : ℤ) → list_any (int_eq key) keys ≡ is_some (base (object_cell class key))
 
--- what was read: a cell with its value or its absence, or a class with its keys
+-- a class's objects with their rows, by rising keys
+pub record AreObjects (base : Cells) (class : ℕ) (objects : List KeyedRow) : Type 0 where
+  pub keys : AreKeys base class (map (λ (o : KeyedRow). o.key) objects)
+  pub rows : All (λ (o : KeyedRow). base (object_cell class o.key) ≡ Some (row_value o.row)) objects
+
+-- what was read: a cell with its value or its absence, a class with its keys, or a class with all of its objects
 pub data Read : Type 0 where
   cell_read : Cell → Option CellValue → Read
   keys_read : (class : ℕ) → List ℤ → Read
+  objects_read : (class : ℕ) → List KeyedRow → Read
 
 abbrev pub IsTold : Cells → Read → Type 0
 IsTold base (cell_read cell value) = base cell ≡ value
 IsTold base (keys_read class keys) = AreKeys base class keys
+IsTold base (objects_read class objects) = AreObjects base class objects
 
 abbrev pub AllTold : Cells → List Read → Type 0
 AllTold base [] = Unit {0}
 AllTold base (r ∷ rs) = IsTold base r × AllTold base rs
 
 -- the reads hold in these cells: each recorded cell has the recorded value or absence, each recorded class the recorded keys
+-- or objects
 pub record Holds (base : Cells) (reads : List Read) : Type 0 where
   pub told : AllTold base reads

@@ -153,4 +153,4 @@ expression_within rows (suc levels) path d = expression_form_at path d >>= λ fo
 
 -- an expression, in which these rows have names; a value by itself is a level
 abbrev pub expression_at : (rows : List Name) → Path → Data → Decoded Expression
-expression_at rows = expression_within rows 16
+expression_at names = expression_within names 16

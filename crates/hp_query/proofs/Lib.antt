@@ -1,5 +1,6 @@
 pub mod RowLemmas
 pub mod KeyLemmas
 pub mod SelectLemmas
+mod CollectLemmas
 pub mod PlainLemmas
 pub mod VerdictLemmas

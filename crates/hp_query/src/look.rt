@@ -1,11 +1,12 @@
 //! What a query reads.
 
-ghost use Rattle.std.specs.Prelude.{◌≡◌, IfOk};
-ghost use Rattle.hp_model.specs.State.{Objects, find_object};
+ghost use Rattle.std.specs.Prelude.{◌≡◌, IfOk, IfSome};
+ghost use Rattle.hp_model.specs.State.{Objects, find_object, rows_of};
 ghost use Rattle.hp_query.specs.Looks.{ObjectsRise, class_keys};
 
-use hp_value::{ClassNo, Key, Row};
+use hp_value::{ClassNo, Key, ObjectList, Row};
 use std::alloc::{AllocError, Global};
+use std::sync::Arc;
 
 /// A look at objects.
 ///
@@ -33,6 +34,18 @@ pub trait Look {
     fn keys(&mut self, alloc: Global, class: ClassNo) -> Result<Vec<Key>, AllocError>
         ensures goes_on { goes_on self.old self.new }
         ensures listed { IfOk result (λ keys. (world : Objects) → ObjectsRise world → allows self.new world → keys.items ≡ class_keys class world) };
+
+    /// All objects of a class with their rows, by rising keys, where the look has such a list, which is then shared. None
+    /// where they have to be asked for one by one.
+    ///
+    /// An error means that memory ran out.
+    fn objects(
+        &mut self,
+        alloc: Global,
+        class: ClassNo,
+    ) -> Result<Option<Arc<ObjectList>>, AllocError>
+        ensures goes_on { goes_on self.old self.new }
+        ensures listed { IfOk result (λ found. IfSome found (λ objects. (world : Objects) → ObjectsRise world → allows self.new world → objects.value ≡ rows_of class world)) };
 
     ghost goes_on_same: { (look : Self) → goes_on look look };
 

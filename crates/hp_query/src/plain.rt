@@ -7,10 +7,11 @@ ghost use Rattle.hp_query.specs.Looks.{ObjectsRise, class_keys};
 ghost use Rattle.hp_query.specs.Plain.{objects_in, KeysFit};
 
 use crate::look::Look;
-use hp_value::{ClassNo, Key, Row};
+use hp_value::{ClassNo, Key, ObjectList, Row};
 use std::alloc::{AllocError, Global};
 use std::collections::BTreeMap;
 use std::marker::Model;
+use std::sync::Arc;
 
 /// The name of an object: its class, and its key within the class. Names are in order of class, and then of key.
 #[derive(Clone, Copy, Debug, PartialEq, Eq, PartialOrd, Ord)]
@@ -114,6 +115,14 @@ impl Look for PlainObjects {
 
     fn keys(&mut self, alloc: Global, class: ClassNo) -> Result<Vec<Key>, AllocError> {
         class_range(alloc, &self.rows, class)
+    }
+
+    fn objects(
+        &mut self,
+        alloc: Global,
+        class: ClassNo,
+    ) -> Result<Option<Arc<ObjectList>>, AllocError> {
+        Ok(None)
     }
 }
 

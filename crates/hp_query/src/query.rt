@@ -1,6 +1,6 @@
 //! Queries and their answers.
 
-ghost use Rattle.std.specs.Prelude.{◌≡◌};
+ghost use Rattle.std.specs.Prelude.{map};
 ghost use Rattle.hp_model.specs.Expressions.{bound};
 ghost use Rattle.hp_model.specs.State.{Objects};
 ghost use Rattle.hp_model.specs.Firing.{boolean_value};
@@ -10,6 +10,7 @@ ghost use Rattle.hp_query.specs.Looks.{ObjectsRise};
 ghost use Rattle.hp_query.specs.Mapped as mapped;
 ghost use Rattle.hp_query.specs.Mapped.{keyed_rows};
 
+use crate::collect::objects_of;
 use crate::look::Look;
 use hp_value::{ClassNo, Env, Expr, Halt, Key, KeyedRow, Row};
 use std::alloc::{AllocError, Global};
@@ -67,14 +68,24 @@ pub fn selected_rows<L: Look>(
     ensures answer { (world : Objects) → ObjectsRise world → L.allows look.new world
         → Meets keyed_rows result (model.answer (environment env.now) name.now class (expression predicate.now) world) }
 {
-    let keys = look.keys(alloc, class)?;
+    let objects = objects_of(alloc, look, class)?;
+    selected(alloc, name, objects.rows(), predicate, env)
+}
+
+/// Those of some objects for which a predicate is true, each tested under a name.
+fn selected(
+    alloc: Global,
+    name: &str,
+    objects: &[KeyedRow],
+    predicate: &Expr,
+    env: &Env,
+) -> Result<Vec<KeyedRow>, Halt>
+    ensures { Meets keyed_rows result (model.selected (environment env.now) name.now (expression predicate.now) (map keyed_row objects.now)) }
+{
     let mut rows = Vec::new(alloc);
-    for key in &keys {
-        if let Some(row) = look.row(alloc, class, *key)? {
-            if is_selected(alloc, name, *key, &row, predicate, env)? {
-                rows.push(KeyedRow { key: *key, row })
-                    .map_err(AllocError::from)?;
-            }
+    for object in objects {
+        if is_selected(alloc, name, object.key, &object.row, predicate, env)? {
+            rows.push(object.clone()?).map_err(AllocError::from)?;
         }
     }
     Ok(rows)

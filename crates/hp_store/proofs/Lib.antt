@@ -8,3 +8,5 @@ pub mod Piled
 pub mod Held
 pub mod Stacked
 pub mod Listing
+pub mod Wholes
+mod Keeping

@@ -1,5 +1,5 @@
 -- Rising keys with the changes of a layer.
-use Rattle.std.proofs.Common.{◌≡◌, refl, ap, ap₂, sym, ◌∙◌, subst, ℕ, ℤ, Bool, true, false, ◌&&◌, ◌||◌, cond, List, [], ◌∷◌, ◌++◌, map, Option, Some, None, is_some, not, int_eq, append_assoc, IsTrue, to_z, of_z, w64}
+use Rattle.std.proofs.Common.{◌≡◌, refl, ap, ap₂, sym, ◌∙◌, subst, ℕ, ℤ, Bool, true, false, ◌&&◌, ◌||◌, cond, List, [], ◌∷◌, ◌++◌, map, Option, Some, None, is_some, int_eq, append_assoc, IsTrue, to_z, of_z, w64}
 use Rattle.std.specs.Prelude.{◌==◌, filter, if◌then◌else◌}
 use Rattle.std.specs.declared.cmp.Ordering.{Ordering}
 use Rattle.std.specs.declared.cmp.Ordering.TheVariants.{Less, Equal, Greater}
@@ -296,17 +296,22 @@ pub merges_last : (whole m rest n : List ℤ) (it : Entered) → Merges whole m 
 merges_last whole m rest n it merges none last = sym merges.so_far ∙ ap (λ l. m ++ merged rest (map entry l)) none ∙ sym last
 
 -- no changes of the class
-pub keys_kept : (base : Cells) (class : ℕ) (ks : List ℤ) (es : Entries) → class_entries class es ≡ [] → KeysRise (class_entries class es) → AreKeys base class ks → AreKeys (over base (changes es)) class ks
-keys_kept base class ks es none ups are = subst (λ l. AreKeys (over base (changes es)) class (merged ks l)) none (keys_merged base class ks es ups are)
+pub keys_kept : (base : Cells) (class : ℕ) (ks : List ℤ) (es : Entries) → class_entries class es ≡ [] → AreKeys base class ks → AreKeys (over base (changes es)) class ks
+keys_kept base class ks es none are =
+    subst (λ l. AreKeys (over base (changes es)) class (merged ks l)) none (keys_merged base class ks es (subst KeysRise (sym none) tt) are)
+
+pub unnamed : (class : ℕ) (es : Entries) → class_entries class es ≡ [] → (key : ℤ) → changes es (object_cell class key) ≡ None
+unfolding at_key
+unnamed class es none key = changes-key class key es ∙ ap (at_key key) none
 
 pub keys_found : (base : Cells) (class : ℕ) (ks result : List ℤ) (es : Entries) → merged ks (class_entries class es) ≡ result → KeysRise (class_entries class es) → AreKeys base class ks
     → AreKeys (over base (changes es)) class result
 keys_found base class ks result es is ups are = subst (AreKeys (over base (changes es)) class) is (keys_merged base class ks es ups are)
 
-none_is : {A : Type 0} (r : Option A) (b : Bool) → is_some r ≡ not b → b ≡ true → r ≡ None
-none_is None b is h = refl
-none_is (Some x) b is h = cc (ap not h)
+none_is : {A : Type 0} (r : Option A) → is_some r ≡ false → r ≡ None
+none_is None is = refl
+none_is (Some x) is = cc
 
 -- an iterator that gives nothing has nothing
-pub nothing_left : {A X : Type 0} (shows : A → X) (s t : List X) (r : Option A) (b : Bool) → is_some r ≡ not b → b ≡ true → TakesFirst shows s r t → s ≡ []
-nothing_left shows s t r b is none step = rest_all shows s t r (none_is r b is none) step
+pub nothing_left : {A X : Type 0} (shows : A → X) (s t : List X) (r : Option A) → is_some r ≡ false → TakesFirst shows s r t → s ≡ []
+nothing_left shows s t r none step = rest_all shows s t r (none_is r none) step

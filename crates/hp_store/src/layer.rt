@@ -36,7 +36,7 @@ impl Model for Layer {
 }
 
 impl Layer {
-    ghost use Rattle.std.specs.Prelude.{◌≡◌, ◌↔◌, ◌==◌, [], Some, None, IsTrue, IsSome, IsOk, IfOk, OnOk, OnErr, map, option_map, length};
+    ghost use Rattle.std.specs.Prelude.{◌≡◌, ◌↔◌, [], Some, None, IsTrue, IsSome, IsOk, IfOk, OnOk, OnErr, map, option_map, length};
     ghost use Rattle.std.specs.Option.{option_or};
     ghost use Rattle.hp_model.specs.Cells.{Cell as ModelCell, object_cell, with_change};
     ghost use Rattle.hp_value.specs.Mapped as mapped;
@@ -151,10 +151,10 @@ impl Layer {
 }
 
 impl Layer {
-    ghost use Rattle.std.specs.Prelude.{◌≡◌, IfOk, map};
+    ghost use Rattle.std.specs.Prelude.{◌≡◌, ◌↔◌, ℤ, false, [], None, IfOk, map};
     ghost use Rattle.std.specs.List.Sorted.{IsStrictlySortedBy};
     ghost use Rattle.std.specs.Ordering.{int_cmp};
-    ghost use Rattle.hp_model.specs.Cells.{Cells, AreKeys, over};
+    ghost use Rattle.hp_model.specs.Cells.{Cells, AreKeys, object_cell, over};
     ghost use Rattle.hp_store.specs.Changes.{changes, class_entries, KeysFit};
     ghost use Rattle.hp_store.specs.Keys.{KeysRise};
     ghost use Rattle.hp_store.specs.Mapped.{entry};
@@ -166,6 +166,14 @@ impl Layer {
         ensures fit { KeysFit (class_entries class self.now) }
     {
         self.changes.range(Cell::Object(class, Key::MIN)..=Cell::Object(class, Key::MAX))
+    }
+
+    /// Whether the layer names an object of a class.
+    pub fn names_objects_of(&self, class: ClassNo) -> bool
+        ensures none { (result ≡ false) ↔ (class_entries class self.now ≡ []) }
+        ensures leaves { result ≡ false → (key : ℤ) → changes self.now (object_cell class key) ≡ None }
+    {
+        self.of_class(class).next().is_some()
     }
 
     /// The keys of a class's objects after the layer's changes, from the keys before them. Both rise.
@@ -181,7 +189,7 @@ impl Layer {
         requires { IsStrictlySortedBy int_cmp keys.items }
         ensures { IfOk result (λ merged. (base : Cells) → AreKeys base class keys.items → AreKeys (over base (changes self.now)) class merged.items) }
     {
-        if self.of_class(class).next().is_none() {
+        if !self.names_objects_of(class) {
             return Ok(keys);
         }
         let mut merged = Vec::with_capacity(alloc, keys.len())?;

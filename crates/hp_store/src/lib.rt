@@ -4,6 +4,7 @@
 #![tactic(auto)]
 
 mod base;
+mod kept;
 mod layer;
 mod shared;
 mod snapshot;

@@ -8,10 +8,11 @@ ghost use Rattle.hp_store.specs.Changes.{changes_in};
 ghost use Rattle.hp_store.specs.Tables.{base_cells};
 
 use crate::base::Base;
+use crate::kept::{KeptList, still_kept};
 use crate::layer::Layer;
 use crate::shared::{Layers, SharedLayer, copied, newest, piled};
 use crate::value::CellValue;
-use hp_value::{Cell, ClassNo, Key};
+use hp_value::{Cell, ClassNo, Key, ObjectList};
 use smallvec::SmallVec;
 use std::alloc::{AllocError, Global};
 use std::collections::BTreeMap;
@@ -27,6 +28,8 @@ pub struct Snapshot {
     base: Arc<Base>,
     // The newest last.
     layers: Layers,
+    // Classes that were listed ahead, for all who start from the snapshot.
+    lists: Vec<KeptList>,
 }
 
 impl Model for Snapshot {
@@ -41,12 +44,18 @@ impl Model for Snapshot {
 
     ghost view = { λ s. record { base = tables s.base.value; layers = s.layers.items } };
 
-    ghost invariant = { λ s. length s.layers.items ≤ 8 };
+    ghost use Rattle.hp_model.specs.Cells.{over};
+    ghost use Rattle.hp_store.specs.Changes.{changes_in};
+    ghost use Rattle.hp_store.specs.Kept.{AreKept};
+    ghost use Rattle.hp_store.specs.Tables.{base_cells};
+
+    ghost invariant = { λ s. (length s.layers.items ≤ 8) × AreKept (over (base_cells s.base.value) (changes_in s.layers.items)) s.lists.items };
 }
 
 impl Snapshot {
-    ghost use Rattle.std.specs.Prelude.{◌≡◌, ◌≤◌, ◌↔◌, [], None, IfOk, OnOk, OnErr, IsTrue, option_map, length};
-    ghost use Rattle.hp_model.specs.Cells.{Cell as ModelCell, AreKeys, over};
+    ghost use Rattle.std.specs.Prelude.{◌≡◌, ◌≤◌, ◌↔◌, None, Some, All, IfOk, IfSome, OnOk, OnErr, IsTrue, option_map, length};
+    ghost use Rattle.hp_model.specs.Values as model;
+    ghost use Rattle.hp_model.specs.Cells.{Cell as ModelCell, AreKeys, AreObjects, object_cell, row_value, over};
     ghost use Rattle.hp_value.specs.Mapped as mapped;
     ghost use Rattle.hp_store.specs.Changes.{changes};
     ghost use Rattle.hp_store.specs.Mapped as here;
@@ -61,6 +70,7 @@ impl Snapshot {
         Ok(Snapshot {
             base: Arc::new(alloc, Base::new(alloc))?,
             layers: SmallVec::new(alloc),
+            lists: Vec::new(alloc),
         })
     }
 
@@ -93,6 +103,77 @@ impl Snapshot {
         Ok(keys)
     }
 
+    /// All objects of a class with their rows, by rising keys. None where the cell of an object holds something else than a
+    /// row, which no operation writes there.
+    ///
+    /// The time goes with the class's keys and the layers' changes of its objects, unless the list is kept: then it is
+    /// shared. An error means that memory ran out.
+    pub fn objects(
+        &self,
+        alloc: Global,
+        class: ClassNo,
+    ) -> Result<Option<Arc<ObjectList>>, AllocError>
+        ensures { IfOk result (λ found. IfSome found (λ objects. AreObjects (cells_in self.now) class objects.value)) }
+    {
+        if let Some(kept) = self.kept(class) {
+            return Ok(Some(Arc::try_clone(kept)?));
+        }
+        let keys = self.keys(alloc, class)?;
+        let Some(objects) = self.listed(alloc, class, &keys)? else {
+            return Ok(None);
+        };
+        Ok(Some(Arc::new(alloc, objects)?))
+    }
+
+    /// Lists the objects of a class, so that `objects` shares the list from now on: that of this snapshot, and that of a
+    /// snapshot with a layer more over it that names none of these objects.
+    ///
+    /// An error means that memory ran out.
+    pub fn keep_objects(&mut self, alloc: Global, class: ClassNo) -> Result<(), AllocError>
+        ensures { self.new ≡ self.old }
+    {
+        if self.kept(class).is_some() {
+            return Ok(());
+        }
+        if let Some(objects) = self.objects(alloc, class)? {
+            self.lists.reserve(1)?;
+            self.lists.push_reserved(KeptList { class, objects });
+        }
+        Ok(())
+    }
+
+    // The list of a class, if it is kept.
+    fn kept(&self, class: ClassNo) -> Option<&Arc<ObjectList>>
+        ensures { IfSome result (λ objects. AreObjects (cells_in self.now) class objects.now.value) }
+    {
+        for list in &self.lists {
+            if list.class == class {
+                return Some(&list.objects);
+            }
+        }
+        None
+    }
+
+    // The objects of a class with these keys.
+    fn listed(
+        &self,
+        alloc: Global,
+        class: ClassNo,
+        keys: &[Key],
+    ) -> Result<Option<ObjectList>, AllocError>
+        ensures keys { IfOk result (λ found. IfSome found (λ objects. mapped.keys_of objects ≡ keys.now)) }
+        ensures rows { IfOk result (λ found. IfSome found (λ objects. All (λ (o : model.KeyedRow). cells_in self.now (object_cell class o.key) ≡ Some (row_value o.row)) objects)) }
+    {
+        let mut objects = ObjectList::new(alloc);
+        for key in keys {
+            let Some(CellValue::Row(row)) = self.get(Cell::Object(class, *key)) else {
+                return Ok(None);
+            };
+            objects.push(*key, row.clone()?)?;
+        }
+        Ok(Some(objects))
+    }
+
     /// Whether these are the keys of a class's objects, in rising order. It takes no memory.
     pub fn has_keys(&self, class: ClassNo, keys: &[Key]) -> bool
         ensures { IsTrue result ↔ AreKeys (cells_in self.now) class keys.now }
@@ -120,10 +201,12 @@ impl Snapshot {
     pub fn with_layer(&self, alloc: Global, layer: Arc<Layer>) -> Result<Snapshot, AllocError>
         ensures { IfOk result (λ s. cells_in s ≡ over (cells_in self.now) (changes layer.value)) }
     {
+        let lists = still_kept(alloc, &self.lists, &layer)?;
         let layers = piled(alloc, &self.layers, layer)?;
         Ok(Snapshot {
             base: Arc::try_clone(&self.base)?,
             layers,
+            lists,
         })
     }
 
@@ -138,6 +221,7 @@ impl Snapshot {
         if layer.is_empty() {
             return Ok(());
         }
+        self.lists = Vec::new(alloc);
         self.layers = piled(alloc, &self.layers, layer)?;
         settle(alloc, &mut self.base, &mut self.layers);
         Ok(())
@@ -335,14 +419,16 @@ impl Clone for Snapshot {
 
     ghost is_clone = { λ s t. t ≡ s };
 
-    /// The same snapshot once more. It shares the base and the layers, and copies no cell.
+    /// The same snapshot once more. It shares the base and the layers, and copies no cell. Lists that are kept stay behind.
     ///
     /// An error means that std refused a copy of an `Arc`.
     fn clone(&self) -> Result<Snapshot, AllocError> {
-        let layers = copied(*self.layers.allocator(), &self.layers)?;
+        let alloc = *self.layers.allocator();
+        let layers = copied(alloc, &self.layers)?;
         Ok(Snapshot {
             base: Arc::try_clone(&self.base)?,
             layers,
+            lists: Vec::new(alloc),
         })
     }
 }

@@ -77,6 +77,30 @@ fn apply_overwrites_and_removes(rt: HostRuntime) -> Result<(), Fail> {
     overwrite(&rt, rt.alloc(), &mut store)
 }
 
+/// Whether a snapshot lists the objects with these keys.
+fn lists(alloc: Global, snapshot: &Snapshot, keys: &[Key]) -> Result<bool, AllocError> {
+    let objects = snapshot.objects(alloc, CLASS)?;
+    Ok(objects.is_some_and(|objects| objects.keys() == keys))
+}
+
+fn keep_a_list(rt: &impl Abort, alloc: Global, snapshot: &mut Snapshot) -> Result<(), Fail> {
+    assert!(rt; lists(alloc, snapshot, &[-2, 3, 5])?);
+    snapshot.keep_objects(alloc, CLASS)?;
+    assert!(rt; lists(alloc, snapshot, &[-2, 3, 5])?);
+    let other = snapshot.with_layer(alloc, status_layer(alloc, Status::Enabled)?)?;
+    assert!(rt; lists(alloc, &other, &[-2, 3, 5])?);
+    let changed = snapshot.with_layer(alloc, layer(alloc, &[4], &[3])?)?;
+    assert!(rt; lists(alloc, &changed, &[-2, 4, 5])?);
+    Ok(())
+}
+
+#[test]
+fn a_kept_list_is_that_of_the_cells(rt: HostRuntime) -> Result<(), Fail> {
+    let store = store_of_three(rt.alloc())?;
+    let mut snapshot = store.snapshot()?;
+    keep_a_list(&rt, rt.alloc(), &mut snapshot)
+}
+
 fn layers(store: &Store) -> Result<usize, AllocError> {
     Ok(store.snapshot()?.layers())
 }

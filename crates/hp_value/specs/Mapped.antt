@@ -1,5 +1,5 @@
 -- What the crate's types stand for in the model: a function for each.
-use Rattle.std.specs.Prelude.{List, [], ◌∷◌, ◌≡◌, ⊤, map, Option, None, bytes_eq, slice_get, if◌then◌else◌, Result, Ok, Err, string_bytes, option_map}
+use Rattle.std.specs.Prelude.{ℤ, List, [], ◌∷◌, ◌≡◌, ⊤, map, Option, None, bytes_eq, slice_get, if◌then◌else◌, Result, Ok, Err, string_bytes, option_map}
 use Rattle.hp_model.specs.Values as V
 use Rattle.hp_model.specs.Occurrences as O
 use Rattle.hp_model.specs.Expressions as E
@@ -65,6 +65,10 @@ cell (Detector n) = S.detector_cell n
 
 abbrev pub keyed_row : KeyedRow → V.KeyedRow
 keyed_row r = record { key = r.key; row = r.row }
+
+-- the keys of objects
+abbrev pub keys_of : List V.KeyedRow → List ℤ
+keys_of = map (λ (o : V.KeyedRow). o.key)
 
 abbrev pub primitive : Primitive → O.Primitive
 primitive (Create class key new) = O.created class key new

@@ -65,6 +65,9 @@ keyed_decides r s =
     both_decide _ _ (signed_Decides r.key s.key) (row_decides r.row s.row)
     (λ e f. ap (λ k. make k r.row) e ∙ ap (make s.key) f) (λ e. (ap (λ x. x.key) e, ap (λ x. x.row) e))
 
+pub objects_decides : (os ps : List KeyedRow) → Decides (pointwise keyed_same os ps) (os ≡ ps)
+objects_decides = pointwise_decides keyed_decides
+
 pub answer_decides : (a b : Name × List KeyedRow) → Decides (answer_same a b) (a ≡ b)
 answer_decides a b =
     both_decide _ _ (bytes_decides a.0 b.0) (pointwise_decides keyed_decides a.1 b.1)
@@ -106,6 +109,9 @@ row_equiv = decided row_same row_decides
 
 pub keyed_equiv : IsEquivalence keyed_same
 keyed_equiv = decided keyed_same keyed_decides
+
+pub objects_equiv : IsEquivalence (pointwise keyed_same)
+objects_equiv = decided (pointwise keyed_same) objects_decides
 
 pub answer_equiv : IsEquivalence answer_same
 answer_equiv = decided answer_same answer_decides

@@ -1,12 +1,14 @@
 -- What a view shows to a query.
-use Rattle.std.proofs.Common.{◌≡◌, refl, sym, ap, ◌∙◌, ℕ, ℤ, List, Option, Some, None, is_some}
+use Rattle.std.proofs.Common.{◌≡◌, refl, sym, ap, ◌∙◌, ℕ, ℤ, List, slice_index_or, Option, Some, None, is_some}
 use Rattle.std.specs.Prelude.{option_map}
-use Rattle.hp_model.specs.Values.{Row}
-use Rattle.hp_model.specs.State.{Objects, find_object}
-use Rattle.hp_model.specs.Cells.{object_cell, CellValue, row_value, over, AreKeys}
+use Rattle.hp_model.specs.Values.{Row, KeyedRow}
+use Rattle.hp_model.specs.State.{Objects, find_object, rows_of}
+use Rattle.hp_model.specs.Cells.{object_cell, CellValue, row_value, over, AreKeys, AreObjects}
 use Rattle.hp_model.proofs.BridgesReads.{row_at}
-use Rattle.hp_model.proofs.BridgesKeys.{ObjectsRise, class_keys, keys_are_class_keys}
-use Rattle.hp_view.specs.Seeing.{Seeing, written, Shows, ShowsKeys}
+use Rattle.hp_model.proofs.BridgesKeys.{ObjectsRise, class_keys, keys_are_class_keys, rows_found}
+use Rattle.hp_value.specs.Mapped.{keys_of}
+use Rattle.hp_view.specs.Seeing.{Seeing, written, Shows, ShowsKeys, ShowsObjects}
+use Rattle.hp_view.proofs.Wholes.{same_rows}
 use Rattle.hp_view.specs.Looks.{Allows}
 
 row_back : (o : Option Row) → row_at (option_map row_value o) ≡ o
@@ -27,3 +29,13 @@ pub keys_shown : {v : Seeing} {class : ℕ} {keys : List ℤ} → ShowsKeys v cl
 keys_shown {v} {class} {keys} shows world rise allowed =
     let are : AreKeys (over allowed.base (written v)) class keys = shows.everywhere allowed.base allowed.held in
     keys_are_class_keys class world keys rise are.rise (λ key. are.has key ∙ ap is_some (allowed.objects class key) ∙ some_row (find_object world class key))
+
+-- a class that was read as a whole is the one in each world
+pub objects_shown : {v : Seeing} {class : ℕ} {objects : List KeyedRow} → ShowsObjects v class objects → (world : Objects) → ObjectsRise world → Allows v world → objects ≡ rows_of class world
+objects_shown {v} {class} {objects} shows world rise allowed =
+    let base = over allowed.base (written v) in
+    let are : AreObjects base class objects = shows.everywhere allowed.base allowed.held in
+    let keys : keys_of objects ≡ class_keys class world =
+    keys_are_class_keys class world (keys_of objects) rise are.keys.rise (λ key. are.keys.has key ∙ ap is_some (allowed.objects class key) ∙ some_row (find_object world class key)) in
+    same_rows base class objects (rows_of class world) keys are.rows
+    (λ i d below. allowed.objects class (slice_index_or (rows_of class world) i d).key ∙ ap (option_map row_value) (rows_found class world rise i d below))

@@ -6,16 +6,20 @@ use Rattle.std.specs.Prelude.{IfSome}
 use Rattle.std.specs.Option.{option_copied}
 use Rattle.std.specs.Borrow.{Bor}
 use Rattle.std.proofs.lemmas.Bool.Decides.{Decides-eqb}
-use Rattle.hp_model.specs.Cells.{Cells, Read, AllTold, Holds, AreKeys}
+use Rattle.std.specs.declared.sync.Arc.{Arc}
+use Rattle.std.specs.declared.alloc.Global.{Global}
+use Rattle.hp_model.specs.Cells.{Cells, Read, IsTold, AllTold, Holds, AreKeys, AreObjects}
 use Rattle.hp_model.proofs.BridgesCells.{exact_cell}
 use Rattle.hp_value.specs.declared.cell.Cell.{Cell}
+use Rattle.hp_value.specs.declared.objects.ObjectList.{ObjectList}
 use Rattle.hp_value.specs.declared.cell.Cell.TheVariants.{Object, Rule, Detector}
 use Rattle.hp_value.specs.Mapped.{cell}
 use Rattle.hp_view.specs.declared.reads.Seen.{Seen}
 use Rattle.hp_view.specs.declared.reads.Seen.TheVariants.{Cell as OfCell, Keys as OfKeys}
 use Rattle.hp_view.specs.declared.reads.Found.{Found}
+use Rattle.hp_view.specs.declared.reads.Found.TheVariants.{Value, Keys, Objects}
 use Rattle.hp_view.specs.contracts.reads.SeenPartialEq.TheImpl as seeing
-use Rattle.hp_view.specs.Mapped.{read, value_found, keys_found}
+use Rattle.hp_view.specs.Mapped.{read, value_found, keys_found, class_read}
 use Rattle.hp_view.specs.Seeing.{reads_cell, reads_keys, was_read}
 
 -- a read of what was looked at
@@ -33,9 +37,13 @@ told_apart (OfCell (Rule m)) (OfCell (Detector n), found) = refl
 told_apart (OfCell (Detector m)) (OfCell (Object d l), found) = refl
 told_apart (OfCell (Detector m)) (OfCell (Rule n), found) = refl
 told_apart (OfCell (Detector m)) (OfCell (Detector n), found) = refl
-told_apart (OfCell q) (OfKeys class, found) = refl
+told_apart (OfCell q) (OfKeys class, Value v) = refl
+told_apart (OfCell q) (OfKeys class, Keys keys) = refl
+told_apart (OfCell q) (OfKeys class, Objects objects) = refl
 told_apart (OfKeys class) (OfCell q, found) = refl
-told_apart (OfKeys class) (OfKeys n, found) = refl
+told_apart (OfKeys class) (OfKeys n, Value v) = refl
+told_apart (OfKeys class) (OfKeys n, Keys keys) = refl
+told_apart (OfKeys class) (OfKeys n, Objects objects) = refl
 
 some_or : (b : Bool) (found : Found) (rest : Option Found) → is_some (cond b (Some found) rest) ≡ (b || is_some rest)
 some_or true found rest = refl
@@ -48,6 +56,12 @@ recorded s (e ∷ es) =
     some_or (seeing.ghosts.eq s e.0) e.1 (lookup (seeing.ghosts.eq s) es)
     ∙ (λ i. told_apart s e i || recorded s es i)
 
+-- what is recorded for a class tells its keys
+class_told : (base : Cells) (class : ℕ) (found : Found) → IsTold base (class_read class found) → AreKeys base class (keys_found found)
+class_told base class (Value v) told = told
+class_told base class (Keys keys) told = told
+class_told base class (Objects objects) told = told.keys
+
 -- the keys that are recorded for a class are told
 pub told_keys : (class : ℕ) (found : Found) (base : Cells) (es : List (Seen × Found)) → lookup (seeing.ghosts.eq (OfKeys class)) es ≡ Some found → AllTold base (map read es) → AreKeys base class (keys_found found)
 told_keys class found base [] h told = cc
@@ -57,7 +71,19 @@ told_keys class found base ((OfKeys n, other) ∷ es) h told = by (class == n) r
     by : (b : Bool) → (class == n) ≡ b → cond b (Some other) (lookup (seeing.ghosts.eq (OfKeys class)) es) ≡ Some found → (lookup (seeing.ghosts.eq (OfKeys class)) es ≡ Some found → AreKeys base class (keys_found found)) → AreKeys base class (keys_found found)
     by true e h rest =
         let same : other ≡ found = cc in
-        subst (λ f. AreKeys base class (keys_found f)) same (subst (λ k. AreKeys base k (keys_found other)) (sym ((Decides-eqb class n).0 e)) told.0)
+        subst (λ f. AreKeys base class (keys_found f)) same (subst (λ k. AreKeys base k (keys_found other)) (sym ((Decides-eqb class n).0 e)) (class_told base n other told.0))
+    by false e h rest = rest h
+
+-- all objects that are recorded for a class are told
+pub told_objects : (class : ℕ) (objects : Arc ObjectList Global) (base : Cells) (es : List (Seen × Found)) → lookup (seeing.ghosts.eq (OfKeys class)) es ≡ Some (Objects objects) → AllTold base (map read es) → AreObjects base class objects.value
+told_objects class objects base [] h told = cc
+told_objects class objects base ((OfCell q, other) ∷ es) h told = told_objects class objects base es h told.1
+told_objects class objects base ((OfKeys n, other) ∷ es) h told = by (class == n) refl h (λ g. told_objects class objects base es g told.1)
+  where
+    by : (b : Bool) → (class == n) ≡ b → cond b (Some other) (lookup (seeing.ghosts.eq (OfKeys class)) es) ≡ Some (Objects objects) → (lookup (seeing.ghosts.eq (OfKeys class)) es ≡ Some (Objects objects) → AreObjects base class objects.value) → AreObjects base class objects.value
+    by true e h rest =
+        let same : other ≡ Objects objects = cc in
+        subst (λ k. AreObjects base k objects.value) (sym ((Decides-eqb class n).0 e)) (subst (λ f. IsTold base (class_read n f)) same told.0)
     by false e h rest = rest h
 
 -- what is recorded for a cell is told
@@ -80,7 +106,9 @@ value_told q (Some found) es is = λ base held. told_value q found.now base es (
 -- the same of a read, as `noted` asks
 pub was_recorded : (s : Seen) (found : Found) (es : List (Seen × Found)) → is_some (lookup (seeing.ghosts.eq s) es) ≡ was_read (map read es) (read (s, found))
 was_recorded (OfCell q) found es = recorded (OfCell q) es
-was_recorded (OfKeys class) found es = recorded (OfKeys class) es
+was_recorded (OfKeys class) (Value v) es = recorded (OfKeys class) es
+was_recorded (OfKeys class) (Keys keys) es = recorded (OfKeys class) es
+was_recorded (OfKeys class) (Objects objects) es = recorded (OfKeys class) es
 
 pub none_there : {A : Type 0} (o : Option A) → is_some o ≡ false → o ≡ None
 none_there None h = refl

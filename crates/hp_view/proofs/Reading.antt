@@ -2,9 +2,10 @@
 use Rattle.std.proofs.Common.{◌≡◌, refl, sym, ap, ◌∙◌, subst, ℕ, ℤ, Bool, true, false, true≢false, ◌||◌, ◌==◌, List, [], ◌∷◌, ◌++◌, append-nil, length, drop, Option, Some, None, is_some, if◌then◌else◌, arith}
 use Rattle.std.specs.Prelude.{IfSome, option_map}
 use Rattle.std.proofs.lemmas.Bool.Decides.{Decides-eqb}
-use Rattle.hp_model.specs.Cells.{Cell, CellValue, Cells, Changes, object_cell, changed, over, same_cell, Read, cell_read, keys_read, IsTold, AllTold, Holds, AreKeys}
+use Rattle.hp_model.specs.Cells.{Cell, CellValue, Cells, Changes, object_cell, changed, over, same_cell, Read, cell_read, keys_read, objects_read, IsTold, AllTold, Holds, AreKeys}
 use Rattle.hp_model.proofs.BridgesCells.{exact_cell, Holds-push, Holds-last}
 use Rattle.hp_model.proofs.BridgesKeys.{one_list}
+use Rattle.hp_value.specs.Mapped.{keys_of}
 use Rattle.hp_store.specs.Changes.{Entries, changes}
 use Rattle.hp_view.specs.Keeping.{KeepsObject}
 use Rattle.hp_view.specs.Seeing.{Seeing, beneath, written, now_in, undone, cell_was_read, keys_were_read, was_read, noted, noted_unless, read_cell, OnlyReads, GoesOn, ReadsKeys, Shows, ShowsKeys}
@@ -43,6 +44,7 @@ cell_again B C cell (cell_read q value ∷ rs) b c h = by (same_cell cell q) ref
     by true e h rest = ap B (exact_cell cell q e) ∙ b.0 ∙ sym c.0 ∙ sym (ap C (exact_cell cell q e))
     by false e h rest = rest h
 cell_again B C cell (keys_read class keys ∷ rs) b c h = cell_again B C cell rs b.1 c.1 h
+cell_again B C cell (objects_read class objects ∷ rs) b c h = cell_again B C cell rs b.1 c.1 h
 
 keys_again : (B C : Cells) (class : ℕ) (keys : List ℤ) (reads : List Read) → AllTold B reads → AllTold C reads → AreKeys C class keys → keys_were_read reads class ≡ true → AreKeys B class keys
 keys_again B C class keys [] b c are h = absurd (true≢false (sym h))
@@ -53,6 +55,13 @@ keys_again B C class keys (keys_read n found ∷ rs) b c are h = by (class == n)
     by true e h rest =
         let here : n ≡ class = sym ((Decides-eqb class n).0 e) in
         subst (AreKeys B class) (one_list (subst (λ k. AreKeys C k found) here c.0) are) (subst (λ k. AreKeys B k found) here b.0)
+    by false e h rest = rest h
+keys_again B C class keys (objects_read n found ∷ rs) b c are h = by (class == n) refl h (keys_again B C class keys rs b.1 c.1 are)
+  where
+    by : (t : Bool) → (class == n) ≡ t → (t || keys_were_read rs class) ≡ true → (keys_were_read rs class ≡ true → AreKeys B class keys) → AreKeys B class keys
+    by true e h rest =
+        let here : n ≡ class = sym ((Decides-eqb class n).0 e) in
+        subst (AreKeys B class) (one_list (subst (λ k. AreKeys C k (keys_of found)) here c.0.keys) are) (subst (λ k. AreKeys B k (keys_of found)) here b.0.keys)
     by false e h rest = rest h
 
 -- a cell once it is noted, and the keys of a class
@@ -177,13 +186,12 @@ shows_keys_again {v} {old} class keys merged from held are again over_them =
     subst (λ u. ShowsKeys u class merged) from
     (subst (λ rs. ShowsKeys (record v { reads = rs }) class merged) (noted-again v.reads (keys_read class keys) again) (shows_keys v class keys merged held are over_them))
 
--- reads that grew by the keys of a class
-pub noted_only : {v old : Seeing} (class : ℕ) (under : List ℤ) (reads : List Read) → v ≡ old → reads ≡ noted v.reads (keys_read class under) → OnlyReads old (record v { reads = reads })
-noted_only {v} {old} class under reads from is = only_more reads from (subst (λ rs. (more : List Read) × (rs ≡ v.reads ++ more)) (sym is) (noted-more v.reads (keys_read class under)))
+-- reads that grew by one
+pub noted_only : {v old : Seeing} (r : Read) (reads : List Read) → v ≡ old → reads ≡ noted v.reads r → OnlyReads old (record v { reads = reads })
+noted_only {v} {old} r reads from is = only_more reads from (subst (λ rs. (more : List Read) × (rs ≡ v.reads ++ more)) (sym is) (noted-more v.reads r))
 
-pub noted_held : (v : Seeing) (class : ℕ) (under : List ℤ) (reads : List Read) → Holds (beneath v) v.reads → AreKeys (beneath v) class under → reads ≡ noted v.reads (keys_read class under)
-    → Holds (beneath v) reads
-noted_held v class under reads held are is = subst (Holds (beneath v)) (sym is) (Holds-noted (beneath v) v.reads (keys_read class under) held are)
+pub noted_held : (v : Seeing) (r : Read) (reads : List Read) → Holds (beneath v) v.reads → IsTold (beneath v) r → reads ≡ noted v.reads r → Holds (beneath v) reads
+noted_held v r reads held told is = subst (Holds (beneath v)) (sym is) (Holds-noted (beneath v) v.reads r held told)
 
 -- keys that are noted
 pub record NotedKeys (v old : Seeing) (class : ℕ) (merged : List ℤ) (reads : List Read) : Type 0 where
@@ -194,9 +202,9 @@ pub record NotedKeys (v old : Seeing) (class : ℕ) (merged : List ℤ) (reads :
 pub noted_keys : {v old : Seeing} (class : ℕ) (keys merged : List ℤ) (reads : List Read) → v ≡ old → Holds (beneath v) v.reads → AreKeys (beneath v) class keys
     → ((base : Cells) → AreKeys base class keys → AreKeys (over base (written v)) class merged) → reads ≡ noted v.reads (keys_read class keys) → NotedKeys v old class merged reads
 noted_keys {v} {old} class keys merged reads from held are over_them is = record {
-  held = noted_held v class keys reads held are is;
+  held = noted_held v (keys_read class keys) reads held are is;
   shows = subst (λ rs. ShowsKeys (record v { reads = rs }) class merged) (sym is) (shows_keys v class keys merged held are over_them);
-  only = noted_only class keys reads from is;
+  only = noted_only (keys_read class keys) reads from is;
 }
 
 -- a layer makes the same keys of all cells with the same keys

@@ -3,3 +3,4 @@ pub mod Keeping
 pub mod Looks
 pub mod Mapped
 pub mod Seeing
+pub mod Wholes

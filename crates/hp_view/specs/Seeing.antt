@@ -1,7 +1,8 @@
 -- What a view is to a contract.
 use Rattle.std.specs.Prelude.{◌≡◌, ℕ, ℤ, ◌≤◌, ◌==◌, length, Bool, true, false, List, [], ◌∷◌, ◌++◌, Option, Some, None, IsSome, drop, take, if◌then◌else◌}
 use Rattle.std.specs.List.{list_any}
-use Rattle.hp_model.specs.Cells.{Cell, CellValue, Cells, Changes, over, same_cell, with_change, Read, cell_read, keys_read, Holds, AreKeys}
+use Rattle.hp_model.specs.Values.{KeyedRow}
+use Rattle.hp_model.specs.Cells.{Cell, CellValue, Cells, Changes, over, same_cell, with_change, Read, cell_read, keys_read, objects_read, Holds, AreKeys, AreObjects}
 use Rattle.hp_model.proofs.BridgesCells.{stacked}
 use Rattle.hp_store.specs.Changes.{Entries, changes}
 use Rattle.hp_store.specs.Stack.{Stack, cells_in}
@@ -52,14 +53,16 @@ pub record CanGoBack (before : Undo) (earlier : Changes) (after : Undo) (later :
 
 -- ---- reads
 
--- a read of this cell, and one of this class's keys
+-- a read of this cell, and one of this class's keys, alone or with the rows
 abbrev pub reads_cell : Cell → Read → Bool
 reads_cell cell (cell_read q value) = same_cell cell q
 reads_cell cell (keys_read class keys) = false
+reads_cell cell (objects_read class objects) = false
 
 abbrev pub reads_keys : ℕ → Read → Bool
 reads_keys class (cell_read q value) = false
 reads_keys class (keys_read n keys) = class == n
+reads_keys class (objects_read n objects) = class == n
 
 -- whether they were read before
 abbrev pub cell_was_read : List Read → Cell → Bool
@@ -71,6 +74,7 @@ keys_were_read reads class = list_any (reads_keys class) reads
 abbrev pub was_read : List Read → Read → Bool
 was_read reads (cell_read cell value) = cell_was_read reads cell
 was_read reads (keys_read class keys) = keys_were_read reads class
+was_read reads (objects_read class objects) = keys_were_read reads class
 
 -- the reads, and this one if it is the first of its kind
 abbrev pub noted : List Read → Read → List Read
@@ -100,6 +104,10 @@ pub record Shows (v : Seeing) (cell : Cell) (value : Option CellValue) : Type 0 
 -- in all cells where the reads hold, the view's writes over them have these keys in a class
 pub record ShowsKeys (v : Seeing) (class : ℕ) (keys : List ℤ) : Type 0 where
   pub everywhere : (base : Cells) → Holds base v.reads → AreKeys (over base (written v)) class keys
+
+-- the same of a class's objects
+pub record ShowsObjects (v : Seeing) (class : ℕ) (objects : List KeyedRow) : Type 0 where
+  pub everywhere : (base : Cells) → Holds base v.reads → AreObjects (over base (written v)) class objects
 
 -- ---- what calls do
 

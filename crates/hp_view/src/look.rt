@@ -3,8 +3,9 @@
 use crate::view::View;
 use hp_query::Look;
 use hp_store::CellValue;
-use hp_value::{Cell, ClassNo, Key, Row};
+use hp_value::{Cell, ClassNo, Key, ObjectList, Row};
 use std::alloc::{AllocError, Global};
+use std::sync::Arc;
 
 impl Look for View {
     ghost use Rattle.hp_view.specs.Seeing.{OnlyReads};
@@ -31,5 +32,14 @@ impl Look for View {
     fn keys(&mut self, alloc: Global, class: ClassNo) -> Result<Vec<Key>, AllocError> {
         let keys = View::keys(self, alloc, class)?;
         Ok(keys)
+    }
+
+    fn objects(
+        &mut self,
+        alloc: Global,
+        class: ClassNo,
+    ) -> Result<Option<Arc<ObjectList>>, AllocError> {
+        let objects = View::objects(self, alloc, class)?;
+        Ok(objects)
     }
 }

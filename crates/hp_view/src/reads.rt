@@ -6,18 +6,19 @@ ghost use Rattle.hp_view.specs.Mapped.{read};
 ghost use Rattle.hp_view.specs.Seeing.{noted, was_read};
 
 use hp_store::CellValue;
-use hp_value::{Cell, ClassNo, Key};
+use hp_value::{Cell, ClassNo, Key, ObjectList};
 use indexmap::IndexMap;
 use indexmap::map::Iter;
 use std::alloc::{AllocError, Global};
 use std::marker::Model;
+use std::sync::Arc;
 
 /// What of a snapshot was looked at.
 #[derive(Clone, Copy, Debug, PartialEq, Eq, Hash)]
 pub enum Seen {
     /// A cell.
     Cell(Cell),
-    /// The keys of a class's objects.
+    /// The keys of a class's objects, alone or with their rows.
     Keys(ClassNo),
 }
 
@@ -28,6 +29,8 @@ pub enum Found {
     Value(Option<CellValue>),
     /// A class's keys, in rising order.
     Keys(Vec<Key>),
+    /// All objects of a class with their rows, by rising keys. Others may share the list.
+    Objects(Arc<ObjectList>),
 }
 
 impl Found {
@@ -41,7 +44,7 @@ impl Found {
     {
         match self {
             Found::Value(value) => value.as_ref(),
-            Found::Keys(_) => None,
+            Found::Keys(_) | Found::Objects(_) => None,
         }
     }
 
@@ -52,12 +55,13 @@ impl Found {
         match self {
             Found::Value(_) => &[],
             Found::Keys(keys) => keys,
+            Found::Objects(objects) => objects.keys(),
         }
     }
 }
 
 /// What was read of a snapshot, in the order of the first reads: each cell with the value or the absence that was found,
-/// each class with its keys.
+/// each class with its keys, or with all of its objects where it was read as a whole.
 #[derive(Debug, Drop)]
 pub struct Reads {
     entries: IndexMap<Seen, Found>,
@@ -78,8 +82,8 @@ impl Model for Reads {
 }
 
 impl Reads {
-    ghost use Rattle.std.specs.Prelude.{◌≡◌, ◌↔◌, false, [], Some, IsTrue, IsOk, IfOk, IfSome, OnOk, OnErr, is_some, map, option_map, length};
-    ghost use Rattle.hp_model.specs.Cells.{Cells, AreKeys, Holds, cell_read, keys_read};
+    ghost use Rattle.std.specs.Prelude.{◌≡◌, ◌↔◌, true, false, [], Some, IsTrue, IsSome, IfOk, IfSome, OnOk, OnErr, is_some, map, option_map, length};
+    ghost use Rattle.hp_model.specs.Cells.{Cells, AreKeys, AreObjects, Holds, cell_read, keys_read, objects_read};
     ghost use Rattle.hp_value.specs.Mapped as mapped;
     ghost use Rattle.hp_store.specs.Mapped.{cell_value};
     ghost use Rattle.hp_view.specs.Mapped.{read, value_found};
@@ -135,14 +139,25 @@ impl Reads {
         }
     }
 
-    /// What was found in a cell, if it was read.
+    /// All objects that were found in a class, if it was read as a whole.
+    pub(crate) fn objects(&self, class: ClassNo) -> Option<&Arc<ObjectList>>
+        ensures known { IsSome result → keys_were_read self.now class ≡ true }
+        ensures held { IfSome result (λ objects. (base : Cells) → Holds base self.now → AreObjects base class objects.now.value) }
+    {
+        match self.entries.get(&Seen::Keys(class)) {
+            Some(Found::Objects(objects)) => Some(objects),
+            _ => None,
+        }
+    }
+
+    /// What was found in a cell, if it was read by itself.
     pub(crate) fn in_cell(&self, cell: Cell) -> Option<&Found>
         ensures { IfSome result (λ found. (base : Cells) → Holds base self.now → value_found found.now ≡ base (mapped.cell cell)) }
     {
         self.entries.get(&Seen::Cell(cell))
     }
 
-    /// Whether a cell was read.
+    /// Whether a cell was read by itself.
     pub fn has_cell(&self, cell: Cell) -> bool
         ensures { result ≡ cell_was_read self.now (mapped.cell cell) }
     {
@@ -175,6 +190,26 @@ impl Reads {
         ensures err { OnErr result (self.new ≡ self.old) }
     {
         note(&mut self.entries, Seen::Keys(class), Found::Keys(keys))?;
+        Ok(())
+    }
+
+    /// Notes what objects were found in a class whose keys weren't read before. The list is shared.
+    ///
+    /// An error means that memory ran out; the reads are then as before.
+    pub(crate) fn note_objects(
+        &mut self,
+        class: ClassNo,
+        objects: Arc<ObjectList>,
+    ) -> Result<(), AllocError>
+        requires { keys_were_read self.old class ≡ false }
+        ensures ok { OnOk result (self.new ≡ noted self.old (objects_read class objects.value)) }
+        ensures err { OnErr result (self.new ≡ self.old) }
+    {
+        note(
+            &mut self.entries,
+            Seen::Keys(class),
+            Found::Objects(objects),
+        )?;
         Ok(())
     }
 }

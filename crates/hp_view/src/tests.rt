@@ -54,7 +54,8 @@ fn assert_reads(rt: &impl Abort, reads: &Reads, wanted: &[(Seen, Option<i64>, us
         assert!(rt;
             matches!(
                 (seen, found),
-                (Seen::Cell(_), Found::Value(_)) | (Seen::Keys(_), Found::Keys(_))
+                (Seen::Cell(_), Found::Value(_))
+                    | (Seen::Keys(_), Found::Keys(_) | Found::Objects(_))
             )
         );
     }
@@ -194,6 +195,46 @@ fn a_query_over_a_view(rt: HostRuntime) -> Result<(), Fail> {
     Ok(())
 }
 
+fn assert_all(rt: &impl Abort, alloc: Global, view: &mut View) -> Result<(), Fail> {
+    let rows = answer(alloc, &all_rows(alloc)?, &Env::new(None, &[]), view)?;
+    assert_rows(rt, &rows, &[(-3, 97), (2, 102), (10, 110)]);
+    Ok(())
+}
+
+// It is asked for twice, and what the view writes between is of another class.
+#[test]
+fn a_class_is_read_as_a_whole(rt: HostRuntime) -> Result<(), Fail> {
+    let alloc = rt.alloc();
+    let mut view = View::new(alloc, bank(alloc)?)?;
+    assert_all(&rt, alloc, &mut view)?;
+    view.put(Cell::Object(1, 2), balance(alloc, 6)?)?;
+    assert_all(&rt, alloc, &mut view)?;
+    let (reads, _) = view.into_parts();
+    assert_reads(&rt, &reads, &[(Seen::Keys(0), None, 3)]);
+    Ok(())
+}
+
+fn assert_whole(rt: &impl Abort, alloc: Global, view: &mut View) -> Result<(), Fail> {
+    let Some(all) = view.objects(alloc, 0)? else {
+        panic!(rt; "no list of the class");
+    };
+    assert!(rt; view.has_objects(0, &all));
+    view.put(Cell::Object(0, 2), balance(alloc, 6)?)?;
+    assert!(rt; !view.has_objects(0, &all));
+    assert!(rt; view.objects(alloc, 0)?.is_none());
+    view.put(Cell::Object(0, 2), balance(alloc, 102)?)?;
+    assert!(rt; view.has_objects(0, &all));
+    view.cut(Cell::Object(0, 2))?;
+    assert!(rt; !view.has_objects(0, &all));
+    Ok(())
+}
+
+#[test]
+fn the_objects_of_a_class_are_compared_row_by_row(rt: HostRuntime) -> Result<(), Fail> {
+    let mut view = View::new(rt.alloc(), bank(rt.alloc())?)?;
+    assert_whole(&rt, rt.alloc(), &mut view)
+}
+
 // A layer that writes two cells and empties one.
 fn upper(alloc: Global) -> Result<Layer, AllocError> {
     let mut layer = Layer::new(alloc);
@@ -227,6 +268,7 @@ fn call(alloc: Global, view: &mut View, number: u8) -> Result<(), AllocError> {
         3 => drop(view.freeze(alloc)?),
         4 => view.cut(Cell::Object(0, 10))?,
         5 => view.take_in(&upper(alloc)?)?,
+        6 => view.read_objects(alloc, 0)?,
         _ => drop(view.get(Cell::Object(0, -3))?.is_some()),
     }
     Ok(())
@@ -252,7 +294,7 @@ fn a_refused_allocation_is_told(rt: HostRuntime) {
         return;
     };
     let mut refused = 0u8;
-    for number in 0..7u8 {
+    for number in 0..8u8 {
         let before = all_shown(&view);
         if call(alloc, &mut view, number).is_err() {
             refused = refused.saturating_add(1);

@@ -1,17 +1,20 @@
 //! A view: a snapshot, what was read of it, and what is written over it.
 
-ghost use Rattle.std.specs.Prelude.{◌≡◌, ◌↔◌, ℕ, ℤ, List, ◌≤◌, [], length, None, Some, is_some, IsTrue, IsOk, IsSome, IfOk, OnOk, OnErr, option_map};
-ghost use Rattle.hp_model.specs.Cells.{AreKeys, Holds, object_cell};
+ghost use Rattle.std.specs.Prelude.{◌≡◌, ◌↔◌, ℕ, ℤ, List, All, ◌≤◌, [], length, map, None, Some, is_some, IsTrue, IsOk, IsSome, IfOk, IfSome, IfNone, OnOk, OnErr, option_map};
+ghost use Rattle.std.specs.List.{list_all};
+ghost use Rattle.hp_model.specs.Values as model;
+ghost use Rattle.hp_model.specs.Cells.{AreKeys, AreObjects, Holds, object_cell, objects_read};
 ghost use Rattle.hp_value.specs.Mapped as mapped;
 ghost use Rattle.hp_store.specs.Mapped.{cell_value};
 ghost use Rattle.hp_store.specs.Stack.{cells_in};
 ghost use Rattle.hp_view.specs.Keeping.{KeepsObject};
-ghost use Rattle.hp_view.specs.Seeing.{Seeing as Seen, beneath, written, now_in, read_cell, cell_was_read, keys_were_read, Writes, TakesIn, IsSame, GoesBack, GoesOn, Restores, OnlyReads, Shows, ShowsKeys, ReadsKeys};
+ghost use Rattle.hp_view.specs.Seeing.{Seeing as Seen, beneath, written, now_in, noted, read_cell, cell_was_read, keys_were_read, Writes, TakesIn, IsSame, GoesBack, GoesOn, Restores, OnlyReads, Shows, ShowsKeys, ShowsObjects, ReadsKeys};
+ghost use Rattle.hp_view.specs.Wholes.{is_row};
 
 use crate::reads::Reads;
 use crate::undo::{Replaced, take_back, write, write_all};
 use hp_store::{CellValue, Layer, Snapshot};
-use hp_value::{Cell, ClassNo, Key};
+use hp_value::{Cell, ClassNo, Key, KeyedRow, ObjectList};
 use std::alloc::{AllocError, Global};
 use std::marker::Model;
 use std::sync::Arc;
@@ -255,6 +258,109 @@ impl View {
         self.reads.reserve(keys.len())?;
         self.reads.note_keys(class, beneath)?;
         Ok(keys)
+    }
+}
+
+impl View {
+    /// All objects of a class with their rows, by rising keys. None where the view's own writes name one of them, or where
+    /// the class's keys were read alone.
+    ///
+    /// The class is then read as a whole, as it stands in the snapshot: that is one read, and the list is shared. It takes no
+    /// time that goes with the class's objects, where it was read so before or where the snapshot keeps the list. An error
+    /// means that memory ran out; the view is then as before.
+    pub fn objects(
+        &mut self,
+        alloc: Global,
+        class: ClassNo,
+    ) -> Result<Option<Arc<ObjectList>>, AllocError>
+        ensures reads { IfOk result (λ found. IfSome found (λ objects. self.new ≡ record self.old { reads = noted self.old.reads (objects_read class objects.value) })) }
+        ensures none { IfOk result (λ found. IfNone found (self.new ≡ self.old)) }
+        ensures err { OnErr result (self.new ≡ self.old) }
+        ensures shows { IfOk result (λ found. IfSome found (λ objects. ShowsObjects self.new class objects.value)) }
+        ensures only { OnlyReads self.old self.new }
+        ensures goes_on { GoesOn self.old self.new }
+        ensures so_it_was { OnOk result (Holds (beneath self.new) self.new.reads) }
+    {
+        if self.writes.names_objects_of(class) {
+            return Ok(None);
+        }
+        if let Some(recorded) = self.reads.objects(class) {
+            return Ok(Some(Arc::try_clone(recorded)?));
+        }
+        if self.reads.keys(class).is_some() {
+            return Ok(None);
+        }
+        let Some(objects) = self.base.objects(alloc, class)? else {
+            return Ok(None);
+        };
+        let shared = Arc::try_clone(&objects)?;
+        self.reads.note_objects(class, shared)?;
+        Ok(Some(objects))
+    }
+
+    /// Reads all objects of a class, which are then those that `has_objects` takes: as a whole where `objects` can, and else
+    /// its keys and the cell of each object.
+    ///
+    /// An error means that memory ran out; some of it may have been read.
+    pub fn read_objects(&mut self, alloc: Global, class: ClassNo) -> Result<(), AllocError>
+        ensures shows { OnOk result ((objects : List model.KeyedRow) → AreObjects (now_in self.old) class objects → ShowsObjects self.new class objects) }
+        ensures only { OnlyReads self.old self.new }
+        ensures goes_on { GoesOn self.old self.new }
+    {
+        if self.objects(alloc, class)?.is_some() {
+            return Ok(());
+        }
+        let keys = self.keys(alloc, class)?;
+        self.read_rows(class, &keys)?;
+        Ok(())
+    }
+
+    // Reads the cells of the objects of a class that have these keys.
+    fn read_rows(&mut self, class: ClassNo, keys: &[Key]) -> Result<(), AllocError>
+        ensures shows { OnOk result (All (λ key. Shows self.new (object_cell class key) (now_in self.old (object_cell class key))) keys.now) }
+        ensures only { OnlyReads self.old self.new }
+        ensures goes_on { GoesOn self.old self.new }
+    {
+        for key in keys {
+            self.read(Cell::Object(class, *key))?;
+        }
+        Ok(())
+    }
+
+    /// Whether these are all objects of a class, by rising keys and with the rows that they have. Nothing is recorded, and no
+    /// memory is taken.
+    pub fn has_objects(&self, class: ClassNo, objects: &ObjectList) -> bool
+        ensures { IsTrue result ↔ AreObjects (now_in self.now) class objects.now }
+    {
+        // What was read of the class is still so, where the view's own writes name none of its objects.
+        if !self.writes.names_objects_of(class) {
+            if let Some(recorded) = self.reads.objects(class) {
+                return **recorded == *objects;
+            }
+        }
+        self.has_keys(class, objects.keys()) && self.has_rows(class, objects.rows())
+    }
+
+    // Whether the objects of a class with these keys have these rows.
+    fn has_rows(&self, class: ClassNo, rows: &[KeyedRow]) -> bool
+        ensures { result ≡ list_all (λ (o : model.KeyedRow). is_row (now_in self.now (object_cell class o.key)) o.row) (map mapped.keyed_row rows.now) }
+    {
+        for object in rows {
+            if !self.has_row(class, object) {
+                return false;
+            }
+        }
+        true
+    }
+
+    // The same of one object.
+    fn has_row(&self, class: ClassNo, object: &KeyedRow) -> bool
+        ensures { result ≡ is_row (now_in self.now (object_cell class object.now.key)) object.now.row }
+    {
+        match self.peek(Cell::Object(class, object.key)) {
+            Some(CellValue::Row(row)) => *row == object.row,
+            _ => false,
+        }
     }
 }
 

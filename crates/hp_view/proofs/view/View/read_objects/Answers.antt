@@ -1,0 +1,19 @@
+use Rattle.std.proofs.Common.{◌∙◌, sym, subst}
+use Rattle.std.specs.Prelude.{All}
+use Rattle.hp_model.specs.Cells.{object_cell}
+use Rattle.hp_view.specs.Seeing.{Shows, now_in}
+use Rattle.hp_view.specs.Looks.{only_reads_then}
+use Rattle.hp_view.proofs.Reading.{some_told}
+use Rattle.hp_view.proofs.Wholes.{whole_still, read_by_rows}
+use Rattle.hp_view.proofs.view.View.read_objects.Goals as goal
+
+pub returns-then-is_some-clause-shows : goal.returns-then-is_some-clause-shows
+returns-then-is_some-clause-shows c = λ objects are.
+    let found = some_told c.in_ok-objects.field-0 c.in_ok-objects.ensures.shows (sym c.is_some.ensures ∙ c.if-is_some.true) in
+    whole_still c.objects.ensures.only c.in_ok-objects.ensures.so_it_was found.1 are
+
+pub returns-clause-shows : goal.returns-clause-shows
+returns-clause-shows c = λ objects are.
+    read_by_rows (only_reads_then c.args.self.now c.objects.new.self c.keys.new.self c.objects.ensures.only c.keys.ensures.only) c.in_ok-keys.ensures.shows c.in_ok-keys.ensures.so_it_was
+    c.read_rows.ensures.only
+    (subst (All (λ key. Shows c.read_rows.new.self (object_cell c.args.class key) (now_in c.keys.new.self (object_cell c.args.class key)))) c.deref.ensures.value c.in_ok-read_rows.ensures.shows) are
