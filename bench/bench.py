@@ -88,6 +88,10 @@ def wide_scores():
     return wide_scans(scored, rounds=6)
 
 
+def wide_long_scans():
+    return wide_scans(objects=4000)
+
+
 def conflict(siblings=64, rounds=60):
     """Siblings that all read and write one object."""
     rules = [on_go(f"r{n}", [], [plus(1)]) for n in range(siblings)]
@@ -149,6 +153,7 @@ WORKLOADS = [
     ("d", "chains of 15 firings, each inside the other", deep_chains, deep_chains_sql),
     ("e", "(a) with 47 operators an object in place of 3", wide_scores, None),
     ("f", "(b) where each scans 400 objects first", conflict_of_scans, None),
+    ("g", "(a) with 4,000 objects in place of 400", wide_long_scans, None),
 ]
 
 

@@ -4,7 +4,7 @@ use Rattle.std.specs.Prelude.{Result, Ok, Err, OnOk}
 use Rattle.hp_model.specs.Rules.{Library}
 use Rattle.hp_model.specs.Tree.{Task}
 use Rattle.hp_model.specs.Values.{KeyedRow}
-use Rattle.hp_model.specs.Cells.{Cell, Cells, cells, over, Read, keys_read, objects_read, IsTold, AllTold, Holds, AreKeys, AreObjects}
+use Rattle.hp_model.specs.Cells.{Cells, cells, over, Read, keys_read, objects_read, IsTold, AllTold, Holds, AreKeys, AreObjects}
 use Rattle.hp_model.specs.Firing.{fire_task}
 use Rattle.hp_model.specs.Soundness.{firing_answer, LeadsTo, Attempt, IsSound}
 use Rattle.hp_model.specs.Answers.{FaithfulFiring}

@@ -14,7 +14,7 @@ use std::sync::Arc;
 pub fn single(alloc: Global, prim: &Prim) -> Result<Occurrence, AllocError>
     ensures { IfOk result (λ o. occurrence o ≡ primitive_occurrence (primitive prim.now)) }
 {
-    let mut parts = Vec::new(alloc);
+    let mut parts = Vec::with_capacity(alloc, 1)?;
     parts.push(prim.clone()?)?;
     Ok(Occurrence { parts, count: 1 })
 }

@@ -3,6 +3,7 @@ mod Decisions
 mod Helping
 pub mod Sending
 mod Making
+mod Immediate
 mod Starting
 mod Stating
 mod Steps

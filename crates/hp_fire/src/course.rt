@@ -1,6 +1,6 @@
 //! What statements, signals and groups give.
 
-ghost use Rattle.std.specs.Prelude.{◌≡◌, ◌++◌, IfOk, OnOk, [], length};
+ghost use Rattle.std.specs.Prelude.{◌≡◌, ◌++◌, IsTrue, IfOk, OnOk, [], length};
 ghost use Rattle.hp_model.specs.Answers.{ended, followed, is_done};
 ghost use Rattle.hp_model.specs.Tree.{no_items};
 ghost use Rattle.hp_tree.specs.Mapped.{before};
@@ -81,13 +81,13 @@ impl Course {
         }
     }
 
-    /// Nothing but one thing that was done.
+    /// Nothing but one thing that was done, with room for so many more.
     ///
     /// An error means that memory ran out.
-    pub(crate) fn of_item(alloc: Global, item: Item) -> Result<Course, AllocError>
+    pub(crate) fn of_item(alloc: Global, item: Item, more: usize) -> Result<Course, AllocError>
         ensures { IfOk result (λ c. course c ≡ record { end = end End.Done; queued = []; detached = []; items = before item no_items }) }
     {
-        let mut items = Vec::with_capacity(alloc, 1)?;
+        let mut items = Vec::with_capacity(alloc, more.saturating_add(1))?;
         items.push(item)?;
         Ok(Course {
             end: End::Done,
@@ -107,12 +107,23 @@ impl Course {
         }
     }
 
+    /// Whether there is nothing in it but its end.
+    fn is_blank(&self) -> bool
+        ensures { IsTrue result → (self.now.queued.items ≡ []) × (self.now.detached.items ≡ []) × (self.now.items.items ≡ []) }
+    {
+        self.queued.is_empty() && self.detached.is_empty() && self.items.is_empty()
+    }
+
     /// Adds what followed this course.
     ///
     /// An error means that memory ran out; a part may then have been added.
     pub fn join(&mut self, more: Course) -> Result<(), AllocError>
         ensures { OnOk result (course self.new ≡ followed (course self.old) (course more)) }
     {
+        if self.is_blank() {
+            *self = more;
+            return Ok(());
+        }
         let Course {
             end,
             queued,

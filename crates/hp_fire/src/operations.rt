@@ -115,7 +115,7 @@ pub(crate) fn emitted(alloc: Global, context: &Context<'_>, expr: &Expr) -> Resu
     ensures { (view : Seeing) (lib : rules.Library) (level : Level) → Steps lib (model.run_statement (rules.emit (expression expr.now)) level (context_in context.now)) view view result }
 {
     let value = expr.eval(alloc, &context.env)?;
-    let course = Course::of_item(alloc, Item::Emit(value))?;
+    let course = Course::of_item(alloc, Item::Emit(value), 0)?;
     Ok(course)
 }
 
@@ -133,6 +133,7 @@ pub(crate) fn rule_changed(
     let course = Course::of_item(
         alloc,
         Item::Operation(Operation::OnRule { operation, rule }),
+        0,
     )?;
     Ok(course)
 }
@@ -200,6 +201,7 @@ pub(crate) fn operation_course(alloc: Global, prim: &Prim) -> Result<Course, All
             return Ok(Course::ended(alloc, crate::course::End::Done));
         }
     };
-    let course = Course::of_item(alloc, Item::Operation(operation))?;
+    // What follows an operation is mostly one firing, or none.
+    let course = Course::of_item(alloc, Item::Operation(operation), 1)?;
     Ok(course)
 }

@@ -1,5 +1,6 @@
 //! Where new tasks go.
 
+ghost use Rattle.std.specs.List.{list_all};
 ghost use Rattle.std.specs.Prelude.{◌≡◌, IfOk, OnOk, [], ◌∷◌, map, filter};
 ghost use Rattle.hp_model.specs.Rules.{is_immediate};
 ghost use Rattle.hp_model.specs.Tree.{Task as ModelTask};
@@ -37,6 +38,24 @@ pub(crate) fn place_tasks(alloc: Global, tasks: Vec<Task>) -> Result<Placed, All
     ensures queued { IfOk result (λ p. map task_of p.queued.items ≡ deferred_of (map task_of tasks.items)) }
     ensures detached { IfOk result (λ p. map detached_of p.detached.items ≡ map unreleased (detached_tasks (map task_of tasks.items))) }
 {
+    if !are_immediate(&tasks) {
+        return sort_tasks(alloc, tasks);
+    }
+    Ok(Placed {
+        immediate: tasks,
+        queued: Vec::new(alloc),
+        detached: Vec::new(alloc),
+    })
+}
+
+/// Sorts tasks of several modes.
+///
+/// An error means that memory ran out.
+fn sort_tasks(alloc: Global, tasks: Vec<Task>) -> Result<Placed, AllocError>
+    ensures immediate { IfOk result (λ p. map task_of p.immediate.items ≡ filter (λ (t : ModelTask). is_immediate t.place) (map task_of tasks.items)) }
+    ensures queued { IfOk result (λ p. map task_of p.queued.items ≡ deferred_of (map task_of tasks.items)) }
+    ensures detached { IfOk result (λ p. map detached_of p.detached.items ≡ map unreleased (detached_tasks (map task_of tasks.items))) }
+{
     let mut immediate = Vec::new(alloc);
     let mut queued = Vec::new(alloc);
     let mut detached = Vec::new(alloc);
@@ -54,6 +73,18 @@ pub(crate) fn place_tasks(alloc: Global, tasks: Vec<Task>) -> Result<Placed, All
         queued,
         detached,
     })
+}
+
+/// Whether all tasks fire at once, as most do.
+fn are_immediate(tasks: &[Task]) -> bool
+    ensures { result ≡ list_all (λ (t : ModelTask). is_immediate t.place) (map task_of tasks.now) }
+{
+    for task in tasks {
+        if task.place != Coupling::Immediate {
+            return false;
+        }
+    }
+    true
 }
 
 /// One task alone.

@@ -70,7 +70,7 @@ fn assigned<'a>(
 ) -> Result<Vec<Given<'a>>, Halt>
     ensures { Meets (λ gs. given_in gs.items) result (model.assigned (environment env.now) (map assignment pairs.now)) }
 {
-    let mut given = Vec::new(alloc);
+    let mut given = Vec::with_capacity(alloc, pairs.len())?;
     for pair in pairs {
         let value = pair.value.eval(alloc, env)?;
         let field = pair.field.as_str();
@@ -95,7 +95,7 @@ fn class_fields(alloc: Global, lib: &Library, class: ClassNo) -> Result<Arc<Vec<
 fn made_row(alloc: Global, fields: &Arc<Vec<Field>>, given: &[Given<'_>]) -> Result<Row, Halt>
     ensures { Meets (λ r. r) result (model.made_row (map field fields.now.value.items) (given_in given.now)) }
 {
-    let mut values = Vec::new(alloc);
+    let mut values = Vec::with_capacity(alloc, fields.len())?;
     for f in fields.iter() {
         let value = field_value(f, given)?;
         values.push(value.clone()?).map_err(AllocError::from)?;
@@ -166,7 +166,7 @@ fn kind_in(fields: &[Field], name: &str) -> Option<Kind>
 pub(crate) fn changed_row(alloc: Global, old: &Row, given: &[Given<'_>]) -> Result<Row, AllocError>
     ensures { IfOk result (λ r. r ≡ model.changed_row (given_in given.now) old.now) }
 {
-    let mut values = Vec::new(alloc);
+    let mut values = Vec::with_capacity(alloc, old.len())?;
     for i in 0..old.len() {
         if let Some((name, value)) = old.get(i) {
             let new = given_value(given, name).unwrap_or(value);

@@ -40,7 +40,7 @@ pub(crate) fn tell_all(
     ensures goes_on { GoesOn view.old view.new }
 {
     let numbers = lib.mentions(alloc, prim)?;
-    let mut tasks = Vec::new(alloc);
+    let mut tasks = Vec::with_capacity(alloc, numbers.len())?;
     for number in &numbers {
         if let Some(task) = tell(alloc, view, lib, *number, prim, depth)? {
             tasks.push(task)?;

@@ -2,7 +2,6 @@
 use Rattle.std.specs.Prelude.{List, [], ◌∷◌, map, option_map}
 use Rattle.std.specs.Borrow.{Bor}
 use Rattle.hp_model.specs.Values as V
-use Rattle.hp_model.specs.Rules as R
 use Rattle.hp_model.specs.Tree as T
 use Rattle.hp_model.specs.Cascade as C
 use Rattle.hp_value.specs.Mapped.{value, cause, coupling, rule_operation}

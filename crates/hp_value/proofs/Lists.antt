@@ -1,8 +1,8 @@
 -- Lemmas on lists of items that stand for the model's.
-use Rattle.std.proofs.Common.{◌≡◌, refl, sym, ap, ◌∙◌, Bool, true, false, not, List, [], ◌∷◌, ◌&&◌, map}
+use Rattle.std.proofs.Common.{◌≡◌, refl, sym, ap, ap₂, ◌∙◌, ℕ, suc, ◌<◌, ◌≤◌, arith, Bool, true, false, not, List, [], ◌∷◌, ◌&&◌, map, length, get_or, drop, length-drop, drop-cons}
 use Rattle.std.specs.List.{AllZip}
 use Rattle.std.specs.Ordering.{on}
-use lib.Pointwise.{pointwise}
+use lib.Pointwise.{pointwise, pointwise_long}
 use mathlib.Core.Bool.{true≢false}
 
 module _ {A B : Type 0} (f : A → B) where
@@ -40,3 +40,47 @@ pub none_differs : (a b r : Bool) → not a ≡ false → not b ≡ false → ((
 none_differs true true r h k = refl
 none_differs true false r h k = absurd (true≢false k)
 none_differs false b r h k = absurd (true≢false h)
+
+pub first_of : (a b : Bool) → (a && b) ≡ true → a ≡ true
+first_of true b h = refl
+first_of false b h = h
+
+pub second_of : (a b : Bool) → (a && b) ≡ true → b ≡ true
+second_of true b h = h
+second_of false b h = absurd (true≢false (sym h))
+
+-- lists whose items are pairwise the same by a test have the same of what the test compares
+pub same_parts : {A B : Type 0} (E : A → A → Bool) (part : A → B) → ((x y : A) → E x y ≡ true → part x ≡ part y) → (xs ys : List A) → pointwise E xs ys ≡ true → map part xs ≡ map part ys
+same_parts E part compared [] [] h = refl
+same_parts E part compared [] (y ∷ ys) h = absurd (true≢false (sym h))
+same_parts E part compared (x ∷ xs) [] h = absurd (true≢false (sym h))
+same_parts E part compared (x ∷ xs) (y ∷ ys) h =
+    ap (λ b. b ∷ map part xs) (compared x y (first_of (E x y) (pointwise E xs ys) h)) ∙ ap (λ bs. part y ∷ bs) (same_parts E part compared xs ys (second_of (E x y) (pointwise E xs ys) h))
+
+-- from a place on, two lists are the same where their items there are, and what follows these
+pub pointwise_from : {A : Type 0} (E : A → A → Bool) (xs ys : List A) (i : ℕ) (x y : A) → i < length xs → i < length ys → x ≡ get_or xs i x → y ≡ get_or ys i y
+    → pointwise E (drop i xs) (drop i ys) ≡ (E x y && pointwise E (drop (suc i) xs) (drop (suc i) ys))
+pointwise_from {A} E xs ys i x y low low' is is' =
+    ap₂ (pointwise E) (drop-cons xs i x low ∙ ap (λ (z : A). z ∷ drop (suc i) xs) (sym is)) (drop-cons ys i y low' ∙ ap (λ (z : A). z ∷ drop (suc i) ys) (sym is'))
+
+pub pointwise_at_end : {A : Type 0} (E : A → A → Bool) (xs ys : List A) (i : ℕ) → length xs ≤ i → length ys ≤ i → true ≡ pointwise E (drop i xs) (drop i ys)
+pointwise_at_end {A} E xs ys i past past' = ap₂ (pointwise E) (sym (empty _ (omega (arith, length-drop i xs, past)))) (sym (empty _ (omega (arith, length-drop i ys, past'))))
+  where
+    empty : (zs : List A) → length zs ≡ 0 → zs ≡ []
+    empty [] e = refl
+    empty (z ∷ zs) e = absurd (omega (arith, e))
+
+pub pointwise_unlike : {A : Type 0} (E : A → A → Bool) (xs ys : List A) → (length xs ≡ length ys → ⊥) → false ≡ pointwise E xs ys
+pointwise_unlike E xs ys differ = by_test (pointwise E xs ys) refl
+  where
+    by_test : (b : Bool) → pointwise E xs ys ≡ b → false ≡ b
+    by_test false e = refl
+    by_test true e = absurd (differ (pointwise_long E xs ys e))
+
+pub false_first : (a r : Bool) → not a ≡ true → false ≡ (a && r)
+false_first true r h = absurd (true≢false (sym h))
+false_first false r h = refl
+
+pub true_first : (a r : Bool) → not a ≡ false → (a && r) ≡ r
+true_first true r h = refl
+true_first false r h = absurd (true≢false h)

@@ -1,13 +1,19 @@
 -- Lemmas on rows made of fields and values.
-use Rattle.std.proofs.Common.{◌≡◌, refl, ap, ℕ, zero, suc, ◌<◌, ◌≤◌, min, arith, List, [], ◌∷◌, length, take, drop, map, get_or, slice_get, Option, Some, None, string_bytes, bytes_eq, Bool, true, false, cond, ◌&&◌, length-drop, drop-cons, sym, ◌∙◌}
+use Rattle.std.proofs.Common.{◌≡◌, refl, ap, ap₂, subst, ◌++◌, ℕ, zero, suc, ◌<◌, ◌≤◌, min, arith, List, [], ◌∷◌, length, take, drop, map, get_or, slice_get, Option, Some, None, string_bytes, bytes_eq, Bool, true, false, cond, ◌&&◌, length-drop, drop-cons, sym, ◌∙◌}
 use Rattle.std.specs.Map.{lookup}
 use Rattle.std.proofs.lemmas.Option.{slice_get_read, slice_get_past}
 use Rattle.hp_model.specs.Values as V
 use Rattle.hp_value.specs.declared.value.Value.{Value}
 use Rattle.hp_value.specs.declared.row.Field.{Field}
-use Rattle.hp_value.specs.Rows.{value, row_of, renewed}
-use Rattle.hp_value.specs.Same.{pair_same, row_same}
-use lib.Pointwise.{pointwise_long}
+use Rattle.hp_value.specs.Rows.{value, row_of, renewed, names_of, values_of, first_names, AreNamed, AreAlike}
+use Rattle.hp_value.specs.Mapped.{keyed_row, keys_of}
+use Rattle.hp_value.specs.declared.row.KeyedRow.{KeyedRow}
+use Rattle.hp_value.specs.Same.{pair_same, row_same, value_same, values_same, keyed_same}
+use lib.Pointwise.{pointwise, pointwise_long, bytes_decides}
+use Rattle.std.specs.Ordering.{int_eq}
+
+abbrev pub field_name : Field → V.Name
+field_name f = string_bytes f.name
 
 pub length_row : (fs : List Field) (vs : List Value) → length (row_of fs vs) ≡ min (length fs) (length vs)
 length_row [] vs = omega arith
@@ -97,3 +103,75 @@ row_at_end fs vs i past = empty _ (length_row (drop i fs) (drop i vs) ∙ omega 
     empty : (r : V.Row) → length r ≡ 0 → r ≡ []
     empty [] e = refl
     empty (p ∷ r) e = absurd (omega (arith, e))
+
+-- rows of as many values under the fields of one list have the same names
+pub names_by_fields : (fs gs : List Field) (vs ws : List Value) → map field_name fs ≡ map field_name gs → length vs ≡ length ws
+    → names_of (row_of fs vs) ≡ names_of (row_of gs ws)
+names_by_fields [] [] vs ws e l = refl
+names_by_fields [] (g ∷ gs) vs ws e l = absurd (omega (arith, ap (λ (ns : List V.Name). length ns) e))
+names_by_fields (f ∷ fs) [] vs ws e l = absurd (omega (arith, ap (λ (ns : List V.Name). length ns) e))
+names_by_fields (f ∷ fs) (g ∷ gs) [] [] e l = refl
+names_by_fields (f ∷ fs) (g ∷ gs) [] (w ∷ ws) e l = absurd (omega (arith, l))
+names_by_fields (f ∷ fs) (g ∷ gs) (v ∷ vs) [] e l = absurd (omega (arith, l))
+names_by_fields (f ∷ fs) (g ∷ gs) (v ∷ vs) (w ∷ ws) e l =
+    let head : string_bytes f.name ≡ string_bytes g.name = cc in
+    let tail : map field_name fs ≡ map field_name gs = cc in
+    ap (λ (n : V.Name). n ∷ names_of (row_of fs vs)) head ∙ ap (λ (ns : List V.Name). string_bytes g.name ∷ ns) (names_by_fields fs gs vs ws tail (omega (arith, l)))
+
+pub values_row : (fs : List Field) (vs : List Value) → map value (take (min (length fs) (length vs)) vs) ≡ values_of (row_of fs vs)
+values_row [] vs = ap (λ n. map value (take n vs)) least
+  where
+    least : min 0 (length vs) ≡ 0
+    least = omega arith
+values_row (f ∷ fs) [] = nothing (min (suc (length fs)) 0)
+  where
+    nothing : (n : ℕ) → map value (take n []) ≡ []
+    nothing zero = refl
+    nothing (suc n) = refl
+values_row (f ∷ fs) (v ∷ vs) =
+    let least : min (suc (length fs)) (suc (length vs)) ≡ suc (min (length fs) (length vs)) = omega arith in
+    ap (λ n. map value (take n (v ∷ vs))) least ∙ ap (λ (ws : List V.Value). value v ∷ ws) (values_row fs vs)
+
+same_values : (r s : V.Row) → names_of r ≡ names_of s → pointwise value_same (values_of r) (values_of s) ≡ row_same r s
+same_values [] [] e = refl
+same_values [] (q ∷ s) e = refl
+same_values (p ∷ r) [] e = refl
+same_values (p ∷ r) (q ∷ s) e =
+    let head : p.0 ≡ q.0 = cc in
+    let tail : names_of r ≡ names_of s = cc in
+    ap₂ (λ a b. (a && value_same p.1 q.1) && b) (sym ((bytes_decides p.0 q.0).1 head)) (same_values r s tail)
+
+turned : (a b v w : Bool) → ((a && b) && (v && w)) ≡ ((a && v) && (b && w))
+turned true true v w = both v w
+  where
+    both : (v w : Bool) → (v && w) ≡ (v && w)
+    both v w = refl
+turned true false true w = refl
+turned true false false w = refl
+turned false b v w = refl
+
+with_names : (ns : List V.Name) (os ps : List V.KeyedRow) → AreNamed ns os → AreNamed ns ps
+    → (pointwise int_eq (keys_of os) (keys_of ps) && pointwise values_same os ps) ≡ pointwise keyed_same os ps
+with_names ns [] [] h k = refl
+with_names ns [] (p ∷ ps) h k = refl
+with_names ns (o ∷ os) [] h k = refl
+with_names ns (o ∷ os) (p ∷ ps) h k =
+    turned (int_eq o.key p.key) (pointwise int_eq (keys_of os) (keys_of ps)) (values_same o p) (pointwise values_same os ps)
+    ∙ ap₂ (λ a b. (int_eq o.key p.key && a) && b) (same_values o.row p.row (h.0 ∙ sym k.0)) (with_names ns os ps h.1 k.1)
+
+-- objects whose rows have the same names are the same where their keys and values are
+pub by_values : (os ps : List V.KeyedRow) → AreAlike os → AreAlike ps → first_names os ≡ first_names ps
+    → (pointwise int_eq (keys_of os) (keys_of ps) && pointwise values_same os ps) ≡ pointwise keyed_same os ps
+by_values os ps h k e = with_names (first_names os) os ps h (subst (λ ns. AreNamed ns ps) (sym e) k)
+
+alike_more : (ns : List V.Name) (os : List V.KeyedRow) (o : V.KeyedRow) → AreNamed ns os → names_of o.row ≡ ns → AreNamed ns (os ++ o ∷ [])
+alike_more ns [] o h e = (e, tt)
+alike_more ns (p ∷ os) o h e = (h.0, alike_more ns os o h.1 e)
+
+-- a row with the names of the first one's is like the others
+pub alike_after : (rows : List KeyedRow) (first added : KeyedRow) → Some first ≡ slice_get rows 0 → names_of added.row ≡ names_of first.row
+    → AreAlike (map keyed_row rows) → AreAlike (map keyed_row rows ++ keyed_row added ∷ [])
+alike_after [] first added is e h = (refl, tt)
+alike_after (row ∷ rows) first added is e h =
+    let same : first ≡ row = cc in
+    (h.0, alike_more (names_of row.row) (map keyed_row rows) (keyed_row added) h.1 (e ∙ ap (λ (r : KeyedRow). names_of r.row) same))

@@ -1,5 +1,5 @@
 -- Values, fields and rows in the model, and the test whether two rows are the same.
-use Rattle.std.specs.Prelude.{List, [], ◌∷◌, string_bytes}
+use Rattle.std.specs.Prelude.{List, [], ◌∷◌, ◌≡◌, ⊤, map, string_bytes}
 use Rattle.hp_model.specs.Values as V
 use Rattle.hp_model.specs.Values.{integer, boolean, text}
 use Rattle.hp_value.specs.declared.value.Value.{Value}
@@ -32,3 +32,24 @@ abbrev pub renewed : V.Row → List V.Value → V.Row
 renewed [] vs = []
 renewed (f ∷ fs) [] = []
 renewed (f ∷ fs) (v ∷ vs) = (f.0, v) ∷ renewed fs vs
+
+-- a row's names, and its values
+abbrev pub names_of : V.Row → List V.Name
+names_of = map (λ (p : V.Name × V.Value). p.0)
+
+abbrev pub values_of : V.Row → List V.Value
+values_of = map (λ (p : V.Name × V.Value). p.1)
+
+-- the names of the first of some objects' rows
+abbrev pub first_names : List V.KeyedRow → List V.Name
+first_names [] = []
+first_names (o ∷ os) = names_of o.row
+
+-- the objects' rows have these names
+abbrev pub AreNamed : List V.Name → List V.KeyedRow → Type 0
+AreNamed ns [] = ⊤
+AreNamed ns (o ∷ os) = (names_of o.row ≡ ns) × AreNamed ns os
+
+-- the objects' rows have the same names
+abbrev pub AreAlike : List V.KeyedRow → Type 0
+AreAlike os = AreNamed (first_names os) os

@@ -7,6 +7,7 @@ use lib.Pointwise.{pointwise, pointwise_decides, bytes_decides}
 use Rattle.std.specs.Bool.{Decides}
 use Rattle.std.specs.Cmp.{IsEquivalence, decided, unsigned_Decides, signed_Decides, booleans_Decides}
 use Rattle.hp_model.specs.Values.{Name, Value, integer, boolean, text, Row, KeyedRow}
+use Rattle.hp_value.specs.Rows.{values_of}
 use Rattle.hp_model.specs.Occurrences.{Primitive, created, updated, deleted, signalled, commit_reached, moment_reached, Occurrence}
 
 abbrev pub value_same : Value → Value → Bool
@@ -23,6 +24,10 @@ row_same = pointwise pair_same
 
 abbrev pub keyed_same : KeyedRow → KeyedRow → Bool
 keyed_same r s = int_eq r.key s.key && row_same r.row s.row
+
+-- the same, but for the keys and the names
+abbrev pub values_same : KeyedRow → KeyedRow → Bool
+values_same r s = pointwise value_same (values_of r.row) (values_of s.row)
 
 abbrev pub answer_same : Name × List KeyedRow → Name × List KeyedRow → Bool
 answer_same a b = bytes_eq a.0 b.0 && pointwise keyed_same a.1 b.1

@@ -1,6 +1,11 @@
 //! The objects of a class as a list.
 
-ghost use Rattle.std.specs.Prelude.{◌≡◌, ◌++◌, ◌∷◌, [], map, OnOk, OnErr};
+ghost use lib.Pointwise.{pointwise};
+ghost use Rattle.std.specs.Prelude.{◌≡◌, ◌&&◌, ◌++◌, ◌∷◌, [], map, IsTrue, OnOk, OnErr};
+ghost use Rattle.std.specs.Ordering.{int_eq, on};
+ghost use Rattle.hp_value.specs.Mapped.{keyed_row};
+ghost use Rattle.hp_value.specs.Rows.{first_names, AreAlike};
+ghost use Rattle.hp_value.specs.Same.{values_same};
 
 use crate::row::{KeyedRow, Row};
 use crate::value::Key;
@@ -13,6 +18,8 @@ use std::marker::Model;
 pub struct ObjectList {
     keys: Vec<Key>,
     rows: Vec<KeyedRow>,
+    // Whether all rows are seen to have the same names, as those of a class have. Their values alone are then compared.
+    are_alike: bool,
 }
 
 impl Model for ObjectList {
@@ -24,7 +31,10 @@ impl Model for ObjectList {
 
     ghost view = { λ l. map keyed_row l.rows.items };
 
-    ghost invariant = { λ l. l.keys.items ≡ keys_of (map keyed_row l.rows.items) };
+    ghost use Rattle.std.specs.Prelude.{IsTrue};
+    ghost use Rattle.hp_value.specs.Rows.{AreAlike};
+
+    ghost invariant = { λ l. (l.keys.items ≡ keys_of (map keyed_row l.rows.items)) × (IsTrue l.are_alike → AreAlike (map keyed_row l.rows.items)) };
 }
 
 impl ObjectList {
@@ -37,6 +47,7 @@ impl ObjectList {
         ObjectList {
             keys: Vec::new(alloc),
             rows: Vec::new(alloc),
+            are_alike: true,
         }
     }
 
@@ -49,7 +60,9 @@ impl ObjectList {
     {
         self.rows.reserve(1)?;
         self.keys.push(key)?;
-        self.rows.push_reserved(KeyedRow { key, row });
+        let added = KeyedRow { key, row };
+        self.are_alike = self.are_alike && is_like_first(&self.rows, &added);
+        self.rows.push_reserved(added);
         Ok(())
     }
 
@@ -65,6 +78,20 @@ impl ObjectList {
         ensures { map keyed_row result.now ≡ self.now }
     {
         &self.rows
+    }
+
+    // Whether all rows of both lists are seen to have the same names.
+    fn has_names_of(&self, other: &ObjectList) -> bool
+        ensures { IsTrue result → AreAlike self.now × AreAlike other.now × (first_names self.now ≡ first_names other.now) }
+    {
+        self.are_alike && other.are_alike && have_same_names(&self.rows, &other.rows)
+    }
+
+    // Whether the keys and the values of both lists are the same.
+    fn has_values_of(&self, other: &ObjectList) -> bool
+        ensures { result ≡ (pointwise int_eq (keys_of self.now) (keys_of other.now) && pointwise values_same self.now other.now) }
+    {
+        self.keys == other.keys && have_same_values(&self.rows, &other.rows)
     }
 }
 
@@ -85,6 +112,9 @@ impl PartialEq for ObjectList {
         ensures test { result ≡ pointwise keyed_same self.now other.now }
         ensures same { IsTrue result ↔ (self.now ≡ other.now) }
     {
+        if self.has_names_of(other) {
+            return self.has_values_of(other);
+        }
         self.rows == other.rows
     }
 }
@@ -93,4 +123,39 @@ impl Eq for ObjectList {
     ghost use Rattle.hp_value.specs.Same.{objects_equiv};
 
     ghost laws = { objects_equiv };
+}
+
+// Whether an object's row is seen to have the names of the first of some others, if there is one.
+fn is_like_first(rows: &[KeyedRow], added: &KeyedRow) -> bool
+    ensures { IsTrue result → AreAlike (map keyed_row rows.now) → AreAlike (map keyed_row rows.now ++ keyed_row added.now ∷ []) }
+{
+    match rows.first() {
+        Some(first) => added.row.has_fields_of(&first.row),
+        None => true,
+    }
+}
+
+// Whether the first ones of some objects are seen to have the same names.
+fn have_same_names(rows: &[KeyedRow], others: &[KeyedRow]) -> bool
+    ensures { IsTrue result → first_names (map keyed_row rows.now) ≡ first_names (map keyed_row others.now) }
+{
+    match (rows.first(), others.first()) {
+        (Some(first), Some(other)) => first.row.has_fields_of(&other.row),
+        _ => false,
+    }
+}
+
+// Whether there are as many objects in both, with the same values each.
+fn have_same_values(rows: &[KeyedRow], others: &[KeyedRow]) -> bool
+    ensures { result ≡ pointwise (on keyed_row values_same) rows.now others.now }
+{
+    if rows.len() != others.len() {
+        return false;
+    }
+    for i in 0..rows.len() {
+        if !rows[i].row.has_values_of(&others[i].row) {
+            return false;
+        }
+    }
+    true
 }

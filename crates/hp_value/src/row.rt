@@ -2,8 +2,10 @@
 
 ghost use Rattle.std.specs.Prelude.{◌≡◌, IfOk, option_map, bytes_eq};
 ghost use Rattle.std.specs.Map.{lookup};
+ghost use lib.Pointwise.{pointwise};
+ghost use Rattle.std.specs.Ordering.{on};
 ghost use Rattle.hp_value.specs.Rows.{value, row_of};
-ghost use Rattle.hp_value.specs.Same.{row_same};
+ghost use Rattle.hp_value.specs.Same.{row_same, value_same};
 
 use crate::halt::Cause;
 use crate::value::{Key, Kind, Value};
@@ -74,10 +76,10 @@ impl Row {
 }
 
 impl Row {
-    ghost use Rattle.std.specs.Prelude.{length, slice_get, option_map, map};
+    ghost use Rattle.std.specs.Prelude.{IsTrue, length, slice_get, option_map, map};
     ghost use Rattle.hp_model.specs.Expressions as model;
     ghost use Rattle.hp_value.specs.Mapped.{value, outcome};
-    ghost use Rattle.hp_value.specs.Rows.{renewed};
+    ghost use Rattle.hp_value.specs.Rows.{renewed, names_of, values_of};
 
     /// A row of the same fields with these values, which stand in their order. A value too many is left out.
     ///
@@ -113,6 +115,30 @@ impl Row {
     {
         let (fields, values) = self.parts();
         find_value(fields, values, name).ok_or(Cause::Kind)
+    }
+
+    /// The values, in the order of the fields.
+    fn values(&self) -> &[Value]
+        ensures { map value result.now ≡ values_of self.now }
+    {
+        let (fields, values) = self.parts();
+        &values[..fields.len().min(values.len())]
+    }
+
+    /// Whether another row has the same values in the same order, under whatever names.
+    pub(crate) fn has_values_of(&self, other: &Row) -> bool
+        ensures { result ≡ pointwise value_same (values_of self.now) (values_of other.now) }
+    {
+        same_values(self.values(), other.values())
+    }
+
+    /// Whether another row is seen to have its values under the same names. It may be no where they are the same: then the
+    /// classes' lists differ, or their values in number.
+    pub(crate) fn has_fields_of(&self, other: &Row) -> bool
+        ensures { IsTrue result → names_of self.now ≡ names_of other.now }
+    {
+        let (lists, others) = (&*self.lists, &*other.lists);
+        *lists.fields == *others.fields && lists.values.len() == others.values.len()
     }
 
     /// The two lists that the row shares.
@@ -171,6 +197,21 @@ fn same_rows(fields: &[Field], values: &[Value], others: &[Field], other_values:
             return false;
         }
         if v != w {
+            return false;
+        }
+    }
+    true
+}
+
+/// Whether two lists of values are the same.
+fn same_values(values: &[Value], others: &[Value]) -> bool
+    ensures { result ≡ pointwise (on value value_same) values.now others.now }
+{
+    if values.len() != others.len() {
+        return false;
+    }
+    for i in 0..values.len() {
+        if values[i] != others[i] {
             return false;
         }
     }

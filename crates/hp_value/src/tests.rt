@@ -2,7 +2,7 @@
 
 use crate::{
     Answer, Arithmetic, Cause, ClassDef, Comparison, Env, Expr, Field, Halt, KeyedRow, Kind,
-    Occurrence, Prim, Row, Value,
+    ObjectList, Occurrence, Prim, Row, Value,
 };
 use std::alloc::{AllocError, Global};
 use std::process::Abort;
@@ -359,6 +359,55 @@ fn rows_of_a_class(rt: HostRuntime) -> Result<(), Fail> {
         "another list of fields"
     );
     assert!(rt; next != row && row == row.clone()?);
+    Ok(())
+}
+
+/// A row of one number under a name.
+fn number(alloc: Global, name: &str, value: i64) -> Result<Row, AllocError> {
+    let name = String::from_str(alloc, name)?;
+    let mut fields = Vec::new(alloc);
+    fields.push(Field {
+        name,
+        kind: Kind::Int,
+    })?;
+    let fields = Arc::new(alloc, fields)?;
+    let mut values = Vec::new(alloc);
+    values.push(Value::Int(value))?;
+    Row::new(alloc, &fields, values)
+}
+
+/// Two objects: one with the number 5 under the name `bal`, and one with another number under a name.
+fn two_objects(alloc: Global, name: &str, value: i64) -> Result<ObjectList, AllocError> {
+    let mut objects = ObjectList::new(alloc);
+    objects.push(1, number(alloc, "bal", 5)?)?;
+    objects.push(2, number(alloc, name, value)?)?;
+    Ok(objects)
+}
+
+/// Whether these two objects are the same as those.
+fn are_same(
+    alloc: Global,
+    objects: &ObjectList,
+    name: &str,
+    value: i64,
+) -> Result<bool, AllocError> {
+    let others = two_objects(alloc, name, value)?;
+    Ok(*objects == others)
+}
+
+#[test]
+fn lists_of_objects_are_compared(rt: HostRuntime) -> Result<(), Fail> {
+    let alloc = rt.alloc();
+    let alike = two_objects(alloc, "bal", 7)?;
+    assert!(rt; are_same(alloc, &alike, "bal", 7)?);
+    assert!(rt; !are_same(alloc, &alike, "bal", 8)?);
+    assert!(rt; !are_same(alloc, &alike, "sum", 7)?);
+    let mixed = two_objects(alloc, "sum", 7)?;
+    assert!(rt; are_same(alloc, &mixed, "sum", 7)?);
+    assert!(rt; !are_same(alloc, &mixed, "sum", 8)?);
+    let mut more = two_objects(alloc, "bal", 7)?;
+    more.push(3, number(alloc, "bal", 9)?)?;
+    assert!(rt; alike != more && more != alike);
     Ok(())
 }
 

@@ -15,7 +15,7 @@ use Rattle.hp_ops.proofs.telling.tell_all.Goals.{in-Some+in_ok-push, in_default}
 
 pub loop-number-init : goal.loop-number-init
 loop-number-init c =
-    let none : [] ≡ map task_of c.new-tasks.result.items = ap (map task_of) (sym c.new-tasks.ensures.items) in
+    let none : [] ≡ map task_of c.in_ok-tasks.tasks.items = ap (map task_of) (sym c.in_ok-tasks.ensures.items) in
     record {
       all = c.deref-number-items.ensures.value ∙ c.in_ok-numbers.ensures;
       heard = subst (HaveHeard (library c.args.lib.now) (primitive c.args.prim.now) [] c.args.view.now c.args.view.now) none (none_heard (library c.args.lib.now) (primitive c.args.prim.now) c.args.view.now);
@@ -30,11 +30,11 @@ pub returns-in_err-push-clause-goes_on : goal.returns-in_err-push-clause-goes_on
 returns-in_err-push-clause-goes_on c = GoesOn-then c.loop-number.invariant.goes_on c.tell.ensures.goes_on
 
 pub loop-number-preserved : goal.loop-number-preserved
-loop-number-preserved c = elim c.match-branch-3.branch [
+loop-number-preserved c = elim c.match-branch-4.branch [
   | in-Some+in_ok-push w ↦
       let t = w.in-Some.task in
       let so_far = map task_of c.loop-number.tasks.items in
-      let grown : map task_of c.loop-number.tasks.items ++ task_of w.in-Some.task ∷ [] ≡ map task_of c.match-branch-3.tasks.items =
+      let grown : map task_of c.loop-number.tasks.items ++ task_of w.in-Some.task ∷ [] ≡ map task_of c.match-branch-4.tasks.items =
       sym (ap (λ (ts : Vec AnyTask Global). map task_of ts.items) w.tasks-is ∙ ap (map task_of) w.in_ok-push.ensures.items ∙ map_push task_of c.loop-number.tasks.items t) in
       record {
         all = c.loop-number.invariant.all;
@@ -46,7 +46,7 @@ loop-number-preserved c = elim c.match-branch-3.branch [
         goes_on = GoesOn-then c.loop-number.invariant.goes_on c.tell.ensures.goes_on;
       }
   | in_default w ↦
-      let same : map task_of c.loop-number.tasks.items ≡ map task_of c.match-branch-3.tasks.items = sym (ap (λ (ts : Vec AnyTask Global). map task_of ts.items) w.tasks-is) in
+      let same : map task_of c.loop-number.tasks.items ≡ map task_of c.match-branch-4.tasks.items = sym (ap (λ (ts : Vec AnyTask Global). map task_of ts.items) w.tasks-is) in
       record {
         all = c.loop-number.invariant.all;
         heard = subst (HaveHeard (library c.args.lib.now) (primitive c.args.prim.now) (take (c.loop-number.number-index + 1) c.deref-number-items.result.now) c.args.view.now c.tell.new.view) (append-nil (map task_of c.loop-number.tasks.items) ∙ same)

@@ -1,4 +1,4 @@
-use Rattle.std.proofs.Common.{rules, pos, to_z, of_z, get_or, w64, FitsSigned, sym, ◌∙◌, subst}
+use Rattle.std.proofs.Common.{rules, pos, get_or, w64, FitsSigned, sym, ◌∙◌, subst}
 use Rattle.std.proofs.Math.ListN.{drop_of_length-le}
 use Rattle.std.proofs.lemmas.Int.{to_z-of_z}
 use Rattle.hp_query.proofs.CollectLemmas.{Collects, collects_first, collects_more, collects_each, collects_all}

@@ -1,4 +1,4 @@
-use Rattle.std.proofs.Common.{◌≡◌, Bool, Err, map, drop, sym, ◌∙◌, ap, subst, ◌++◌, ◌∷◌, [], Ok, ◌+◌, to_z, of_z, w64, FitsSigned, rules}
+use Rattle.std.proofs.Common.{◌≡◌, Bool, Err, map, drop, sym, ◌∙◌, ap, subst, ◌++◌, ◌∷◌, [], Ok, ◌+◌, w64, FitsSigned, rules}
 use Rattle.std.proofs.lemmas.Int.{to_z-of_z}
 use Rattle.std.proofs.Math.ListN.{drop_of_length-le}
 use Rattle.std.proofs.lemmas.List.{map-append}

@@ -1,4 +1,4 @@
-use Rattle.std.proofs.Common.{◌∙◌, sym, ap, Some, option_map, pos, get_or, to_z, of_z, w64, FitsSigned, rules}
+use Rattle.std.proofs.Common.{◌∙◌, sym, ap, Some, option_map, pos, get_or, w64, FitsSigned, rules}
 use Rattle.std.proofs.lemmas.Int.{to_z-of_z}
 use Rattle.hp_model.specs.Cells.{row_value}
 use Rattle.hp_store.specs.Mapped.{cell_value}

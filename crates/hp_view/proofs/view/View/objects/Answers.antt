@@ -1,4 +1,4 @@
-use Rattle.std.proofs.Common.{◌≡◌, ◌∙◌, sym, ap, subst, ℤ, None, false}
+use Rattle.std.proofs.Common.{◌≡◌, ◌∙◌, sym, ap, subst, ℤ, None}
 use Rattle.hp_model.specs.Cells.{AreObjects, object_cell, objects_read}
 use Rattle.hp_store.specs.Changes.{changes}
 use Rattle.hp_store.specs.Stack.{cells_in}

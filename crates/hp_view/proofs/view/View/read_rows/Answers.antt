@@ -1,4 +1,4 @@
-use Rattle.std.proofs.Common.{pos, get_or, to_z, of_z, w64, FitsSigned, rules, subst}
+use Rattle.std.proofs.Common.{pos, get_or, w64, FitsSigned, rules, subst}
 use Rattle.std.specs.Prelude.{All}
 use Rattle.std.proofs.lemmas.Int.{to_z-of_z}
 use Rattle.std.proofs.lemmas.List.{take_all}

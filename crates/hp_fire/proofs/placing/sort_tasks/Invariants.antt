@@ -4,7 +4,7 @@ use Rattle.hp_model.specs.Rules.{is_immediate}
 use Rattle.hp_model.specs.Tree.{Task}
 use Rattle.hp_model.specs.Transactions.{deferred_of, detached_of, unreleased}
 use Rattle.hp_rule.specs.Mapped.{task, detached}
-use Rattle.hp_fire.proofs.placing.place_tasks.Given as goal
+use Rattle.hp_fire.proofs.placing.sort_tasks.Given as goal
 
 -- those so far of each kind, and those of the rest, are those of all
 abbrev pub invariant-loop-task : goal.invariant-loop-task
