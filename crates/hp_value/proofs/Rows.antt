@@ -1,15 +1,17 @@
 -- Lemmas on rows made of fields and values.
-use Rattle.std.proofs.Common.{◌≡◌, refl, ap, ap₂, subst, ◌++◌, ℕ, zero, suc, ◌<◌, ◌≤◌, min, arith, List, [], ◌∷◌, length, take, drop, map, get_or, slice_get, Option, Some, None, string_bytes, bytes_eq, Bool, true, false, cond, ◌&&◌, length-drop, drop-cons, sym, ◌∙◌}
+use Rattle.std.proofs.Common.{◌≡◌, refl, ap, ap₂, subst, ◌++◌, ℤ, ℕ, zero, suc, ◌<◌, ◌≤◌, min, arith, List, [], ◌∷◌, length, take, drop, map, get_or, slice_get, Option, Some, None, string_bytes, bytes_eq, Bool, true, false, cond, not, ◌&&◌, length-drop, drop-cons, append_assoc, append-nil, sym, ◌∙◌}
 use Rattle.std.specs.Map.{lookup}
 use Rattle.std.proofs.lemmas.Option.{slice_get_read, slice_get_past}
 use Rattle.hp_model.specs.Values as V
 use Rattle.hp_value.specs.declared.value.Value.{Value}
 use Rattle.hp_value.specs.declared.row.Field.{Field}
-use Rattle.hp_value.specs.Rows.{value, row_of, renewed, names_of, values_of, first_names, AreNamed, AreAlike}
+use Rattle.hp_value.specs.Rows.{value, row_of, renewed, names_of, values_of, all_values, first_names, AreNamed, AreAlike}
 use Rattle.hp_value.specs.Mapped.{keyed_row, keys_of}
 use Rattle.hp_value.specs.declared.row.KeyedRow.{KeyedRow}
 use Rattle.hp_value.specs.Same.{pair_same, row_same, value_same, values_same, keyed_same}
+use Rattle.hp_value.proofs.Lists.{pointwise_map}
 use lib.Pointwise.{pointwise, pointwise_long, bytes_decides}
+use mathlib.Core.Bool.{true≢false}
 use Rattle.std.specs.Ordering.{int_eq}
 
 abbrev pub field_name : Field → V.Name
@@ -175,3 +177,69 @@ alike_after [] first added is e h = (refl, tt)
 alike_after (row ∷ rows) first added is e h =
     let same : first ≡ row = cc in
     (h.0, alike_more (names_of row.row) (map keyed_row rows) (keyed_row added) h.1 (e ∙ ap (λ (r : KeyedRow). names_of r.row) same))
+
+-- ---- the values of all rows, one after the other
+
+values_added : (os : List V.KeyedRow) (o : V.KeyedRow) → all_values (os ++ o ∷ []) ≡ all_values os ++ values_of o.row
+values_added [] o = append-nil (values_of o.row)
+values_added (p ∷ os) o = ap (λ vs. values_of p.row ++ vs) (values_added os o) ∙ sym (append_assoc (values_of p.row) (all_values os) (values_of o.row))
+
+-- all values of a row were added to the numbers
+pub numbers_added : (numbers before : List ℤ) (values : List Value) (i : ℕ) (os : List V.KeyedRow) (o : V.KeyedRow) → length values ≤ i
+    → map V.integer numbers ++ map value (drop i values) ≡ map V.integer before ++ map value values → map value values ≡ values_of o.row → map V.integer before ≡ all_values os
+    → map V.integer numbers ≡ all_values (os ++ o ∷ [])
+numbers_added numbers before values i os o past so_far are held =
+    sym (append-nil (map V.integer numbers)) ∙ ap (λ (vs : List Value). map V.integer numbers ++ map value vs) (sym (nothing (drop i values) (omega (arith, length-drop i values, past))))
+    ∙ so_far ∙ ap₂ (λ (vs ws : List V.Value). vs ++ ws) held are ∙ sym (values_added os o)
+  where
+    nothing : (vs : List Value) → length vs ≡ 0 → vs ≡ []
+    nothing [] e = refl
+    nothing (v ∷ vs) e = absurd (omega (arith, e))
+
+both : (a b c : Bool) → ((a && b) && c) ≡ (a && (b && c))
+both true b c = refl
+both false b c = refl
+
+pointwise_append : (vs ws xs ys : List V.Value) → length vs ≡ length ws
+    → pointwise value_same (vs ++ xs) (ws ++ ys) ≡ (pointwise value_same vs ws && pointwise value_same xs ys)
+pointwise_append [] [] xs ys e = refl
+pointwise_append [] (w ∷ ws) xs ys e = absurd (omega (arith, e))
+pointwise_append (v ∷ vs) [] xs ys e = absurd (omega (arith, e))
+pointwise_append (v ∷ vs) (w ∷ ws) xs ys e =
+    ap (λ b. value_same v w && b) (pointwise_append vs ws xs ys (omega (arith, e))) ∙ sym (both (value_same v w) (pointwise value_same vs ws) (pointwise value_same xs ys))
+
+as_many : (r s : V.Row) → names_of r ≡ names_of s → length (values_of r) ≡ length (values_of s)
+as_many [] [] e = refl
+as_many [] (q ∷ s) e = absurd (omega (arith, ap (λ (ns : List V.Name). length ns) e))
+as_many (p ∷ r) [] e = absurd (omega (arith, ap (λ (ns : List V.Name). length ns) e))
+as_many (p ∷ r) (q ∷ s) e =
+    let tail : names_of r ≡ names_of s = cc in
+    ap suc (as_many r s tail)
+
+values_tell : (ns : List V.Name) (os ps : List V.KeyedRow) → AreNamed ns os → AreNamed ns ps → length os ≡ length ps
+    → pointwise value_same (all_values os) (all_values ps) ≡ pointwise values_same os ps
+values_tell ns [] [] h k e = refl
+values_tell ns [] (p ∷ ps) h k e = absurd (omega (arith, e))
+values_tell ns (o ∷ os) [] h k e = absurd (omega (arith, e))
+values_tell ns (o ∷ os) (p ∷ ps) h k e =
+    pointwise_append (values_of o.row) (values_of p.row) (all_values os) (all_values ps) (as_many o.row p.row (h.0 ∙ sym k.0))
+    ∙ ap (λ b. values_same o p && b) (values_tell ns os ps h.1 k.1 (omega (arith, e)))
+
+-- where all values are numbers, as many rows with the same names have the same values where the numbers are the same
+pub numbers_tell : (numbers others : List ℤ) (os ps : List V.KeyedRow) → map V.integer numbers ≡ all_values os → map V.integer others ≡ all_values ps
+    → AreAlike os → AreAlike ps → first_names os ≡ first_names ps → length os ≡ length ps
+    → pointwise int_eq numbers others ≡ pointwise values_same os ps
+numbers_tell numbers others os ps is is' h k e long =
+    pointwise_map V.integer value_same numbers others ∙ ap₂ (pointwise value_same) is is'
+    ∙ values_tell (first_names os) os ps h (subst (λ ns. AreNamed ns ps) (sym e) k) long
+
+-- objects with the same keys are as many
+pub keys_tell : (os ps : List V.KeyedRow) → not (pointwise int_eq (keys_of os) (keys_of ps)) ≡ false → length os ≡ length ps
+keys_tell [] [] e = refl
+keys_tell [] (p ∷ ps) e = absurd (true≢false e)
+keys_tell (o ∷ os) [] e = absurd (true≢false e)
+keys_tell (o ∷ os) (p ∷ ps) e = ap suc (keys_tell os ps (rest (int_eq o.key p.key) (pointwise int_eq (keys_of os) (keys_of ps)) e))
+  where
+    rest : (a b : Bool) → not (a && b) ≡ false → not b ≡ false
+    rest true b e = e
+    rest false b e = absurd (true≢false e)

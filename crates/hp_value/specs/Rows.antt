@@ -1,5 +1,7 @@
 -- Values, fields and rows in the model, and the test whether two rows are the same.
-use Rattle.std.specs.Prelude.{List, [], ◌∷◌, ◌≡◌, ⊤, map, string_bytes}
+use Rattle.std.specs.Prelude.{ℤ, List, [], ◌∷◌, ◌++◌, ◌≡◌, ⊤, Option, Some, None, map, string_bytes}
+use Rattle.std.specs.declared.vec.Vec.{Vec}
+use Rattle.std.specs.declared.alloc.Global.{Global}
 use Rattle.hp_model.specs.Values as V
 use Rattle.hp_model.specs.Values.{integer, boolean, text}
 use Rattle.hp_value.specs.declared.value.Value.{Value}
@@ -53,3 +55,13 @@ AreNamed ns (o ∷ os) = (names_of o.row ≡ ns) × AreNamed ns os
 -- the objects' rows have the same names
 abbrev pub AreAlike : List V.KeyedRow → Type 0
 AreAlike os = AreNamed (first_names os) os
+
+-- the values of all rows, one after the other
+abbrev pub all_values : List V.KeyedRow → List V.Value
+all_values [] = []
+all_values (o ∷ os) = values_of o.row ++ all_values os
+
+-- these numbers, if they are there, are the values of all rows
+abbrev pub AreValues : Option (Vec ℤ Global) → List V.KeyedRow → Type 0
+AreValues None os = ⊤
+AreValues (Some ns) os = map integer ns.items ≡ all_values os

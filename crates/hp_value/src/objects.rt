@@ -1,14 +1,15 @@
 //! The objects of a class as a list.
 
 ghost use lib.Pointwise.{pointwise};
-ghost use Rattle.std.specs.Prelude.{◌≡◌, ◌&&◌, ◌++◌, ◌∷◌, [], map, IsTrue, OnOk, OnErr};
+ghost use Rattle.std.specs.Prelude.{◌≡◌, ◌&&◌, ◌++◌, ◌∷◌, [], List, map, IsTrue, IfOk, OnOk, OnErr};
 ghost use Rattle.std.specs.Ordering.{int_eq, on};
+ghost use Rattle.hp_model.specs.Values as model;
 ghost use Rattle.hp_value.specs.Mapped.{keyed_row};
-ghost use Rattle.hp_value.specs.Rows.{first_names, AreAlike};
+ghost use Rattle.hp_value.specs.Rows.{first_names, AreAlike, AreValues};
 ghost use Rattle.hp_value.specs.Same.{values_same};
 
 use crate::row::{KeyedRow, Row};
-use crate::value::Key;
+use crate::value::{Key, Value};
 use std::alloc::{AllocError, Global};
 use std::marker::Model;
 
@@ -20,6 +21,8 @@ pub struct ObjectList {
     rows: Vec<KeyedRow>,
     // Whether all rows are seen to have the same names, as those of a class have. Their values alone are then compared.
     are_alike: bool,
+    // The values of all rows, one after the other; none where one of them is no whole number. They are compared faster here.
+    numbers: Option<Vec<i64>>,
 }
 
 impl Model for ObjectList {
@@ -32,9 +35,9 @@ impl Model for ObjectList {
     ghost view = { λ l. map keyed_row l.rows.items };
 
     ghost use Rattle.std.specs.Prelude.{IsTrue};
-    ghost use Rattle.hp_value.specs.Rows.{AreAlike};
+    ghost use Rattle.hp_value.specs.Rows.{AreAlike, AreValues};
 
-    ghost invariant = { λ l. (l.keys.items ≡ keys_of (map keyed_row l.rows.items)) × (IsTrue l.are_alike → AreAlike (map keyed_row l.rows.items)) };
+    ghost invariant = { λ l. (l.keys.items ≡ keys_of (map keyed_row l.rows.items)) × (IsTrue l.are_alike → AreAlike (map keyed_row l.rows.items)) × AreValues l.numbers (map keyed_row l.rows.items) };
 }
 
 impl ObjectList {
@@ -48,6 +51,7 @@ impl ObjectList {
             keys: Vec::new(alloc),
             rows: Vec::new(alloc),
             are_alike: true,
+            numbers: Some(Vec::new(alloc)),
         }
     }
 
@@ -59,7 +63,9 @@ impl ObjectList {
         ensures err { OnErr result (self.new ≡ self.old) }
     {
         self.rows.reserve(1)?;
-        self.keys.push(key)?;
+        self.keys.reserve(1)?;
+        self.numbers = with_numbers(self.numbers.take(), &row)?;
+        self.keys.push_reserved(key);
         let added = KeyedRow { key, row };
         self.are_alike = self.are_alike && is_like_first(&self.rows, &added);
         self.rows.push_reserved(added);
@@ -87,11 +93,18 @@ impl ObjectList {
         self.are_alike && other.are_alike && have_same_names(&self.rows, &other.rows)
     }
 
-    // Whether the keys and the values of both lists are the same.
+    // Whether the keys and the values of both lists are the same, whose rows have the same names.
     fn has_values_of(&self, other: &ObjectList) -> bool
+        requires { AreAlike self.now × AreAlike other.now × (first_names self.now ≡ first_names other.now) }
         ensures { result ≡ (pointwise int_eq (keys_of self.now) (keys_of other.now) && pointwise values_same self.now other.now) }
     {
-        self.keys == other.keys && have_same_values(&self.rows, &other.rows)
+        if self.keys != other.keys {
+            return false;
+        }
+        match (&self.numbers, &other.numbers) {
+            (Some(numbers), Some(others)) => numbers == others,
+            _ => have_same_values(&self.rows, &other.rows),
+        }
     }
 }
 
@@ -123,6 +136,22 @@ impl Eq for ObjectList {
     ghost use Rattle.hp_value.specs.Same.{objects_equiv};
 
     ghost laws = { objects_equiv };
+}
+
+// Some numbers and after them the values of a row; none where there were none, or where a value is no whole number.
+fn with_numbers(numbers: Option<Vec<i64>>, row: &Row) -> Result<Option<Vec<i64>>, AllocError>
+    ensures { IfOk result (λ more. (objects : List model.KeyedRow) (added : model.KeyedRow) → added.row ≡ row.now → AreValues numbers objects → AreValues more (objects ++ added ∷ [])) }
+{
+    let Some(mut numbers) = numbers else {
+        return Ok(None);
+    };
+    for value in row.values() {
+        let Value::Int(number) = value else {
+            return Ok(None);
+        };
+        numbers.push(*number)?;
+    }
+    Ok(Some(numbers))
 }
 
 // Whether an object's row is seen to have the names of the first of some others, if there is one.

@@ -118,7 +118,7 @@ impl Row {
     }
 
     /// The values, in the order of the fields.
-    fn values(&self) -> &[Value]
+    pub(crate) fn values(&self) -> &[Value]
         ensures { map value result.now ≡ values_of self.now }
     {
         let (fields, values) = self.parts();
