@@ -1,12 +1,15 @@
 //! Composite events.
 
-ghost use Rattle.std.specs.Prelude.{◌≡◌};
+ghost use Rattle.std.specs.Prelude.{◌≡◌, ◌∷◌, true, option_map, IfOk};
 ghost use Rattle.hp_model.specs.Events as model;
-ghost use Rattle.hp_value.specs.Mapped.{primitive};
+ghost use Rattle.hp_model.specs.Occurrences.{History};
+ghost use Rattle.hp_value.specs.Mapped.{primitive, occurrence};
 ghost use Rattle.hp_detect.specs.Mapped.{event};
 
+use crate::parts::single;
 use hp_event::Pattern;
-use hp_value::Prim;
+use hp_value::{Occurrence, Prim};
+use std::alloc::{AllocError, Global};
 
 /// An event: a pattern of primitive occurrences, or what HiPAC makes of two events by disjunction, sequence and closure.
 ///
@@ -85,4 +88,21 @@ pub fn is_pure(expr: &EventExpr) -> bool
         EventExpr::Or(a, b) => is_pure(a) && is_pure(b),
         EventExpr::Seq(_, _) | EventExpr::Closure(_, _) => false,
     }
+}
+
+/// The occurrence of a pure event where this is signalled, if it occurs there. It is the same after each past.
+///
+/// Where no pattern of the event matches no memory is taken. An error means that memory ran out.
+pub fn occurs_now(
+    alloc: Global,
+    expr: &EventExpr,
+    prim: &Prim,
+) -> Result<Option<Occurrence>, AllocError>
+    requires { model.is_pure (event expr.now) ≡ true }
+    ensures { IfOk result (λ o. (past : History) → option_map occurrence o ≡ model.occurrence_of (event expr.now) (primitive prim.now ∷ past)) }
+{
+    if !expr.mentions(prim) {
+        return Ok(None);
+    }
+    Ok(Some(single(alloc, prim)?))
 }

@@ -14,7 +14,7 @@ mod queue;
 mod stepping;
 
 pub use detector::{Detector, detect};
-pub use event::{EventExpr, is_pure};
+pub use event::{EventExpr, is_pure, occurs_now};
 pub use hp_event::Pattern;
 pub use hp_value::{Occurrence, Prim};
 pub use knowledge::Knowledge;

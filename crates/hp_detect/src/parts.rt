@@ -82,7 +82,7 @@ pub fn gathered(
 fn followed(alloc: Global, first: &[Prim], mut last: Vec<Prim>) -> Result<Vec<Prim>, AllocError>
     ensures { IfOk result (λ v. map primitive v.items ≡ map primitive first.now ++ map primitive last.items) }
 {
-    let mut parts = Vec::with_capacity(alloc, first.len())?;
+    let mut parts = Vec::with_capacity(alloc, first.len().saturating_add(last.len()))?;
     for part in first {
         parts.push(part.clone()?)?;
     }

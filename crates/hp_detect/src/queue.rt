@@ -80,7 +80,7 @@ impl Queue {
             Some((_, others)) if takes => others,
             _ => &self.waiting,
         };
-        let mut waiting = shared(alloc, kept)?;
+        let mut waiting = shared(alloc, kept, usize::from(arriving.is_some()))?;
         if let Some(last) = arriving {
             waiting.push(Arc::new(alloc, last)?)?;
         }
@@ -90,11 +90,15 @@ impl Queue {
     }
 }
 
-/// A list that shares these occurrences.
-fn shared(alloc: Global, waiting: &[Arc<Occurrence>]) -> Result<Vec<Arc<Occurrence>>, AllocError>
+/// A list that shares these occurrences, with room for more.
+fn shared(
+    alloc: Global,
+    waiting: &[Arc<Occurrence>],
+    more: usize,
+) -> Result<Vec<Arc<Occurrence>>, AllocError>
     ensures { IfOk result (λ v. map (λ o. occurrence o.value) v.items ≡ map (λ o. occurrence o.value) waiting.now) }
 {
-    let mut all = Vec::with_capacity(alloc, waiting.len())?;
+    let mut all = Vec::with_capacity(alloc, waiting.len().saturating_add(more))?;
     for o in waiting {
         all.push(Arc::try_clone(o)?)?;
     }

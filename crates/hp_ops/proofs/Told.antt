@@ -1,7 +1,9 @@
 -- Rules that are told of an occurrence, by a view.
-use Rattle.std.proofs.Common.{◌≡◌, refl, ap, sym, ◌∙◌, subst, ℕ, suc, ◌+◌, ◌<◌, ◌≤◌, true, false, List, [], ◌∷◌, ◌++◌, map, length, take, get_or, append-nil, Option, Some, None}
+use Rattle.std.proofs.Common.{arith, ◌≡◌, refl, ap, ap₂, sym, ◌∙◌, subst, ℕ, suc, ◌+◌, ◌<◌, ◌≤◌, true, false, cond, List, [], ◌∷◌, ◌++◌, map, filter, length, length-append, take, drop, get_or, append-nil, append_assoc, Option, Some, None}
 use Rattle.std.specs.Prelude.{option_map, option_to_list, slice_get}
-use Rattle.std.proofs.lemmas.List.{map-append, take_more, take_all}
+use Rattle.std.proofs.lemmas.List.{map-append, take_all, take-append-drop}
+use Rattle.std.proofs.lemmas.List.Elements.{filter-append, filter_more}
+use Rattle.std.proofs.Math.Seq.{take-append_seam, get_or-append_seam}
 use Rattle.hp_model.specs.Occurrences.{Primitive, History, Occurrence}
 use Rattle.hp_model.specs.Events.{Event, is_pure, occurrence_of}
 use Rattle.hp_model.specs.Knowledge.{Knowledge}
@@ -16,6 +18,7 @@ use Rattle.hp_model.proofs.Faithful.{Grows, Grows-then, held_before}
 use Rattle.hp_model.proofs.FaithfulFirings.{AreAt}
 use Rattle.hp_model.proofs.Hearing.{is_in, mentioned_once, Heard, heard_none, heard_idle, heard_nowhere, heard_pure, heard_stepped, faithful_heard}
 use Rattle.hp_store.specs.Changes.{changes}
+use Rattle.hp_rule.specs.Mentions.{is_mentioned}
 use Rattle.hp_view.specs.Seeing.{Seeing, written, now_in, OnlyReads, GoesOn, Shows, Writes}
 use Rattle.hp_ops.specs.Hears.{GoesOnePlace, StepsOn, HearsOccurrence, Hears, AllHear, condition_task, at_depth}
 use Rattle.hp_ops.proofs.Worlds.{shown_now}
@@ -114,29 +117,60 @@ module _ (library : Library) (p : Primitive) where
   map_option f None = refl
   map_option f (Some t) = refl
 
-  pub more_heard : {ns : List ℕ} (i n : ℕ) {v w z : Seeing} {tasks : List Task} {task : Option Task} → ns ≡ mentioning library p → i < length ns → n ≡ get_or ns i 0
-      → HaveHeard library p (take i ns) v w tasks → Hears library p n w z task → HaveHeard library p (take (i + 1) ns) v z (tasks ++ option_to_list task)
-  more_heard {ns} i n {v} {w} {z} {tasks} {task} all below is so_far hears = record {
+  more_heard : (ns : List ℕ) (n : ℕ) {v w z : Seeing} {tasks : List Task} {task : Option Task} → is_in n ns ≡ false → HaveHeard library p ns v w tasks → Hears library p n w z task
+      → HaveHeard library p (ns ++ n ∷ []) v z (tasks ++ option_to_list task)
+  more_heard ns n {v} {w} {z} {tasks} {task} apart so_far hears = record {
     heard = λ depth.
-        subst (λ (x : List ℕ × List Task). Heard (level_at library depth) p x.0 z.reads (written v) (written z) x.1) (λ k. (numbers k, made depth k))
-        (hears.tells depth (take i ns) (written v) (map (at_depth (suc depth)) tasks) apart (so_far.heard depth));
+        subst (Heard (level_at library depth) p (ns ++ n ∷ []) z.reads (written v) (written z)) (made depth)
+        (hears.tells depth ns (written v) (map (at_depth (suc depth)) tasks) apart (so_far.heard depth));
   }
     where
-      numbers : take i ns ++ n ∷ [] ≡ take (i + 1) ns
-      numbers = ap (λ m. take i ns ++ m ∷ []) is ∙ sym (take_more ns i 0 below)
-
       made : (depth : ℕ) → map (at_depth (suc depth)) tasks ++ option_to_list (option_map (at_depth (suc depth)) task) ≡ map (at_depth (suc depth)) (tasks ++ option_to_list task)
       made depth = ap (λ ts. map (at_depth (suc depth)) tasks ++ ts) (sym (map_option (at_depth (suc depth)) task)) ∙ sym (map-append (at_depth (suc depth)) tasks (option_to_list task))
 
-      apart : is_in n (take i ns) ≡ false
-      apart =
-          ap (λ m. is_in m (take i ns)) is
-          ∙ subst (λ (ms : List ℕ). is_in (get_or ms i 0) (take i ms) ≡ false) (sym all) (mentioned_once library p i (subst (λ (ms : List ℕ). i < length ms) all below))
+  -- a rule that is mentioned doesn't stand before its place
+  apart_before : (before : List ℕ) (n : ℕ) (rest : List ℕ) → before ++ n ∷ rest ≡ mentioning library p → is_in n before ≡ false
+  apart_before before n rest all =
+      sym (ap₂ is_in (get_or-append_seam before n rest 0) (take-append_seam before (n ∷ rest)))
+      ∙ subst (λ (ms : List ℕ). length before < length ms → is_in (get_or ms (length before) 0) (take (length before) ms) ≡ false) (sym all) (mentioned_once library p (length before)) within
+    where
+      within : length before < length (before ++ n ∷ rest)
+      within = omega (arith, length-append before (n ∷ rest))
 
-  pub all_heard : {ns : List ℕ} (i : ℕ) {v w : Seeing} {tasks : List Task} → ns ≡ mentioning library p → length ns ≤ i → HaveHeard library p (take i ns) v w tasks → AllHear library p v w tasks
-  all_heard {ns} i all past so_far = record {
-    heard = λ depth. faithful_heard (level_at library depth) p (take_all i ns past ∙ all) (so_far.heard depth);
-  }
+-- ---- of the rules that are listed, those that are mentioned
+
+module _ (library : Library) (p : Primitive) (ns : List ℕ) where
+  -- those among the first
+  abbrev pub mentioned_among : ℕ → List ℕ
+  mentioned_among i = filter (is_mentioned library.rules p) (take i ns)
+
+  module _ (all : filter (is_mentioned library.rules p) ns ≡ mentioning library p) where
+    pub told_listed : (i n : ℕ) {v w z : Seeing} {tasks : List Task} {task : Option Task} → i < length ns → n ≡ get_or ns i 0 → is_mentioned library.rules p n ≡ true
+        → HaveHeard library p (mentioned_among i) v w tasks → Hears library p n w z task → HaveHeard library p (mentioned_among (i + 1)) v z (tasks ++ option_to_list task)
+    told_listed i n {v} {w} {z} {tasks} {task} below is mentioned so_far hears =
+        subst (λ ms. HaveHeard library p ms v z (tasks ++ option_to_list task)) (sym one_more)
+        (more_heard library p (mentioned_among i) n (apart_before library p (mentioned_among i) n rest (sym split ∙ all)) so_far hears)
+      where
+        rest : List ℕ
+        rest = filter (is_mentioned library.rules p) (drop (i + 1) ns)
+
+        one_more : mentioned_among (i + 1) ≡ mentioned_among i ++ n ∷ []
+        one_more =
+            filter_more (is_mentioned library.rules p) ns i 0 below
+            ∙ ap (λ m. mentioned_among i ++ cond (is_mentioned library.rules p m) (m ∷ []) []) (sym is)
+            ∙ ap (λ b. mentioned_among i ++ cond b (n ∷ []) []) mentioned
+
+        split : filter (is_mentioned library.rules p) ns ≡ mentioned_among i ++ n ∷ rest
+        split =
+            ap (filter (is_mentioned library.rules p)) (sym (take-append-drop (i + 1) ns))
+            ∙ filter-append (is_mentioned library.rules p) (take (i + 1) ns) (drop (i + 1) ns)
+            ∙ ap (λ ms. ms ++ rest) one_more
+            ∙ append_assoc (mentioned_among i) (n ∷ []) rest
+
+    pub all_listed : (i : ℕ) {v w : Seeing} {tasks : List Task} → length ns ≤ i → HaveHeard library p (mentioned_among i) v w tasks → AllHear library p v w tasks
+    all_listed i past so_far = record {
+      heard = λ depth. faithful_heard (level_at library depth) p (ap (filter (is_mentioned library.rules p)) (take_all i ns past) ∙ all) (so_far.heard depth);
+    }
 
 -- ---- depths
 

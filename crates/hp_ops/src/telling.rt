@@ -1,8 +1,6 @@
 //! Telling rules of an occurrence.
 
-ghost use Rattle.std.specs.Prelude.{◌≡◌, ◌↔◌, ◌∷◌, true, Some, IsTrue, IfOk, map, option_map};
-ghost use Rattle.hp_model.specs.Occurrences.{History};
-ghost use Rattle.hp_model.specs.Events as model;
+ghost use Rattle.std.specs.Prelude.{◌≡◌, ◌↔◌, [], ◌∷◌, ◌++◌, Some, IsTrue, IfOk, OnOk, map, option_map};
 ghost use Rattle.hp_model.specs.Rules.{Library as ModelLibrary, rule_at};
 ghost use Rattle.hp_model.specs.State.{enabled};
 ghost use Rattle.hp_model.proofs.FaithfulFirings.{AreAt};
@@ -16,7 +14,7 @@ ghost use Rattle.hp_ops.specs.Performs.{status_of};
 ghost use Rattle.hp_ops.specs.Hears.{AllHear, GoesOnePlace, Hears, HearsOccurrence, StepsOn, condition_task};
 
 use crate::finding::find_status;
-use hp_detect::{Detector, EventExpr, Knowledge, is_pure};
+use hp_detect::{EventExpr, Knowledge, is_pure, occurs_now};
 use hp_rule::{Library, Rule, Step, Task};
 use hp_store::{CellValue, Status};
 use hp_value::{Cell, Coupling, Occurrence, Prim, RuleNo};
@@ -39,14 +37,29 @@ pub(crate) fn tell_all(
     ensures depth { IfOk result (λ tasks. AreAt depth (map task_of tasks.items)) }
     ensures goes_on { GoesOn view.old view.new }
 {
-    let numbers = lib.mentions(alloc, prim)?;
-    let mut tasks = Vec::with_capacity(alloc, numbers.len())?;
-    for number in &numbers {
+    let mut tasks = Vec::new(alloc);
+    for number in lib.listed(prim) {
+        if !lib.is_mentioned(*number, prim) {
+            continue;
+        }
         if let Some(task) = tell(alloc, view, lib, *number, prim, depth)? {
-            tasks.push(task)?;
+            add(&mut tasks, task)?;
         }
     }
     Ok(tasks)
+}
+
+/// Puts a task behind those found so far. Mostly there is one, so the first takes room for itself alone.
+///
+/// An error means that memory ran out.
+fn add(tasks: &mut Vec<Task>, task: Task) -> Result<(), AllocError>
+    ensures { OnOk result (tasks.new.items ≡ tasks.old.items ++ task ∷ []) }
+{
+    if tasks.is_empty() {
+        tasks.reserve_exact(1)?;
+    }
+    tasks.push(task)?;
+    Ok(())
 }
 
 /// Tells a rule of an occurrence. The answer is its task, of this depth, if it is enabled and its event occurs.
@@ -103,22 +116,6 @@ fn hear(
         return Ok(occurrence);
     }
     let occurrence = step_detector(alloc, view, number, &rule.event, prim)?;
-    Ok(occurrence)
-}
-
-/// The occurrence of an event that doesn't look back, if it occurs.
-///
-/// An error means that memory ran out.
-fn occurs_now(
-    alloc: Global,
-    event: &Arc<EventExpr>,
-    prim: &Prim,
-) -> Result<Option<Occurrence>, AllocError>
-    requires { model.is_pure (event_of event.now.value) ≡ true }
-    ensures { IfOk result (λ o. (past : History) → option_map occurrence_of o ≡ model.occurrence_of (event_of event.now.value) (primitive prim.now ∷ past)) }
-{
-    let mut detector = Detector::fresh(alloc, event)?;
-    let occurrence = detector.step(alloc, prim)?;
     Ok(occurrence)
 }
 

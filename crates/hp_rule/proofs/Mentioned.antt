@@ -3,8 +3,8 @@ use Rattle.std.proofs.Common.{arith, ◌≡◌, ℕ, suc, ◌+◌, Bool, true, f
 use Rattle.hp_model.specs.Occurrences.{Primitive, moment_reached}
 use Rattle.hp_model.specs.Events.{Pattern, at_moment, every_moment, matches, Event, pattern_event, or_event, seq_event, closure_event, mentions}
 use Rattle.hp_model.specs.Rules.{Rule}
-use Rattle.hp_rule.specs.Mentions.{mentioning_from}
-use Rattle.hp_rule.specs.Index.{may_match, may_mention, numbers_from, candidates, is_mentioned}
+use Rattle.hp_rule.specs.Mentions.{mentioning_from, is_mentioned}
+use Rattle.hp_rule.specs.Index.{may_match, may_mention, numbers_from, candidates}
 
 may_match_lem : (pattern : Pattern) (p : Primitive) → matches pattern p ≡ true → may_match pattern p ≡ true
 may_match_lem (at_moment t) (moment_reached u) is = refl

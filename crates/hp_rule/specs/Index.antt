@@ -1,8 +1,7 @@
 -- Which rules the index of a library lists for a primitive occurrence.
-use Rattle.std.specs.Prelude.{ℕ, suc, Bool, true, false, ◌||◌, List, [], ◌∷◌, slice_get, if◌then◌else◌}
-use Rattle.std.specs.Option.{option_map_or}
+use Rattle.std.specs.Prelude.{ℕ, suc, Bool, true, ◌||◌, List, [], ◌∷◌, if◌then◌else◌}
 use Rattle.hp_model.specs.Occurrences.{Primitive, created, updated, deleted, signalled, commit_reached, moment_reached}
-use Rattle.hp_model.specs.Events.{Pattern, at_moment, every_moment, matches, mentions, Event, pattern_event, or_event, seq_event, closure_event}
+use Rattle.hp_model.specs.Events.{Pattern, at_moment, every_moment, matches, Event, pattern_event, or_event, seq_event, closure_event}
 use Rattle.hp_model.specs.Rules.{Rule}
 use Rattle.hp_rule.specs.Noted.{of_class, of_name, noted_if}
 use Rattle.hp_rule.specs.declared.index.Index.{Index}
@@ -41,7 +40,3 @@ listed index (moment_reached t) = index.moments.items
 abbrev pub noted_from : (Event → Bool) → ℕ → List ℕ → List Rule → List ℕ
 noted_from test n ns [] = ns
 noted_from test n ns (rule ∷ rules) = noted_from test (suc n) (noted_if (test rule.event) n ns) rules
-
--- whether the event of the rule of a number has a pattern that matches
-abbrev pub is_mentioned : List Rule → Primitive → ℕ → Bool
-is_mentioned rules p n = option_map_or (λ (r : Rule). mentions r.event p) (slice_get rules n) false

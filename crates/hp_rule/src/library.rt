@@ -30,14 +30,13 @@ pub struct Library {
 }
 
 impl Library {
-    ghost use Rattle.std.specs.Prelude.{IfOk, option_map, slice_get};
+    ghost use Rattle.std.specs.Prelude.{IfOk, filter, option_map, slice_get};
     ghost use Rattle.std.specs.Option.{option_copied};
     ghost use Rattle.hp_value.specs.Mapped.{class_def, primitive};
     ghost use Rattle.hp_model.specs.Checked.{checked_library};
     ghost use Rattle.hp_rule.specs.Faults.{Gives};
     ghost use Rattle.hp_rule.specs.Libraries.{library};
-    ghost use Rattle.hp_rule.specs.Mentions.{mentioning};
-    ghost use Rattle.hp_rule.specs.Index.{is_mentioned};
+    ghost use Rattle.hp_rule.specs.Mentions.{mentioning, is_mentioned};
     ghost use Rattle.hp_rule.specs.WellNamed.{IsWellNamed};
 
     /// The library of these classes and rules, whose firings go at most this deep, if it is well formed.
@@ -122,7 +121,7 @@ impl Library {
     pub fn mentions(&self, alloc: Global, prim: &Prim) -> Result<Vec<RuleNo>, AllocError>
         ensures { IfOk result (λ ns. ns.items ≡ mentioning (library self.now) (primitive prim.now)) }
     {
-        let listed = self.index.listed(prim);
+        let listed = self.listed(prim);
         let mut numbers = Vec::new(alloc);
         for number in listed {
             if self.is_mentioned(*number, prim) {
@@ -132,8 +131,20 @@ impl Library {
         Ok(numbers)
     }
 
-    /// Whether the event of the rule of a number has a pattern that matches.
-    fn is_mentioned(&self, number: RuleNo, prim: &Prim) -> bool
+    /// The rules that the index lists for such an occurrence, in rule order. Those for which `is_mentioned` is true are
+    /// the ones that `mentions` gives.
+    ///
+    /// It takes no memory.
+    pub fn listed(&self, prim: &Prim) -> &[RuleNo]
+        ensures { filter (is_mentioned (library self.now).rules (primitive prim.now)) result.now ≡ mentioning (library self.now) (primitive prim.now) }
+    {
+        self.index.listed(prim)
+    }
+
+    /// Whether the event of the rule of a number has a pattern that matches. Where the library has no such rule it has none.
+    ///
+    /// It takes no memory.
+    pub fn is_mentioned(&self, number: RuleNo, prim: &Prim) -> bool
         ensures { result ≡ is_mentioned (library self.now).rules (primitive prim.now) number }
     {
         match self.rule(number) {

@@ -1,6 +1,6 @@
-use Rattle.std.proofs.Common.{rules, ◌≡◌, subst, true, false}
+use Rattle.std.proofs.Common.{rules, ◌≡◌, ap, ◌∙◌, subst, ◌∷◌, true, false}
 use Rattle.std.specs.Prelude.{option_map}
-use Rattle.hp_model.specs.Events.{is_pure}
+use Rattle.hp_model.specs.Events.{is_pure, occurrence_of as model_occurrence}
 use Rattle.hp_value.specs.Mapped.{occurrence as occurrence_of, primitive}
 use Rattle.hp_detect.specs.Mapped.{event as event_of}
 use Rattle.hp_rule.specs.Mapped.{rule as rule_of}
@@ -11,7 +11,9 @@ use Rattle.hp_ops.proofs.telling.hear.Goals as goal
 pub returns-then-is_pure-clause-hears : goal.returns-then-is_pure-clause-hears
 returns-then-is_pure-clause-hears c = λ lib at.
     let pure : is_pure (event_of c.args.rule.now.event.value) ≡ true = search rules in
-    hears_pure lib (primitive c.args.prim.now) c.args.number (rule_of c.args.rule.now) at c.args.view.now (option_map occurrence_of c.in_ok-occurrence.occurrence) pure c.in_ok-occurrence.ensures
+    let event : c.deref-then-is_pure.result.now ≡ c.args.rule.now.event.value = search rules in
+    hears_pure lib (primitive c.args.prim.now) c.args.number (rule_of c.args.rule.now) at c.args.view.now (option_map occurrence_of c.in_ok-occurrence.occurrence) pure
+    (λ past. c.in_ok-occurrence.ensures past ∙ ap (λ e. model_occurrence (event_of e) (primitive c.args.prim.now ∷ past)) event)
 
 pub returns-clause-hears : goal.returns-clause-hears
 returns-clause-hears c = λ lib at.

@@ -1,7 +1,7 @@
 use Rattle.std.proofs.Common.{◌≡◌, ◌++◌, drop, filter}
 use Rattle.hp_value.specs.Mapped.{primitive}
 use Rattle.hp_rule.specs.Mapped.{library}
-use Rattle.hp_rule.specs.Index.{is_mentioned}
+use Rattle.hp_rule.specs.Mentions.{is_mentioned}
 use Rattle.hp_rule.proofs.library.Library.mentions.Given as goal
 
 -- those found, and then those among the rest, are those among all that are listed
