@@ -70,7 +70,7 @@ def scored(objects):
     return whole
 
 
-def wide_scans(predicate=richest, siblings=64, objects=400, rounds=12):
+def wide_scans(predicate=richest, siblings=64, objects=400, rounds=60):
     """Siblings that each scan a class of their own world and write one object of their own."""
     classes = [ACCOUNT, ["seen", [["count", "int"]]]]
     condition = [["rich", "acct", predicate(objects)]]
@@ -85,11 +85,11 @@ def wide_scans(predicate=richest, siblings=64, objects=400, rounds=12):
 
 
 def wide_scores():
-    return wide_scans(scored, rounds=6)
+    return wide_scans(scored, rounds=12)
 
 
 def wide_long_scans():
-    return wide_scans(objects=4000)
+    return wide_scans(objects=4000, rounds=24)
 
 
 def conflict(siblings=64, rounds=60):

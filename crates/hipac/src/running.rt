@@ -16,6 +16,7 @@ use hp_script::{DecodeError, Script, decode, refusal_text};
 use hp_top::{Items, opening, run_items};
 use hp_tree::UnitReport;
 use std::alloc::{AllocError, Global};
+use std::mem;
 use std::thread::Threads;
 
 /// One byte more than a script may have: no more need be read to refuse it.
@@ -78,6 +79,8 @@ fn respond<T: Threads + Sync, W: Sink>(
         Ok(script) => {
             let report = evaluated(rt, alloc, script, options.workers)?;
             write_report(alloc, &report, options.tree, writer)?;
+            // The program ends now: to give the report back list by list would take a tenth of its time.
+            mem::forget(report);
             Ok(Status::Reported)
         }
         Err(DecodeError::Refused(refusal)) => {

@@ -17,7 +17,7 @@ use Rattle.hp_view.specs.Seeing.{Seeing, written, OnlyReads}
 use Rattle.hp_view.proofs.Views.{GoesOn-same, GoesOn-then}
 use Rattle.hp_view.proofs.Reading.{GoesOn-only}
 use Rattle.hp_fire.specs.declared.deciding.Decision.{Decision}
-use Rattle.hp_fire.specs.declared.deciding.Decision.TheVariants.{Over, Acts}
+use Rattle.hp_fire.specs.declared.deciding.Decision.TheVariants.{Over, Acts, ActsLater}
 use Rattle.hp_attempt.specs.Mapped.{firing}
 use Rattle.hp_fire.specs.Runs.{RunsFiring}
 use Rattle.hp_fire.specs.Decides.{ThenActs, DecidesFor, Decides}
@@ -60,6 +60,18 @@ faulty_over library t c o view is =
     subst (RunsFiring library (decide (faulty c) (level_at library t.depth) t) view view) (sym is)
     (record { goes_on = GoesOn-same view; faithful = faithful_quiet (fire_node t.rule t.place (with_fault c)) })
 
+-- the action is to run, by a verdict which was found by reads alone
+condition_acts : (library : Library) (t : Task) (v : Verdict) {old new : Seeing} {node : Node} {found : Answers} → t.step ≡ condition_step → OnlyReads old new
+    → Finds library (λ S. verdict S.objects (task_environment t) (rule_at library t.rule).condition) new.reads (written new) v
+    → ThenActs library (decide v (level_at library t.depth) t) t new new node found → ThenActs library (λ S. fire_task library S t) t old new node found
+condition_acts library t v {old} {new} step only finds p = record {
+  goes_on = GoesOn-only only;
+  then_action = λ {more} {after} {f} more_reads q.
+      subst (λ s. FaithfulFiring library (λ S. take_step s (level_at library t.depth) t S) more (written old) after f) (sym step)
+      (subst (λ w. FaithfulFiring library (take_step condition_step (level_at library t.depth) t) more w after f) (only_written only)
+      (faithful_condition (level_at library t.depth) t v (finds_more more_reads finds) (p.then_action more_reads q)));
+}
+
 -- by its verdict, which was found by reads alone
 pub condition_decides : (library : Library) (t : Task) (v : Verdict) (old new : Seeing) (d : Decision) → t.step ≡ condition_step → OnlyReads old new
     → Finds library (λ S. verdict S.objects (task_environment t) (rule_at library t.rule).condition) new.reads (written new) v
@@ -70,13 +82,8 @@ condition_decides library t v old new (Over o) step only finds p = record {
       (subst (λ w. FaithfulFiring library (take_step condition_step (level_at library t.depth) t) new.reads w (written new) (firing o)) (only_written only)
       (faithful_condition (level_at library t.depth) t v finds p.faithful));
 }
-condition_decides library t v old new (Acts node found) step only finds p = record {
-  goes_on = GoesOn-only only;
-  then_action = λ {more} {after} {f} more_reads q.
-      subst (λ s. FaithfulFiring library (λ S. take_step s (level_at library t.depth) t S) more (written old) after f) (sym step)
-      (subst (λ w. FaithfulFiring library (take_step condition_step (level_at library t.depth) t) more w after f) (only_written only)
-      (faithful_condition (level_at library t.depth) t v (finds_more more_reads finds) (p.then_action more_reads q)));
-}
+condition_decides library t v old new (Acts node found) step only finds p = condition_acts library t v step only finds p
+condition_decides library t v old new (ActsLater node found) step only finds p = condition_acts library t v step only finds p
 
 -- ---- actions
 

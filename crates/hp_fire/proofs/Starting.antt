@@ -1,15 +1,15 @@
 -- Signals and the tasks that they start.
 use Rattle.std.proofs.Common.{arith, ◌≡◌, refl, sym, ap, subst, ℕ, suc, ◌+◌, ◌*◌, ◌<◌, ◌≤◌, List, [], ◌∷◌, Bool, true, false, map, length}
-use Rattle.std.specs.Prelude.{filter, if◌then◌else◌}
+use Rattle.std.specs.Prelude.{◌++◌, Option, Some, None, is_some, filter, if◌then◌else◌}
 use Prim.Native.Nat.{max}
 use Rattle.std.proofs.Common.{mul-le-mul_right, suc-mul}
 use Rattle.hp_model.specs.Occurrences.{Primitive}
 use Rattle.hp_model.specs.Rules.{Library, is_immediate}
 use Rattle.hp_model.specs.Tree.{Task}
 use Rattle.hp_model.specs.Firing.{level_at, siblings, fire_task, start, signal_in}
-use Rattle.hp_model.specs.Soundness.{Answer}
-use Rattle.hp_model.specs.Answers.{SiblingsAnswer, ended, followed, placing, group_answer}
-use Rattle.hp_model.specs.Transactions.{done}
+use Rattle.hp_model.specs.Soundness.{Answer, FiringAnswer}
+use Rattle.hp_model.specs.Answers.{SiblingsAnswer, ended, followed, placing, group_answer, queued_in, detached_in, items_in}
+use Rattle.hp_model.specs.Transactions.{done, unreleased}
 use Rattle.hp_model.proofs.FaithfulFirings.{AreAt, faithful_start_none, faithful_start, faithful_signal}
 use Rattle.hp_rule.specs.declared.library.Library.{Library as RustLibrary}
 use Rattle.hp_rule.specs.declared.task.Task.{Task as RustTask}
@@ -17,9 +17,10 @@ use Rattle.hp_rule.specs.Mapped.{library, task}
 use Rattle.hp_ops.specs.Triggers.{IsTriggered}
 use Rattle.hp_view.specs.Seeing.{Seeing, GoesOn}
 use Rattle.hp_view.proofs.Views.{GoesOn-same, GoesOn-then}
-use Rattle.hp_fire.specs.Runs.{Runs, RunsGroup, AreReady}
+use Rattle.hp_fire.specs.Runs.{Runs, RunsFiring, RunsGroup, AreReady}
 use Rattle.hp_fire.specs.Weights.{deepest, levels, left, group_levels}
-use Rattle.hp_fire.proofs.Steps.{grows, runs_answer}
+use Rattle.hp_fire.proofs.Immediate.{AllImmediate, all_fire, none_is_deferred, none_is_detached}
+use Rattle.hp_fire.proofs.Steps.{grows, runs_answer, goes_unvetoed, group_starts, group_goes, group_stops, group_ends}
 
 pub signal_runs : {library : Library} {depth : ℕ} {p : Primitive} {tasks : List Task} {v w z : Seeing} {a : Answer} → IsTriggered library depth p v w tasks → GoesOn v w
     → Runs library (start (level_at library depth).below tasks) w z a → Runs library (signal_in (level_at library depth) p) v z a
@@ -49,6 +50,32 @@ start_runs {library} {depth} (t ∷ ts) ready some r = record {
   faithful = faithful_start depth t ts (ready.within t ts refl) (at_filter (suc depth) (λ (u : Task). is_immediate u.place) (t ∷ ts) ready.at) r.faithful;
 }
 
+-- a task alone is a group of one
+alone_group : {library : Library} {v w : Seeing} {f : FiringAnswer} (t : Task) → RunsFiring library (λ S. fire_task library S t) v w f
+    → RunsGroup library (siblings (fire_task library) true (t ∷ [])) v w (record { firings = f ∷ []; vetoed_by = f.vetoed_by })
+alone_group {library} {v} {w} {f} t r = by f.vetoed_by refl
+  where
+    by : (o : Option ℕ) → f.vetoed_by ≡ o → RunsGroup library (siblings (fire_task library) true (t ∷ [])) v w (record { firings = f ∷ []; vetoed_by = f.vetoed_by })
+    by (Some n) e = group_stops t (f ∷ []) refl refl refl (ap is_some e) (group_starts v [] refl) r
+    by None e = subst (λ o. RunsGroup library (siblings (fire_task library) true (t ∷ [])) v w (record { firings = f ∷ []; vetoed_by = o })) (sym e)
+        (group_ends refl (group_goes t (f ∷ []) refl refl (goes_unvetoed true f.vetoed_by (ap is_some e)) (group_starts v [] refl) r))
+
+-- and the only one that starts
+pub start_alone : {library : Library} {depth : ℕ} {v w : Seeing} {f : FiringAnswer} (tasks : List Task) (t : Task) → AreReady library depth tasks → tasks ≡ t ∷ [] → AllImmediate tasks
+    → RunsFiring library (λ S. fire_task library S t) v w f
+    → Runs library (start (level_at library depth).below tasks) v w (group_answer (record { firings = f ∷ []; vetoed_by = f.vetoed_by }))
+start_alone {library} {depth} {v} {w} {f} tasks t ready is at_once r =
+    subst (λ ts. Runs library (start (level_at library depth).below ts) v w (group_answer group)) (sym is)
+    (runs_answer (λ i. record { end = (group_answer group).end; queued = ap (λ ts. ts ++ queued_in group.firings) (sym (none_is_deferred (t ∷ []) now)) i; detached = ap (λ ts. map unreleased ts ++ detached_in group.firings) (sym (none_is_detached (t ∷ []) now)) i; items = items_in group.firings })
+    (start_runs (t ∷ []) (subst (AreReady library depth) is ready) (λ none. cc)
+    (subst (λ ts. RunsGroup library (siblings (fire_task library) true ts) v w group) (sym (all_fire (t ∷ []) now)) (alone_group t r))))
+  where
+    now : AllImmediate (t ∷ [])
+    now = subst AllImmediate is at_once
+
+    group : SiblingsAnswer
+    group = record { firings = f ∷ []; vetoed_by = f.vetoed_by }
+
 -- no more firings can nest in a group of a depth than at that depth
 pub levels_at : (lib : RustLibrary) (d : ℕ) (ts : List RustTask) → AreAt d (map task ts) → group_levels lib ts ≤ levels lib d
 levels_at lib d [] at = omega arith
@@ -66,6 +93,17 @@ group_falls firings below deepest less =
     let more : suc below * (deepest + 2) ≤ firings * (deepest + 2) = mul-le-mul_right (deepest + 2) less in
     let one : suc below * (deepest + 2) ≡ below * (deepest + 2) + (deepest + 2) = suc-mul below (deepest + 2) in
     omega (arith, more, one)
+
+-- a task alone has less left than the signal that starts it
+pub alone_measure : (lib : RustLibrary) (depth : ℕ) (tasks : List RustTask) (t : RustTask) → AreReady (library lib) depth (map task tasks) → map task tasks ≡ task t ∷ []
+    → 16 * left lib (levels lib t.depth) (deepest lib) + 3 < 16 * left lib (levels lib depth) 0 + 1
+alone_measure lib depth tasks t ready is =
+    let at : AreAt (suc depth) (task t ∷ []) = subst (AreAt (suc depth)) is ready.at in
+    let below : t.depth ≡ suc depth = at.0 in
+    let low : depth < lib.depth_limit = ready.within (task t) [] is in
+    let less : suc (levels lib t.depth) ≤ levels lib depth = omega (arith, below, low) in
+    let falls = group_falls (levels lib depth) (levels lib t.depth) (deepest lib) less in
+    omega (arith, falls)
 
 -- the immediate tasks of those that may start
 pub group_measure : (lib : RustLibrary) (depth : ℕ) (tasks now : List RustTask) → AreReady (library lib) depth (map task tasks) → (tasks ≡ [] → ⊥)

@@ -15,7 +15,7 @@ use Rattle.hp_tree.specs.Mapped.{what}
 use Rattle.hp_attempt.specs.Mapped.{firing}
 use Rattle.hp_view.specs.Seeing.{Seeing, written, GoesOn}
 use Rattle.hp_fire.specs.declared.deciding.Decision.{Decision}
-use Rattle.hp_fire.specs.declared.deciding.Decision.TheVariants.{Over, Acts}
+use Rattle.hp_fire.specs.declared.deciding.Decision.TheVariants.{Over, Acts, ActsLater}
 use Rattle.hp_fire.specs.Runs.{RunsFiring}
 
 -- the firing is what the action's is, once that has run
@@ -27,7 +27,8 @@ pub record ThenActs (library : Library) (fire : State → Firing) (t : Task) (ol
 -- the firing is over, or its action is to run
 abbrev pub DecidesFor : Library → (State → Firing) → Task → Seeing → Seeing → Decision → Type 0
 DecidesFor library fire t old new (Over o) = RunsFiring library fire old new (firing o)
-DecidesFor library fire t old new (Acts node found) = ThenActs library fire t old new (what node) (answers found.value.items)
+DecidesFor library fire t old new (Acts node found) = ThenActs library fire t old new (what node) (answers found.items)
+DecidesFor library fire t old new (ActsLater node found) = ThenActs library fire t old new (what node) (answers found.value.items)
 
 -- of a task
 abbrev pub Decides : Library → Task → Seeing → Seeing → Decision → Type 0

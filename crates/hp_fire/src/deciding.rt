@@ -31,8 +31,10 @@ use std::sync::Arc;
 pub(crate) enum Decision {
     /// Nothing: the firing is over.
     Over(Outcome),
-    /// The action runs, as this node, with these answers.
-    Acts(What, Arc<Vec<Answer>>),
+    /// The action runs, as this node, with these answers, which nobody else needs.
+    Acts(What, Vec<Answer>),
+    /// The action runs, as this node, with the answers that its task kept.
+    ActsLater(What, Arc<Vec<Answer>>),
 }
 
 /// Begins the firing of a task: a condition is evaluated, and where it is satisfied its action runs at once or is placed.
@@ -57,7 +59,7 @@ pub(crate) fn decide(
                 place: task.place,
             };
             let answers = Arc::try_clone(answers)?;
-            Ok(Decision::Acts(what, answers))
+            Ok(Decision::ActsLater(what, answers))
         }
     }
 }
@@ -77,7 +79,6 @@ fn decide_condition(
     let queries = condition_of(lib, task.rule);
     match evaluate_condition(alloc, queries, &task.occurrence, view)? {
         Verdict::Satisfied(answers) => {
-            let answers = Arc::new(alloc, answers)?;
             let decision = follow(alloc, lib, task, answers)?;
             Ok(decision)
         }
@@ -99,9 +100,9 @@ fn follow(
     alloc: Global,
     lib: &Library,
     task: &Task,
-    answers: Arc<Vec<Answer>>,
+    answers: Vec<Answer>,
 ) -> Result<Decision, AllocError>
-    ensures { IfOk result (Follows (library lib.now) (task_of task.now) (mapped.answers answers.value.items)) }
+    ensures { IfOk result (Follows (library lib.now) (task_of task.now) (mapped.answers answers.items)) }
 {
     match action_coupling(lib, task.rule) {
         Coupling::Immediate => {
@@ -153,10 +154,11 @@ fn later(
     alloc: Global,
     task: &Task,
     place: Coupling,
-    answers: Arc<Vec<Answer>>,
+    answers: Vec<Answer>,
 ) -> Result<Outcome, AllocError>
-    ensures { IfOk result (λ o. firing o ≡ handing_on (fire_node task.now.rule (coupling task.now.place) with_later_action) (action_task (coupling place) (task_of task.now) (mapped.answers answers.value.items) ∷ [])) }
+    ensures { IfOk result (λ o. firing o ≡ handing_on (fire_node task.now.rule (coupling task.now.place) with_later_action) (action_task (coupling place) (task_of task.now) (mapped.answers answers.items) ∷ [])) }
 {
+    let answers = Arc::new(alloc, answers)?;
     let mut tasks = Vec::with_capacity(alloc, 1)?;
     tasks.push(Task {
         rule: task.rule,

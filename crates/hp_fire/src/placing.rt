@@ -1,7 +1,7 @@
 //! Where new tasks go.
 
 ghost use Rattle.std.specs.List.{list_all};
-ghost use Rattle.std.specs.Prelude.{◌≡◌, IfOk, OnOk, [], ◌∷◌, map, filter};
+ghost use Rattle.std.specs.Prelude.{◌≡◌, IfOk, IfSome, OnOk, [], ◌∷◌, map, filter, true};
 ghost use Rattle.hp_model.specs.Rules.{is_immediate};
 ghost use Rattle.hp_model.specs.Tree.{Task as ModelTask};
 ghost use Rattle.hp_model.specs.Answers.{group_answer};
@@ -87,6 +87,16 @@ fn are_immediate(tasks: &[Task]) -> bool
     true
 }
 
+/// The task of a list of one, if it fires at once.
+pub(crate) fn lone(tasks: &[Task]) -> Option<&Task>
+    ensures { IfSome result (λ t. (map task_of tasks.now ≡ task_of t.now ∷ []) × (list_all (λ (u : ModelTask). is_immediate u.place) (map task_of tasks.now) ≡ true)) }
+{
+    if tasks.len() == 1 && are_immediate(tasks) {
+        return Some(&tasks[0]);
+    }
+    None
+}
+
 /// One task alone.
 ///
 /// An error means that memory ran out.
@@ -120,6 +130,24 @@ pub fn group_course(alloc: Global, group: GroupOutcome) -> Result<Course, AllocE
         add_firing(&mut course, outcome)?;
     }
     Ok(course)
+}
+
+/// A firing that has no siblings, as a part of the transaction round it, which its veto aborts.
+pub(crate) fn firing_course(outcome: Outcome) -> Course
+    ensures { course_in result ≡ group_answer (record { firings = firing outcome ∷ []; vetoed_by = outcome.end }) }
+{
+    let Outcome {
+        end,
+        queued,
+        detached,
+        tree,
+    } = outcome;
+    Course {
+        end: stopped_by(end),
+        queued,
+        detached,
+        items: tree,
+    }
 }
 
 /// Adds what a firing gave to a course.

@@ -26,8 +26,8 @@ use crate::course::{Course, End, GroupOutcome};
 use crate::deciding::{Decision, action_of, decide};
 use crate::elders::Elders;
 use crate::gate::Gate;
-use crate::listing::list_classes;
-use crate::placing::{Placed, group_course, place_tasks};
+use crate::listing::{list_beneath, list_classes};
+use crate::placing::{Placed, firing_course, group_course, lone, place_tasks};
 use crate::progress::{Progress, Tried, place};
 use crate::statement::statements;
 use crate::wave::{Wave, keep, kept_layer, post_attempt, post_layer};
@@ -77,6 +77,14 @@ pub(crate) fn start<R: Threads + Sync, G: Gate + Sync>(
 {
     if tasks.is_empty() {
         return Ok(Course::ended(alloc, End::Done));
+    }
+    if let Some(task) = lone(&tasks) {
+        let inside = Site {
+            told: false,
+            ..*site
+        };
+        let outcome = firing(&inside, alloc, view, task)?;
+        return Ok(firing_course(outcome));
     }
     let Placed {
         immediate,
@@ -210,6 +218,7 @@ fn settle_by_wave<R: Threads + Sync, G: Gate + Sync>(
     if !progress.is_wave_due(view, site.width) {
         return Ok(0);
     }
+    list_beneath(alloc, site.lib, &tasks[progress.outcomes.len()..], view)?;
     wave(site, alloc, view, tasks, progress);
     let taken = progress.settle(alloc, view, tasks, stop_at_veto)?;
     Ok(taken)
@@ -405,6 +414,10 @@ pub(crate) fn firing<R: Threads + Sync, G: Gate + Sync>(
     match decide(alloc, site.lib, view, task)? {
         Decision::Over(outcome) => Ok(outcome),
         Decision::Acts(what, answers) => {
+            let outcome = action(site, alloc, view, what, task, &answers)?;
+            Ok(outcome)
+        }
+        Decision::ActsLater(what, answers) => {
             let outcome = action(site, alloc, view, what, task, &answers)?;
             Ok(outcome)
         }

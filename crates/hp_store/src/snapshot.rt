@@ -115,7 +115,7 @@ impl Snapshot {
     ) -> Result<Option<Arc<ObjectList>>, AllocError>
         ensures { IfOk result (λ found. IfSome found (λ objects. AreObjects (cells_in self.now) class objects.value)) }
     {
-        if let Some(kept) = self.kept(class) {
+        if let Some(kept) = self.kept_objects(class) {
             return Ok(Some(Arc::try_clone(kept)?));
         }
         let keys = self.keys(alloc, class)?;
@@ -132,7 +132,7 @@ impl Snapshot {
     pub fn keep_objects(&mut self, alloc: Global, class: ClassNo) -> Result<(), AllocError>
         ensures { self.new ≡ self.old }
     {
-        if self.kept(class).is_some() {
+        if self.kept_objects(class).is_some() {
             return Ok(());
         }
         if let Some(objects) = self.objects(alloc, class)? {
@@ -142,8 +142,8 @@ impl Snapshot {
         Ok(())
     }
 
-    // The list of a class, if it is kept.
-    fn kept(&self, class: ClassNo) -> Option<&Arc<ObjectList>>
+    /// The objects of a class with their rows, if the list is kept. It takes no memory.
+    pub fn kept_objects(&self, class: ClassNo) -> Option<&Arc<ObjectList>>
         ensures { IfSome result (λ objects. AreObjects (cells_in self.now) class objects.now.value) }
     {
         for list in &self.lists {

@@ -327,15 +327,38 @@ impl View {
         Ok(())
     }
 
+    /// Lists the objects of a class beneath the view's own writes, unless these name one of them, so that snapshots which are
+    /// frozen from now on share the list, and `has_objects` looks at it. Nothing is recorded.
+    ///
+    /// An error means that memory ran out.
+    pub fn keep_objects(&mut self, alloc: Global, class: ClassNo) -> Result<(), AllocError>
+        ensures { self.new ≡ self.old }
+    {
+        if !self.writes.names_objects_of(class) {
+            self.base.keep_objects(alloc, class)?;
+        }
+        Ok(())
+    }
+
+    // The objects of a class beneath the view's own writes, if they were read as a whole or are listed.
+    fn known_objects(&self, class: ClassNo) -> Option<&Arc<ObjectList>>
+        ensures { IfSome result (λ objects. AreObjects (beneath self.now) class objects.now.value) }
+    {
+        match self.reads.objects(class) {
+            Some(recorded) => Some(recorded),
+            None => self.base.kept_objects(class),
+        }
+    }
+
     /// Whether these are all objects of a class, by rising keys and with the rows that they have. Nothing is recorded, and no
     /// memory is taken.
     pub fn has_objects(&self, class: ClassNo, objects: &ObjectList) -> bool
         ensures { IsTrue result ↔ AreObjects (now_in self.now) class objects.now }
     {
-        // What was read of the class is still so, where the view's own writes name none of its objects.
+        // What is known of the class beneath is still so, where the view's own writes name none of its objects.
         if !self.writes.names_objects_of(class) {
-            if let Some(recorded) = self.reads.objects(class) {
-                return **recorded == *objects;
+            if let Some(known) = self.known_objects(class) {
+                return **known == *objects;
             }
         }
         self.has_keys(class, objects.keys()) && self.has_rows(class, objects.rows())

@@ -28,7 +28,11 @@ use Rattle.hp_fire.specs.Runs.{Runs, RunsGroup, Made, Makes, SubRuns}
 use Rattle.hp_fire.proofs.Making.{steps_halt}
 use Rattle.hp_fire.proofs.Stating.{with_is, steps_at, runs_at, signal_halt, signal_steps, found_halt, fire_halt, fire_runs}
 use Rattle.hp_fire.proofs.Steps.{runs_answer, runs_ends, runs_value, found_value, runs_signal, sub_over, sub_then, body_each, loop_starts, loop_next, loop_stops, loop_ends, group_goes, group_stops, group_ends, goes_unvetoed, goes_past, group_starts}
-use Rattle.hp_fire.proofs.Starting.{signal_runs, start_none, start_runs, group_measure, none_long, map_none}
+use Rattle.hp_store.proofs.Wholes.{told_some}
+use Rattle.hp_rule.specs.declared.task.Task.{Task as RustTask}
+use Rattle.hp_view.specs.Seeing.{Seeing}
+use Rattle.hp_fire.proofs.Immediate.{AllImmediate}
+use Rattle.hp_fire.proofs.Starting.{signal_runs, start_none, start_alone, alone_measure, start_runs, group_measure, none_long, map_none}
 use Rattle.hp_model.specs.Cells.{Holds}
 use Rattle.hp_store.specs.Changes.{changes}
 use Rattle.hp_store.specs.Stack.{Stack, cells_in}
@@ -159,7 +163,8 @@ pub running::settle_by_wave-returns-clause-so_far : goal.running::settle_by_wave
 running::settle_by_wave-returns-clause-so_far g t c = λ first so_far.
     let lib = library c.args.site.now.lib.now in
     c.in_ok-taken.ensures.so_far lib first c.wave.ensures.sound
-    (subst (λ (p : Progress). IsSoFar lib c.args.stop_at_veto (map task c.args.tasks.now) first c.args.view.now p.outcomes.items p.end) (sym c.wave.ensures.same) so_far)
+    (subst (λ (p : Progress). IsSoFar lib c.args.stop_at_veto (map task c.args.tasks.now) first c.list_beneath.new.view p.outcomes.items p.end) (sym c.wave.ensures.same)
+    (subst (λ (v : Seeing). IsSoFar lib c.args.stop_at_veto (map task c.args.tasks.now) first v c.args.progress.now.outcomes.items c.args.progress.now.end) (sym c.list_beneath.ensures) so_far))
 
 pub running::settle_by_wave-returns-clause-sound : goal.running::settle_by_wave-returns-clause-sound
 running::settle_by_wave-returns-clause-sound g t c = c.in_ok-taken.ensures.sound (library c.args.site.now.lib.now) c.wave.ensures.sound
@@ -222,6 +227,18 @@ running::start-returns-then-is_empty g t c =
     let zero : c.args.tasks.len ≡ 0 = search rules in
     let none : c.args.tasks.items ≡ [] = none_long c.args.tasks.items (long ∙ zero) in
     start_none (library c.args.site.now.lib.now) c.args.depth (ap (map task) none) c.args.view.now _ c.ended.ensures
+
+pub running::start-firing-requires : goal.running::start-firing-requires
+running::start-firing-requires g t c = λ κs lives.
+    let alone = told_some (λ (u : RustTask). (map task c.deref.result.now ≡ task u ∷ []) × AllImmediate (map task c.deref.result.now)) c.in-Some.is c.lone.ensures in
+    (omega (arith, alone_measure c.args.site.now.lib.now c.args.depth c.args.tasks.items c.in-Some.task.now c.requires (ap (map task) (sym c.deref.ensures.value) ∙ alone.0), c.decreases), lives)
+
+pub running::start-returns-in-Some : goal.running::start-returns-in-Some
+running::start-returns-in-Some g t c =
+    let alone = told_some (λ (u : RustTask). (map task c.deref.result.now ≡ task u ∷ []) × AllImmediate (map task c.deref.result.now)) c.in-Some.is c.lone.ensures in
+    let here = ap (map task) (sym c.deref.ensures.value) in
+    runs_answer c.firing_course.ensures
+    (start_alone (map task c.args.tasks.items) (task c.in-Some.task.now) c.requires (here ∙ alone.0) (subst AllImmediate (sym here) alone.1) c.in_ok-outcome.ensures)
 
 pub running::start-group-requires : goal.running::start-group-requires
 running::start-group-requires g t c = λ κs lives.

@@ -1,11 +1,9 @@
-use Rattle.std.proofs.Common.{ap, sym, ◌∙◌, subst, Some, []}
-use Rattle.std.specs.Global.{Vec}
+use Rattle.std.proofs.Common.{ap, sym, ◌∙◌, Some, []}
 use Rattle.hp_model.specs.Rules.{rule_at}
 use Rattle.hp_model.specs.Tree.{Node}
 use Rattle.hp_model.specs.Conditions.{verdict, satisfied, unsatisfied, faulty}
 use Rattle.hp_model.specs.Firing.{task_environment}
 use Rattle.hp_model.specs.Answers.{Finds, handing_on}
-use Rattle.hp_value.specs.declared.env.Answer.{Answer}
 use Rattle.hp_value.specs.Mapped.{answers, cause, occurrence}
 use Rattle.hp_query.specs.Mapped as query
 use Rattle.hp_rule.specs.Mapped.{library, task}
@@ -13,8 +11,6 @@ use Rattle.hp_view.specs.Seeing.{written}
 use Rattle.hp_attempt.specs.Mapped.{firing}
 use Rattle.hp_ops.proofs.Worlds.{finds_world}
 use Rattle.hp_fire.specs.declared.deciding.Decision.TheVariants.{Over}
-use Rattle.hp_model.specs.Firing.{level_at, decide}
-use Rattle.hp_fire.specs.Decides.{DecidesFor}
 use Rattle.hp_fire.proofs.Decisions.{condition_decides, unsatisfied_over, faulty_over}
 use Rattle.hp_fire.proofs.deciding.decide_condition.Goals as goal
 
@@ -28,8 +24,7 @@ returns-in_ok-decision-in-Satisfied c =
     sym (ap query.verdict (sym c.in-Satisfied.is) ∙ c.in_ok-answers.ensures.verdict world rise allowed
     ∙ (λ i. verdict world (record { occurrence = Some (occurrence (c.deref.ensures i)); rows = [] }) (c.condition_of-queries.ensures i)))) in
     condition_decides lib t (satisfied (answers c.in-Satisfied.answers.items)) c.args.view.now c.evaluate_condition.new.look c.in_ok-decision-in-Satisfied.decision c.requires c.evaluate_condition.ensures.goes_on finds
-    (subst (λ (a : Vec Answer). DecidesFor (library c.args.lib.now) (decide (satisfied (answers a.items)) (level_at (library c.args.lib.now) c.args.task.now.depth) (task c.args.task.now)) (task c.args.task.now) c.evaluate_condition.new.look c.evaluate_condition.new.look c.in_ok-decision-in-Satisfied.decision) c.in_ok-answers-in-Satisfied.ensures.ok
-    (c.in_ok-decision-in-Satisfied.ensures c.evaluate_condition.new.look))
+    (c.in_ok-decision-in-Satisfied.ensures c.evaluate_condition.new.look)
 
 pub returns-in_ok-outcome-in-Unsatisfied : goal.returns-in_ok-outcome-in-Unsatisfied
 returns-in_ok-outcome-in-Unsatisfied c =
