@@ -20,7 +20,7 @@ use Rattle.hp_view.proofs.Views.{GoesOn-same, GoesOn-then}
 use Rattle.hp_fire.specs.Runs.{Runs, RunsFiring, RunsGroup, AreReady}
 use Rattle.hp_fire.specs.Weights.{deepest, levels, left, group_levels}
 use Rattle.hp_fire.proofs.Immediate.{AllImmediate, all_fire, none_is_deferred, none_is_detached}
-use Rattle.hp_fire.proofs.Steps.{grows, runs_answer, goes_unvetoed, group_starts, group_goes, group_stops, group_ends}
+use Rattle.hp_fire.proofs.Steps.{GroupLoop, grows, runs_answer, goes_unvetoed, group_starts, group_goes, group_stops, group_ends}
 
 pub signal_runs : {library : Library} {depth : ℕ} {p : Primitive} {tasks : List Task} {v w z : Seeing} {a : Answer} → IsTriggered library depth p v w tasks → GoesOn v w
     → Runs library (start (level_at library depth).below tasks) w z a → Runs library (signal_in (level_at library depth) p) v z a
@@ -55,10 +55,14 @@ alone_group : {library : Library} {v w : Seeing} {f : FiringAnswer} (t : Task) �
     → RunsGroup library (siblings (fire_task library) true (t ∷ [])) v w (record { firings = f ∷ []; vetoed_by = f.vetoed_by })
 alone_group {library} {v} {w} {f} t r = by f.vetoed_by refl
   where
+    whole : GroupLoop library true (t ∷ []) (t ∷ []) v v []
+    whole = group_starts v [] refl
+
     by : (o : Option ℕ) → f.vetoed_by ≡ o → RunsGroup library (siblings (fire_task library) true (t ∷ [])) v w (record { firings = f ∷ []; vetoed_by = f.vetoed_by })
-    by (Some n) e = group_stops t (f ∷ []) refl refl refl (ap is_some e) (group_starts v [] refl) r
-    by None e = subst (λ o. RunsGroup library (siblings (fire_task library) true (t ∷ [])) v w (record { firings = f ∷ []; vetoed_by = o })) (sym e)
-        (group_ends refl (group_goes t (f ∷ []) refl refl (goes_unvetoed true f.vetoed_by (ap is_some e)) (group_starts v [] refl) r))
+    by (Some n) e = group_stops {ts = []} t (f ∷ []) refl refl refl (ap is_some e) whole r
+    by None e =
+        let over : GroupLoop library true (t ∷ []) [] v w (f ∷ []) = group_goes {ts = []} t (f ∷ []) refl refl (goes_unvetoed true f.vetoed_by (ap is_some e)) whole r in
+        subst (λ o. RunsGroup library (siblings (fire_task library) true (t ∷ [])) v w (record { firings = f ∷ []; vetoed_by = o })) (sym e) (group_ends refl over)
 
 -- and the only one that starts
 pub start_alone : {library : Library} {depth : ℕ} {v w : Seeing} {f : FiringAnswer} (tasks : List Task) (t : Task) → AreReady library depth tasks → tasks ≡ t ∷ [] → AllImmediate tasks

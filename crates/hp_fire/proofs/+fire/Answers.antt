@@ -30,6 +30,7 @@ use Rattle.hp_fire.proofs.Stating.{with_is, steps_at, runs_at, signal_halt, sign
 use Rattle.hp_fire.proofs.Steps.{runs_answer, runs_ends, runs_value, found_value, runs_signal, sub_over, sub_then, body_each, loop_starts, loop_next, loop_stops, loop_ends, group_goes, group_stops, group_ends, goes_unvetoed, goes_past, group_starts}
 use Rattle.hp_store.proofs.Wholes.{told_some}
 use Rattle.hp_rule.specs.declared.task.Task.{Task as RustTask}
+use denote.Bor.{Bor}
 use Rattle.hp_view.specs.Seeing.{Seeing}
 use Rattle.hp_fire.proofs.Immediate.{AllImmediate}
 use Rattle.hp_fire.proofs.Starting.{signal_runs, start_none, start_alone, alone_measure, start_runs, group_measure, none_long, map_none}
@@ -230,12 +231,12 @@ running::start-returns-then-is_empty g t c =
 
 pub running::start-firing-requires : goal.running::start-firing-requires
 running::start-firing-requires g t c = λ κs lives.
-    let alone = told_some (λ (u : RustTask). (map task c.deref.result.now ≡ task u ∷ []) × AllImmediate (map task c.deref.result.now)) c.in-Some.is c.lone.ensures in
-    (omega (arith, alone_measure c.args.site.now.lib.now c.args.depth c.args.tasks.items c.in-Some.task.now c.requires (ap (map task) (sym c.deref.ensures.value) ∙ alone.0), c.decreases), lives)
+    let alone = told_some (λ (u : Bor RustTask). (map task c.deref.result.now ≡ task u.now ∷ []) × AllImmediate (map task c.deref.result.now)) c.in-Some.is c.lone.ensures in
+    (omega (arith, alone_measure c.args.site.now.lib.now c.args.depth c.args.tasks.items c.in-Some.task.now c.requires (ap (map task) (sym c.deref.ensures.value) ∙ alone.0), c.decreases), (lives.0, (lives.1, (search rules, search rules))))
 
 pub running::start-returns-in-Some : goal.running::start-returns-in-Some
 running::start-returns-in-Some g t c =
-    let alone = told_some (λ (u : RustTask). (map task c.deref.result.now ≡ task u ∷ []) × AllImmediate (map task c.deref.result.now)) c.in-Some.is c.lone.ensures in
+    let alone = told_some (λ (u : Bor RustTask). (map task c.deref.result.now ≡ task u.now ∷ []) × AllImmediate (map task c.deref.result.now)) c.in-Some.is c.lone.ensures in
     let here = ap (map task) (sym c.deref.ensures.value) in
     runs_answer c.firing_course.ensures
     (start_alone (map task c.args.tasks.items) (task c.in-Some.task.now) c.requires (here ∙ alone.0) (subst AllImmediate (sym here) alone.1) c.in_ok-outcome.ensures)
@@ -244,15 +245,15 @@ pub running::start-group-requires : goal.running::start-group-requires
 running::start-group-requires g t c = λ κs lives.
     let long : length c.args.tasks.items ≡ c.args.tasks.len = search rules in
     let some : c.args.tasks.items ≡ [] → ⊥ = λ e. let zero : c.args.tasks.len ≡ 0 = sym long ∙ ap length e in search rules in
-    let now : map task c.deref.result.now ≡ filter (λ (u : Task). is_immediate u.place) (map task c.args.tasks.items) = ap (map task) c.deref.ensures.value ∙ c.in_ok-immediate.ensures.immediate in
-    let falls = group_measure c.args.site.now.lib.now c.args.depth c.args.tasks.items c.deref.result.now c.requires some now in
+    let now : map task c.deref-2.result.now ≡ filter (λ (u : Task). is_immediate u.place) (map task c.args.tasks.items) = ap (map task) c.deref-2.ensures.value ∙ c.in_ok-immediate.ensures.immediate in
+    let falls = group_measure c.args.site.now.lib.now c.args.depth c.args.tasks.items c.deref-2.result.now c.requires some now in
     (omega (arith, falls, c.decreases), (lives.0, (lives.1, (search rules, search rules))))
 
 pub running::start-returns : goal.running::start-returns
 running::start-returns g t c =
     let long : length c.args.tasks.items ≡ c.args.tasks.len = search rules in
     let some : c.args.tasks.items ≡ [] → ⊥ = λ e. let zero : c.args.tasks.len ≡ 0 = sym long ∙ ap length e in search rules in
-    let now : map task c.deref.result.now ≡ filter (λ (u : Task). is_immediate u.place) (map task c.args.tasks.items) = ap (map task) c.deref.ensures.value ∙ c.in_ok-immediate.ensures.immediate in
+    let now : map task c.deref-2.result.now ≡ filter (λ (u : Task). is_immediate u.place) (map task c.args.tasks.items) = ap (map task) c.deref-2.ensures.value ∙ c.in_ok-immediate.ensures.immediate in
     runs_answer
     (c.in_ok-join.ensures ∙ (λ i. followed (record { end = done; queued = c.in_ok-immediate.ensures.queued i; detached = c.in_ok-immediate.ensures.detached i; items = ap items_in c.new.ensures.items i }) (c.in_ok-group_course.ensures i)))
     (start_runs (map task c.args.tasks.items) c.requires (λ e. some (map_none task c.args.tasks.items e))
