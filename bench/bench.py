@@ -7,8 +7,8 @@ PROGRAM is crates/hipac/out/hipac, which `./hipac` builds. Each workload is a sc
 here; each is run N times (5), all commands in turn, and the shortest time counts. Workloads (c) and (d) are also run as
 triggers by sqlite3 over an in-memory database, in the same run.
 
-The last column says what the machine gave: how many processors' work copies of the run with 1 worker did at once, two of
-them and four.
+The last columns say how many times as fast two and four workers are as one, and what the machine gave: how many processors'
+work copies of the run with 1 worker did at once, two of them and four.
 """
 
 import argparse
@@ -204,8 +204,8 @@ def main():
     words.add_argument("--keep", metavar="FOLDER", help="also writes the scripts there")
     given = words.parse_args()
     workers = [f"{w} worker{'s' if w > 1 else ''}" for w in WORKERS]
-    print("| Workload | Firings | " + " | ".join(workers) + " | sqlite3 | Processors |")
-    print("|---|---|" + "---|" * (len(WORKERS) + 2))
+    print("| Workload | Firings | " + " | ".join(workers) + " | sqlite3 | Times as fast | Processors |")
+    print("|---|---|" + "---|" * (len(WORKERS) + 3))
     for letter, title, make, make_sql in WORKLOADS:
         if given.only and letter not in given.only:
             continue
@@ -220,6 +220,7 @@ def main():
         times, at_once, by_sqlite = measured(given.program, letter, text, sql, given.times)
         cells = [f"{took * 1000:.0f} ms, {firings / took:,.0f}/s" for took in times + by_sqlite]
         cells += [] if by_sqlite else [""]
+        cells.append(", ".join(f"{times[0] / took:.1f}" for took in times[1:]))
         cells.append(", ".join(f"{copies * times[0] / took:.1f}" for copies, took in zip(COPIES, at_once)))
         print(f"| ({letter}) {title} | {firings:,} | " + " | ".join(cells) + " |", flush=True)
 

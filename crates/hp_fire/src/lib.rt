@@ -8,6 +8,7 @@ mod calls;
 mod closing;
 mod context;
 mod course;
+mod crew;
 mod deciding;
 mod elders;
 mod gate;

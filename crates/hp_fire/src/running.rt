@@ -23,6 +23,7 @@ ghost use Rattle.hp_fire.specs.Runs.{Runs, RunsFiring, RunsGroup, Steps, AreRead
 use crate::closing::close_action;
 use crate::context::{Context, Site};
 use crate::course::{Course, End, GroupOutcome};
+use crate::crew::on_threads;
 use crate::deciding::{Decision, action_of, decide};
 use crate::elders::Elders;
 use crate::gate::Gate;
@@ -43,7 +44,6 @@ use hp_view::View;
 use std::alloc::{AllocError, Global};
 use std::collections::VecDeque;
 use std::sync::Arc;
-use std::thread;
 use std::thread::Threads;
 
 /// Signals an occurrence in a transaction of a depth.
@@ -282,13 +282,14 @@ fn tries<'x, R: Threads + Sync, G: Gate + Sync>(
         ..*site
     };
     let inside = &inside;
-    let found = thread::map_vec(
+    let found = on_threads(
         site.rt,
-        seats,
+        alloc,
         &|seat| -> Vec<Tried>
             requires { IsSync R.row × IsSync G.row × IsWave wave.now × IsSeatOf wave.now.board.deal seat }
             ensures { AreSoundTries (library inside.entry.now.lib.now) result.items }
         { work(inside, alloc, wave, seat) },
+        seats,
     )?;
     Ok(found)
 }

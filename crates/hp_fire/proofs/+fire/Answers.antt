@@ -170,15 +170,15 @@ running::settle_by_wave-returns-clause-so_far g t c = λ first so_far.
 pub running::settle_by_wave-returns-clause-sound : goal.running::settle_by_wave-returns-clause-sound
 running::settle_by_wave-returns-clause-sound g t c = c.in_ok-taken.ensures.sound (library c.args.site.now.lib.now) c.wave.ensures.sound
 
-pub running::tries-map_vec-requires-send-X : goal.running::tries-map_vec-requires-send-X
-running::tries-map_vec-requires-send-X g t c = λ κs lives. search (tried_send, heap.crosses, sendable) depth 12
+pub running::tries-on_threads-requires-send-X : goal.running::tries-on_threads-requires-send-X
+running::tries-on_threads-requires-send-X g t c = λ κs lives. search (tried_send, heap.crosses, sendable) depth 12
 
-pub running::tries-map_vec-requires-sync-F : goal.running::tries-map_vec-requires-sync-F
-running::tries-map_vec-requires-sync-F g t c = λ κs lives.
+pub running::tries-on_threads-requires-sync-F : goal.running::tries-on_threads-requires-sync-F
+running::tries-on_threads-requires-sync-F g t c = λ κs lives.
     let r : IsSync g.row.R = search rules in
     let s : IsSync g.row.G = search rules in
     let site : (κ : NamedLft) → IsSync (Site.the_row κ (param 0 g.row.R) (param 1 g.row.G)) = λ κ. site_sync κ (param 0 g.row.R) (param 1 g.row.G) (param_sync 0 g.row.R r) (param_sync 1 g.row.G s) in
-    record { shared = λ x b o κ. ((((λ q. tt), (site (record { mir = named 8; lft = κs.1.1.1.1.1.1.1.1.0 })).shared x.0.now x.0.ref_ptr.0 x.0.ref_ptr.1 κs.1.1.1.1.1.1.1.0), (((λ q. tt), heap.sync.shared x.1.now x.1.ref_ptr.0 x.1.ref_ptr.1 κs.1.1.1.1.1.1.1.1.1.0), (((λ q. tt), (wave_sync (record { mir = named 11; lft = κs.1.1.1.1.1.1.1.1.1.1.1.0 })).shared x.2.now x.2.ref_ptr.0 x.2.ref_ptr.1 κs.1.1.1.1.1.1.1.1.1.1.0), tt))), λ q. tt) }
+    record { shared = λ x b o κ. ((((λ q. tt), (site (record { mir = named 7; lft = κs.1.1.1.1.1.1.1.0 })).shared x.0.now x.0.ref_ptr.0 x.0.ref_ptr.1 κs.1.1.1.1.1.1.0), (((λ q. tt), heap.sync.shared x.1.now x.1.ref_ptr.0 x.1.ref_ptr.1 κs.1.1.1.1.1.1.1.1.0), (((λ q. tt), (wave_sync (record { mir = named 10; lft = κs.1.1.1.1.1.1.1.1.1.1.0 })).shared x.2.now x.2.ref_ptr.0 x.2.ref_ptr.1 κs.1.1.1.1.1.1.1.1.1.0), tt))), λ q. tt) }
 
 pub running::wave-returns-in-Ok-clause-sound : goal.running::wave-returns-in-Ok-clause-sound
 running::wave-returns-in-Ok-clause-sound g t c = let lib = library c.args.site.now.lib.now in c.place.ensures lib (c.begin_wave.ensures.sound lib c.requires.sound) c.in-Ok.ensures

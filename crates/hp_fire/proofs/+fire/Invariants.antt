@@ -74,8 +74,8 @@ decreases-running::wave g l = 16 * left l.site.now.lib.now (group_levels l.site.
 abbrev pub decreases-running::tries : goal.decreases-running::tries
 decreases-running::tries g l = 16 * left l.site.now.lib.now (group_levels l.site.now.lib.now l.tasks.now) (deepest l.site.now.lib.now) + 9
 
-abbrev pub decreases-running::tries-map_vec : goal.decreases-running::tries-map_vec
-decreases-running::tries-map_vec g l = 16 * left l.inside.now.lib.now (group_levels l.inside.now.lib.now l.wave.now.tasks.now) (deepest l.inside.now.lib.now) + 8
+abbrev pub decreases-running::tries-on_threads : goal.decreases-running::tries-on_threads
+decreases-running::tries-on_threads g l = 16 * left l.inside.now.lib.now (group_levels l.inside.now.lib.now l.wave.now.tasks.now) (deepest l.inside.now.lib.now) + 8
 
 abbrev pub decreases-running::work : goal.decreases-running::work
 decreases-running::work g l = 16 * left l.site.now.lib.now (group_levels l.site.now.lib.now l.wave.now.tasks.now) (deepest l.site.now.lib.now) + 7
