@@ -17,12 +17,12 @@ use std::thread::Threads;
 ///
 /// An error means that memory ran out; the results are then dropped.
 #[cycle(crew)]
-pub(crate) fn on_threads<
-    R: Threads + Sync,
-    J: Send + Drop,
-    X: Send + Drop,
-    F: Fn(J) -> X + Sync,
->(rt: &R, alloc: Global, f: &F, mut jobs: Vec<J>) -> Result<Vec<X>, AllocError>
+pub(crate) fn on_threads<R: Threads + Sync, J: Send + Drop, X: Send + Drop, F: Fn(J) -> X + Sync>(
+    rt: &R,
+    alloc: Global,
+    f: &F,
+    mut jobs: Vec<J>,
+) -> Result<Vec<X>, AllocError>
     requires { AcceptsJobs F.Fn f.now jobs.items }
     ensures { IfOk result (λ results. GivesFor F.Fn f.now jobs.items results.items) }
 {

@@ -1,7 +1,7 @@
 //! Where new tasks go.
 
 ghost use Rattle.std.specs.List.{list_all};
-ghost use Rattle.std.specs.Prelude.{◌≡◌, IfOk, IfSome, OnOk, [], ◌∷◌, map, filter, true};
+ghost use Rattle.std.specs.Prelude.{◌≡◌, IfOk, IfErr, OnOk, [], ◌∷◌, map, filter, true};
 ghost use Rattle.hp_model.specs.Rules.{is_immediate};
 ghost use Rattle.hp_model.specs.Tree.{Task as ModelTask};
 ghost use Rattle.hp_model.specs.Answers.{group_answer};
@@ -87,14 +87,20 @@ fn are_immediate(tasks: &[Task]) -> bool
     true
 }
 
-/// The task of a list of one, if it fires at once.
-pub(crate) fn lone(tasks: &[Task]) -> Option<&Task>
-    ensures { IfSome result (λ t. (map task_of tasks.now ≡ task_of t.now ∷ []) × (list_all (λ (u : ModelTask). is_immediate u.place) (map task_of tasks.now) ≡ true)) }
+/// The task of a list of one, if it fires at once; else the list, as it was.
+///
+/// The list of one is freed, so that no memory is held for it while its task fires.
+pub(crate) fn lone(mut tasks: Vec<Task>) -> Result<Task, Vec<Task>>
+    ensures one { IfOk result (λ t. (tasks.items ≡ t ∷ []) × (list_all (λ (u : ModelTask). is_immediate u.place) (map task_of tasks.items) ≡ true)) }
+    ensures others { IfErr result (λ ts. ts.items ≡ tasks.items) }
 {
-    if tasks.len() == 1 && are_immediate(tasks) {
-        return Some(&tasks[0]);
+    if tasks.len() != 1 || !are_immediate(&tasks) {
+        return Err(tasks);
     }
-    None
+    match tasks.pop() {
+        Some(task) => Ok(task),
+        None => Err(tasks),
+    }
 }
 
 /// One task alone.

@@ -78,14 +78,17 @@ pub(crate) fn start<R: Threads + Sync, G: Gate + Sync>(
     if tasks.is_empty() {
         return Ok(Course::ended(alloc, End::Done));
     }
-    if let Some(task) = lone(&tasks) {
-        let inside = Site {
-            told: false,
-            ..*site
-        };
-        let outcome = firing(&inside, alloc, view, task)?;
-        return Ok(firing_course(outcome));
-    }
+    let tasks = match lone(tasks) {
+        Ok(task) => {
+            let inside = Site {
+                told: false,
+                ..*site
+            };
+            let outcome = firing(&inside, alloc, view, &task)?;
+            return Ok(firing_course(outcome));
+        }
+        Err(tasks) => tasks,
+    };
     let Placed {
         immediate,
         queued,

@@ -9,7 +9,7 @@ use Rattle.hp_model.specs.Occurrences.{signalled}
 use Rattle.hp_model.specs.Conditions.{answer}
 use Rattle.std.specs.Prelude.{filter}
 use Rattle.hp_model.specs.Tree.{Task}
-use Rattle.hp_model.specs.Transactions.{abort_by, done, for_each}
+use Rattle.hp_model.specs.Transactions.{abort_by, deferred_of, detached_of, done, for_each, unreleased}
 use Rattle.hp_model.specs.Soundness.{Answer}
 use Rattle.hp_model.specs.Answers.{is_done, followed}
 use Rattle.hp_model.specs.Rules as R
@@ -231,31 +231,31 @@ running::start-returns-then-is_empty g t c =
 
 pub running::start-firing-requires : goal.running::start-firing-requires
 running::start-firing-requires g t c = λ κs lives.
-    let alone = told_some (λ (u : Bor RustTask). (map task c.deref.result.now ≡ task u.now ∷ []) × AllImmediate (map task c.deref.result.now)) c.in-Some.is c.lone.ensures in
-    (omega (arith, alone_measure c.args.site.now.lib.now c.args.depth c.args.tasks.items c.in-Some.task.now c.requires (ap (map task) (sym c.deref.ensures.value) ∙ alone.0), c.decreases), (lives.0, (lives.1, (search rules, search rules))))
+    (omega (arith, alone_measure c.args.site.now.lib.now c.args.depth c.args.tasks.items c.in-Ok.task c.requires (ap (map task) c.in-Ok.ensures.one.0), c.decreases), (lives.0, (lives.1, (search rules, search rules))))
 
-pub running::start-returns-in-Some : goal.running::start-returns-in-Some
-running::start-returns-in-Some g t c =
-    let alone = told_some (λ (u : Bor RustTask). (map task c.deref.result.now ≡ task u.now ∷ []) × AllImmediate (map task c.deref.result.now)) c.in-Some.is c.lone.ensures in
-    let here = ap (map task) (sym c.deref.ensures.value) in
+pub running::start-returns-in-Ok : goal.running::start-returns-in-Ok
+running::start-returns-in-Ok g t c =
     runs_answer c.firing_course.ensures
-    (start_alone (map task c.args.tasks.items) (task c.in-Some.task.now) c.requires (here ∙ alone.0) (subst AllImmediate (sym here) alone.1) c.in_ok-outcome.ensures)
+    (start_alone (map task c.args.tasks.items) (task c.in-Ok.task) c.requires (ap (map task) c.in-Ok.ensures.one.0) c.in-Ok.ensures.one.1 c.in_ok-outcome-in-Ok.ensures)
 
 pub running::start-group-requires : goal.running::start-group-requires
 running::start-group-requires g t c = λ κs lives.
     let long : length c.args.tasks.items ≡ c.args.tasks.len = search rules in
     let some : c.args.tasks.items ≡ [] → ⊥ = λ e. let zero : c.args.tasks.len ≡ 0 = sym long ∙ ap length e in search rules in
-    let now : map task c.deref-2.result.now ≡ filter (λ (u : Task). is_immediate u.place) (map task c.args.tasks.items) = ap (map task) c.deref-2.ensures.value ∙ c.in_ok-immediate.ensures.immediate in
-    let falls = group_measure c.args.site.now.lib.now c.args.depth c.args.tasks.items c.deref-2.result.now c.requires some now in
+    let now : map task c.deref.result.now ≡ filter (λ (u : Task). is_immediate u.place) (map task c.args.tasks.items) = ap (map task) c.deref.ensures.value ∙ c.in_ok-immediate.ensures.immediate ∙ ap (λ ts. filter (λ (u : Task). is_immediate u.place) (map task ts)) c.in-Err.ensures.others in
+    let falls = group_measure c.args.site.now.lib.now c.args.depth c.args.tasks.items c.deref.result.now c.requires some now in
     (omega (arith, falls, c.decreases), (lives.0, (lives.1, (search rules, search rules))))
 
 pub running::start-returns : goal.running::start-returns
 running::start-returns g t c =
     let long : length c.args.tasks.items ≡ c.args.tasks.len = search rules in
     let some : c.args.tasks.items ≡ [] → ⊥ = λ e. let zero : c.args.tasks.len ≡ 0 = sym long ∙ ap length e in search rules in
-    let now : map task c.deref-2.result.now ≡ filter (λ (u : Task). is_immediate u.place) (map task c.args.tasks.items) = ap (map task) c.deref-2.ensures.value ∙ c.in_ok-immediate.ensures.immediate in
+    let same = c.in-Err.ensures.others in
+    let now : map task c.deref.result.now ≡ filter (λ (u : Task). is_immediate u.place) (map task c.args.tasks.items) = ap (map task) c.deref.ensures.value ∙ c.in_ok-immediate.ensures.immediate ∙ ap (λ ts. filter (λ (u : Task). is_immediate u.place) (map task ts)) same in
+    let queued = c.in_ok-immediate.ensures.queued ∙ ap (λ ts. deferred_of (map task ts)) same in
+    let apart = c.in_ok-immediate.ensures.detached ∙ ap (λ ts. map unreleased (detached_of (map task ts))) same in
     runs_answer
-    (c.in_ok-join.ensures ∙ (λ i. followed (record { end = done; queued = c.in_ok-immediate.ensures.queued i; detached = c.in_ok-immediate.ensures.detached i; items = ap items_in c.new.ensures.items i }) (c.in_ok-group_course.ensures i)))
+    (c.in_ok-join.ensures ∙ (λ i. followed (record { end = done; queued = queued i; detached = apart i; items = ap items_in c.new.ensures.items i }) (c.in_ok-group_course.ensures i)))
     (start_runs (map task c.args.tasks.items) c.requires (λ e. some (map_none task c.args.tasks.items e))
     (subst (λ ts. RunsGroup (library c.args.site.now.lib.now) (siblings (fire_task (library c.args.site.now.lib.now)) true ts) c.args.view.now c.group.new.view (group c.in_ok-group.group)) now c.in_ok-group.ensures.runs))
 
