@@ -28,11 +28,7 @@ use Rattle.hp_fire.specs.Runs.{Runs, RunsGroup, Made, Makes, SubRuns}
 use Rattle.hp_fire.proofs.Making.{steps_halt}
 use Rattle.hp_fire.proofs.Stating.{with_is, steps_at, runs_at, signal_halt, signal_steps, found_halt, fire_halt, fire_runs}
 use Rattle.hp_fire.proofs.Steps.{runs_answer, runs_ends, runs_value, found_value, runs_signal, sub_over, sub_then, body_each, loop_starts, loop_next, loop_stops, loop_ends, group_goes, group_stops, group_ends, goes_unvetoed, goes_past, group_starts}
-use Rattle.hp_store.proofs.Wholes.{told_some}
-use Rattle.hp_rule.specs.declared.task.Task.{Task as RustTask}
-use denote.Bor.{Bor}
 use Rattle.hp_view.specs.Seeing.{Seeing}
-use Rattle.hp_fire.proofs.Immediate.{AllImmediate}
 use Rattle.hp_fire.proofs.Starting.{signal_runs, start_none, start_alone, alone_measure, start_runs, group_measure, none_long, map_none}
 use Rattle.hp_model.specs.Cells.{Holds}
 use Rattle.hp_store.specs.Changes.{changes}
