@@ -9,8 +9,8 @@ use std::alloc::{AllocError, Global};
 use std::thread;
 use std::thread::Threads;
 
-/// Calls a function at each job, the calls but one each in a thread of its own where one can be made. The results are in the
-/// order of the jobs.
+/// Calls a function at each job: at one of them in this thread, at each other in a thread of its own where one can be made. The
+/// results are in the order of the jobs.
 ///
 /// It is `thread::map_vec`, but this thread starts all others: a thread that was just started is no good starter, since Linux
 /// puts what it starts on its own processor (measured, `bench/README.md`).
@@ -26,13 +26,13 @@ pub(crate) fn on_threads<R: Threads + Sync, J: Send + Drop, X: Send + Drop, F: F
     requires { AcceptsJobs F.Fn f.now jobs.items }
     ensures { IfOk result (λ results. GivesFor F.Fn f.now jobs.items results.items) }
 {
-    let mut results = Vec::new(alloc);
     let Some(last) = jobs.pop() else {
-        return Ok(results);
+        return Ok(Vec::new(alloc));
     };
     if jobs.is_empty() {
-        results.push(f(last))?;
-        return Ok(results);
+        let mut only = Vec::new(alloc);
+        only.push(f(last))?;
+        return Ok(only);
     }
     let apart = move || -> X
         requires { IsSync F.row × IsSend J.row × IsSend X.row × F.pre f.now last }
