@@ -171,12 +171,12 @@ alike_more ns [] o h e = (e, tt)
 alike_more ns (p ∷ os) o h e = (h.0, alike_more ns os o h.1 e)
 
 -- a row with the names of the first one's is like the others
-pub alike_after : (rows : List KeyedRow) (first added : KeyedRow) → Some first ≡ slice_get rows 0 → names_of added.row ≡ names_of first.row
-    → AreAlike (map keyed_row rows) → AreAlike (map keyed_row rows ++ keyed_row added ∷ [])
+pub alike_after : (objects : List KeyedRow) (first added : KeyedRow) → Some first ≡ slice_get objects 0 → names_of added.row ≡ names_of first.row
+    → AreAlike (map keyed_row objects) → AreAlike (map keyed_row objects ++ keyed_row added ∷ [])
 alike_after [] first added is e h = (refl, tt)
-alike_after (row ∷ rows) first added is e h =
+alike_after (row ∷ objects) first added is e h =
     let same : first ≡ row = cc in
-    (h.0, alike_more (names_of row.row) (map keyed_row rows) (keyed_row added) h.1 (e ∙ ap (λ (r : KeyedRow). names_of r.row) same))
+    (h.0, alike_more (names_of row.row) (map keyed_row objects) (keyed_row added) h.1 (e ∙ ap (λ (r : KeyedRow). names_of r.row) same))
 
 -- ---- the values of all rows, one after the other
 
