@@ -8,12 +8,14 @@ here; each is run N times (5), all commands in turn, and the shortest time count
 triggers by sqlite3 over an in-memory database, in the same run.
 
 The last columns say how many times as fast two and four workers are as one, and what the machine gave: how many processors'
-work copies of the run with 1 worker did at once, two of them and four.
+work copies of the run with 1 worker did at once, two of them and four. They do so by the shortest times, and by the middle ones:
+where a processor is fast while its core's other thread is idle, one copy alone is lucky in some run, and four at once hardly are.
 """
 
 import argparse
 import json
 import os
+import statistics
 import subprocess
 import sys
 import tempfile
@@ -179,21 +181,29 @@ def timed(command, text, copies=1):
 
 
 def measured(program, letter, text, sql, times):
-    """The shortest times: with each number of workers, of two and four copies at once, and of sqlite3."""
+    """All times of each command: with each number of workers, of two and four copies at once, and of sqlite3."""
     alone = [program, "--workers", "1"]
     runs = [([program, "--workers", str(workers)], text, 1) for workers in WORKERS]
     runs += [(alone, text, copies) for copies in COPIES]
     runs += [(["sqlite3", "-batch", ":memory:"], sql, 1)] if sql else []
-    best, outputs = [None] * len(runs), set()
+    taken, outputs = [[] for _ in runs], set()
     for _ in range(times):
         for number, (command, given, copies) in enumerate(runs):
             took, out = timed(command, given, copies)
-            best[number] = took if best[number] is None else min(best[number], took)
+            taken[number].append(took)
             if number < len(WORKERS):
                 outputs.add(out)
     if len(outputs) != 1:
         sys.exit(f"({letter}): the reports differ")
-    return best[: len(WORKERS)], best[len(WORKERS) : len(WORKERS) + len(COPIES)], best[len(WORKERS) + len(COPIES) :]
+    return taken
+
+
+def shares(times):
+    """How many times as fast more workers are as one, and how many processors' work copies did at once."""
+    alone, copies = times[0], times[len(WORKERS) :]
+    faster = ", ".join(f"{alone / took:.1f}" for took in times[1 : len(WORKERS)])
+    given = ", ".join(f"{count * alone / took:.1f}" for count, took in zip(COPIES, copies))
+    return [faster, given]
 
 
 def main():
@@ -204,8 +214,9 @@ def main():
     words.add_argument("--keep", metavar="FOLDER", help="also writes the scripts there")
     given = words.parse_args()
     workers = [f"{w} worker{'s' if w > 1 else ''}" for w in WORKERS]
-    print("| Workload | Firings | " + " | ".join(workers) + " | sqlite3 | Times as fast | Processors |")
-    print("|---|---|" + "---|" * (len(WORKERS) + 3))
+    columns = ["Workload", "Firings", *workers, "sqlite3", "Times as fast", "Processors", "Times as fast (middle)", "Processors (middle)"]
+    print("| " + " | ".join(columns) + " |")
+    print("|" + "---|" * len(columns))
     for letter, title, make, make_sql in WORKLOADS:
         if given.only and letter not in given.only:
             continue
@@ -217,11 +228,12 @@ def main():
             with open(os.path.join(given.keep, f"{letter}.json"), "w") as file:
                 file.write(text)
         sql = make_sql() if make_sql else None
-        times, at_once, by_sqlite = measured(given.program, letter, text, sql, given.times)
-        cells = [f"{took * 1000:.0f} ms, {firings / took:,.0f}/s" for took in times + by_sqlite]
+        taken = measured(given.program, letter, text, sql, given.times)
+        best = [min(times) for times in taken]
+        by_sqlite = best[len(WORKERS) + len(COPIES) :]
+        cells = [f"{took * 1000:.0f} ms, {firings / took:,.0f}/s" for took in best[: len(WORKERS)] + by_sqlite]
         cells += [] if by_sqlite else [""]
-        cells.append(", ".join(f"{times[0] / took:.1f}" for took in times[1:]))
-        cells.append(", ".join(f"{copies * times[0] / took:.1f}" for copies, took in zip(COPIES, at_once)))
+        cells += shares(best) + shares([statistics.median(times) for times in taken])
         print(f"| ({letter}) {title} | {firings:,} | " + " | ".join(cells) + " |", flush=True)
 
 
