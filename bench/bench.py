@@ -9,7 +9,7 @@ triggers by sqlite3 over an in-memory database, in the same run.
 
 The last columns say how many times as fast two and four workers are as one, and what the machine gave: how many processors'
 work copies of the run with 1 worker did at once, two of them and four. They do so by the shortest times, and by the middle ones:
-where a processor is fast while its core's other thread is idle, one copy alone is lucky in some run, and four at once hardly are.
+where a processor is fast while its core's other thread is idle, one copy alone is lucky in some run, and four at once hardly ever are.
 """
 
 import argparse
@@ -181,7 +181,7 @@ def timed(command, text, copies=1):
 
 
 def measured(program, letter, text, sql, times):
-    """All times of each command: with each number of workers, of two and four copies at once, and of sqlite3."""
+    """All times: with each number of workers, of two and four copies at once, and of sqlite3, a list for each."""
     alone = [program, "--workers", "1"]
     runs = [([program, "--workers", str(workers)], text, 1) for workers in WORKERS]
     runs += [(alone, text, copies) for copies in COPIES]
@@ -195,14 +195,14 @@ def measured(program, letter, text, sql, times):
                 outputs.add(out)
     if len(outputs) != 1:
         sys.exit(f"({letter}): the reports differ")
-    return taken
+    return taken[: len(WORKERS)], taken[len(WORKERS) : len(WORKERS) + len(COPIES)], taken[len(WORKERS) + len(COPIES) :]
 
 
-def shares(times):
+def shares(by_workers, at_once, typical):
     """How many times as fast more workers are as one, and how many processors' work copies did at once."""
-    alone, copies = times[0], times[len(WORKERS) :]
-    faster = ", ".join(f"{alone / took:.1f}" for took in times[1 : len(WORKERS)])
-    given = ", ".join(f"{count * alone / took:.1f}" for count, took in zip(COPIES, copies))
+    alone, *more = map(typical, by_workers)
+    faster = ", ".join(f"{alone / took:.1f}" for took in more)
+    given = ", ".join(f"{copies * alone / typical(times):.1f}" for copies, times in zip(COPIES, at_once))
     return [faster, given]
 
 
@@ -214,7 +214,8 @@ def main():
     words.add_argument("--keep", metavar="FOLDER", help="also writes the scripts there")
     given = words.parse_args()
     workers = [f"{w} worker{'s' if w > 1 else ''}" for w in WORKERS]
-    columns = ["Workload", "Firings", *workers, "sqlite3", "Times as fast", "Processors", "Times as fast (middle)", "Processors (middle)"]
+    columns = ["Workload", "Firings", *workers, "sqlite3", "Times as fast", "Processors"]
+    columns += [f"{column} (middle)" for column in columns[-2:]]
     print("| " + " | ".join(columns) + " |")
     print("|" + "---|" * len(columns))
     for letter, title, make, make_sql in WORKLOADS:
@@ -228,12 +229,10 @@ def main():
             with open(os.path.join(given.keep, f"{letter}.json"), "w") as file:
                 file.write(text)
         sql = make_sql() if make_sql else None
-        taken = measured(given.program, letter, text, sql, given.times)
-        best = [min(times) for times in taken]
-        by_sqlite = best[len(WORKERS) + len(COPIES) :]
-        cells = [f"{took * 1000:.0f} ms, {firings / took:,.0f}/s" for took in best[: len(WORKERS)] + by_sqlite]
+        by_workers, at_once, by_sqlite = measured(given.program, letter, text, sql, given.times)
+        cells = [f"{took * 1000:.0f} ms, {firings / took:,.0f}/s" for took in map(min, by_workers + by_sqlite)]
         cells += [] if by_sqlite else [""]
-        cells += shares(best) + shares([statistics.median(times) for times in taken])
+        cells += shares(by_workers, at_once, min) + shares(by_workers, at_once, statistics.median)
         print(f"| ({letter}) {title} | {firings:,} | " + " | ".join(cells) + " |", flush=True)
 
 
