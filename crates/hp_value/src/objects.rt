@@ -98,11 +98,11 @@ impl ObjectList {
         requires { AreAlike self.now × AreAlike other.now × (first_names self.now ≡ first_names other.now) }
         ensures { result ≡ (pointwise int_eq (keys_of self.now) (keys_of other.now) && pointwise values_same self.now other.now) }
     {
-        if self.keys != other.keys {
+        if !have_same_numbers(&self.keys, &other.keys) {
             return false;
         }
         match (&self.numbers, &other.numbers) {
-            (Some(numbers), Some(others)) => numbers == others,
+            (Some(numbers), Some(others)) => have_same_numbers(numbers, others),
             _ => have_same_values(&self.rows, &other.rows),
         }
     }
@@ -172,6 +172,21 @@ fn have_same_names(rows: &[KeyedRow], others: &[KeyedRow]) -> bool
         (Some(first), Some(other)) => first.row.has_fields_of(&other.row),
         _ => false,
     }
+}
+
+// Whether two lists hold the same numbers in the same order. Where they are as long as each other it looks at all of them:
+// a loop that doesn't end early compares several at once.
+fn have_same_numbers(numbers: &[i64], others: &[i64]) -> bool
+    ensures { result ≡ pointwise int_eq numbers.now others.now }
+{
+    if numbers.len() != others.len() {
+        return false;
+    }
+    let mut are_same = true;
+    for i in 0..numbers.len() {
+        are_same &= numbers[i] == others[i];
+    }
+    are_same
 }
 
 // Whether there are as many objects in both, with the same values each.
