@@ -24,11 +24,15 @@ kept_at base lists i list all within is = subst (λ (k : KeptList). AreObjects b
 pub cells_shown : (b : Base) (layers : List Entries) (now : Stack) → record { base = tables b; layers = layers } ≡ now → over (base_cells b) (changes_in layers) ≡ cells_in now
 cells_shown b layers now is = (λ j q. sym (shown b layers q) j) ∙ ap cells_in is
 
+-- where the cells are those under one layer more
+pub kept_shown : (b new : Base) (layers left : List Entries) (layer : Entries) (lists kept : List KeptList)
+    → ((q : Cell) → over (base_cells new) (changes_in left) q ≡ changed (base_cells b q) (option_or (changes layer q) (changes_in layers q)))
+    → ((base : Cells) → AreKept base lists → AreKept (over base (changes layer)) kept) → AreKept (over (base_cells b) (changes_in layers)) lists → AreKept (over (base_cells new) (changes_in left)) kept
+kept_shown b new layers left layer lists kept same still have =
+    subst (λ cs. AreKept cs kept) (λ i q. (over_or (base_cells b) layer (changes_in layers q) q ∙ sym (same q)) i) (still (over (base_cells b) (changes_in layers)) have)
+
 -- with one layer more
 pub kept_over : (b new : Base) (layers pile : List Entries) (layer : Entries) (lists kept : List KeptList) → new ≡ b → ((q : Cell) → changes_in pile q ≡ option_or (changes layer q) (changes_in layers q))
     → ((base : Cells) → AreKept base lists → AreKept (over base (changes layer)) kept) → AreKept (over (base_cells b) (changes_in layers)) lists → AreKept (over (base_cells new) (changes_in pile)) kept
-kept_over b new layers pile layer lists kept same piled still have =
-    subst (λ cs. AreKept cs kept) (λ i q. at q i) (still (over (base_cells b) (changes_in layers)) have)
-  where
-    at : (q : Cell) → over (over (base_cells b) (changes_in layers)) (changes layer) q ≡ over (base_cells new) (changes_in pile) q
-    at q = over_or (base_cells b) layer (changes_in layers q) q ∙ ap (changed (base_cells b q)) (sym (piled q)) ∙ ap (λ x. changed (base_cells x q) (changes_in pile q)) (sym same)
+kept_over b new layers pile layer lists kept same piled =
+    kept_shown b new layers pile layer lists kept (λ q. ap (λ x. changed (base_cells x q) (changes_in pile q)) same ∙ ap (changed (base_cells b q)) (piled q))

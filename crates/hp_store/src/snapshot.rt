@@ -136,6 +136,23 @@ impl Snapshot {
             return Ok(());
         }
         if let Some(objects) = self.objects(alloc, class)? {
+            self.keep_list(class, objects)?;
+        }
+        Ok(())
+    }
+
+    /// Keeps a list of the objects of a class, unless one is kept.
+    ///
+    /// An error means that memory ran out.
+    pub(crate) fn keep_list(
+        &mut self,
+        class: ClassNo,
+        objects: Arc<ObjectList>,
+    ) -> Result<(), AllocError>
+        requires { AreObjects (cells_in self.old) class objects.value }
+        ensures { self.new ≡ self.old }
+    {
+        if self.kept_objects(class).is_none() {
             self.lists.reserve(1)?;
             self.lists.push_reserved(KeptList { class, objects });
         }
@@ -221,8 +238,9 @@ impl Snapshot {
         if layer.is_empty() {
             return Ok(());
         }
-        self.lists = Vec::new(alloc);
+        let lists = still_kept(alloc, &self.lists, &layer)?;
         self.layers = piled(alloc, &self.layers, layer)?;
+        self.lists = lists;
         settle(alloc, &mut self.base, &mut self.layers);
         Ok(())
     }
@@ -419,16 +437,18 @@ impl Clone for Snapshot {
 
     ghost is_clone = { λ s t. t ≡ s };
 
-    /// The same snapshot once more. It shares the base and the layers, and copies no cell. Lists that are kept stay behind.
+    /// The same snapshot once more. It shares the base, the layers and the lists that are kept, and copies no cell.
     ///
-    /// An error means that std refused a copy of an `Arc`.
+    /// An error means that memory ran out.
     fn clone(&self) -> Result<Snapshot, AllocError> {
         let alloc = *self.layers.allocator();
         let layers = copied(alloc, &self.layers)?;
+        // Under a layer that changes nothing all of them are still true.
+        let lists = still_kept(alloc, &self.lists, &Layer::new(alloc))?;
         Ok(Snapshot {
             base: Arc::try_clone(&self.base)?,
             layers,
-            lists: Vec::new(alloc),
+            lists,
         })
     }
 }

@@ -3,7 +3,7 @@
 use crate::layer::Layer;
 use crate::snapshot::Snapshot;
 use crate::value::CellValue;
-use hp_value::{Cell, ClassNo, Key};
+use hp_value::{Cell, ClassNo, Key, ObjectList};
 use std::alloc::{AllocError, Global};
 use std::marker::Model;
 use std::sync::Arc;
@@ -28,7 +28,7 @@ impl Model for Store {
 
 impl Store {
     ghost use Rattle.std.specs.Prelude.{◌≡◌, None, IfOk, OnOk, OnErr, option_map};
-    ghost use Rattle.hp_model.specs.Cells.{Cell as ModelCell, AreKeys, over};
+    ghost use Rattle.hp_model.specs.Cells.{Cell as ModelCell, AreKeys, AreObjects, over};
     ghost use Rattle.hp_value.specs.Mapped as mapped;
     ghost use Rattle.hp_store.specs.Changes.{changes};
     ghost use Rattle.hp_store.specs.Mapped as here;
@@ -47,7 +47,7 @@ impl Store {
 
     /// The cells as they are now. What is applied later doesn't change the snapshot; no cell is copied.
     ///
-    /// An error means that std refused a copy of an `Arc`.
+    /// An error means that memory ran out.
     pub fn snapshot(&self) -> Result<Snapshot, AllocError>
         ensures { IfOk result (λ s. s ≡ self.now) }
     {
@@ -68,6 +68,21 @@ impl Store {
         ensures { IfOk result (λ keys. AreKeys (cells_in self.now) class keys.items) }
     {
         self.state.keys(alloc, class)
+    }
+
+    /// Keeps a list of all objects of a class, as they are in the store. Snapshots share it from now on, until a layer is
+    /// applied that names one of these objects. Where the class has such a list, it stays.
+    ///
+    /// An error means that memory ran out.
+    pub fn keep_objects(
+        &mut self,
+        class: ClassNo,
+        objects: Arc<ObjectList>,
+    ) -> Result<(), AllocError>
+        requires { AreObjects (cells_in self.old) class objects.value }
+        ensures { self.new ≡ self.old }
+    {
+        self.state.keep_list(class, objects)
     }
 
     /// Overwrites the cells by a layer. Where no snapshot of the store is left, the changes go into the cells in place, and

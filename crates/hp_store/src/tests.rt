@@ -101,6 +101,36 @@ fn a_kept_list_is_that_of_the_cells(rt: HostRuntime) -> Result<(), Fail> {
     keep_a_list(&rt, rt.alloc(), &mut snapshot)
 }
 
+/// Whether snapshots of a store share a list of the class.
+fn shares_a_list(store: &Store) -> Result<bool, AllocError> {
+    Ok(store.snapshot()?.kept_objects(CLASS).is_some())
+}
+
+fn keep_its_list(alloc: Global, store: &mut Store) -> Result<(), AllocError> {
+    let found = store.snapshot()?.objects(alloc, CLASS)?;
+    match found {
+        Some(objects) => store.keep_objects(CLASS, objects),
+        None => Ok(()),
+    }
+}
+
+fn keep_in_the_store(rt: &impl Abort, alloc: Global, store: &mut Store) -> Result<(), Fail> {
+    assert!(rt; !shares_a_list(store)?);
+    keep_its_list(alloc, store)?;
+    assert!(rt; shares_a_list(store)?);
+    store.apply(alloc, status_layer(alloc, Status::Enabled)?)?;
+    assert!(rt; shares_a_list(store)?);
+    store.apply(alloc, layer(alloc, &[4], &[3])?)?;
+    assert!(rt; !shares_a_list(store)?);
+    Ok(())
+}
+
+#[test]
+fn a_store_keeps_a_list_until_an_object_of_the_class_changes(rt: HostRuntime) -> Result<(), Fail> {
+    let mut store = store_of_three(rt.alloc())?;
+    keep_in_the_store(&rt, rt.alloc(), &mut store)
+}
+
 fn layers(store: &Store) -> Result<usize, AllocError> {
     Ok(store.snapshot()?.layers())
 }

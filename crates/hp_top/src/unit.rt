@@ -2,12 +2,13 @@
 
 ghost use Rattle.std.specs.Prelude.{◌≡◌, IfOk, OnErr};
 ghost use Rattle.hp_model.specs.Cascade.{time_of};
-ghost use Rattle.hp_model.specs.Cells.{Holds};
+ghost use Rattle.hp_model.specs.Cells.{Holds, IsTold};
 ghost use Rattle.hp_model.specs.Sessions.{HasFitState};
 ghost use Rattle.hp_rule.specs.Mapped.{library, unit as unit_of};
 ghost use Rattle.hp_store.specs.Changes.{changes};
 ghost use Rattle.hp_store.specs.Stack.{cells_in};
 ghost use Rattle.hp_tree.specs.Mapped.{unit_report};
+ghost use Rattle.hp_view.specs.Mapped.{read};
 ghost use Rattle.hp_top.specs.Runs.{RunsUnit};
 ghost use Rattle.hp_top.specs.Units.{IsSoundUnit, RanUnit, IsReplayed, IsLawful, IsUnitOf};
 
@@ -16,7 +17,7 @@ use crate::top::run_top;
 use hp_rule::{Library, Unit};
 use hp_store::{Layer, Snapshot, Store};
 use hp_tree::{TopReport, UnitReport};
-use hp_view::{Reads, View};
+use hp_view::{Found, Reads, Seen, View};
 use std::alloc::{AllocError, Global};
 use std::sync::Arc;
 use std::thread::Threads;
@@ -98,7 +99,8 @@ pub fn attempt_unit<R: Threads + Sync>(
 
 /// Runs a unit on the committed store, and gives what is reported of it.
 ///
-/// The changes go into the store in place where nobody else holds a snapshot of it, and cost no more than what they change.
+/// The changes go into the store in place where nobody else holds a snapshot of it, and cost no more than what they change. A
+/// class that the unit read as a whole needn't be listed anew for the units after it, until one of its objects changes.
 /// An error means that memory ran out; the store is then as before.
 pub fn run_unit<R: Threads + Sync>(
     rt: &R,
@@ -116,6 +118,29 @@ pub fn run_unit<R: Threads + Sync>(
 {
     let snapshot = store.snapshot()?;
     let attempt = attempt_unit(rt, alloc, lib, snapshot, unit, width)?;
+    keep_lists(store, &attempt.reads)?;
     store.apply(alloc, attempt.layer)?;
     Ok(attempt.report)
+}
+
+// Keeps the lists of the classes that were read as a whole.
+fn keep_lists(store: &mut Store, reads: &Reads) -> Result<(), AllocError>
+    requires { Holds (cells_in store.old) reads.now }
+    ensures { store.new ≡ store.old }
+{
+    for (seen, found) in reads.iter() {
+        keep_list(store, seen, found)?;
+    }
+    Ok(())
+}
+
+// Keeps a list of a class, if one was found there.
+fn keep_list(store: &mut Store, seen: &Seen, found: &Found) -> Result<(), AllocError>
+    requires { IsTold (cells_in store.old) (read (seen.now, found.now)) }
+    ensures { store.new ≡ store.old }
+{
+    if let (Seen::Keys(class), Found::Objects(objects)) = (seen, found) {
+        store.keep_objects(*class, Arc::try_clone(objects)?)?;
+    }
+    Ok(())
 }

@@ -2,6 +2,7 @@
 //!
 //! They stand here since the tests of a crate have it proved once more, and `hp_fire` takes the longest of all.
 
+mod units;
 mod waves;
 
 use hp_attempt::{Settled, settle};
