@@ -20,7 +20,7 @@ invariant_of-self c = (
   kept_shown c.self.inside.base.value c.settle.new.base.value c.self.inside.layers.items c.settle.new.layers.items c.deref-3.result.now c.deref-2.result.now c.in_ok-lists.lists.items
       (λ q. c.settle.ensures.same q
       ∙ ap (changed (base_cells c.self.inside.base.value q)) (c.in_ok-self-inside.ensures.changes q ∙ ap (λ l. option_or (changes c.args.layer.value q) (changes_in l q)) c.deref-4.ensures
-          ∙ ap (λ es. option_or (changes es q) (changes_in c.self.inside.layers.items q)) (sym c.deref-3.ensures)))
+      ∙ ap (λ es. option_or (changes es q) (changes_in c.self.inside.layers.items q)) (sym c.deref-3.ensures)))
       c.in_ok-lists.ensures
       (subst (AreKept (over (base_cells c.self.inside.base.value) (changes_in c.self.inside.layers.items))) (sym c.deref-2.ensures.value) c.self.invariant.1),
 )

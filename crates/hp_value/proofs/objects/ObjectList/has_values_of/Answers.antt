@@ -11,7 +11,7 @@ use Rattle.hp_value.proofs.objects.ObjectList.has_values_of.Goals as goal
 pub returns-in-Some-Some : goal.returns-in-Some-Some
 returns-in-Some-Some c =
     let keys = c.have_same_numbers.ensures
-        ∙ ap₂ (pointwise int_eq) (c.deref.ensures.value ∙ (c.self.invariant.0 ∙ ap keys_of c.self.view_is)) (c.deref-2.ensures.value ∙ (c.other.invariant.0 ∙ ap keys_of c.other.view_is)) in
+    ∙ ap₂ (pointwise int_eq) (c.deref.ensures.value ∙ (c.self.invariant.0 ∙ ap keys_of c.self.view_is)) (c.deref-2.ensures.value ∙ (c.other.invariant.0 ∙ ap keys_of c.other.view_is)) in
     let same : not (pointwise int_eq (keys_of c.args.self.now) (keys_of c.args.other.now)) ≡ false = ap not (sym keys ∙ c.if-not-have_same_numbers.false) in
     let numbers = subst (λ o. AreValues o c.args.self.now) c.in-Some-Some.is-0 (subst (AreValues c.self.inside.numbers) c.self.view_is c.self.invariant.2) in
     let others = subst (λ o. AreValues o c.args.other.now) c.in-Some-Some.is-1 (subst (AreValues c.other.inside.numbers) c.other.view_is c.other.invariant.2) in
@@ -23,7 +23,7 @@ returns-in-Some-Some c =
 pub returns-in_default : goal.returns-in_default
 returns-in_default c =
     let keys = c.have_same_numbers.ensures
-        ∙ ap₂ (pointwise int_eq) (c.deref.ensures.value ∙ (c.self.invariant.0 ∙ ap keys_of c.self.view_is)) (c.deref-2.ensures.value ∙ (c.other.invariant.0 ∙ ap keys_of c.other.view_is)) in
+    ∙ ap₂ (pointwise int_eq) (c.deref.ensures.value ∙ (c.self.invariant.0 ∙ ap keys_of c.self.view_is)) (c.deref-2.ensures.value ∙ (c.other.invariant.0 ∙ ap keys_of c.other.view_is)) in
     let same : not (pointwise int_eq (keys_of c.args.self.now) (keys_of c.args.other.now)) ≡ false = ap not (sym keys ∙ c.if-not-have_same_numbers.false) in
     let values = c.have_same_values.ensures ∙ ap₂ (pointwise (on keyed_row values_same)) c.deref-in_default.ensures.value c.deref-in_default-2.ensures.value
     ∙ pointwise_map keyed_row values_same c.self.inside.rows.items c.other.inside.rows.items ∙ ap₂ (pointwise values_same) c.self.view_is c.other.view_is in
