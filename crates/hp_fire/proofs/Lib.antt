@@ -1,4 +1,5 @@
 mod Attempting
+mod Coming
 mod Decisions
 mod Helping
 pub mod Sending

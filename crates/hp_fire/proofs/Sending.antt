@@ -1,6 +1,6 @@
 -- What workers share and bring may go from thread to thread.
 use denote.Param.Send.{IsSend, IsSync, shr_sync, sendable}
-use denote.Param.SendFields.{as_row_sync, declared_sync}
+use denote.Param.SendFields.{as_row_sync, declared_send, declared_sync}
 use denote.Struct.Field.{shr_ref_field}
 use Rattle.std.proofs.Crossing as heap
 use Rattle.std.proofs.MapsCrossing as maps
@@ -40,6 +40,10 @@ use Rattle.std.specs.contracts.sync.Arc as Arc
 use Rattle.hp_fire.specs.contracts.context.Site as Site
 use Rattle.hp_fire.specs.contracts.wave.Wave as Wave
 use Rattle.hp_fire.specs.contracts.progress.Tried as Tried
+use Rattle.hp_fire.specs.contracts.line.Sent as Sent
+use Rattle.hp_board.proofs.dealer.Seat.TheSendSync as seat
+use Rattle.rtrb.proofs.producer.Producer.TheSendSync as sender
+use Rattle.hp_fire.specs.contracts.wave.Job as Job
 use Rattle.hp_value.proofs.env.Answer.TheSendSync as answer
 use Rattle.hp_rule.specs.contracts.task.Task as Task
 use Rattle.std.specs.contracts.alloc.Global as Heap
@@ -215,9 +219,6 @@ tried_send = search (attempt_send, sendable) depth 12
 library_row : IsSync Library.the_row
 library_row = search (rule_sync, expression_parts) depth 30 fits 20000
 
-attempt_row : IsSync Attempt.the_row
-attempt_row = search (outcome_sync, task_sync, reads_sync, layer_send, layer_sync, heap.crosses, sendable) depth 12
-
 layer_row_send : IsSend Layer.the_row
 layer_row_send = search layer_parts depth 12
 
@@ -231,4 +232,10 @@ wave_board : IsSync (Board.the_row (Arc.the_row Layer.the_row Heap.the_row ghost
 wave_board = board.the_sync (Arc.the_row Layer.the_row Heap.the_row ghosts) (heap.Arc-send Layer.the_row layer_row_send layer_row_sync) (heap.Arc-sync Layer.the_row layer_row_send layer_row_sync)
 
 pub wave_sync : (κ : NamedLft) → IsSync (Wave.the_row κ)
-wave_sync κ = search (snapshot_sync, attempt_row, task.the_sync, wave_board, heap.crosses, sendable) depth 30 fits 20000
+wave_sync κ = search (snapshot_sync, layer_row_send, layer_row_sync, task.the_sync, wave_board, heap.crosses, sendable) depth 30 fits 20000
+
+sent_send : (κ : NamedLft) → IsSend (Sent.the_row κ)
+sent_send κ = search (library_row, tried_send, sendable) depth 12
+
+pub job_send : (κ : NamedLft) → IsSend (Job.the_row κ)
+job_send κ = declared_send (Job.the_type κ) (search (seat.the_send, sendable) depth 12, (search (sent_send, sender.the_send, heap.crosses, heap.send, sendable) depth 12, tt))

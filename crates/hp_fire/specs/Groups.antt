@@ -1,5 +1,5 @@
 -- How far a group of firings has come that workers help with.
-use Rattle.std.specs.Prelude.{◌≡◌, ℕ, ◌+◌, ◌≤◌, Bool, true, List, Option, Some, None, All, map, drop, length}
+use Rattle.std.specs.Prelude.{◌≡◌, ℕ, ◌+◌, ◌<◌, ◌≤◌, Bool, true, List, Option, Some, None, All, map, drop, length}
 use Rattle.std.specs.List.{slice_index_or}
 use Rattle.hp_model.specs.Rules.{Library}
 use Rattle.hp_model.specs.Tree.{Task}
@@ -10,9 +10,18 @@ use Rattle.hp_model.proofs.FaithfulFirings.{GroupCompletes}
 use Rattle.hp_view.specs.Seeing.{Seeing, GoesOn, written}
 use Rattle.hp_attempt.specs.declared.outcome.Outcome.{Outcome}
 use Rattle.hp_attempt.specs.Mapped.{firing, attempt}
+use Rattle.hp_attempt.specs.Fronts.{AreSound}
 use Rattle.hp_fire.specs.declared.progress.Tried.{Tried}
 use Rattle.hp_fire.specs.declared.progress.Progress.{Progress}
 use Rattle.hp_fire.specs.declared.wave.Wave.{Wave}
+use Rattle.hp_fire.specs.declared.wave.Job.{Job}
+use Rattle.hp_fire.specs.declared.line.Sent.{Sent}
+use Rattle.hp_fire.specs.declared.line.Soundness.{Soundness}
+use Rattle.hp_fire.specs.Lines.{IsOf}
+use Rattle.hp_board.specs.Deal.{Deal, IsSeatOf}
+use Rattle.rtrb.specs.Ring.{sent, received}
+use Rattle.rtrb.specs.declared.consumer.Consumer.{Consumer}
+use Rattle.std.specs.Global.{Global}
 
 -- From one view to another the group has come so far: with the firings of the tasks that are left these are the whole's, or
 -- these are the whole's, which a veto stopped.
@@ -34,6 +43,29 @@ IsRetried p number = slice_index_or p.retried.items number true ≡ true
 -- no more is accepted than is settled, and each wave but the first has led to a rerun
 abbrev pub IsCounted : Progress → Type 0
 IsCounted p = (p.accepted ≤ length p.outcomes.items) × (p.waves + p.accepted ≤ length p.outcomes.items + 1)
+
+-- what a worker is given: a seat at the wave's board, and an end of a line for the library's attempts
+abbrev pub IsJob : Library → Deal → Job → Type 0
+IsJob library deal job = IsSeatOf deal job.seat × IsOf library (sent job.sender)
+
+-- the owner's ends of such lines
+abbrev pub AreOf : Library → List (Consumer Sent Global Soundness) → Type 0
+AreOf library receivers = All (λ r. IsOf library (received r)) receivers
+
+-- Tasks were settled from attempts: no more were accepted than were settled, and fewer where the first of them was tried anew
+pub record IsAhead (old new : Progress) : Type 0 where
+  pub longer : length old.outcomes.items ≤ length new.outcomes.items
+  pub waves : new.waves ≡ old.waves
+  pub retried : new.retried ≡ old.retried
+  pub accepted : new.accepted + length old.outcomes.items ≤ old.accepted + length new.outcomes.items
+  pub reran : length old.outcomes.items < length new.outcomes.items → IsRetried old (length old.outcomes.items) → new.accepted + length old.outcomes.items < old.accepted + length new.outcomes.items
+  pub none : length new.outcomes.items ≡ length old.outcomes.items → old.end ≡ None → new.end ≡ None
+
+-- the group has come further with the view, and the attempts that are there are sound
+pub record Comes (library : Library) (stops : Bool) (tasks : List Task) (view : Seeing) (p : Progress) (view' : Seeing) (p' : Progress) : Type 0 where
+  pub ahead : IsAhead p p'
+  pub sound : AreSound library p'.attempts.items
+  pub so_far : (first : Seeing) → IsSoFar library stops tasks first view p.outcomes.items p.end → IsSoFar library stops tasks first view' p'.outcomes.items p'.end
 
 -- the board has a number for each task that isn't settled
 abbrev pub IsWave : Wave → Type 0

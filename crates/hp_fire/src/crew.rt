@@ -1,49 +1,65 @@
 //! Calls on threads of their own.
 
-ghost use Rattle.std.specs.Prelude.{[], ◌∷◌, IfOk};
+ghost use Rattle.std.specs.Prelude.{[], ◌∷◌, IfOk, IfSome, IsSome};
 ghost use denote.Param.Send.{IsSync, IsSend};
 ghost use Rattle.std.specs.Fork.{AcceptsJobs};
 ghost use Rattle.std.specs.Fork.Halves.{GivesFor};
 
 use std::alloc::{AllocError, Global};
+use std::mem;
 use std::thread;
 use std::thread::Threads;
 
-/// Calls a function at each job: at one of them in this thread, at each other in a thread of its own where one can be made. The
-/// results are in the order of the jobs.
+/// Calls a function at each job, in a thread of its own where one can be made, and another function in this thread meanwhile.
+/// The results are in the order of the jobs.
 ///
 /// It is `thread::map_vec`, but this thread starts all others: a thread that was just started is no good starter, since Linux
 /// puts what it starts on its own processor (measured, `bench/README.md`).
 ///
-/// An error means that memory ran out; the results are then dropped.
+/// An error means that memory ran out; what the jobs gave is then dropped.
 #[cycle(crew)]
-pub(crate) fn on_threads<R: Threads + Sync, J: Send + Drop, X: Send + Drop, F: Fn(J) -> X + Sync>(
+pub(crate) fn beside_threads<
+    R: Threads + Sync,
+    J: Send + Drop,
+    X: Send + Drop,
+    F: Fn(J) -> X + Sync,
+    Y,
+    H: FnMut() -> Y,
+>(
     rt: &R,
     alloc: Global,
     f: &F,
     mut jobs: Vec<J>,
-) -> Result<Vec<X>, AllocError>
-    requires { AcceptsJobs F.Fn f.now jobs.items }
-    ensures { IfOk result (λ results. GivesFor F.Fn f.now jobs.items results.items) }
+    here: &mut H,
+) -> (Result<Vec<X>, AllocError>, Y)
+    requires jobs { AcceptsJobs F.Fn f.now jobs.items }
+    requires here { H.pre here.old }
+    ensures jobs { IfOk result.0 (λ results. GivesFor F.Fn f.now jobs.items results.items) }
+    ensures here { H.step here.old result.1 here.new }
 {
     let Some(last) = jobs.pop() else {
-        return Ok(Vec::new(alloc));
+        return (Ok(Vec::new(alloc)), here());
     };
-    if jobs.is_empty() {
-        let mut only = Vec::new(alloc);
-        only.push(f(last))?;
-        return Ok(only);
+    let mut last = Some(last);
+    let mut apart = || -> X
+        requires { IsSync F.row × IsSend J.row × IsSend X.row × IsSome last × IfSome last (F.pre f.now) }
+        ensures { IfSome last.entry (λ job. GivesFor F.Fn f.entry.now (job ∷ []) (result ∷ [])) }
+    {
+        let Some(job) = last.take() else {
+            unreachable!();
+        };
+        f(job)
+    };
+    let mut rest = || -> (Result<Vec<X>, AllocError>, Y)
+        requires { AcceptsJobs F.Fn f.now jobs.items × H.pre here.now }
+        ensures { IfOk result.0 (λ results. GivesFor F.Fn f.entry.now jobs.entry.items results.items) × H.step here.entry.now result.1 here.exit.now }
+    { beside_threads(rt, alloc, f, mem::replace(&mut jobs, Vec::new(alloc)), here) };
+    let (result, (before, own)) = thread::join_mut(rt, &mut apart, &mut rest);
+    let Ok(mut results) = before else {
+        return (Err(AllocError), own);
+    };
+    match results.push(result) {
+        Ok(()) => (Ok(results), own),
+        Err(_) => (Err(AllocError), own),
     }
-    let apart = move || -> X
-        requires { IsSync F.row × IsSend J.row × IsSend X.row × F.pre f.now last }
-        ensures { GivesFor F.Fn f.entry.now (last ∷ []) (result ∷ []) }
-    { f(last) };
-    let here = move || -> Result<Vec<X>, AllocError>
-        requires { AcceptsJobs F.Fn f.now jobs.items }
-        ensures { IfOk result (λ results. GivesFor F.Fn f.entry.now jobs.items results.items) }
-    { on_threads(rt, alloc, f, jobs) };
-    let (result, before) = thread::join(rt, apart, here);
-    let mut results = before?;
-    results.push(result)?;
-    Ok(results)
 }

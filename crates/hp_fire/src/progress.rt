@@ -2,13 +2,19 @@
 
 ghost use Rattle.std.specs.Prelude.{◌≡◌, ◌+◌, ◌-◌, ◌^◌, ◌<◌, ◌≤◌, ◌↔◌, [], ◌∷◌, ◌++◌, None, Ok, true, IsTrue, IfOk, OnOk, All, length, drop, map};
 ghost use Rattle.std.specs.List.{slice_index_or};
+ghost use Rattle.rtrb.specs.Ring.{received};
 ghost use Rattle.hp_model.specs.Rules.{Library as ModelLibrary};
+ghost use Rattle.hp_model.specs.Soundness.{IsSound};
 ghost use Rattle.hp_rule.specs.Mapped.{task as task_of};
 ghost use Rattle.hp_view.specs.Seeing.{Seeing};
 ghost use Rattle.hp_attempt.specs.Fronts.{AreSound, stopped_by};
-ghost use Rattle.hp_fire.specs.Groups.{IsSoFar, AreSoundTries, IsRetried};
+ghost use Rattle.hp_attempt.specs.Mapped.{attempt as attempt_of};
+ghost use Rattle.hp_fire.specs.Lines.{IsOf};
+ghost use Rattle.hp_fire.specs.Groups.{IsSoFar, AreSoundTries, AreOf, IsRetried};
 
 use crate::course::GroupOutcome;
+use crate::line::{ROOM, Receiver, receive};
+use crate::wave::Wave;
 use hp_attempt::{Attempt, Outcome, holds, settle_front};
 use hp_rule::Task;
 use hp_value::RuleNo;
@@ -150,7 +156,7 @@ impl Progress {
         requires { self.old.accepted ≤ length self.old.outcomes.items }
         ensures taken { IfOk result (λ taken. length self.new.outcomes.items ≡ length self.old.outcomes.items + taken) }
         ensures none { IfOk result (λ taken. taken ≡ 0 → self.old.end ≡ None → self.new.end ≡ None) }
-        ensures waves { OnOk result (self.new.waves ≡ self.old.waves) }
+        ensures same { OnOk result ((self.new.waves ≡ self.old.waves) × (self.new.retried ≡ self.old.retried)) }
         ensures accepted { IfOk result (λ taken. self.new.accepted ≤ self.old.accepted + taken) }
         ensures retried { IfOk result (λ taken. 0 < taken → IsRetried self.old (length self.old.outcomes.items) → self.new.accepted < self.old.accepted + taken) }
         ensures sound { OnOk result ((library : ModelLibrary) → AreSound library self.old.attempts.items → AreSound library self.new.attempts.items) }
@@ -223,23 +229,133 @@ fn may_stand(place: &Option<Attempt>, view: &View) -> bool {
     }
 }
 
-/// Puts what the workers of a wave have brought into the places of the tasks.
-pub(crate) fn place(attempts: &mut VecDeque<Option<Attempt>>, found: Vec<Vec<Tried>>)
-    ensures { (library : ModelLibrary) → AreSound library attempts.old.items → All (λ tries. AreSoundTries library tries.items) found.items → AreSound library attempts.new.items }
-{
-    for tries in found {
-        place_each(attempts, tries);
+impl Progress {
+    ghost use Rattle.std.specs.Prelude.{◌≡◌, ◌≤◌, IfSome, OnOk, All, length, map};
+    ghost use Rattle.hp_model.specs.Rules.{Library as ModelLibrary};
+    ghost use Rattle.hp_model.specs.Soundness.{IsSound};
+    ghost use Rattle.hp_rule.specs.Mapped.{task as task_of};
+    ghost use Rattle.hp_attempt.specs.Fronts.{AreSound};
+    ghost use Rattle.hp_attempt.specs.Mapped.{attempt as attempt_of};
+    ghost use Rattle.hp_fire.specs.Groups.{AreOf, AreSoundTries, Comes};
+
+    /// Puts an attempt of the owner's into the place of its task, if that is still left. The task is told by its number in the
+    /// wave, before which `done` tasks of the group were settled.
+    pub(crate) fn put(&mut self, done: usize, number: usize, attempt: Option<Attempt>)
+        ensures same { self.new ≡ record self.old { attempts = self.new.attempts } }
+        ensures sound { (library : ModelLibrary) → AreSound library self.old.attempts.items → IfSome attempt (λ a. IsSound library (attempt_of a)) → AreSound library self.new.attempts.items }
+    {
+        if let Some(attempt) = attempt {
+            let settled = self.outcomes.len().saturating_sub(done);
+            place(&mut self.attempts, settled, Tried { number, attempt });
+        }
+    }
+
+    /// Puts what the workers of a wave have kept until they ended into the places of their tasks.
+    pub(crate) fn put_all(&mut self, done: usize, found: Vec<Vec<Tried>>)
+        ensures same { self.new ≡ record self.old { attempts = self.new.attempts } }
+        ensures sound { (library : ModelLibrary) → AreSound library self.old.attempts.items → All (λ tries. AreSoundTries library tries.items) found.items → AreSound library self.new.attempts.items }
+    {
+        let settled = self.outcomes.len().saturating_sub(done);
+        for tries in found {
+            place_each(&mut self.attempts, settled, tries);
+        }
+    }
+
+    /// Takes stock in the course of a wave, where that is cheap.
+    ///
+    /// An error means that memory ran out.
+    pub(crate) fn keep_up(
+        &mut self,
+        alloc: Global,
+        wave: &Wave<'_>,
+        view: &mut View,
+        receivers: &mut Vec<Receiver<'_>>,
+    ) -> Result<(), AllocError>
+        requires { self.old.accepted ≤ length self.old.outcomes.items }
+        ensures lines { (library : ModelLibrary) → AreOf library receivers.old.items → AreOf library receivers.new.items }
+        ensures comes { OnOk result ((library : ModelLibrary) → AreOf library receivers.old.items → AreSound library self.old.attempts.items
+            → Comes library wave.now.stop_at_veto (map task_of wave.now.tasks.now) view.old self.old view.new self.new) }
+    {
+        if !wave.early {
+            return Ok(());
+        }
+        self.take_stock(alloc, wave, view, receivers)?;
+        Ok(())
+    }
+
+    /// Puts what the workers of a wave have sent into the places of their tasks, and then takes in the longest front of the
+    /// attempts.
+    ///
+    /// An error means that memory ran out.
+    pub(crate) fn take_stock(
+        &mut self,
+        alloc: Global,
+        wave: &Wave<'_>,
+        view: &mut View,
+        receivers: &mut Vec<Receiver<'_>>,
+    ) -> Result<(), AllocError>
+        requires { self.old.accepted ≤ length self.old.outcomes.items }
+        ensures lines { (library : ModelLibrary) → AreOf library receivers.old.items → AreOf library receivers.new.items }
+        ensures comes { OnOk result ((library : ModelLibrary) → AreOf library receivers.old.items → AreSound library self.old.attempts.items
+            → Comes library wave.now.stop_at_veto (map task_of wave.now.tasks.now) view.old self.old view.new self.new) }
+    {
+        let settled = self.outcomes.len().saturating_sub(wave.done);
+        receive_all(receivers, &mut self.attempts, settled);
+        self.settle(alloc, view, wave.tasks, wave.stop_at_veto)?;
+        Ok(())
     }
 }
 
-fn place_each(attempts: &mut VecDeque<Option<Attempt>>, tries: Vec<Tried>)
+// Puts what the workers of a wave have sent into the places of their tasks.
+fn receive_all(
+    receivers: &mut Vec<Receiver<'_>>,
+    attempts: &mut VecDeque<Option<Attempt>>,
+    settled: usize,
+)
+    ensures lines { (library : ModelLibrary) → AreOf library receivers.old.items → AreOf library receivers.new.items }
+    ensures sound { (library : ModelLibrary) → AreOf library receivers.old.items → AreSound library attempts.old.items → AreSound library attempts.new.items }
+{
+    for line in 0..receivers.len() {
+        receive_from(&mut receivers[line], attempts, settled);
+    }
+}
+
+// Puts what one worker has sent into the places of its tasks.
+fn receive_from(
+    receiver: &mut Receiver<'_>,
+    attempts: &mut VecDeque<Option<Attempt>>,
+    settled: usize,
+)
+    ensures line { (library : ModelLibrary) → IsOf library (received receiver.old) → IsOf library (received receiver.new) }
+    ensures sound { (library : ModelLibrary) → IsOf library (received receiver.old) → AreSound library attempts.old.items → AreSound library attempts.new.items }
+{
+    for _ in 0..ROOM {
+        let Some(tried) = receive(receiver) else {
+            return;
+        };
+        place(attempts, settled, tried);
+    }
+}
+
+fn place_each(attempts: &mut VecDeque<Option<Attempt>>, settled: usize, tries: Vec<Tried>)
     ensures { (library : ModelLibrary) → AreSound library attempts.old.items → AreSoundTries library tries.items → AreSound library attempts.new.items }
 {
     for tried in tries {
-        let Tried { number, attempt } = tried;
-        if number < attempts.len() {
-            attempts[number] = Some(attempt);
-        }
+        place(attempts, settled, tried);
+    }
+}
+
+// Puts an attempt into the place of its task, if it is not one of the first of the wave that are settled.
+fn place(attempts: &mut VecDeque<Option<Attempt>>, settled: usize, tried: Tried)
+    ensures { (library : ModelLibrary) → AreSound library attempts.old.items → IsSound library (attempt_of tried.attempt) → AreSound library attempts.new.items }
+{
+    let Tried { number, attempt } = tried;
+    if number < settled {
+        return;
+    }
+    let place = number - settled;
+    if place < attempts.len() {
+        attempts[place] = Some(attempt);
     }
 }
 

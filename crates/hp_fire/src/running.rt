@@ -1,6 +1,6 @@
 //! Signals, groups and firings. Statements signal, and a firing's action is statements: `statement` has them.
 
-ghost use Rattle.std.specs.Prelude.{◌≡◌, ◌+◌, ◌^◌, ◌<◌, ◌≤◌, None, IfOk, OnOk, IfSome, All, map, length};
+ghost use Rattle.std.specs.Prelude.{◌≡◌, ◌+◌, ◌<◌, ◌≤◌, None, IfOk, OnOk, IfSome, IsSome, All, map, length};
 ghost use Rattle.std.specs.Thread.{IsSync};
 ghost use Rattle.hp_model.specs.Cells.{Holds};
 ghost use Rattle.hp_model.specs.Soundness.{IsSound};
@@ -17,24 +17,26 @@ ghost use Rattle.hp_board.specs.Passes.{IsPassOf};
 ghost use Rattle.hp_attempt.specs.Fronts.{AreSound};
 ghost use Rattle.hp_attempt.specs.Mapped.{firing as firing_of, attempt as attempt_of};
 ghost use Rattle.hp_fire.specs.Mapped.{course as course_in, group as group_in};
-ghost use Rattle.hp_fire.specs.Groups.{IsSoFar, IsCounted, IsRetried, AreSoundTries, IsWave};
+ghost use Rattle.hp_fire.specs.Groups.{IsSoFar, IsCounted, AreSoundTries, IsWave, IsJob, AreOf, Comes};
 ghost use Rattle.hp_fire.specs.Runs.{Runs, RunsFiring, RunsGroup, Steps, AreReady};
 
 use crate::closing::close_action;
 use crate::context::{Context, Site};
 use crate::course::{Course, End, GroupOutcome};
-use crate::crew::on_threads;
+use crate::crew::beside_threads;
+use crate::line::Receiver;
 use crate::deciding::{Decision, action_of, decide};
 use crate::elders::Elders;
 use crate::gate::Gate;
-use crate::listing::{list_beneath, list_classes};
+use crate::listing::list_beneath;
 use crate::placing::{Placed, firing_course, group_course, lone, place_tasks};
-use crate::progress::{Progress, Tried, place};
+use crate::progress::{Progress, Tried};
+use crate::start::{Start, prepare};
 use crate::statement::statements;
-use crate::wave::{Wave, keep, kept_layer, post_attempt, post_layer};
+use crate::wave::{Job, Wave, hand_over, kept_layer, post_attempt, post_layer};
 use crate::worth::are_worth_threads;
 use hp_attempt::{Attempt, Outcome};
-use hp_board::{Board, Pass, Seat};
+use hp_board::{Pass, Seat};
 use hp_ops::trigger;
 use hp_rule::Task;
 use hp_store::{Layer, Snapshot};
@@ -42,7 +44,6 @@ use hp_tree::What;
 use hp_value::{Answer, Halt, Prim};
 use hp_view::View;
 use std::alloc::{AllocError, Global};
-use std::collections::VecDeque;
 use std::sync::Arc;
 use std::thread::Threads;
 
@@ -221,95 +222,159 @@ fn settle_by_wave<R: Threads + Sync, G: Gate + Sync>(
     if !progress.is_wave_due(view, site.width) {
         return Ok(0);
     }
-    list_beneath(alloc, site.lib, &tasks[progress.outcomes.len()..], view)?;
-    wave(site, alloc, view, tasks, progress);
-    let taken = progress.settle(alloc, view, tasks, stop_at_veto)?;
-    Ok(taken)
+    let done = progress.outcomes.len();
+    list_beneath(alloc, site.lib, &tasks[done..], view)?;
+    progress.begin_wave(view);
+    wave(site, alloc, view, tasks, stop_at_veto, progress)?;
+    Ok(progress.outcomes.len() - done)
 }
 
-/// Has workers try the tasks that are left. What they bring goes into the places of these tasks. Where memory runs out,
-/// places stay empty.
+/// Has workers try the tasks that are left, together with the owner, who meanwhile takes in the longest front of the attempts.
+/// Where memory runs out for what workers need, tasks have no attempts.
 #[cycle(fire)]
 fn wave<R: Threads + Sync, G: Gate + Sync>(
     site: &Site<'_, R, G>,
     alloc: Global,
-    view: &View,
+    view: &mut View,
     tasks: &[Task],
+    stop_at_veto: bool,
     progress: &mut Progress,
-)
+) -> Result<(), AllocError>
     requires left { length progress.old.outcomes.items < length tasks.now }
-    requires waves { progress.old.waves + 1 < 2 ^ 64 }
+    requires accepted { progress.old.accepted ≤ length progress.old.outcomes.items }
     requires sound { AreSound (library site.now.lib.now) progress.old.attempts.items }
-    ensures same { progress.new ≡ record progress.old { attempts = progress.new.attempts; retried = progress.new.retried; waves = progress.old.waves + 1; tried = progress.new.tried } }
-    ensures sound { AreSound (library site.now.lib.now) progress.new.attempts.items }
-    ensures retried { 0 < progress.old.waves → IsRetried progress.new (length progress.old.outcomes.items) }
+    ensures { OnOk result (Comes (library site.now.lib.now) stop_at_veto (map task_of tasks.now) view.old progress.old view.new progress.new) }
 {
-    progress.begin_wave(view);
-    let done = progress.outcomes.len();
-    let found = tries(site, alloc, view, tasks, done, &progress.attempts);
-    if let Ok(found) = found {
-        place(&mut progress.attempts, found);
-    }
-}
-
-/// The attempts of all workers of a wave over the tasks after the first `done`.
-#[cycle(fire)]
-fn tries<'x, R: Threads + Sync, G: Gate + Sync>(
-    site: &Site<'_, R, G>,
-    alloc: Global,
-    view: &View,
-    tasks: &'x [Task],
-    done: usize,
-    attempts: &'x VecDeque<Option<Attempt>>,
-) -> Result<Vec<Vec<Tried>>, AllocError>
-    requires { done < length tasks.now }
-    ensures { IfOk result (λ all. All (λ found. AreSoundTries (library site.now.lib.now) found.items) all.items) }
-{
-    let mut snapshot = view.freeze(alloc)?;
-    list_classes(alloc, site.lib, &tasks[done..], &mut snapshot)?;
-    let left = tasks.len() - done;
-    let workers = site.width.clamp(1, 64).min(left);
-    let (board, seats) = Board::new(alloc, left, workers)?;
-    let wave = Wave {
-        tasks,
-        done,
-        attempts,
-        snapshot,
-        board,
-        told: site.told,
+    let Ok(start) = prepare(site, alloc, view, tasks, stop_at_veto, progress) else {
+        return Ok(());
     };
-    let wave = &wave;
+    let Start {
+        wave,
+        seat,
+        jobs,
+        mut receivers,
+    } = start;
     let inside = Site {
-        width: (site.width / workers).max(1),
+        width: (site.width / (jobs.len() + 1)).max(1),
         told: false,
         ..*site
     };
-    let inside = &inside;
-    let found = on_threads(
-        site.rt,
-        alloc,
-        &|seat| -> Vec<Tried>
-            requires { IsSync R.row × IsSync G.row × IsWave wave.now × IsSeatOf wave.now.board.deal seat }
-            ensures { AreSoundTries (library inside.entry.now.lib.now) result.items }
-        { work(inside, alloc, wave, seat) },
-        seats,
-    )?;
-    Ok(found)
+    let (found, led) = try_all(&inside, alloc, &wave, seat, jobs, view, progress, &mut receivers);
+    led?;
+    if let Ok(found) = found {
+        progress.put_all(wave.done, found);
+    }
+    progress.take_stock(alloc, &wave, view, &mut receivers)?;
+    Ok(())
 }
 
-/// One worker: it draws numbers until none is left, tries their tasks, and brings the attempts. Where they turn out to be in
-/// conflict it only draws on, so that no other worker tries in vain what is left.
+/// Tries the tasks of a wave: each worker in a thread of its own, and the owner in this one. It gives what the workers bring,
+/// and whether the owner had memory for what it took in.
+#[cycle(fire)]
+fn try_all<R: Threads + Sync, G: Gate + Sync>(
+    site: &Site<'_, R, G>,
+    alloc: Global,
+    wave: &Wave<'_>,
+    seat: Seat,
+    jobs: Vec<Job<'_>>,
+    view: &mut View,
+    progress: &mut Progress,
+    receivers: &mut Vec<Receiver<'_>>,
+) -> (Result<Vec<Vec<Tried>>, AllocError>, Result<(), AllocError>)
+    requires wave { IsWave wave.now }
+    requires seat { IsSeatOf wave.now.board.deal seat }
+    requires jobs { All (IsJob (library site.now.lib.now) wave.now.board.deal) jobs.items }
+    requires lines { AreOf (library site.now.lib.now) receivers.old.items }
+    requires sound { AreSound (library site.now.lib.now) progress.old.attempts.items }
+    requires accepted { progress.old.accepted ≤ length progress.old.outcomes.items }
+    ensures found { IfOk result.0 (λ all. All (λ found. AreSoundTries (library site.now.lib.now) found.items) all.items) }
+    ensures comes { OnOk result.1 (Comes (library site.now.lib.now) wave.now.stop_at_veto (map task_of wave.now.tasks.now) view.old progress.old view.new progress.new) }
+    ensures lines { AreOf (library site.now.lib.now) receivers.new.items }
+{
+    let mut seat = Some(seat);
+    let mut here = || -> Result<(), AllocError>
+        requires { IsSync R.row × IsSync G.row × IsWave wave.now × IsSome seat × IfSome seat (IsSeatOf wave.now.board.deal) × AreOf (library site.now.lib.now) receivers.now.items
+            × AreSound (library site.now.lib.now) progress.now.attempts.items × (progress.now.accepted ≤ length progress.now.outcomes.items) }
+        ensures comes { OnOk result (Comes (library site.entry.now.lib.now) wave.entry.now.stop_at_veto (map task_of wave.entry.now.tasks.now) view.entry.now progress.entry.now view.exit.now progress.exit.now) }
+        ensures lines { AreOf (library site.entry.now.lib.now) receivers.exit.now.items }
+    {
+        let Some(seat) = seat.take() else {
+            unreachable!();
+        };
+        lead(site, alloc, wave, seat, view, progress, receivers)
+    };
+    beside_threads(
+        site.rt,
+        alloc,
+        &|job| -> Vec<Tried>
+            requires { IsSync R.row × IsSync G.row × IsWave wave.now × IsJob (library site.now.lib.now) wave.now.board.deal job }
+            ensures { AreSoundTries (library site.entry.now.lib.now) result.items }
+        { work(site, alloc, wave, job) },
+        jobs,
+        &mut here,
+    )
+}
+
+/// The owner's part of a wave: it tries tasks as the workers do, and takes in the longest front of the attempts as they come.
+#[cycle(fire)]
+fn lead<R: Threads + Sync, G: Gate + Sync>(
+    site: &Site<'_, R, G>,
+    alloc: Global,
+    wave: &Wave<'_>,
+    mut seat: Seat,
+    view: &mut View,
+    progress: &mut Progress,
+    receivers: &mut Vec<Receiver<'_>>,
+) -> Result<(), AllocError>
+    requires wave { IsWave wave.now }
+    requires seat { IsSeatOf wave.now.board.deal seat }
+    requires lines { AreOf (library site.now.lib.now) receivers.old.items }
+    requires sound { AreSound (library site.now.lib.now) progress.old.attempts.items }
+    requires accepted { progress.old.accepted ≤ length progress.old.outcomes.items }
+    ensures comes { OnOk result (Comes (library site.now.lib.now) wave.now.stop_at_veto (map task_of wave.now.tasks.now) view.old progress.old view.new progress.new) }
+    ensures lines { AreOf (library site.now.lib.now) receivers.new.items }
+{
+    let Ok(mut pass) = wave.board.pass(alloc) else {
+        return Ok(());
+    };
+    let Ok(mut elders) = Elders::new(alloc) else {
+        return Ok(());
+    };
+    for _ in 0..wave.tasks.len() {
+        let (drawn, after) = wave.board.draw(seat);
+        seat = after;
+        let Some(number) = drawn else {
+            break;
+        };
+        if elders.are_in_conflict() || progress.end.is_some() {
+            // No attempt is taken in past a veto, and what is in conflict is run after the wave.
+            continue;
+        }
+        let (attempt, after) = try_number(site, alloc, wave, number, &mut elders, pass);
+        pass = after;
+        progress.put(wave.done, number, attempt);
+        progress.keep_up(alloc, wave, view, receivers)?;
+    }
+    Ok(())
+}
+
+/// One worker: it draws numbers until none is left, tries their tasks, and sends the attempts; it brings those for which the
+/// line had no room. Where they turn out to be in conflict it only draws on, so that no other worker tries in vain what is left.
 #[cycle(fire)]
 fn work<R: Threads + Sync, G: Gate + Sync>(
     site: &Site<'_, R, G>,
     alloc: Global,
     wave: &Wave<'_>,
-    mut seat: Seat,
+    job: Job<'_>,
 ) -> Vec<Tried>
     requires wave { IsWave wave.now }
-    requires seat { IsSeatOf wave.now.board.deal seat }
+    requires job { IsJob (library site.now.lib.now) wave.now.board.deal job }
     ensures { AreSoundTries (library site.now.lib.now) result.items }
 {
+    let Job {
+        mut seat,
+        mut sender,
+    } = job;
     let mut found = Vec::new(alloc);
     let Ok(mut pass) = wave.board.pass(alloc) else {
         return found;
@@ -329,7 +394,7 @@ fn work<R: Threads + Sync, G: Gate + Sync>(
         }
         let (attempt, after) = try_number(site, alloc, wave, number, &mut elders, pass);
         pass = after;
-        keep(&mut found, number, attempt);
+        hand_over(&mut sender, &mut found, number, attempt);
     }
     found
 }

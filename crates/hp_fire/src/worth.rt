@@ -23,8 +23,11 @@ pub(crate) fn are_worth_threads(lib: &Library, tasks: &[Task]) -> bool {
     let mut work = 0usize;
     for task in tasks {
         work = work.saturating_add(work_of(lib, task.rule));
+        if work >= PAYS {
+            return true;
+        }
     }
-    work >= PAYS
+    false
 }
 
 // How much a rule's firing has to do, in statements.

@@ -145,6 +145,13 @@ impl View {
 }
 
 impl View {
+    /// How many cells the view has written. So many are copied by its first write after `freeze`, while the snapshot lives.
+    pub fn written(&self) -> usize
+        ensures { result ≡ length self.now.writes }
+    {
+        self.writes.len()
+    }
+
     /// Gives a cell a value.
     ///
     /// An error means that memory ran out; the view is then as before.

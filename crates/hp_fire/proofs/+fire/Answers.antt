@@ -37,17 +37,18 @@ use Rattle.hp_fire.proofs.Attempting.{attempt_sound}
 use Rattle.hp_fire.specs.declared.course.GroupOutcome.{GroupOutcome}
 use Rattle.std.proofs.lemmas.List.{drop-map, length-map}
 use Rattle.hp_fire.specs.declared.progress.Progress.{Progress}
-use Rattle.hp_fire.specs.Groups.{IsSoFar, IsCounted}
+use Rattle.hp_fire.specs.Groups.{IsSoFar, IsCounted, Comes}
 use denote.Param.{param}
 use denote.Param.Send.{IsSync, param_sync, sendable}
 use denote.Ref.{NamedLft}
 use mir.Syntax.{named}
 use Rattle.hp_fire.specs.contracts.context.Site as Site
 use Rattle.std.proofs.Crossing as heap
-use Rattle.hp_fire.proofs.Sending.{tried_send, site_sync, wave_sync}
+use Rattle.hp_fire.proofs.Sending.{tried_send, job_send, site_sync, wave_sync}
+use Rattle.hp_fire.proofs.Coming.{comes_same, comes_then, comes_put}
 use Rattle.hp_fire.proofs.Helping.{false_true, not_less, so_far_starts, so_far_ran, so_far_ends}
 use Rattle.hp_fire.proofs.+fire.Goals as goal
-use Rattle.hp_fire.proofs.+fire.Goals.{running::one_by_one-else-stop_at_veto-via-then-stop_at_veto+else-is_some, running::one_by_one-else-stop_at_veto-via-else-stop_at_veto}
+use Rattle.hp_fire.proofs.+fire.Goals.{running::wave-in-Ok-found, running::wave-in_default-found, running::one_by_one-else-stop_at_veto-via-then-stop_at_veto+else-is_some, running::one_by_one-else-stop_at_veto-via-else-stop_at_veto}
 
 -- ---- statements, one after another
 
@@ -156,31 +157,63 @@ running::advance-returns-clause-so_far g t c = λ first so_far.
     (so_far_ran c.settle_by_wave.new.progress.outcomes.items c.add.new.self.outcomes.items c.settle_by_wave.new.progress.end c.add.new.self.end (task c.index-tasks-len.result) _ c.in_ok-outcome.outcome none here
     c.in_ok-add.ensures.outcomes c.in_ok-add.ensures.end (c.in_ok-taken.ensures.so_far first so_far) c.in_ok-outcome.ensures)
 
-pub running::settle_by_wave-returns-clause-so_far : goal.running::settle_by_wave-returns-clause-so_far
-running::settle_by_wave-returns-clause-so_far g t c = λ first so_far.
-    let lib = library c.args.site.now.lib.now in
-    c.in_ok-taken.ensures.so_far lib first c.wave.ensures.sound
-    (subst (λ (p : Progress). IsSoFar lib c.args.stop_at_veto (map task c.args.tasks.now) first c.list_beneath.new.view p.outcomes.items p.end) (sym c.wave.ensures.same)
-    (subst (λ (v : Seeing). IsSoFar lib c.args.stop_at_veto (map task c.args.tasks.now) first v c.args.progress.now.outcomes.items c.args.progress.now.end) (sym c.list_beneath.ensures) so_far))
+pub running::settle_by_wave-wave-requires-clause-sound : goal.running::settle_by_wave-wave-requires-clause-sound
+running::settle_by_wave-wave-requires-clause-sound g t c = λ κs lives. c.begin_wave.ensures.sound (library c.args.site.now.lib.now) c.requires.sound
 
-pub running::settle_by_wave-returns-clause-sound : goal.running::settle_by_wave-returns-clause-sound
-running::settle_by_wave-returns-clause-sound g t c = c.in_ok-taken.ensures.sound (library c.args.site.now.lib.now) c.wave.ensures.sound
+pub running::try_all-beside_threads-requires-send-X : goal.running::try_all-beside_threads-requires-send-X
+running::try_all-beside_threads-requires-send-X g t c = λ κs lives. search (tried_send, heap.crosses, sendable) depth 12
 
-pub running::tries-on_threads-requires-send-X : goal.running::tries-on_threads-requires-send-X
-running::tries-on_threads-requires-send-X g t c = λ κs lives. search (tried_send, heap.crosses, sendable) depth 12
+pub running::try_all-beside_threads-requires-send-J : goal.running::try_all-beside_threads-requires-send-J
+running::try_all-beside_threads-requires-send-J g t c = λ κs lives. search (job_send, heap.crosses, sendable) depth 12
 
-pub running::tries-on_threads-requires-sync-F : goal.running::tries-on_threads-requires-sync-F
-running::tries-on_threads-requires-sync-F g t c = λ κs lives.
+pub running::try_all-beside_threads-requires-sync-F : goal.running::try_all-beside_threads-requires-sync-F
+running::try_all-beside_threads-requires-sync-F g t c = λ κs lives.
     let r : IsSync g.row.R = search rules in
     let s : IsSync g.row.G = search rules in
     let site : (κ : NamedLft) → IsSync (Site.the_row κ (param 0 g.row.R) (param 1 g.row.G)) = λ κ. site_sync κ (param 0 g.row.R) (param 1 g.row.G) (param_sync 0 g.row.R r) (param_sync 1 g.row.G s) in
-    record { shared = λ x b o κ. ((((λ q. tt), (site (record { mir = named 7; lft = κs.1.1.1.1.1.1.1.0 })).shared x.0.now x.0.ref_ptr.0 x.0.ref_ptr.1 κs.1.1.1.1.1.1.0), (((λ q. tt), heap.sync.shared x.1.now x.1.ref_ptr.0 x.1.ref_ptr.1 κs.1.1.1.1.1.1.1.1.0), (((λ q. tt), (wave_sync (record { mir = named 10; lft = κs.1.1.1.1.1.1.1.1.1.1.0 })).shared x.2.now x.2.ref_ptr.0 x.2.ref_ptr.1 κs.1.1.1.1.1.1.1.1.1.0), tt))), λ q. tt) }
+    record { shared = λ x b o κ. ((((λ q. tt), (site (record { mir = named 10; lft = κs.1.1.1.1.1.1.1.1.1.1.0 })).shared x.0.now x.0.ref_ptr.0 x.0.ref_ptr.1 κs.1.1.1.1.1.1.1.1.1.0), (((λ q. tt), heap.sync.shared x.1.now x.1.ref_ptr.0 x.1.ref_ptr.1 κs.1.1.1.1.1.1.1.1.1.1.1.0), (((λ q. tt), (wave_sync (record { mir = named 13; lft = κs.1.1.1.1.1.1.1.1.1.1.1.1.1.0 })).shared x.2.now x.2.ref_ptr.0 x.2.ref_ptr.1 κs.1.1.1.1.1.1.1.1.1.1.1.1.0), tt))), λ q. tt) }
 
-pub running::wave-returns-in-Ok-clause-sound : goal.running::wave-returns-in-Ok-clause-sound
-running::wave-returns-in-Ok-clause-sound g t c = let lib = library c.args.site.now.lib.now in c.place.ensures lib (c.begin_wave.ensures.sound lib c.requires.sound) c.in-Ok.ensures
+pub running::wave-returns : goal.running::wave-returns
+running::wave-returns g t c =
+    let lib = library c.args.site.now.lib.now in
+    let w = c.in-Ok.start.wave in
+    let led : Comes lib w.stop_at_veto (map task w.tasks.now) c.args.view.now c.args.progress.now c.try_all-found.new.view c.try_all-found.new.progress = search rules in
+    let put : Comes lib w.stop_at_veto (map task w.tasks.now) c.try_all-found.new.view c.try_all-found.new.progress c.try_all-found.new.view c.match-found-2.progress = elim c.match-found-2.branch [
+      | running::wave-in-Ok-found o ↦
+        let sound = o.put_all.ensures.sound lib led.sound (search rules) in
+        subst (λ (p : Progress). Comes lib w.stop_at_veto (map task w.tasks.now) c.try_all-found.new.view c.try_all-found.new.progress c.try_all-found.new.view p) (sym o.progress-is)
+        (comes_put c.try_all-found.new.view c.try_all-found.new.progress o.put_all.new.self o.put_all.ensures.same sound)
+      | running::wave-in_default-found o ↦
+        subst (λ (p : Progress). Comes lib w.stop_at_veto (map task w.tasks.now) c.try_all-found.new.view c.try_all-found.new.progress c.try_all-found.new.view p) (sym o.progress-is)
+        (comes_same c.try_all-found.new.view c.try_all-found.new.progress led.sound)
+    ] in
+    let taken = c.in_ok-take_stock.ensures.comes lib c.try_all-found.ensures.lines put.sound in
+    subst (λ b. Comes lib b (map task c.args.tasks.now) c.args.view.now c.args.progress.now c.take_stock.new.view c.take_stock.new.self) c.in-Ok.ensures.wave.2
+    (subst (λ ts. Comes lib w.stop_at_veto (map task ts) c.args.view.now c.args.progress.now c.take_stock.new.view c.take_stock.new.self) c.in-Ok.ensures.wave.1
+    (comes_then c.args.progress.now c.try_all-found.new.progress c.take_stock.new.self led (comes_then c.try_all-found.new.progress c.match-found-2.progress c.take_stock.new.self put taken)))
 
-pub running::wave-returns-in_default-clause-sound : goal.running::wave-returns-in_default-clause-sound
-running::wave-returns-in_default-clause-sound g t c = c.begin_wave.ensures.sound (library c.args.site.now.lib.now) c.requires.sound
+pub running::lead-returns-in_err-keep_up-clause-lines : goal.running::lead-returns-in_err-keep_up-clause-lines
+running::lead-returns-in_err-keep_up-clause-lines g t c = c.keep_up.ensures.lines (library c.args.site.now.lib.now) c.loop.invariant.1
+
+pub running::lead-loop-preserved : goal.running::lead-loop-preserved
+running::lead-loop-preserved g t c =
+    let lib = library c.args.site.now.lib.now in
+    let so_far = c.loop.invariant in
+    let sound = c.put.ensures.sound lib so_far.0.sound c.try_number-attempt.ensures.sound in
+    let put = comes_put c.loop.view c.loop.progress c.put.new.self c.put.ensures.same sound in
+    let up = c.in_ok-keep_up.ensures.comes lib so_far.1 sound in
+    (
+      comes_then c.args.progress.now c.loop.progress c.keep_up.new.self so_far.0 (comes_then c.loop.progress c.put.new.self c.keep_up.new.self put up),
+      c.keep_up.ensures.lines lib so_far.1,
+      c.draw-drawn.ensures.seat,
+      c.try_number-attempt.ensures.pass,
+    )
+
+pub running::work-loop-preserved : goal.running::work-loop-preserved
+running::work-loop-preserved g t c =
+    let lib = library c.args.site.now.lib.now in
+    let so_far = c.loop.invariant in
+    (c.hand_over.ensures.found lib so_far.1 so_far.0, c.hand_over.ensures.line lib so_far.1, c.draw-drawn.ensures.seat, c.try_number-attempt.ensures.pass)
 
 -- ---- attempts
 

@@ -10,7 +10,9 @@ use Rattle.hp_fire.specs.Mapped.{context, course}
 use Rattle.hp_board.specs.Deal.{IsSeatOf}
 use Rattle.hp_board.specs.Passes.{IsPassOf}
 use Rattle.hp_attempt.specs.Fronts.{AreSound}
-use Rattle.hp_fire.specs.Groups.{IsSoFar, IsCounted, AreSoundTries}
+use Rattle.hp_fire.specs.Groups.{IsSoFar, IsCounted, AreSoundTries, AreOf, Comes}
+use Rattle.hp_fire.specs.Lines.{IsOf}
+use Rattle.rtrb.specs.Ring.{sent}
 use Rattle.hp_fire.specs.Weights.{deepest, levels, left, group_levels}
 use Rattle.hp_fire.proofs.Steps.{Loop, GroupLoop}
 use Rattle.hp_fire.proofs.+fire.Given as goal
@@ -71,11 +73,17 @@ decreases-running::settle_by_wave g l = 16 * left l.site.now.lib.now (group_leve
 abbrev pub decreases-running::wave : goal.decreases-running::wave
 decreases-running::wave g l = 16 * left l.site.now.lib.now (group_levels l.site.now.lib.now l.tasks.now) (deepest l.site.now.lib.now) + 10
 
-abbrev pub decreases-running::tries : goal.decreases-running::tries
-decreases-running::tries g l = 16 * left l.site.now.lib.now (group_levels l.site.now.lib.now l.tasks.now) (deepest l.site.now.lib.now) + 9
+abbrev pub decreases-running::try_all : goal.decreases-running::try_all
+decreases-running::try_all g l = 16 * left l.site.now.lib.now (group_levels l.site.now.lib.now l.wave.now.tasks.now) (deepest l.site.now.lib.now) + 9
 
-abbrev pub decreases-running::tries-on_threads : goal.decreases-running::tries-on_threads
-decreases-running::tries-on_threads g l = 16 * left l.inside.now.lib.now (group_levels l.inside.now.lib.now l.wave.now.tasks.now) (deepest l.inside.now.lib.now) + 8
+abbrev pub decreases-running::try_all-here : goal.decreases-running::try_all-here
+decreases-running::try_all-here g l = 16 * left l.site.now.lib.now (group_levels l.site.now.lib.now l.wave.now.tasks.now) (deepest l.site.now.lib.now) + 8
+
+abbrev pub decreases-running::try_all-beside_threads : goal.decreases-running::try_all-beside_threads
+decreases-running::try_all-beside_threads g l = 16 * left l.site.now.lib.now (group_levels l.site.now.lib.now l.wave.now.tasks.now) (deepest l.site.now.lib.now) + 8
+
+abbrev pub decreases-running::lead : goal.decreases-running::lead
+decreases-running::lead g l = 16 * left l.site.now.lib.now (group_levels l.site.now.lib.now l.wave.now.tasks.now) (deepest l.site.now.lib.now) + 7
 
 abbrev pub decreases-running::work : goal.decreases-running::work
 decreases-running::work g l = 16 * left l.site.now.lib.now (group_levels l.site.now.lib.now l.wave.now.tasks.now) (deepest l.site.now.lib.now) + 7
@@ -122,5 +130,11 @@ invariant-running::group-loop-alloc g l =
 abbrev pub decreases-running::group-loop-alloc : goal.decreases-running::group-loop-alloc
 decreases-running::group-loop-alloc g l = length l.tasks - length l.progress.outcomes.items
 
+abbrev pub invariant-running::lead-loop : goal.invariant-running::lead-loop
+invariant-running::lead-loop g l =
+    Comes (library l.site.lib.now) l.wave.stop_at_veto (map task l.wave.tasks.now) l.fn.view l.fn.progress l.view l.progress
+    × AreOf (library l.site.lib.now) l.receivers.items × IsSeatOf l.wave.board.deal l.seat × IsPassOf l.wave.board.cells l.pass
+
 abbrev pub invariant-running::work-loop : goal.invariant-running::work-loop
-invariant-running::work-loop g l = AreSoundTries (library l.site.lib.now) l.found.items × IsSeatOf l.wave.board.deal l.seat × IsPassOf l.wave.board.cells l.pass
+invariant-running::work-loop g l =
+    AreSoundTries (library l.site.lib.now) l.found.items × IsOf (library l.site.lib.now) (sent l.sender) × IsSeatOf l.wave.board.deal l.seat × IsPassOf l.wave.board.cells l.pass

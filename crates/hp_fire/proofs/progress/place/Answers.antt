@@ -1,15 +1,6 @@
-use Rattle.std.proofs.Common.{rules, arith, subst, ◌≡◌, ◌∷◌, Vec}
-use Rattle.std.specs.Prelude.{All}
-use Rattle.std.specs.Global.{Global}
-use Rattle.std.proofs.lemmas.List.Elements.{All-tail}
-use Rattle.hp_fire.specs.declared.progress.Tried.{Tried}
-use Rattle.hp_fire.specs.Groups.{AreSoundTries}
+use Rattle.std.proofs.Common.{◌-◌, Some}
+use Rattle.hp_fire.proofs.Helping.{sound_set}
 use Rattle.hp_fire.proofs.progress.place.Goals as goal
 
-pub loop-tries-preserved : goal.loop-tries-preserved
-loop-tries-preserved c = λ library all found.
-    let P = λ (tries : Vec Tried Global). AreSoundTries library tries.items in
-    let split : c.loop-tries.tries-iterator.rest.items ≡ c.in-Some.tries ∷ c.next.new.self.rest.items = search rules in
-    let held = c.loop-tries.invariant library all found in
-    let more = subst (All P) split held.1 in
-    (c.place_each.ensures library held.0 (more 0 c.in-Some.tries (omega arith)), All-tail P c.in-Some.tries c.next.new.self.rest.items more)
+pub returns-then-place-len : goal.returns-then-place-len
+returns-then-place-len c = λ library sound is. sound_set library c.args.attempts.now.items (c.args.tried.number - c.args.settled) (Some c.args.tried.attempt) sound is

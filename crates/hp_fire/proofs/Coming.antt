@@ -1,0 +1,90 @@
+-- How a group comes further in a wave.
+use Rattle.std.proofs.Common.{arith, ◌⊎◌, inl, inr, ◌≡◌, refl, sym, ap, ◌∙◌, subst, ℕ, ◌+◌, ◌<◌, ◌≤◌, Bool, true, List, [], ◌∷◌, length, Option, None}
+use Rattle.std.proofs.lemmas.Bool.{cases_lt}
+use Rattle.std.specs.List.{slice_index_or}
+use Rattle.hp_model.specs.Rules.{Library}
+use Rattle.hp_model.specs.Tree.{Task}
+use Rattle.hp_view.specs.Seeing.{Seeing}
+use Rattle.hp_attempt.specs.Fronts.{AreSound}
+use Rattle.hp_fire.specs.declared.progress.Progress.{Progress}
+use Rattle.hp_fire.specs.declared.line.Sent.{Sent}
+use Rattle.hp_fire.specs.declared.line.Sent.TheVariants.{Library as OfLibrary, Tried as OfTried}
+use Rattle.hp_fire.specs.Lines.{IsOf}
+use Rattle.hp_fire.specs.Groups.{IsSoFar, IsRetried, IsAhead, Comes}
+
+-- it stays where it is
+ahead_same : (p : Progress) → IsAhead p p
+ahead_same p = record { longer = omega arith; waves = refl; retried = refl; accepted = omega arith; reran = λ less is. absurd (omega (arith, less)); none = λ e was. was }
+
+-- attempts alone change
+ahead_put : (p q : Progress) → q ≡ record p { attempts = q.attempts } → IsAhead p q
+ahead_put p q e =
+    let same : length q.outcomes.items ≡ length p.outcomes.items = ap (λ (x : Progress). length x.outcomes.items) e in
+    let accepted : q.accepted ≡ p.accepted = ap (λ (x : Progress). x.accepted) e in record {
+      longer = omega (arith, same);
+      waves = ap (λ (x : Progress). x.waves) e;
+      retried = ap (λ (x : Progress). x.retried) e;
+      accepted = omega (arith, same, accepted);
+      reran = λ less is. absurd (omega (arith, same, less));
+      none = λ long was. ap (λ (x : Progress). x.end) e ∙ was;
+    }
+
+-- the tasks of one step, and then those of another
+ahead_then : (p q r : Progress) → IsAhead p q → IsAhead q r → IsAhead p r
+ahead_then p q r a b = record {
+  longer = omega (arith, a.longer, b.longer);
+  waves = b.waves ∙ a.waves;
+  retried = b.retried ∙ a.retried;
+  accepted = omega (arith, a.accepted, b.accepted);
+  reran = λ less is. by less is (cases_lt (length p.outcomes.items) (length q.outcomes.items));
+  none = λ e was.
+      let first : length q.outcomes.items ≡ length p.outcomes.items = omega (arith, a.longer, b.longer, e) in
+      b.none (omega (arith, first, e)) (a.none first was);
+}
+  where
+    by : length p.outcomes.items < length r.outcomes.items → IsRetried p (length p.outcomes.items) → (length p.outcomes.items < length q.outcomes.items) ⊎ (length q.outcomes.items ≤ length p.outcomes.items)
+        → r.accepted + length p.outcomes.items < p.accepted + length r.outcomes.items
+    by less is (inl early) = let one = a.reran early is in omega (arith, one, b.accepted)
+    by less is (inr late) =
+        let first : length p.outcomes.items ≡ length q.outcomes.items = omega (arith, a.longer, late) in
+        let still : IsRetried q (length q.outcomes.items) = subst (IsRetried q) first (subst (λ rs. slice_index_or rs.items (length p.outcomes.items) true ≡ true) (sym a.retried) is) in
+        let one = b.reran (omega (arith, first, less)) still in
+        omega (arith, one, a.accepted)
+
+-- the library of a line is one
+pub one_library : (l m : Library) (xs : List Sent) → IsOf l xs → IsOf m xs → l ≡ m
+one_library l m [] a b = absurd a
+one_library l m (OfLibrary given ∷ xs) a b = sym a ∙ b
+one_library l m (OfTried tried ∷ xs) a b = absurd a
+
+module _ {library : Library} {stops : Bool} {tasks : List Task} where
+  pub comes_same : (v : Seeing) (p : Progress) → AreSound library p.attempts.items → Comes library stops tasks v p v p
+  comes_same v p sound = record { ahead = ahead_same p; sound = sound; so_far = λ first s. s }
+
+  pub comes_then : {v w x : Seeing} (p q r : Progress) → Comes library stops tasks v p w q → Comes library stops tasks w q x r → Comes library stops tasks v p x r
+  comes_then p q r a b = record { ahead = ahead_then p q r a.ahead b.ahead; sound = b.sound; so_far = λ first s. b.so_far first (a.so_far first s) }
+
+  -- attempts are put into places
+  pub comes_put : (v : Seeing) (p q : Progress) → q ≡ record p { attempts = q.attempts } → AreSound library q.attempts.items → Comes library stops tasks v p v q
+  comes_put v p q e sound = record {
+    ahead = ahead_put p q e;
+    sound = sound;
+    so_far = λ first s. subst (λ (x : Progress). IsSoFar library stops tasks first v x.outcomes.items x.end) (sym e) s;
+  }
+
+  -- the longest front of them is taken in
+  pub comes_settled : {v w : Seeing} (p q : Progress) (taken : ℕ) → length q.outcomes.items ≡ length p.outcomes.items + taken → (taken ≡ 0 → p.end ≡ None → q.end ≡ None) → (q.waves ≡ p.waves) × (q.retried ≡ p.retried)
+      → q.accepted ≤ p.accepted + taken → (0 < taken → IsRetried p (length p.outcomes.items) → q.accepted < p.accepted + taken) → AreSound library q.attempts.items
+      → ((first : Seeing) → IsSoFar library stops tasks first v p.outcomes.items p.end → IsSoFar library stops tasks first w q.outcomes.items q.end) → Comes library stops tasks v p w q
+  comes_settled p q taken longer none same accepted reran sound so_far = record {
+    ahead = record {
+      longer = omega (arith, longer);
+      waves = same.0;
+      retried = same.1;
+      accepted = omega (arith, longer, accepted);
+      reran = λ less is. let one = reran (omega (arith, longer, less)) is in omega (arith, longer, one);
+      none = λ e was. none (omega (arith, longer, e)) was;
+    };
+    sound = sound;
+    so_far = so_far;
+  }
