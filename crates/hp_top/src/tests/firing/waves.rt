@@ -397,27 +397,45 @@ fn siblings_in_conflict_give_the_same_at_any_width(rt: HostRuntime) -> Result<()
     Ok(())
 }
 
-// Nine tasks of the first rule.
-fn nine(alloc: Global) -> Result<Vec<Task>, AllocError> {
+// So many tasks of the first rule.
+fn of_the_first(alloc: Global, count: usize) -> Result<Vec<Task>, AllocError> {
     let mut tasks = Vec::new(alloc);
-    for _ in 0..9 {
+    for _ in 0..count {
         tasks.push(task(alloc, 0, Coupling::Immediate)?)?;
     }
     Ok(tasks)
+}
+
+// A rule whose condition asks a query, and another.
+fn asking(alloc: Global) -> Result<Library, CheckError> {
+    let asks = on_rich(alloc, "asks", Vec::new(alloc));
+    let other = on_go(alloc, "other", Coupling::Immediate, Vec::new(alloc));
+    super::library(alloc, asks, other)
 }
 
 // Threads take longer to start than many short actions take, unless conditions ask queries.
 #[test]
 fn many_short_siblings_have_no_workers(rt: HostRuntime) -> Result<(), Fail> {
     let alloc = rt.alloc();
-    let short = of_deeds(alloc, &[plus(1)]);
-    let (counts, balances) = fire(&rt, alloc, short, &[(1, 10)], nine(alloc), 4, &NoGate)?;
+    let (short, nine) = (of_deeds(alloc, &[plus(1)]), of_the_first(alloc, 9));
+    let (counts, balances) = fire(&rt, alloc, short, &[(1, 10)], nine, 4, &NoGate)?;
     assert_eq!(rt; counts, (0, 9, 0));
     assert_eq!(rt; balances.0, Some(19));
-    let asks = on_rich(alloc, "asks", Vec::new(alloc));
-    let other = on_go(alloc, "other", Coupling::Immediate, Vec::new(alloc));
-    let asking = super::library(alloc, asks, other);
-    let (counts, _) = fire(&rt, alloc, asking, &[(1, 19)], nine(alloc), 4, &NoGate)?;
+    let nine = of_the_first(alloc, 9);
+    let (counts, _) = fire(&rt, alloc, asking(alloc), &[(1, 19)], nine, 4, &NoGate)?;
     assert_eq!(rt; counts, (9, 0, 1));
+    Ok(())
+}
+
+// One of two threads is held at the first task until the other has tried all others: that one's line has no room for so many
+// attempts, if it is the worker's, and yet none is lost.
+#[test]
+fn a_line_without_room_loses_no_attempt(rt: HostRuntime) -> Result<(), Fail> {
+    let alloc = rt.alloc();
+    let gate = Hold::of(0, Awaited::End(39));
+    let forty = of_the_first(alloc, 40);
+    let (counts, _) = fire(&rt, alloc, asking(alloc), &[(1, 19)], forty, 2, &gate)?;
+    assert!(rt; !gate.was_late());
+    assert_eq!(rt; counts, (40, 0, 1));
     Ok(())
 }
