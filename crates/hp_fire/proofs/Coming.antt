@@ -1,5 +1,5 @@
 -- How a group comes further in a wave.
-use Rattle.std.proofs.Common.{arith, ◌⊎◌, inl, inr, ◌≡◌, refl, sym, ap, ◌∙◌, subst, ℕ, ◌+◌, ◌<◌, ◌≤◌, Bool, true, List, [], ◌∷◌, length, Option, None}
+use Rattle.std.proofs.Common.{arith, ◌⊎◌, inl, inr, ◌≡◌, refl, sym, ap, ◌∙◌, subst, ℕ, ◌+◌, ◌<◌, ◌≤◌, Bool, true, List, length, None}
 use Rattle.std.proofs.lemmas.Bool.{cases_lt}
 use Rattle.std.specs.List.{slice_index_or}
 use Rattle.hp_model.specs.Rules.{Library}
@@ -7,9 +7,6 @@ use Rattle.hp_model.specs.Tree.{Task}
 use Rattle.hp_view.specs.Seeing.{Seeing}
 use Rattle.hp_attempt.specs.Fronts.{AreSound}
 use Rattle.hp_fire.specs.declared.progress.Progress.{Progress}
-use Rattle.hp_fire.specs.declared.line.Sent.{Sent}
-use Rattle.hp_fire.specs.declared.line.Sent.TheVariants.{Library as OfLibrary, Tried as OfTried}
-use Rattle.hp_fire.specs.Lines.{IsOf}
 use Rattle.hp_fire.specs.Groups.{IsSoFar, IsRetried, IsAhead, Comes}
 
 -- it stays where it is
@@ -50,12 +47,6 @@ ahead_then p q r a b = record {
         let still : IsRetried q (length q.outcomes.items) = subst (IsRetried q) first (subst (λ rs. slice_index_or rs.items (length p.outcomes.items) true ≡ true) (sym a.retried) is) in
         let one = b.reran (omega (arith, first, less)) still in
         omega (arith, one, a.accepted)
-
--- the library of a line is one
-pub one_library : (l m : Library) (xs : List Sent) → IsOf l xs → IsOf m xs → l ≡ m
-one_library l m [] a b = absurd a
-one_library l m (OfLibrary given ∷ xs) a b = sym a ∙ b
-one_library l m (OfTried tried ∷ xs) a b = absurd a
 
 module _ {library : Library} {stops : Bool} {tasks : List Task} where
   pub comes_same : (v : Seeing) (p : Progress) → AreSound library p.attempts.items → Comes library stops tasks v p v p

@@ -6,9 +6,8 @@ ghost use Rattle.std.specs.Fork.{AcceptsJobs};
 ghost use Rattle.std.specs.Fork.Halves.{GivesFor};
 
 use std::alloc::{AllocError, Global};
-use std::mem;
-use std::thread;
 use std::thread::Threads;
+use std::{mem, thread};
 
 /// Calls a function at each job, in a thread of its own where one can be made, and another function in this thread meanwhile.
 /// The results are in the order of the jobs.
@@ -25,13 +24,7 @@ pub(crate) fn beside_threads<
     F: Fn(J) -> X + Sync,
     Y,
     H: FnMut() -> Y,
->(
-    rt: &R,
-    alloc: Global,
-    f: &F,
-    mut jobs: Vec<J>,
-    here: &mut H,
-) -> (Result<Vec<X>, AllocError>, Y)
+>(rt: &R, alloc: Global, f: &F, mut jobs: Vec<J>, here: &mut H) -> (Result<Vec<X>, AllocError>, Y)
     requires jobs { AcceptsJobs F.Fn f.now jobs.items }
     requires here { H.pre here.old }
     ensures jobs { IfOk result.0 (λ results. GivesFor F.Fn f.now jobs.items results.items) }

@@ -24,10 +24,10 @@ use crate::closing::close_action;
 use crate::context::{Context, Site};
 use crate::course::{Course, End, GroupOutcome};
 use crate::crew::beside_threads;
-use crate::line::Receiver;
 use crate::deciding::{Decision, action_of, decide};
 use crate::elders::Elders;
 use crate::gate::Gate;
+use crate::line::Receiver;
 use crate::listing::list_beneath;
 use crate::placing::{Placed, firing_course, group_course, lone, place_tasks};
 use crate::progress::{Progress, Tried};
@@ -259,7 +259,16 @@ fn wave<R: Threads + Sync, G: Gate + Sync>(
         told: false,
         ..*site
     };
-    let (found, led) = try_all(&inside, alloc, &wave, seat, jobs, view, progress, &mut receivers);
+    let (found, led) = try_all(
+        &inside,
+        alloc,
+        &wave,
+        seat,
+        jobs,
+        view,
+        progress,
+        &mut receivers,
+    );
     led?;
     if let Ok(found) = found {
         progress.put_all(wave.done, found);

@@ -28,7 +28,6 @@ use Rattle.hp_fire.specs.Runs.{Runs, RunsGroup, Made, Makes, SubRuns}
 use Rattle.hp_fire.proofs.Making.{steps_halt}
 use Rattle.hp_fire.proofs.Stating.{with_is, steps_at, runs_at, signal_halt, signal_steps, found_halt, fire_halt, fire_runs}
 use Rattle.hp_fire.proofs.Steps.{runs_answer, runs_ends, runs_value, found_value, runs_signal, sub_over, sub_then, body_each, loop_starts, loop_next, loop_stops, loop_ends, group_goes, group_stops, group_ends, goes_unvetoed, goes_past, group_starts}
-use Rattle.hp_view.specs.Seeing.{Seeing}
 use Rattle.hp_fire.proofs.Starting.{signal_runs, start_none, start_alone, alone_measure, start_runs, group_measure, none_long, map_none}
 use Rattle.hp_model.specs.Cells.{Holds}
 use Rattle.hp_store.specs.Changes.{changes}
@@ -37,7 +36,7 @@ use Rattle.hp_fire.proofs.Attempting.{attempt_sound}
 use Rattle.hp_fire.specs.declared.course.GroupOutcome.{GroupOutcome}
 use Rattle.std.proofs.lemmas.List.{drop-map, length-map}
 use Rattle.hp_fire.specs.declared.progress.Progress.{Progress}
-use Rattle.hp_fire.specs.Groups.{IsSoFar, IsCounted, Comes}
+use Rattle.hp_fire.specs.Groups.{IsCounted, Comes}
 use denote.Param.{param}
 use denote.Param.Send.{IsSync, param_sync, sendable}
 use denote.Ref.{NamedLft}
@@ -180,12 +179,12 @@ running::wave-returns g t c =
     let led : Comes lib w.stop_at_veto (map task w.tasks.now) c.args.view.now c.args.progress.now c.try_all-found.new.view c.try_all-found.new.progress = search rules in
     let put : Comes lib w.stop_at_veto (map task w.tasks.now) c.try_all-found.new.view c.try_all-found.new.progress c.try_all-found.new.view c.match-found-2.progress = elim c.match-found-2.branch [
       | running::wave-in-Ok-found o ↦
-        let sound = o.put_all.ensures.sound lib led.sound (search rules) in
-        subst (λ (p : Progress). Comes lib w.stop_at_veto (map task w.tasks.now) c.try_all-found.new.view c.try_all-found.new.progress c.try_all-found.new.view p) (sym o.progress-is)
-        (comes_put c.try_all-found.new.view c.try_all-found.new.progress o.put_all.new.self o.put_all.ensures.same sound)
+          let sound = o.put_all.ensures.sound lib led.sound (search rules) in
+          subst (λ (p : Progress). Comes lib w.stop_at_veto (map task w.tasks.now) c.try_all-found.new.view c.try_all-found.new.progress c.try_all-found.new.view p) (sym o.progress-is)
+          (comes_put c.try_all-found.new.view c.try_all-found.new.progress o.put_all.new.self o.put_all.ensures.same sound)
       | running::wave-in_default-found o ↦
-        subst (λ (p : Progress). Comes lib w.stop_at_veto (map task w.tasks.now) c.try_all-found.new.view c.try_all-found.new.progress c.try_all-found.new.view p) (sym o.progress-is)
-        (comes_same c.try_all-found.new.view c.try_all-found.new.progress led.sound)
+          subst (λ (p : Progress). Comes lib w.stop_at_veto (map task w.tasks.now) c.try_all-found.new.view c.try_all-found.new.progress c.try_all-found.new.view p) (sym o.progress-is)
+          (comes_same c.try_all-found.new.view c.try_all-found.new.progress led.sound)
     ] in
     let taken = c.in_ok-take_stock.ensures.comes lib c.try_all-found.ensures.lines put.sound in
     subst (λ b. Comes lib b (map task c.args.tasks.now) c.args.view.now c.args.progress.now c.take_stock.new.view c.take_stock.new.self) c.in-Ok.ensures.wave.2
@@ -201,8 +200,7 @@ running::lead-loop-preserved g t c =
     let so_far = c.loop.invariant in
     let sound = c.put.ensures.sound lib so_far.0.sound c.try_number-attempt.ensures.sound in
     let put = comes_put c.loop.view c.loop.progress c.put.new.self c.put.ensures.same sound in
-    let up = c.in_ok-keep_up.ensures.comes lib so_far.1 sound in
-    (
+    let up = c.in_ok-keep_up.ensures.comes lib so_far.1 sound in (
       comes_then c.args.progress.now c.loop.progress c.keep_up.new.self so_far.0 (comes_then c.loop.progress c.put.new.self c.keep_up.new.self put up),
       c.keep_up.ensures.lines lib so_far.1,
       c.draw-drawn.ensures.seat,

@@ -1,4 +1,4 @@
-use Rattle.std.proofs.Common.{subst, sym, ap, ◌∙◌, ◌≡◌, [], ◌∷◌, ◌++◌, IfSome, rules}
+use Rattle.std.proofs.Common.{subst, sym, ap, ◌∙◌, [], ◌∷◌, ◌++◌, IfSome}
 use Rattle.hp_model.specs.Soundness.{IsSound}
 use Rattle.hp_attempt.specs.Mapped.{attempt}
 use Rattle.hp_fire.specs.Groups.{AreSoundTries}

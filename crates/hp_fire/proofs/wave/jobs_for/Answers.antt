@@ -18,8 +18,7 @@ loop-seat-preserved c =
     let lib = library c.args.lib.now in
     let split : c.loop-seat.seat-iterator.rest.items ≡ c.in-Some.seat ∷ c.next.new.self.rest.items = search rules in
     let seats = subst (All (IsSeatOf deal)) split c.loop-seat.invariant.0 in
-    let P = λ (r : Consumer Sent Global Soundness). IsOf lib (received r) in
-    (
+    let P = λ (r : Consumer Sent Global Soundness). IsOf lib (received r) in (
       All-tail (IsSeatOf deal) c.in-Some.seat c.next.new.self.rest.items seats,
       subst (All (IsJob lib deal)) (sym c.in_ok-push.ensures.items) (All-push (IsJob lib deal) c.loop-seat.jobs.items _ c.loop-seat.invariant.1 (All-head (IsSeatOf deal) c.in-Some.seat c.next.new.self.rest.items seats, c.in_ok-sender.ensures.sender)),
       subst (All P) (sym c.in_ok-push-2.ensures.items) (All-push P c.loop-seat.receivers.items _ c.loop-seat.invariant.2 c.in_ok-sender.ensures.receiver),

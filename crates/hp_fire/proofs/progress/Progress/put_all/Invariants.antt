@@ -9,4 +9,4 @@ abbrev pub invariant-loop-tries : goal.invariant-loop-tries
 invariant-loop-tries l =
     (l.self ≡ record l.fn.self { attempts = l.self.attempts })
     × ((library : Library) → AreSound library l.fn.self.attempts.items → All (λ tries. AreSoundTries library tries.items) l.fn.found.items
-        → AreSound library l.self.attempts.items × All (λ tries. AreSoundTries library tries.items) l.tries-iterator.rest.items)
+    → AreSound library l.self.attempts.items × All (λ tries. AreSoundTries library tries.items) l.tries-iterator.rest.items)
