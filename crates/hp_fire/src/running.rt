@@ -231,6 +231,8 @@ fn settle_by_wave<R: Threads + Sync, G: Gate + Sync>(
 
 /// Has workers try the tasks that are left, together with the owner, who meanwhile takes in the longest front of the attempts.
 /// Where memory runs out for what workers need, tasks have no attempts.
+///
+/// An error means that memory ran out as the owner took attempts in.
 #[cycle(fire)]
 fn wave<R: Threads + Sync, G: Gate + Sync>(
     site: &Site<'_, R, G>,
@@ -325,6 +327,8 @@ fn try_all<R: Threads + Sync, G: Gate + Sync>(
 }
 
 /// The owner's part of a wave: it tries tasks as the workers do, and takes in the longest front of the attempts as they come.
+///
+/// An error means that memory ran out as it took attempts in. Where it runs out before, the workers try all tasks.
 #[cycle(fire)]
 fn lead<R: Threads + Sync, G: Gate + Sync>(
     site: &Site<'_, R, G>,
