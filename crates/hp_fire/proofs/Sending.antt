@@ -147,14 +147,8 @@ snapshot_sync = search (base_send, base_sync, shared_layer_sync, small_vec_sync,
 pub found_send : IsSend Found.the_field.row
 found_send = search (cell_value_send, objects.the_send, objects.the_sync, heap.crosses, sendable) depth 12
 
-pub found_sync : IsSync Found.the_field.row
-found_sync = search (cell_value_sync, objects.the_send, objects.the_sync, heap.crosses, sendable) depth 12
-
 pub reads_send : IsSend Reads.the_field.row
 reads_send = search (found_send, seen.the_send, heap.crosses, sendable) depth 20
-
-pub reads_sync : IsSync Reads.the_field.row
-reads_sync = search (found_sync, seen.the_sync, heap.crosses, sendable) depth 20
 
 ruleset item_parts = (row.the_send, row.the_sync, value.the_send, value.the_sync, maps.crosses, heap.crosses, sendable)
 
@@ -169,20 +163,11 @@ ruleset task_parts = (occurrence.the_send, occurrence.the_sync, answer.the_send,
 pub task_send : IsSend Task.the_field.row
 task_send = search task_parts depth 30 fits 20000
 
-pub task_sync : IsSync Task.the_field.row
-task_sync = search task_parts depth 30 fits 20000
-
 pub outcome_send : IsSend Outcome.the_field.row
 outcome_send = search (item_send, task.the_send, detached.the_send, heap.crosses, sendable) depth 12
 
-pub outcome_sync : IsSync Outcome.the_field.row
-outcome_sync = search (item_sync, task.the_sync, detached.the_sync, heap.crosses, sendable) depth 12
-
 pub attempt_send : IsSend Attempt.the_field.row
 attempt_send = search (outcome_send, task_send, reads_send, layer_send, layer_sync, heap.crosses, sendable) depth 12
-
-pub attempt_sync : IsSync Attempt.the_field.row
-attempt_sync = search (outcome_sync, task_sync, reads_sync, layer_send, layer_sync, heap.crosses, sendable) depth 12
 
 ruleset expression_parts = (value.the_sync, arithmetic.the_sync, comparison.the_sync, pattern.the_sync, class.the_sync, index.the_sync, coupling.the_sync, operation_word.the_sync, heap.crosses, maps.crosses, sendable)
 

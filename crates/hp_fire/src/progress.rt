@@ -238,6 +238,11 @@ impl Progress {
     ghost use Rattle.hp_attempt.specs.Mapped.{attempt as attempt_of};
     ghost use Rattle.hp_fire.specs.Groups.{AreOf, AreSoundTries, Comes};
 
+    // How many tasks were settled since so many were.
+    fn settled_since(&self, done: usize) -> usize {
+        self.outcomes.len().saturating_sub(done)
+    }
+
     /// Puts an attempt of the owner's into the place of its task, if that is still left. The task is told by its number in the
     /// wave, before which `done` tasks of the group were settled.
     pub(crate) fn put(&mut self, done: usize, number: usize, attempt: Option<Attempt>)
@@ -245,7 +250,7 @@ impl Progress {
         ensures sound { (library : ModelLibrary) → AreSound library self.old.attempts.items → IfSome attempt (λ a. IsSound library (attempt_of a)) → AreSound library self.new.attempts.items }
     {
         if let Some(attempt) = attempt {
-            let settled = self.outcomes.len().saturating_sub(done);
+            let settled = self.settled_since(done);
             place(&mut self.attempts, settled, Tried { number, attempt });
         }
     }
@@ -255,7 +260,7 @@ impl Progress {
         ensures same { self.new ≡ record self.old { attempts = self.new.attempts } }
         ensures sound { (library : ModelLibrary) → AreSound library self.old.attempts.items → All (λ tries. AreSoundTries library tries.items) found.items → AreSound library self.new.attempts.items }
     {
-        let settled = self.outcomes.len().saturating_sub(done);
+        let settled = self.settled_since(done);
         for tries in found {
             place_each(&mut self.attempts, settled, tries);
         }
@@ -299,7 +304,7 @@ impl Progress {
         ensures comes { OnOk result ((library : ModelLibrary) → AreOf library receivers.old.items → AreSound library self.old.attempts.items
             → Comes library wave.now.stop_at_veto (map task_of wave.now.tasks.now) view.old self.old view.new self.new) }
     {
-        let settled = self.outcomes.len().saturating_sub(wave.done);
+        let settled = self.settled_since(wave.done);
         receive_all(receivers, &mut self.attempts, settled);
         self.settle(alloc, view, wave.tasks, wave.stop_at_veto)?;
         Ok(())

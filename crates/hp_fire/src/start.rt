@@ -15,7 +15,7 @@ use hp_rule::Task;
 use hp_view::View;
 use std::alloc::{AllocError, Global};
 
-// To take in an attempt takes about as long as to copy so many writes.
+// To take in an attempt takes about as long as to copy so many writes, as reckoned: it wasn't measured.
 const COPIES: usize = 32;
 
 /// What a wave begins with.
