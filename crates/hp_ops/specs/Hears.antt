@@ -1,6 +1,6 @@
 -- What telling rules of an occurrence promises.
-use Rattle.std.specs.Prelude.{◌≡◌, ℕ, suc, List, [], ◌∷◌, ◌++◌, map, false, Option, Some, option_map, option_to_list}
-use Rattle.hp_model.specs.Occurrences.{Primitive, History, Occurrence}
+use Rattle.std.specs.Prelude.{◌≡◌, ℕ, suc, List, [], ◌∷◌, ◌++◌, map, false, Option, Some, IfSome, option_map, option_to_list}
+use Rattle.hp_model.specs.Occurrences.{Primitive, History, Occurrence, primitive_occurrence}
 use Rattle.hp_model.specs.Events.{Event, occurrence_of}
 use Rattle.hp_model.specs.Knowledge.{Knowledge, knowledge}
 use Rattle.hp_model.specs.Rules.{Coupling, Library, rule_at}
@@ -33,6 +33,10 @@ pub record StepsOn (event : Event) (p : Primitive) (n : ℕ) (old new : Seeing) 
   pub shows : (base : Cells) → Holds base new.reads → over base (written old) (detector_cell n) ≡ found
   pub steps : GoesOnePlace event p found o next
   pub writes : written new ≡ with_change (written old) (detector_cell n) (Some (Some (knowledge_value next)))
+
+-- what events share that don't look back, if it has been made: the primitive occurrence alone
+abbrev pub Shares : Primitive → Option Occurrence → Type 0
+Shares p shared = IfSome shared (λ o. o ≡ primitive_occurrence p)
 
 -- after any rules that were told before, this enabled one has been told too, and its event occurs so
 pub record HearsOccurrence (library : Library) (p : Primitive) (n : ℕ) (old new : Seeing) (o : Option Occurrence) : Type 0 where

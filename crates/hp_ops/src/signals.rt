@@ -1,6 +1,8 @@
 //! What a signal triggers, and the statement that fires a rule.
 
-ghost use Rattle.hp_value.specs.Mapped.{primitive};
+ghost use Rattle.std.specs.Prelude.{◌≡◌, IfOk};
+ghost use Rattle.hp_model.specs.Occurrences.{no_occurrence};
+ghost use Rattle.hp_value.specs.Mapped.{occurrence as occurrence_of, primitive};
 ghost use Rattle.hp_rule.specs.Mapped.{library};
 ghost use Rattle.hp_view.specs.Seeing.{GoesOn, OnlyReads};
 ghost use Rattle.hp_ops.specs.Triggers.{Triggers, Fires};
@@ -10,7 +12,8 @@ use crate::telling::{new_task, tell_all};
 use hp_rule::{Library, Task};
 use hp_value::{Cause, Halt, Occurrence, Prim, RuleNo};
 use hp_view::View;
-use std::alloc::Global;
+use std::alloc::{AllocError, Global};
+use std::sync::Arc;
 
 /// Signals an occurrence in a transaction of a depth: the detectors of the enabled rules that it concerns go one place on.
 /// The answer is the tasks of those whose event occurs, in rule order.
@@ -62,10 +65,20 @@ pub fn fire(
     if depth >= lib.depth_limit() {
         return Err(Halt::Cause(Cause::Depth));
     }
-    let nothing = Occurrence {
+    let occurrence = nothing(alloc)?;
+    Ok(new_task(rule, known.ec, depth + 1, occurrence))
+}
+
+/// No occurrence: that of a rule which a statement fires.
+///
+/// An error means that memory ran out.
+fn nothing(alloc: Global) -> Result<Arc<Occurrence>, AllocError>
+    ensures { IfOk result (λ o. occurrence_of o.value ≡ no_occurrence) }
+{
+    let occurrence = Occurrence {
         parts: Vec::new(alloc),
         count: 0,
     };
-    let task = new_task(alloc, rule, known.ec, depth + 1, nothing)?;
-    Ok(task)
+    let occurrence = Arc::new(alloc, occurrence)?;
+    Ok(occurrence)
 }

@@ -1,6 +1,8 @@
 //! Telling rules of an occurrence.
 
-ghost use Rattle.std.specs.Prelude.{◌≡◌, ◌↔◌, [], ◌∷◌, ◌++◌, Some, IsTrue, IfOk, OnOk, map, option_map};
+ghost use Rattle.std.specs.Prelude.{◌≡◌, ◌↔◌, [], ◌∷◌, ◌++◌, true, Some, IsTrue, IfOk, OnOk, map, option_map};
+ghost use Rattle.hp_model.specs.Events.{is_pure as model_is_pure, occurrence_of as model_occurrence};
+ghost use Rattle.hp_model.specs.Occurrences.{History};
 ghost use Rattle.hp_model.specs.Rules.{Library as ModelLibrary, rule_at};
 ghost use Rattle.hp_model.specs.State.{enabled};
 ghost use Rattle.hp_model.proofs.FaithfulFirings.{AreAt};
@@ -11,7 +13,7 @@ ghost use Rattle.hp_rule.specs.declared.task.Task.{Task as AnyTask};
 ghost use Rattle.hp_rule.specs.Mapped.{library, rule as rule_of, task as task_of};
 ghost use Rattle.hp_view.specs.Seeing.{GoesOn};
 ghost use Rattle.hp_ops.specs.Performs.{status_of};
-ghost use Rattle.hp_ops.specs.Hears.{AllHear, GoesOnePlace, Hears, HearsOccurrence, StepsOn, condition_task};
+ghost use Rattle.hp_ops.specs.Hears.{AllHear, GoesOnePlace, Hears, HearsOccurrence, Shares, StepsOn, condition_task};
 
 use crate::finding::find_status;
 use hp_detect::{EventExpr, Knowledge, is_pure, occurs_now};
@@ -38,11 +40,12 @@ pub(crate) fn tell_all(
     ensures goes_on { GoesOn view.old view.new }
 {
     let mut tasks = Vec::new(alloc);
+    let mut shared = None;
     for number in lib.listed(prim) {
         if !lib.is_mentioned(*number, prim) {
             continue;
         }
-        if let Some(task) = tell(alloc, view, lib, *number, prim, depth)? {
+        if let Some(task) = tell(alloc, view, lib, *number, prim, depth, &mut shared)? {
             add(&mut tasks, task)?;
         }
     }
@@ -64,6 +67,8 @@ fn add(tasks: &mut Vec<Task>, task: Task) -> Result<(), AllocError>
 
 /// Tells a rule of an occurrence. The answer is its task, of this depth, if it is enabled and its event occurs.
 ///
+/// Events that don't look back share what they occur with; it is made for the first of them.
+///
 /// An error means that memory ran out; the rule's detector is then as before.
 fn tell(
     alloc: Global,
@@ -72,7 +77,10 @@ fn tell(
     number: RuleNo,
     prim: &Prim,
     depth: u8,
+    shared: &mut Option<Arc<Occurrence>>,
 ) -> Result<Option<Task>, AllocError>
+    requires shared { Shares (primitive prim.now) (option_map (λ o. occurrence_of o.value) shared.old) }
+    ensures shared { Shares (primitive prim.now) (option_map (λ o. occurrence_of o.value) shared.new) }
     ensures hears { IfOk result (λ task. Hears (library lib.now) (primitive prim.now) number view.old view.new (option_map task_of task)) }
     ensures depth { IfOk result (λ task. (t : AnyTask) → task ≡ Some t → t.depth ≡ depth) }
     ensures goes_on { GoesOn view.old view.new }
@@ -84,11 +92,10 @@ fn tell(
     let Some(rule) = lib.rule(number) else {
         return Ok(None);
     };
-    let Some(occurrence) = hear(alloc, view, number, rule, prim)? else {
+    let Some(occurrence) = hear(alloc, view, number, rule, prim, shared)? else {
         return Ok(None);
     };
-    let task = new_task(alloc, number, rule.ec, depth, occurrence)?;
-    Ok(Some(task))
+    Ok(Some(new_task(number, rule.ec, depth, occurrence)))
 }
 
 /// Whether a status is that of an enabled rule.
@@ -107,16 +114,52 @@ fn hear(
     number: RuleNo,
     rule: &Rule,
     prim: &Prim,
-) -> Result<Option<Occurrence>, AllocError>
-    ensures hears { IfOk result (λ o. (lib : ModelLibrary) → rule_at lib number ≡ rule_of rule.now → HearsOccurrence lib (primitive prim.now) number view.old view.new (option_map occurrence_of o)) }
+    shared: &mut Option<Arc<Occurrence>>,
+) -> Result<Option<Arc<Occurrence>>, AllocError>
+    requires shared { Shares (primitive prim.now) (option_map (λ o. occurrence_of o.value) shared.old) }
+    ensures shared { Shares (primitive prim.now) (option_map (λ o. occurrence_of o.value) shared.new) }
+    ensures hears { IfOk result (λ o. (lib : ModelLibrary) → rule_at lib number ≡ rule_of rule.now → HearsOccurrence lib (primitive prim.now) number view.old view.new (option_map (λ a. occurrence_of a.value) o)) }
     ensures goes_on { GoesOn view.old view.new }
 {
     if is_pure(&rule.event) {
-        let occurrence = occurs_now(alloc, &rule.event, prim)?;
+        let occurrence = share(alloc, &rule.event, prim, shared)?;
         return Ok(occurrence);
     }
-    let occurrence = step_detector(alloc, view, number, &rule.event, prim)?;
-    Ok(occurrence)
+    let stepped = step_detector(alloc, view, number, &rule.event, prim)?;
+    let Some(occurrence) = stepped else {
+        return Ok(None);
+    };
+    let made = Arc::new(alloc, occurrence)?;
+    Ok(Some(made))
+}
+
+/// The occurrence of an event that doesn't look back, if it occurs: the one that is shared, or a new one, which is shared then.
+///
+/// An error means that memory ran out.
+fn share(
+    alloc: Global,
+    event: &EventExpr,
+    prim: &Prim,
+    shared: &mut Option<Arc<Occurrence>>,
+) -> Result<Option<Arc<Occurrence>>, AllocError>
+    requires pure { model_is_pure (event_of event.now) ≡ true }
+    requires shared { Shares (primitive prim.now) (option_map (λ o. occurrence_of o.value) shared.old) }
+    ensures shared { Shares (primitive prim.now) (option_map (λ o. occurrence_of o.value) shared.new) }
+    ensures occurs { IfOk result (λ o. (past : History) → option_map (λ a. occurrence_of a.value) o ≡ model_occurrence (event_of event.now) (primitive prim.now ∷ past)) }
+{
+    if !event.mentions(prim) {
+        return Ok(None);
+    }
+    if let Some(known) = shared {
+        return Ok(Some(Arc::try_clone(known)?));
+    }
+    let now = occurs_now(alloc, event, prim)?;
+    let Some(occurrence) = now else {
+        return Ok(None);
+    };
+    let made = Arc::new(alloc, occurrence)?;
+    *shared = Some(Arc::try_clone(&made)?);
+    Ok(Some(made))
 }
 
 /// Steps a rule's detector: the occurrence of its event, if it occurs.
@@ -165,23 +208,19 @@ fn stepped(
 }
 
 /// The task of a rule's condition, for an occurrence of its event.
-///
-/// An error means that memory ran out.
 pub(crate) fn new_task(
-    alloc: Global,
     rule: RuleNo,
     place: Coupling,
     depth: u8,
-    occurrence: Occurrence,
-) -> Result<Task, AllocError>
-    ensures { IfOk result (λ t. task_of t ≡ condition_task rule (coupling_of place) depth (occurrence_of occurrence)) }
+    occurrence: Arc<Occurrence>,
+) -> Task
+    ensures { task_of result ≡ condition_task rule (coupling_of place) depth (occurrence_of occurrence.value) }
 {
-    let occurrence = Arc::new(alloc, occurrence)?;
-    Ok(Task {
+    Task {
         rule,
         step: Step::Condition,
         place,
         depth,
         occurrence,
-    })
+    }
 }

@@ -29,5 +29,5 @@ returns-clause-fires c =
     let some : is_some c.in_ok-status.status ≡ true = search rules in
     let within : c.args.depth < (library c.args.lib.now).depth_limit = omega arith in
     let there : slice_get (library c.args.lib.now).rules c.args.rule ≡ Some (rule_of c.in-Some.known.now) = search rules in
-    let made : task_of c.in_ok-task.task ≡ condition_task c.args.rule (coupling c.in-Some.known.now.ec) (suc c.args.depth) no_occurrence = search rules in
-    fires_task (library c.args.lib.now) c.args.depth c.args.rule c.find_status.new.view (status_of c.in_ok-status.status) (rule_of c.in-Some.known.now) (task_of c.in_ok-task.task) there (c.in_ok-status.ensures.finds (library c.args.lib.now)) (is_there c.in_ok-status.status some) within made
+    let made : task_of c.new_task.result ≡ condition_task c.args.rule (coupling c.in-Some.known.now.ec) (suc c.args.depth) no_occurrence = search rules in
+    fires_task (library c.args.lib.now) c.args.depth c.args.rule c.find_status.new.view (status_of c.in_ok-status.status) (rule_of c.in-Some.known.now) (task_of c.new_task.result) there (c.in_ok-status.ensures.finds (library c.args.lib.now)) (is_there c.in_ok-status.status some) within made

@@ -27,9 +27,9 @@ returns-in_default-2-clause-hears c =
     let is : status_of c.in_ok-status.status ≡ enabled = c.is_enabled.ensures.0 (search rules) in
     let there : slice_get (library c.args.lib.now).rules c.args.number ≡ Some (rule_of c.in-Some.rule.now) = search rules in
     let at = (found_at (library c.args.lib.now).rules c.args.number (rule_of c.in-Some.rule.now) no_rule there).1 in
-    let none : None ≡ option_map (condition_task c.args.number (rule_at (library c.args.lib.now) c.args.number).event_coupling c.args.depth) (option_map occurrence_of c.in_ok-occurrence.field-0) = search rules in
+    let none : None ≡ option_map (condition_task c.args.number (rule_at (library c.args.lib.now) c.args.number).event_coupling c.args.depth) (option_map (λ o. occurrence_of o.value) c.in_ok-occurrence.field-0) = search rules in
     tells_enabled (library c.args.lib.now) (primitive c.args.prim.now) c.args.number c.args.view.now c.find_status.new.view (status_of c.in_ok-status.status)
-    c.in_ok-status.ensures.only c.in_ok-status.ensures.shows c.hear.new.view c.args.depth (option_map occurrence_of c.in_ok-occurrence.field-0) None is none
+    c.in_ok-status.ensures.only c.in_ok-status.ensures.shows c.hear.new.view c.args.depth (option_map (λ o. occurrence_of o.value) c.in_ok-occurrence.field-0) None is none
     (c.in_ok-occurrence.ensures.hears (library c.args.lib.now) at)
 
 pub returns-clause-hears : goal.returns-clause-hears
@@ -37,10 +37,10 @@ returns-clause-hears c =
     let is : status_of c.in_ok-status.status ≡ enabled = c.is_enabled.ensures.0 (search rules) in
     let there : slice_get (library c.args.lib.now).rules c.args.number ≡ Some (rule_of c.in-Some.rule.now) = search rules in
     let at = (found_at (library c.args.lib.now).rules c.args.number (rule_of c.in-Some.rule.now) no_rule there).1 in
-    let o = occurrence_of c.in-Some-2.occurrence in
-    let made : Some (task_of c.in_ok-task.task) ≡ option_map (condition_task c.args.number (rule_at (library c.args.lib.now) c.args.number).event_coupling c.args.depth) (Some (occurrence_of c.in-Some-2.occurrence)) =
-    ap Some (c.in_ok-task.ensures ∙ ap (λ (r : Rule). condition_task c.args.number r.event_coupling c.args.depth o) (sym at)) in
-    let occurs : option_map occurrence_of c.in_ok-occurrence.field-0 ≡ Some (occurrence_of c.in-Some-2.occurrence) = search rules in
+    let o = occurrence_of c.in-Some-2.occurrence.value in
+    let made : Some (task_of c.new_task.result) ≡ option_map (condition_task c.args.number (rule_at (library c.args.lib.now) c.args.number).event_coupling c.args.depth) (Some (occurrence_of c.in-Some-2.occurrence.value)) =
+    ap Some (c.new_task.ensures ∙ ap (λ (r : Rule). condition_task c.args.number r.event_coupling c.args.depth o) (sym at)) in
+    let occurs : option_map (λ o. occurrence_of o.value) c.in_ok-occurrence.field-0 ≡ Some (occurrence_of c.in-Some-2.occurrence.value) = search rules in
     tells_enabled (library c.args.lib.now) (primitive c.args.prim.now) c.args.number c.args.view.now c.find_status.new.view (status_of c.in_ok-status.status)
-    c.in_ok-status.ensures.only c.in_ok-status.ensures.shows c.hear.new.view c.args.depth (Some o) (Some (task_of c.in_ok-task.task)) is made
+    c.in_ok-status.ensures.only c.in_ok-status.ensures.shows c.hear.new.view c.args.depth (Some o) (Some (task_of c.new_task.result)) is made
     (subst (HearsOccurrence (library c.args.lib.now) (primitive c.args.prim.now) c.args.number c.find_status.new.view c.hear.new.view) occurs (c.in_ok-occurrence.ensures.hears (library c.args.lib.now) at))

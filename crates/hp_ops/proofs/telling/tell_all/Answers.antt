@@ -20,6 +20,7 @@ loop-number-init c =
     record {
       all = c.listed-number-items.ensures;
       heard = subst (HaveHeard (library c.args.lib.now) (primitive c.args.prim.now) [] c.args.view.now c.args.view.now) none (none_heard (library c.args.lib.now) (primitive c.args.prim.now) c.args.view.now);
+      shared = tt;
       depth = subst (AreAt c.args.depth) none tt;
       goes_on = GoesOn-same c.args.view.now;
     }
@@ -40,6 +41,7 @@ loop-number-preserved c =
                 (told_listed (library c.args.lib.now) (primitive c.args.prim.now) ns c.loop-number.invariant.all c.loop-number.number-index n c.loop-number-test.true refl mentioned
                 c.loop-number.invariant.heard
                 (subst (λ o. Hears (library c.args.lib.now) (primitive c.args.prim.now) n c.loop-number.view c.tell.new.view (option_map task_of o)) w.in-Some.is c.in_ok-task.ensures.hears));
+            shared = c.tell.ensures.shared;
             depth = subst (AreAt c.args.depth) grown (depth_push c.args.depth (map task_of c.loop-number.tasks.items) (task_of t) c.loop-number.invariant.depth (c.in_ok-task.ensures.depth t w.in-Some.is));
             goes_on = GoesOn-then c.loop-number.invariant.goes_on c.tell.ensures.goes_on;
           }
@@ -51,6 +53,7 @@ loop-number-preserved c =
                 (told_listed (library c.args.lib.now) (primitive c.args.prim.now) ns c.loop-number.invariant.all c.loop-number.number-index n c.loop-number-test.true refl mentioned
                 c.loop-number.invariant.heard
                 (subst (λ o. Hears (library c.args.lib.now) (primitive c.args.prim.now) n c.loop-number.view c.tell.new.view (option_map task_of o)) w.in_default.is c.in_ok-task.ensures.hears));
+            shared = c.tell.ensures.shared;
             depth = subst (AreAt c.args.depth) same c.loop-number.invariant.depth;
             goes_on = GoesOn-then c.loop-number.invariant.goes_on c.tell.ensures.goes_on;
           }
