@@ -9,10 +9,6 @@ use Rattle.hp_attempt.specs.Fronts.{AreSound}
 use Rattle.hp_fire.specs.declared.progress.Progress.{Progress}
 use Rattle.hp_fire.specs.Groups.{IsSoFar, IsRetried, IsAhead, Comes}
 
--- it stays where it is
-ahead_same : (p : Progress) → IsAhead p p
-ahead_same p = record { longer = omega arith; waves = refl; retried = refl; accepted = omega arith; reran = λ less is. absurd (omega (arith, less)); none = λ e was. was }
-
 -- attempts alone change
 ahead_put : (p q : Progress) → q ≡ record p { attempts = q.attempts } → IsAhead p q
 ahead_put p q e =
@@ -49,9 +45,6 @@ ahead_then p q r a b = record {
         omega (arith, one, a.accepted)
 
 module _ {library : Library} {stops : Bool} {tasks : List Task} where
-  pub comes_same : (v : Seeing) (p : Progress) → AreSound library p.attempts.items → Comes library stops tasks v p v p
-  comes_same v p sound = record { ahead = ahead_same p; sound = sound; so_far = λ first s. s }
-
   pub comes_then : {v w x : Seeing} (p q r : Progress) → Comes library stops tasks v p w q → Comes library stops tasks w q x r → Comes library stops tasks v p x r
   comes_then p q r a b = record { ahead = ahead_then p q r a.ahead b.ahead; sound = b.sound; so_far = λ first s. b.so_far first (a.so_far first s) }
 
@@ -62,6 +55,10 @@ module _ {library : Library} {stops : Bool} {tasks : List Task} where
     sound = sound;
     so_far = λ first s. subst (λ (x : Progress). IsSoFar library stops tasks first v x.outcomes.items x.end) (sym e) s;
   }
+
+  -- it stays where it is
+  pub comes_same : (v : Seeing) (p : Progress) → AreSound library p.attempts.items → Comes library stops tasks v p v p
+  comes_same v p sound = comes_put v p p refl sound
 
   -- the longest front of them is taken in
   pub comes_settled : {v w : Seeing} (p q : Progress) (taken : ℕ) → length q.outcomes.items ≡ length p.outcomes.items + taken → (taken ≡ 0 → p.end ≡ None → q.end ≡ None) → (q.waves ≡ p.waves) × (q.retried ≡ p.retried)

@@ -28,6 +28,7 @@ use Rattle.hp_store.specs.contracts.snapshot.Snapshot as Snapshot
 use Rattle.hp_view.specs.contracts.reads.Found as Found
 use Rattle.hp_view.proofs.reads.Seen.TheSendSync as seen
 use Rattle.hp_view.specs.contracts.reads.Reads as Reads
+use Rattle.hp_view.specs.contracts.view.View as View
 use Rattle.hp_tree.specs.contracts.node.Item as Item
 use Rattle.hp_tree.proofs.node.Item.TheLaws.TheKnot as item
 use Rattle.hp_rule.proofs.task.Task.TheSendSync as task
@@ -40,8 +41,10 @@ use Rattle.std.specs.contracts.sync.Arc as Arc
 use Rattle.hp_fire.specs.contracts.context.Site as Site
 use Rattle.hp_fire.specs.contracts.wave.Wave as Wave
 use Rattle.hp_fire.specs.contracts.progress.Tried as Tried
+use Rattle.hp_fire.specs.contracts.progress.Progress as Progress
 use Rattle.hp_fire.specs.contracts.line.Sent as Sent
 use Rattle.hp_board.proofs.dealer.Seat.TheSendSync as seat
+use Rattle.hp_board.specs.contracts.dealer.Seat as Seat
 use Rattle.rtrb.proofs.producer.Producer.TheSendSync as sender
 use Rattle.hp_fire.specs.contracts.wave.Job as Job
 use Rattle.hp_value.proofs.env.Answer.TheSendSync as answer
@@ -219,8 +222,18 @@ wave_board = board.the_sync (Arc.the_row Layer.the_row Heap.the_row ghosts) (hea
 pub wave_sync : (κ : NamedLft) → IsSync (Wave.the_row κ)
 wave_sync κ = search (snapshot_sync, layer_row_send, layer_row_sync, task.the_sync, wave_board, heap.crosses, sendable) depth 30 fits 20000
 
-sent_send : (κ : NamedLft) → IsSend (Sent.the_row κ)
+pub sent_send : (κ : NamedLft) → IsSend (Sent.the_row κ)
 sent_send κ = search (library_row, tried_send, sendable) depth 12
 
 pub job_send : (κ : NamedLft) → IsSend (Job.the_row κ)
 job_send κ = declared_send (Job.the_type κ) (search (seat.the_send, sendable) depth 12, (search (sent_send, sender.the_send, heap.crosses, heap.send, sendable) depth 12, tt))
+
+-- the same of what the owner of a group brings into a wave
+pub view_send : IsSend View.the_row
+view_send = search (snapshot_send, reads_send, layer_row_send, layer_row_sync, cell_value_send, cell.the_send, heap.crosses, sendable) depth 30 fits 20000
+
+pub progress_send : IsSend Progress.the_row
+progress_send = search (outcome_send, attempt_send, heap.crosses, sendable) depth 30 fits 20000
+
+pub seat_send : IsSend Seat.the_row
+seat_send = search (seat.the_send, sendable) depth 12

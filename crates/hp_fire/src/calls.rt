@@ -29,8 +29,8 @@ use std::thread::Threads;
 
 /// Runs the body of a script in a transaction of a depth: its statements in order, up to the first that isn't done.
 ///
-/// A group of firings inside uses at most `width` threads. An error means that memory ran out; the view may then hold a
-/// part of the effects.
+/// A group of firings inside uses at most `width` threads, while this one sleeps. An error means that memory ran out; the view
+/// may then hold a part of the effects.
 pub fn run_body<R: Threads + Sync>(
     rt: &R,
     alloc: Global,
@@ -57,8 +57,8 @@ pub fn run_body<R: Threads + Sync>(
 /// Signals an occurrence in a transaction of a depth: the rules that it triggers are placed, and the immediate ones fire as
 /// siblings.
 ///
-/// A group of firings uses at most `width` threads. An error means that memory ran out; the view may then hold a part of
-/// the effects.
+/// A group of firings uses at most `width` threads, while this one sleeps. An error means that memory ran out; the view may then
+/// hold a part of the effects.
 pub fn run_signal<R: Threads + Sync>(
     rt: &R,
     alloc: Global,
@@ -84,8 +84,8 @@ pub fn run_signal<R: Threads + Sync>(
 
 /// Fires a task on the view, as a subtransaction.
 ///
-/// A group of firings inside uses at most `width` threads. An error means that memory ran out; the view may then hold a
-/// part of the effects.
+/// A group of firings inside uses at most `width` threads, while this one sleeps. An error means that memory ran out; the view
+/// may then hold a part of the effects.
 pub fn run_firing<R: Threads + Sync>(
     rt: &R,
     alloc: Global,
@@ -112,8 +112,8 @@ pub fn run_firing<R: Threads + Sync>(
 /// set, nothing fires after a vetoed one.
 ///
 /// Where there are two tasks and a width of two at least, up to `width` workers, at most 64, try the tasks ahead of their turn
-/// in threads of their own. What they bring is taken in where it still holds, and is tried again or run by the caller where
-/// it doesn't, so that no thread changes the outcome. The gate is told of each task that a worker starts and ends, by its place
+/// in threads of their own, while this one sleeps. What they bring is taken in where it still holds, and is tried again or run by
+/// the caller where it doesn't, so that no thread changes the outcome. The gate is told of each task that a worker starts and ends, by its place
 /// in the group. A worker for which memory runs out leaves a task to the caller.
 ///
 /// An error means that memory ran out; the view may then hold a part of the effects.
@@ -145,7 +145,7 @@ pub fn run_group<R: Threads + Sync, G: Gate + Sync>(
 
 /// Tries a task on a snapshot. The attempt may stand for the task's firing on each state where its reads hold.
 ///
-/// A group of firings inside uses at most `width` threads. An error means that memory ran out.
+/// A group of firings inside uses at most `width` threads, while this one sleeps. An error means that memory ran out.
 pub fn run_task<R: Threads + Sync>(
     rt: &R,
     alloc: Global,

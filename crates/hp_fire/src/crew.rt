@@ -9,29 +9,38 @@ use std::alloc::{AllocError, Global};
 use std::thread::Threads;
 use std::{mem, thread};
 
-/// Calls a function at each job, in a thread of its own where one can be made, and another function in this thread meanwhile.
-/// The results are in the order of the jobs.
+/// Calls a function at each job, and another function besides, each in a thread of its own where one can be made. The results
+/// are in the order of the jobs.
 ///
-/// It is `thread::map_vec`, but this thread starts all others: a thread that was just started is no good starter, since Linux
-/// puts what it starts on its own processor (measured, `bench/README.md`).
+/// This thread starts all others, and then sleeps until they end. Linux puts what a thread starts on that thread's own
+/// processor, where it is mostly idle. So a thread that was just started is no good starter, and one that goes on with work of
+/// its own would hold up what waits there (measured, `bench/README.md`).
 ///
 /// An error means that memory ran out; what the jobs gave is then dropped.
 #[cycle(crew)]
-pub(crate) fn beside_threads<
+pub(crate) fn on_threads<
     R: Threads + Sync,
     J: Send + Drop,
     X: Send + Drop,
     F: Fn(J) -> X + Sync,
-    Y,
-    H: FnMut() -> Y,
->(rt: &R, alloc: Global, f: &F, mut jobs: Vec<J>, here: &mut H) -> (Result<Vec<X>, AllocError>, Y)
+    Y: Send + Drop,
+    H: FnMut() -> Y + Send,
+>(
+    rt: &R,
+    alloc: Global,
+    f: &F,
+    mut jobs: Vec<J>,
+    besides: &mut H,
+) -> (Result<Vec<X>, AllocError>, Y)
     requires jobs { AcceptsJobs F.Fn f.now jobs.items }
-    requires here { H.pre here.old }
+    requires besides { H.pre besides.old }
     ensures jobs { IfOk result.0 (λ results. GivesFor F.Fn f.now jobs.items results.items) }
-    ensures here { H.step here.old result.1 here.new }
+    ensures besides { H.step besides.old result.1 besides.new }
 {
     let Some(last) = jobs.pop() else {
-        return (Ok(Vec::new(alloc)), here());
+        let mut nothing = || {};
+        let (own, ()) = thread::join_mut(rt, besides, &mut nothing);
+        return (Ok(Vec::new(alloc)), own);
     };
     let mut last = Some(last);
     let mut apart = || -> X
@@ -44,9 +53,17 @@ pub(crate) fn beside_threads<
         f(job)
     };
     let mut rest = || -> (Result<Vec<X>, AllocError>, Y)
-        requires { AcceptsJobs F.Fn f.now jobs.items × H.pre here.now }
-        ensures { IfOk result.0 (λ results. GivesFor F.Fn f.entry.now jobs.entry.items results.items) × H.step here.entry.now result.1 here.exit.now }
-    { beside_threads(rt, alloc, f, mem::replace(&mut jobs, Vec::new(alloc)), here) };
+        requires { AcceptsJobs F.Fn f.now jobs.items × H.pre besides.now × IsSend H.row × IsSend Y.row }
+        ensures { IfOk result.0 (λ results. GivesFor F.Fn f.entry.now jobs.entry.items results.items) × H.step besides.entry.now result.1 besides.exit.now }
+    {
+        on_threads(
+            rt,
+            alloc,
+            f,
+            mem::replace(&mut jobs, Vec::new(alloc)),
+            besides,
+        )
+    };
     let (result, (before, own)) = thread::join_mut(rt, &mut apart, &mut rest);
     let Ok(mut results) = before else {
         return (Err(AllocError), own);

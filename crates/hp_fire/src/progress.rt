@@ -21,6 +21,7 @@ use hp_value::RuleNo;
 use hp_view::View;
 use std::alloc::{AllocError, Global};
 use std::collections::VecDeque;
+use std::hint::spin_loop;
 use std::mem;
 
 /// What a worker brings of one task.
@@ -53,6 +54,10 @@ pub(crate) struct Progress {
     pub(crate) kept: usize,
 }
 
+// So often the next attempt is looked for at the end of a wave: for some 50 us, about as long as a task takes that scans a few
+// hundred objects.
+const LOOKS: usize = 500;
+
 // A wave pays where at least one in so many of its tasks is settled from its attempt.
 const PAYS: usize = 4;
 
@@ -64,14 +69,14 @@ impl Progress {
         ensures begins { IfOk result (λ p. (p.outcomes.items ≡ []) × (p.end ≡ None) × (p.accepted ≡ 0) × (p.waves ≡ 0)) }
         ensures sound { IfOk result (λ p. (library : ModelLibrary) → AreSound library p.attempts.items) }
     {
-        let mut attempts = VecDeque::new(alloc);
+        let mut attempts = VecDeque::with_capacity(alloc, tasks)?;
         let mut retried = Vec::with_capacity(alloc, tasks)?;
         for _ in 0..tasks {
             attempts.push_back(None)?;
             retried.push(false)?;
         }
         Ok(Progress {
-            outcomes: Vec::new(alloc),
+            outcomes: Vec::with_capacity(alloc, tasks)?,
             end: None,
             attempts,
             retried,
@@ -288,6 +293,38 @@ impl Progress {
         Ok(())
     }
 
+    /// Takes stock at the end of a wave's tasks, so long as the attempt at the next of them is still to come from a worker. It
+    /// isn't awaited for longer than a short task takes.
+    ///
+    /// An error means that memory ran out.
+    pub(crate) fn see_out(
+        &mut self,
+        alloc: Global,
+        wave: &Wave<'_>,
+        view: &mut View,
+        receivers: &mut Vec<Receiver<'_>>,
+    ) -> Result<(), AllocError>
+        requires { self.old.accepted ≤ length self.old.outcomes.items }
+        ensures lines { (library : ModelLibrary) → AreOf library receivers.old.items → AreOf library receivers.new.items }
+        ensures comes { OnOk result ((library : ModelLibrary) → AreOf library receivers.old.items → AreSound library self.old.attempts.items
+            → Comes library wave.now.stop_at_veto (map task_of wave.now.tasks.now) view.old self.old view.new self.new) }
+    {
+        for _ in 0..LOOKS {
+            if !self.lacks_next(wave) {
+                break;
+            }
+            self.take_stock(alloc, wave, view, receivers)?;
+            spin_loop();
+        }
+        Ok(())
+    }
+
+    // Whether attempts are taken in early, and the one at the next task that is left isn't there.
+    fn lacks_next(&self, wave: &Wave<'_>) -> bool {
+        let is_missing = matches!(self.attempts.front(), Some(None));
+        wave.early && is_missing && self.goes_on(wave.tasks.len())
+    }
+
     /// Puts what the workers of a wave have sent into the places of their tasks, and then takes in the longest front of the
     /// attempts.
     ///
@@ -300,6 +337,7 @@ impl Progress {
         receivers: &mut Vec<Receiver<'_>>,
     ) -> Result<(), AllocError>
         requires { self.old.accepted ≤ length self.old.outcomes.items }
+        ensures counted { OnOk result (self.new.accepted ≤ length self.new.outcomes.items) }
         ensures lines { (library : ModelLibrary) → AreOf library receivers.old.items → AreOf library receivers.new.items }
         ensures comes { OnOk result ((library : ModelLibrary) → AreOf library receivers.old.items → AreSound library self.old.attempts.items
             → Comes library wave.now.stop_at_veto (map task_of wave.now.tasks.now) view.old self.old view.new self.new) }

@@ -23,7 +23,7 @@ ghost use Rattle.hp_fire.specs.Runs.{Runs, RunsFiring, RunsGroup, Steps, AreRead
 use crate::closing::close_action;
 use crate::context::{Context, Site};
 use crate::course::{Course, End, GroupOutcome};
-use crate::crew::beside_threads;
+use crate::crew::on_threads;
 use crate::deciding::{Decision, action_of, decide};
 use crate::elders::Elders;
 use crate::gate::Gate;
@@ -279,8 +279,8 @@ fn wave<R: Threads + Sync, G: Gate + Sync>(
     Ok(())
 }
 
-/// Tries the tasks of a wave: each worker in a thread of its own, and the owner in this one. It gives what the workers bring,
-/// and whether the owner had memory for what it took in.
+/// Tries the tasks of a wave: each worker in a thread of its own, and the owner's part in one more, while this thread sleeps. It
+/// gives what the workers bring, and whether there was memory for what was taken in.
 #[cycle(fire)]
 fn try_all<R: Threads + Sync, G: Gate + Sync>(
     site: &Site<'_, R, G>,
@@ -303,7 +303,7 @@ fn try_all<R: Threads + Sync, G: Gate + Sync>(
     ensures lines { AreOf (library site.now.lib.now) receivers.new.items }
 {
     let mut seat = Some(seat);
-    let mut here = || -> Result<(), AllocError>
+    let mut leads = || -> Result<(), AllocError>
         requires { IsSync R.row × IsSync G.row × IsWave wave.now × IsSome seat × IfSome seat (IsSeatOf wave.now.board.deal) × AreOf (library site.now.lib.now) receivers.now.items
             × AreSound (library site.now.lib.now) progress.now.attempts.items × (progress.now.accepted ≤ length progress.now.outcomes.items) }
         ensures comes { OnOk result (Comes (library site.entry.now.lib.now) wave.entry.now.stop_at_veto (map task_of wave.entry.now.tasks.now) view.entry.now progress.entry.now view.exit.now progress.exit.now) }
@@ -314,7 +314,7 @@ fn try_all<R: Threads + Sync, G: Gate + Sync>(
         };
         lead(site, alloc, wave, seat, view, progress, receivers)
     };
-    beside_threads(
+    on_threads(
         site.rt,
         alloc,
         &|job| -> Vec<Tried>
@@ -322,11 +322,12 @@ fn try_all<R: Threads + Sync, G: Gate + Sync>(
             ensures { AreSoundTries (library site.entry.now.lib.now) result.items }
         { work(site, alloc, wave, job) },
         jobs,
-        &mut here,
+        &mut leads,
     )
 }
 
-/// The owner's part of a wave: it tries tasks as the workers do, and takes in the longest front of the attempts as they come.
+/// The owner's part of a wave: it tries tasks as the workers do, and takes in the longest front of the attempts as they come. At
+/// the end it sees the workers' last attempts in, if they come soon.
 ///
 /// An error means that memory ran out as it took attempts in. Where it runs out before, the workers try all tasks.
 #[cycle(fire)]
@@ -368,6 +369,7 @@ fn lead<R: Threads + Sync, G: Gate + Sync>(
         progress.put(wave.done, number, attempt);
         progress.keep_up(alloc, wave, view, receivers)?;
     }
+    progress.see_out(alloc, wave, view, receivers)?;
     Ok(())
 }
 

@@ -23,7 +23,7 @@ const COPIES: usize = 32;
 pub(crate) struct Start<'a, 'b> {
     /// What all share.
     pub(crate) wave: Wave<'a>,
-    /// Where the owner draws numbers.
+    /// Where the owner's part draws numbers.
     pub(crate) seat: Seat,
     /// What each worker is given.
     pub(crate) jobs: Vec<Job<'b>>,
@@ -31,7 +31,7 @@ pub(crate) struct Start<'a, 'b> {
     pub(crate) receivers: Vec<Receiver<'b>>,
 }
 
-/// Prepares a wave over the tasks that are left: for as many workers as there are threads for, beside the owner.
+/// Prepares a wave over the tasks that are left: for as many workers as there are threads for, the owner's part counted.
 ///
 /// An error means that memory ran out.
 pub(crate) fn prepare<'a, 'b, R, G>(

@@ -43,7 +43,8 @@ use denote.Ref.{NamedLft}
 use mir.Syntax.{named}
 use Rattle.hp_fire.specs.contracts.context.Site as Site
 use Rattle.std.proofs.Crossing as heap
-use Rattle.hp_fire.proofs.Sending.{tried_send, job_send, site_sync, wave_sync}
+use Rattle.rtrb.proofs.consumer.Consumer.TheSendSync as receiver
+use Rattle.hp_fire.proofs.Sending.{tried_send, job_send, site_sync, wave_sync, view_send, progress_send, seat_send, sent_send}
 use Rattle.hp_fire.proofs.Coming.{comes_same, comes_then, comes_put}
 use Rattle.hp_fire.proofs.Helping.{false_true, not_less, so_far_starts, so_far_ran, so_far_ends}
 use Rattle.hp_fire.proofs.+fire.Goals as goal
@@ -159,14 +160,24 @@ running::advance-returns-clause-so_far g t c = λ first so_far.
 pub running::settle_by_wave-wave-requires-clause-sound : goal.running::settle_by_wave-wave-requires-clause-sound
 running::settle_by_wave-wave-requires-clause-sound g t c = λ κs lives. c.begin_wave.ensures.sound (library c.args.site.now.lib.now) c.requires.sound
 
-pub running::try_all-beside_threads-requires-send-X : goal.running::try_all-beside_threads-requires-send-X
-running::try_all-beside_threads-requires-send-X g t c = λ κs lives. search (tried_send, heap.crosses, sendable) depth 12
+pub running::try_all-on_threads-requires-send-X : goal.running::try_all-on_threads-requires-send-X
+running::try_all-on_threads-requires-send-X g t c = λ κs lives. search (tried_send, heap.crosses, sendable) depth 12
 
-pub running::try_all-beside_threads-requires-send-J : goal.running::try_all-beside_threads-requires-send-J
-running::try_all-beside_threads-requires-send-J g t c = λ κs lives. search (job_send, heap.crosses, sendable) depth 12
+pub running::try_all-on_threads-requires-send-J : goal.running::try_all-on_threads-requires-send-J
+running::try_all-on_threads-requires-send-J g t c = λ κs lives. search (job_send, heap.crosses, sendable) depth 12
 
-pub running::try_all-beside_threads-requires-sync-F : goal.running::try_all-beside_threads-requires-sync-F
-running::try_all-beside_threads-requires-sync-F g t c = λ κs lives.
+pub running::try_all-on_threads-requires-send-Y : goal.running::try_all-on_threads-requires-send-Y
+running::try_all-on_threads-requires-send-Y g t c = λ κs lives. search (heap.crosses, sendable) depth 12
+
+pub running::try_all-on_threads-requires-send-H : goal.running::try_all-on_threads-requires-send-H
+running::try_all-on_threads-requires-send-H g t c = λ κs lives.
+    let r : IsSync g.row.R = search rules in
+    let s : IsSync g.row.G = search rules in
+    let site : (κ : NamedLft) → IsSync (Site.the_row κ (param 0 g.row.R) (param 1 g.row.G)) = λ κ. site_sync κ (param 0 g.row.R) (param 1 g.row.G) (param_sync 0 g.row.R r) (param_sync 1 g.row.G s) in
+    search (site, wave_sync, view_send, progress_send, seat_send, sent_send, receiver.the_send, heap.crosses, heap.send, heap.sync, sendable) depth 30 fits 20000
+
+pub running::try_all-on_threads-requires-sync-F : goal.running::try_all-on_threads-requires-sync-F
+running::try_all-on_threads-requires-sync-F g t c = λ κs lives.
     let r : IsSync g.row.R = search rules in
     let s : IsSync g.row.G = search rules in
     let site : (κ : NamedLft) → IsSync (Site.the_row κ (param 0 g.row.R) (param 1 g.row.G)) = λ κ. site_sync κ (param 0 g.row.R) (param 1 g.row.G) (param_sync 0 g.row.R r) (param_sync 1 g.row.G s) in
@@ -193,6 +204,18 @@ running::wave-returns g t c =
 
 pub running::lead-returns-in_err-keep_up-clause-lines : goal.running::lead-returns-in_err-keep_up-clause-lines
 running::lead-returns-in_err-keep_up-clause-lines g t c = c.keep_up.ensures.lines (library c.args.site.now.lib.now) c.loop.invariant.1
+
+pub running::lead-returns-in_err-see_out-clause-lines : goal.running::lead-returns-in_err-see_out-clause-lines
+running::lead-returns-in_err-see_out-clause-lines g t c = c.see_out.ensures.lines (library c.args.site.now.lib.now) c.loop.invariant.1
+
+pub running::lead-returns-clause-lines : goal.running::lead-returns-clause-lines
+running::lead-returns-clause-lines g t c = c.see_out.ensures.lines (library c.args.site.now.lib.now) c.loop.invariant.1
+
+pub running::lead-returns-clause-comes : goal.running::lead-returns-clause-comes
+running::lead-returns-clause-comes g t c =
+    let lib = library c.args.site.now.lib.now in
+    let so_far = c.loop.invariant in
+    comes_then c.args.progress.now c.loop.progress c.see_out.new.self so_far.0 (c.in_ok-see_out.ensures.comes lib so_far.1 so_far.0.sound)
 
 pub running::lead-loop-preserved : goal.running::lead-loop-preserved
 running::lead-loop-preserved g t c =

@@ -76,11 +76,11 @@ decreases-running::wave g l = 16 * left l.site.now.lib.now (group_levels l.site.
 abbrev pub decreases-running::try_all : goal.decreases-running::try_all
 decreases-running::try_all g l = 16 * left l.site.now.lib.now (group_levels l.site.now.lib.now l.wave.now.tasks.now) (deepest l.site.now.lib.now) + 9
 
-abbrev pub decreases-running::try_all-here : goal.decreases-running::try_all-here
-decreases-running::try_all-here g l = 16 * left l.site.now.lib.now (group_levels l.site.now.lib.now l.wave.now.tasks.now) (deepest l.site.now.lib.now) + 8
+abbrev pub decreases-running::try_all-leads : goal.decreases-running::try_all-leads
+decreases-running::try_all-leads g l = 16 * left l.site.now.lib.now (group_levels l.site.now.lib.now l.wave.now.tasks.now) (deepest l.site.now.lib.now) + 8
 
-abbrev pub decreases-running::try_all-beside_threads : goal.decreases-running::try_all-beside_threads
-decreases-running::try_all-beside_threads g l = 16 * left l.site.now.lib.now (group_levels l.site.now.lib.now l.wave.now.tasks.now) (deepest l.site.now.lib.now) + 8
+abbrev pub decreases-running::try_all-on_threads : goal.decreases-running::try_all-on_threads
+decreases-running::try_all-on_threads g l = 16 * left l.site.now.lib.now (group_levels l.site.now.lib.now l.wave.now.tasks.now) (deepest l.site.now.lib.now) + 8
 
 abbrev pub decreases-running::lead : goal.decreases-running::lead
 decreases-running::lead g l = 16 * left l.site.now.lib.now (group_levels l.site.now.lib.now l.wave.now.tasks.now) (deepest l.site.now.lib.now) + 7

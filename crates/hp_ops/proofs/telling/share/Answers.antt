@@ -1,5 +1,5 @@
 use Rattle.std.proofs.Common.{rules, ◌≡◌, ap, ◌∙◌, sym, [], ◌∷◌, true, false, Some}
-use Rattle.hp_model.specs.Occurrences.{Occurrence, primitive_occurrence}
+use Rattle.hp_model.specs.Occurrences.{primitive_occurrence}
 use Rattle.hp_model.specs.Events.{mentions, occurrence_of as model_occurrence}
 use Rattle.hp_value.specs.Mapped.{occurrence as occurrence_of, primitive}
 use Rattle.hp_detect.specs.Mapped.{event as event_of}
