@@ -54,8 +54,8 @@ pub(crate) struct Progress {
     pub(crate) kept: usize,
 }
 
-// So often the next attempt is looked for at the end of a wave: for some 50 us, about as long as a task takes that scans a few
-// hundred objects.
+// So often the next attempt is looked for at the end of a wave: for some 50 us, as reckoned, about as long as a task takes that
+// scans a few hundred objects.
 const LOOKS: usize = 500;
 
 // A wave pays where at least one in so many of its tasks is settled from its attempt.
