@@ -44,7 +44,6 @@ use Rattle.hp_fire.specs.contracts.progress.Tried as Tried
 use Rattle.hp_fire.specs.contracts.progress.Progress as Progress
 use Rattle.hp_fire.specs.contracts.line.Sent as Sent
 use Rattle.hp_board.proofs.dealer.Seat.TheSendSync as seat
-use Rattle.hp_board.specs.contracts.dealer.Seat as Seat
 use Rattle.rtrb.proofs.producer.Producer.TheSendSync as sender
 use Rattle.hp_fire.specs.contracts.wave.Job as Job
 use Rattle.hp_value.proofs.env.Answer.TheSendSync as answer
@@ -234,6 +233,3 @@ view_send = search (snapshot_send, reads_send, layer_row_send, layer_row_sync, c
 
 pub progress_send : IsSend Progress.the_row
 progress_send = search (outcome_send, attempt_send, heap.crosses, sendable) depth 30 fits 20000
-
-pub seat_send : IsSend Seat.the_row
-seat_send = search (seat.the_send, sendable) depth 12

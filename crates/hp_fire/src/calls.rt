@@ -113,8 +113,8 @@ pub fn run_firing<R: Threads + Sync>(
 ///
 /// Where there are two tasks and a width of two at least, up to `width` workers, at most 64, try the tasks ahead of their turn
 /// in threads of their own, while this one sleeps. What they bring is taken in where it still holds, and is tried again or run by
-/// the caller where it doesn't, so that no thread changes the outcome. The gate is told of each task that a worker starts and ends, by its place
-/// in the group. A worker for which memory runs out leaves a task to the caller.
+/// the caller where it doesn't, so that no thread changes the outcome. The gate is told of each task that a worker starts and
+/// ends, by its place in the group. A worker for which memory runs out leaves a task to the caller.
 ///
 /// An error means that memory ran out; the view may then hold a part of the effects.
 pub fn run_group<R: Threads + Sync, G: Gate + Sync>(

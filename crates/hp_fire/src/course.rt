@@ -81,20 +81,6 @@ impl Course {
         }
     }
 
-    /// The same, with room for so many things that were done.
-    ///
-    /// An error means that memory ran out.
-    pub(crate) fn with_room(alloc: Global, how: End, things: usize) -> Result<Course, AllocError>
-        ensures { IfOk result (λ c. course c ≡ ended (end how)) }
-    {
-        Ok(Course {
-            end: how,
-            queued: Vec::new(alloc),
-            detached: Vec::new(alloc),
-            items: Vec::with_capacity(alloc, things)?,
-        })
-    }
-
     /// Nothing but one thing that was done, with room for so many more.
     ///
     /// An error means that memory ran out.
@@ -152,13 +138,13 @@ impl Course {
     }
 }
 
-/// Adds a list at the end of another. Where that one has nothing in it and no room, nothing is copied.
+/// Adds a list at the end of another. Where that one is empty, nothing is copied.
 ///
 /// An error means that memory ran out.
 pub(crate) fn append<T: Drop>(all: &mut Vec<T>, mut more: Vec<T>) -> Result<(), AllocError>
     ensures items { OnOk result (all.new.items ≡ all.old.items ++ more.items) }
 {
-    if all.is_empty() && all.capacity() == 0 {
+    if all.is_empty() {
         *all = more;
         return Ok(());
     }

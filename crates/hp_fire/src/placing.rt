@@ -131,7 +131,7 @@ pub fn group_course(alloc: Global, group: GroupOutcome) -> Result<Course, AllocE
     ensures { IfOk result (λ c. course_in c ≡ group_answer (group_in group)) }
 {
     let end = stopped_by(group.end);
-    let mut course = Course::with_room(alloc, end, group.outcomes.len())?;
+    let mut course = Course::ended(alloc, end);
     for outcome in group.outcomes {
         add_firing(&mut course, outcome)?;
     }

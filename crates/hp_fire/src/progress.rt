@@ -69,14 +69,14 @@ impl Progress {
         ensures begins { IfOk result (λ p. (p.outcomes.items ≡ []) × (p.end ≡ None) × (p.accepted ≡ 0) × (p.waves ≡ 0)) }
         ensures sound { IfOk result (λ p. (library : ModelLibrary) → AreSound library p.attempts.items) }
     {
-        let mut attempts = VecDeque::with_capacity(alloc, tasks)?;
+        let mut attempts = VecDeque::new(alloc);
         let mut retried = Vec::with_capacity(alloc, tasks)?;
         for _ in 0..tasks {
             attempts.push_back(None)?;
             retried.push(false)?;
         }
         Ok(Progress {
-            outcomes: Vec::with_capacity(alloc, tasks)?,
+            outcomes: Vec::new(alloc),
             end: None,
             attempts,
             retried,

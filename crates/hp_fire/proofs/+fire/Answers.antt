@@ -43,8 +43,9 @@ use denote.Ref.{NamedLft}
 use mir.Syntax.{named}
 use Rattle.hp_fire.specs.contracts.context.Site as Site
 use Rattle.std.proofs.Crossing as heap
+use Rattle.hp_board.proofs.dealer.Seat.TheSendSync as seat
 use Rattle.rtrb.proofs.consumer.Consumer.TheSendSync as receiver
-use Rattle.hp_fire.proofs.Sending.{tried_send, job_send, site_sync, wave_sync, view_send, progress_send, seat_send, sent_send}
+use Rattle.hp_fire.proofs.Sending.{tried_send, job_send, site_sync, wave_sync, view_send, progress_send, sent_send}
 use Rattle.hp_fire.proofs.Coming.{comes_same, comes_then, comes_put}
 use Rattle.hp_fire.proofs.Helping.{false_true, not_less, so_far_starts, so_far_ran, so_far_ends}
 use Rattle.hp_fire.proofs.+fire.Goals as goal
@@ -174,7 +175,7 @@ running::try_all-on_threads-requires-send-H g t c = λ κs lives.
     let r : IsSync g.row.R = search rules in
     let s : IsSync g.row.G = search rules in
     let site : (κ : NamedLft) → IsSync (Site.the_row κ (param 0 g.row.R) (param 1 g.row.G)) = λ κ. site_sync κ (param 0 g.row.R) (param 1 g.row.G) (param_sync 0 g.row.R r) (param_sync 1 g.row.G s) in
-    search (site, wave_sync, view_send, progress_send, seat_send, sent_send, receiver.the_send, heap.crosses, heap.send, heap.sync, sendable) depth 30 fits 20000
+    search (site, wave_sync, view_send, progress_send, seat.the_send, sent_send, receiver.the_send, heap.crosses, heap.send, heap.sync, sendable) depth 30 fits 20000
 
 pub running::try_all-on_threads-requires-sync-F : goal.running::try_all-on_threads-requires-sync-F
 running::try_all-on_threads-requires-sync-F g t c = λ κs lives.
