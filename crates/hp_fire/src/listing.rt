@@ -56,10 +56,10 @@ fn asked_classes(alloc: Global, lib: &Library, tasks: &[Task]) -> Result<Vec<Cla
     Ok(classes)
 }
 
-// Adds the classes of one condition that aren't there yet.
+// Adds the classes of one condition that aren't there yet. A query that asks for one key looks at no other object.
 fn note_asked(condition: &[Query], classes: &mut Vec<ClassNo>) -> Result<(), AllocError> {
     for query in condition {
-        if !classes.contains(&query.class) {
+        if !query.asks_key() && !classes.contains(&query.class) {
             classes.push(query.class)?;
         }
     }

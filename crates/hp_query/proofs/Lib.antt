@@ -4,3 +4,4 @@ pub mod SelectLemmas
 mod CollectLemmas
 pub mod PlainLemmas
 pub mod VerdictLemmas
+pub mod ByKeyLemmas

@@ -9,7 +9,8 @@ use Rattle.std.specs.List.Sorted.{IsStrictlySortedBy}
 use Rattle.std.specs.Map.{lookup}
 use Rattle.std.specs.BTreeMap.{is_at}
 use Rattle.std.proofs.lemmas.Bool.{eqb-true, eq-eqb}
-use Rattle.std.proofs.lemmas.Cmp.{nat_cmp_total, int_cmp_total, tied_itself}
+use Rattle.std.proofs.lemmas.Bool.Decides.{Decides-int_eq}
+use Rattle.std.proofs.lemmas.Cmp.{nat_cmp_total, int_cmp_total, int_eq_equiv, tied_itself}
 use Rattle.std.proofs.lemmas.Map.Keys.{sorted_head, sorted_tail}
 use Rattle.std.proofs.lemmas.Map.Lookups.{exact_unsigned, exact_signed, btree_set_from_contains}
 use Rattle.hp_model.specs.Values.{Row, KeyedRow}
@@ -169,3 +170,39 @@ pub one_list : (class : ℕ) (os : Objects) (ks : List ℤ) → ObjectsRise os �
     → ((k : ℤ) → list_any (int_eq k) ks ≡ is_some (find_object os class k)) → ks ≡ class_keys class os
 one_list class os ks rise keys_rise has =
     same_keys ks (class_keys class os) keys_rise (class_keys_rise class os rise) (λ k. has k ∙ sym (class_keys_has class k os))
+
+-- ---- the row with one key
+
+-- the object of a key, if it is there
+abbrev pub with_key : ℤ → Option Row → List KeyedRow
+with_key key None = []
+with_key key (Some row) = record { key = key; row = row } ∷ []
+
+pub one_row : (class : ℕ) (key : ℤ) (os : Objects) → ObjectsRise os → filter (λ (r : KeyedRow). int_eq r.key key) (rows_of class os) ≡ with_key key (find_object os class key)
+one_row class key [] rise = refl
+one_row class key (o ∷ os) rise =
+    by (o.0.class == class) (int_eq o.0.key key) refl refl (one_row class key os (sorted_tail compare_names o.0 (names os) rise))
+    ∙ ap (λ b. with_key key (cond b (Some o.1) (find_object os class key))) (sym (at_name class key o))
+  where
+    rest : List KeyedRow
+    rest = filter (λ (r : KeyedRow). int_eq r.key key) (rows_of class os)
+
+    gone : (o.0.class == class) ≡ true → int_eq o.0.key key ≡ true → find_object os class key ≡ None
+    gone same is =
+        let named : o.0 ≡ object_name class key = (λ i. record { class = nat_same o.0.class class same i; key = (Decides-int_eq o.0.key key).0 is i }) in
+        absent_above (object_name class key) os (subst (λ n. AllByRecursion (λ y. compare_names n y ≡ Less) (names os)) named (sorted_head compare_names o.0 (names os) rise))
+
+    turned : (t : Bool) → int_eq o.0.key key ≡ t → int_eq key o.0.key ≡ t
+    turned t is = int_eq_equiv.symm key o.0.key ∙ is
+
+    by : (b t : Bool) → (o.0.class == class) ≡ b → int_eq o.0.key key ≡ t → rest ≡ with_key key (find_object os class key)
+        → filter (λ (r : KeyedRow). int_eq r.key key) (map keyed (cond b (o ∷ of_class class os) (of_class class os))) ≡ with_key key (cond (b && int_eq key o.0.key) (Some o.1) (find_object os class key))
+    by true true same is later =
+        let here : keyed o ≡ record { key = key; row = o.1 } = (λ i. record { key = (Decides-int_eq o.0.key key).0 is i; row = o.1 }) in
+        let nothing : rest ≡ [] = later ∙ ap (with_key key) (gone same is) in
+        ap (λ t. cond t (keyed o ∷ rest) rest) is ∙ (λ i. here i ∷ nothing i)
+        ∙ sym (ap (λ t. with_key key (cond t (Some o.1) (find_object os class key))) (turned true is))
+    by true false same is later =
+        ap (λ t. cond t (keyed o ∷ rest) rest) is ∙ later
+        ∙ sym (ap (λ t. with_key key (cond t (Some o.1) (find_object os class key))) (turned false is))
+    by false t same is later = later

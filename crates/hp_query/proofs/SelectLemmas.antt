@@ -24,7 +24,7 @@ bind_assoc : {A B C : Type 0} (o : Outcome A) (f : A → Outcome B) (g : B → O
 bind_assoc (Ok a) f g = refl
 bind_assoc (Err c) f g = refl
 
-bind_ok : {A : Type 0} (o : Outcome A) → (o >>= λ a. Ok a) ≡ o
+pub bind_ok : {A : Type 0} (o : Outcome A) → (o >>= λ a. Ok a) ≡ o
 bind_ok (Ok a) = refl
 bind_ok (Err c) = refl
 
@@ -41,7 +41,7 @@ module _ (env : Environment) (x : Name) (predicate : Expression) where
   abbrev pub kept_by : Bool → KeyedRow → List KeyedRow → Outcome (List KeyedRow)
   kept_by keep r rest = selected env x predicate rest >>= λ rows. Ok (if keep then r ∷ rows else rows)
 
-  selected-cons : (r : KeyedRow) (rest : List KeyedRow) (o : Outcome Bool) → test env x predicate r ≡ o → selected env x predicate (r ∷ rest) ≡ (o >>= λ keep. kept_by keep r rest)
+  pub selected-cons : (r : KeyedRow) (rest : List KeyedRow) (o : Outcome Bool) → test env x predicate r ≡ o → selected env x predicate (r ∷ rest) ≡ (o >>= λ keep. kept_by keep r rest)
   selected-cons r rest o is =
       bind_assoc (value_of (bound x r env) predicate) as_boolean (λ keep. kept_by keep r rest) ∙ ap (λ p. p >>= λ keep. kept_by keep r rest) is
 

@@ -1,3 +1,4 @@
+pub mod ByKey
 pub mod Looks
 pub mod Mapped
 pub mod Plain

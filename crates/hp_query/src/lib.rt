@@ -4,6 +4,7 @@
 //! the answers say is said of each world that the look still allows after the call.
 #![tactic(auto)]
 
+mod by_key;
 mod collect;
 mod condition;
 mod look;

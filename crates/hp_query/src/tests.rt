@@ -176,6 +176,76 @@ fn a_predicate_without_truth_value(rt: HostRuntime) -> Result<(), Fail> {
     Ok(())
 }
 
+fn key_of(alloc: Global, variable: &str) -> Result<Box<Expr>, AllocError> {
+    let variable = text(alloc, variable)?;
+    Ok(Box::new(alloc, Expr::KeyOf { variable })?)
+}
+
+fn both(alloc: Global, first: Box<Expr>, second: Box<Expr>) -> Result<Box<Expr>, AllocError> {
+    Ok(Box::new(alloc, Expr::And(first, second))?)
+}
+
+// The row's key is a value, written either way round.
+fn is_key(
+    alloc: Global,
+    variable: &str,
+    wanted: Box<Expr>,
+    turned: bool,
+) -> Result<Box<Expr>, AllocError> {
+    let key = key_of(alloc, variable)?;
+    if turned {
+        return compared(alloc, wanted, Comparison::Equal, key);
+    }
+    compared(alloc, key, Comparison::Equal, wanted)
+}
+
+fn of_key(
+    alloc: Global,
+    objects: &mut PlainObjects,
+    wanted: i64,
+    turned: bool,
+) -> Result<Vec<KeyedRow>, Halt> {
+    let key = is_key(alloc, "x", number(alloc, wanted)?, turned)?;
+    let predicate = both(alloc, key, is_above(alloc, "x", 0)?)?;
+    selected_rows(alloc, "x", 0, &predicate, &Env::new(None, &[]), objects)
+}
+
+// What follows the key is asked of its row alone: at 2 stands a text, of which nothing is above.
+#[test]
+fn one_key_is_asked_for(rt: HostRuntime) -> Result<(), Fail> {
+    let alloc = rt.alloc();
+    let mut objects = accounts(alloc)?;
+    let named = row(alloc, Value::Text(text(alloc, "much")?))?;
+    objects.insert(0, 2, named)?;
+    for turned in [false, true] {
+        assert_keys(&rt, &of_key(alloc, &mut objects, 10, turned)?, &[10]);
+        assert_keys(&rt, &of_key(alloc, &mut objects, -3, turned)?, &[]);
+        assert_keys(&rt, &of_key(alloc, &mut objects, 3, turned)?, &[]);
+        assert_fault(&rt, of_key(alloc, &mut objects, 2, turned), Cause::Kind);
+    }
+    Ok(())
+}
+
+// A fault of what the key is compared with is one of the first row, if there is a row.
+#[test]
+fn a_key_that_has_no_value(rt: HostRuntime) -> Result<(), Fail> {
+    let alloc = rt.alloc();
+    let mut objects = accounts(alloc)?;
+    let env = Env::new(None, &[]);
+    let unknown = Expr::KeyIn { part: 0 };
+    let predicate = is_key(alloc, "x", Box::new(alloc, unknown)?, false)?;
+    let found = selected_rows(alloc, "x", 0, &predicate, &env, &mut objects);
+    assert_fault(&rt, found, Cause::NoParameter);
+    let rows = selected_rows(alloc, "x", 2, &predicate, &env, &mut objects)?;
+    assert_keys(&rt, &rows, &[]);
+
+    // The row's own key is in no other row, so all are answers.
+    let own = is_key(alloc, "x", key_of(alloc, "x")?, false)?;
+    let rows = selected_rows(alloc, "x", 0, &own, &env, &mut objects)?;
+    assert_keys(&rt, &rows, &[-20, -3, 2, 10]);
+    Ok(())
+}
+
 fn verdict(
     alloc: Global,
     queries: &[Query],

@@ -3,7 +3,7 @@
 use crate::{Found, Reads, Seen, View};
 use hp_query::{Query, answer};
 use hp_store::{CellValue, Layer, Snapshot};
-use hp_value::{Cell, Env, Expr, Field, Key, KeyedRow, Kind, Row, Value};
+use hp_value::{Cell, Comparison, Env, Expr, Field, Key, KeyedRow, Kind, Row, Value};
 use std::alloc::{AllocError, Global};
 use std::process::Abort;
 use std::sync::Arc;
@@ -211,6 +211,40 @@ fn a_class_is_read_as_a_whole(rt: HostRuntime) -> Result<(), Fail> {
     assert_all(&rt, alloc, &mut view)?;
     let (reads, _) = view.into_parts();
     assert_reads(&rt, &reads, &[(Seen::Keys(0), None, 3)]);
+    Ok(())
+}
+
+// A query for the row of class 0 with a key.
+fn of_key(alloc: Global, key: Key) -> Result<Query, AllocError> {
+    let variable = String::from_str(alloc, "x")?;
+    let own = Box::new(alloc, Expr::KeyOf { variable })?;
+    let wanted = Box::new(alloc, Expr::literal(Value::Int(key)))?;
+    let predicate = Expr::Comparison(Comparison::Equal, own, wanted);
+    Ok(Query {
+        name: String::from_str(alloc, "x")?,
+        class: 0,
+        predicate: Box::new(alloc, predicate)?,
+    })
+}
+
+fn look_at_two_keys(rt: &impl Abort, alloc: Global, view: &mut View) -> Result<(), Fail> {
+    let rows = answer(alloc, &of_key(alloc, 2)?, &Env::new(None, &[]), view)?;
+    assert_rows(rt, &rows, &[(2, 102)]);
+    let rows = answer(alloc, &of_key(alloc, 3)?, &Env::new(None, &[]), view)?;
+    assert_rows(rt, &rows, &[]);
+    Ok(())
+}
+
+#[test]
+fn a_query_for_one_key_reads_one_cell(rt: HostRuntime) -> Result<(), Fail> {
+    let mut view = View::new(rt.alloc(), bank(rt.alloc())?)?;
+    look_at_two_keys(&rt, rt.alloc(), &mut view)?;
+    let (reads, _) = view.into_parts();
+    let wanted = [
+        (Seen::Cell(Cell::Object(0, 2)), Some(102), 0),
+        (Seen::Cell(Cell::Object(0, 3)), None, 0),
+    ];
+    assert_reads(&rt, &reads, &wanted);
     Ok(())
 }
 
