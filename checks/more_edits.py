@@ -1,0 +1,256 @@
+#!/usr/bin/env python3
+"""Tries the edits of crates/NAME/more-edits: the prover must refuse each of them.
+
+    checks/more_edits.py [--anew] [NAME ..]      tries those of the crates named, or of all crates
+    checks/more_edits.py --apply-only [NAME ..]  proves nothing: looks whether the edits of both folders apply
+
+The gate tries the edits of must-fail and not these. Here a copy of the crates is made in a temporary folder, in which more-edits
+stands as must-fail, and `rt must-fail NAME` runs there, crate by crate, lowest first. The copy begins with what checks of the same
+crates kept on this machine, and what an edit came to is kept for a later run. `--anew` tries all again.
+
+The status is 0 where each edit applies and was refused, 1 where one wasn't, and 130 where the run was interrupted. The copy is
+then removed, and what was tried of the crates that had ended stays kept.
+"""
+
+import os
+import re
+import shutil
+import signal
+import subprocess
+import sys
+import tempfile
+import time
+
+TOP = os.path.dirname(os.path.dirname(os.path.abspath(__file__)))
+
+# The folder of the edits that the gate tries, and that of the others.
+FIRST = "must-fail"
+MORE = "more-edits"
+
+# A line of an edit that was never tried, which is taken out once the prover has refused it.
+UNTRIED = "# untried"
+
+# What `rt` says of an edit, and of each that is refused for a reason that says little of a contract.
+SAYS = re.compile(r"(?:rt: )?must-fail [^/]+/(\S+): (refused, as it must be|NOT REFUSED|BAD EDIT|NOT TRIED)(.*)")
+LITTLE = re.compile(r" \(only ")
+
+
+SIGNALS = (signal.SIGINT, signal.SIGTERM, signal.SIGHUP)
+
+
+class Interrupted(Exception):
+    """The run is to end."""
+
+
+def interrupt(_number, _frame):
+    # (a second one is not to stop the removal of the copy)
+    for number in SIGNALS:
+        signal.signal(number, signal.SIG_IGN)
+    raise Interrupted
+
+
+def crates_in_order():
+    """The crates as crates.txt names them, each after those that it stands on."""
+    below = {}
+    with open(os.path.join(TOP, "crates.txt"), encoding="utf-8") as file:
+        for line in file:
+            name, _, uses = line.partition("#")[0].partition(":")
+            if name.strip():
+                below[name.split()[0]] = uses.split()
+    order = []
+
+    def add(name):
+        if name in below and name not in order:
+            for use in below[name]:
+                add(use)
+            order.append(name)
+
+    for name in below:
+        add(name)
+    return order
+
+
+def edits(crate, folder):
+    """The paths of a crate's edits in one of its folders."""
+    at = os.path.join(TOP, "crates", crate, folder)
+    if not os.path.isdir(at):
+        return []
+    return [os.path.join(at, name) for name in sorted(os.listdir(at)) if not name.endswith(".md")]
+
+
+def text_of(path):
+    with open(path, encoding="utf-8") as file:
+        return file.read()
+
+
+def is_untried(path):
+    return UNTRIED in text_of(path).split("\n")
+
+
+def why_not_applied(crate, path):
+    """Why an edit does not apply to the sources as they stand, by the rules of `rt`; none where it does."""
+    if not re.fullmatch(r"[A-Za-z0-9_-][A-Za-z0-9_.-]*\.edit", os.path.basename(path)):
+        return "its name is not that of an edit"
+    file, old, pairs, before, after = "", "", 0, {}, {}
+    for line in text_of(path).split("\n"):
+        if line.startswith("file: "):
+            file = line[len("file: ") :].strip()
+            if os.path.normpath(file) != file or not file.startswith(("src/", "specs/", "proofs/")):
+                return f"{file} is no file below src/, specs/ or proofs/"
+            if not os.path.isfile(os.path.join(TOP, "crates", crate, file)):
+                return f"there is no file {file}"
+        elif line.startswith("old: "):
+            old = line[len("old: ") :]
+        elif line.startswith("new:"):
+            if not file or not old:
+                return "a new text stands before any file or any old text"
+            if file not in after:
+                before[file] = after[file] = text_of(os.path.join(TOP, "crates", crate, file))
+            found = after[file].count(old)
+            if found != 1:
+                return f"an old text stands in {file} {found} times, and not once: {old.strip()[:80]}"
+            after[file] = after[file].replace(old, line[len("new:") :].removeprefix(" "))
+            old, pairs = "", pairs + 1
+        elif line.strip() and not line.startswith(("#", "--", "//")):
+            return f"a line that is not read: {line.strip()[:80]}"
+    if old or not pairs:
+        return "an old text has no new one" if old else "it has no old and new text"
+    return "it changes nothing" if after == before else None
+
+
+def apply_all(crates):
+    """Says of each edit of both folders that does not apply why it doesn't, and returns how many there are."""
+    faults, counts = 0, {FIRST: 0, MORE: 0}
+    for crate in crates:
+        names = {}
+        for folder in (FIRST, MORE):
+            for path in edits(crate, folder):
+                counts[folder] += 1
+                name = os.path.basename(path)
+                why = why_not_applied(crate, path)
+                if name in names:
+                    why = f"an edit of this name stands in {names[name]} too"
+                names[name] = folder
+                if why:
+                    faults += 1
+                    print(f"{crate}/{folder}/{name}: does not apply: {why}", flush=True)
+    whole = f"{counts[FIRST]} edits in {FIRST} and {counts[MORE]} in {MORE}"
+    print(f"{whole}: {f'{faults} do not apply' if faults else 'each applies'}", flush=True)
+    return faults
+
+
+def copy_crates(to):
+    """Copies the crates without what was made of them, and without their edits."""
+    os.makedirs(to)
+    for name in ("crates.txt", "HANDLES"):
+        shutil.copyfile(os.path.join(TOP, name), os.path.join(to, name))
+    top = os.path.join(TOP, "crates")
+    for crate in sorted(os.listdir(top)):
+        left_out = lambda at, _, whole=os.path.join(top, crate): {"out", FIRST, MORE} if at == whole else set()
+        if os.path.isdir(os.path.join(top, crate)):
+            shutil.copytree(os.path.join(top, crate), os.path.join(to, "crates", crate), ignore=left_out)
+
+
+def remove(path):
+    """Removes a folder, if it is there. A command that was ended may have been writing in it."""
+    for _ in range(20):
+        shutil.rmtree(path, ignore_errors=True)
+        if not os.path.lexists(path):
+            return
+        time.sleep(0.25)
+    print(f"{path} could not be removed", file=sys.stderr)
+
+
+def must_fail(crate, copy, room, anew):
+    """Runs `rt must-fail` on a crate of the copy, and returns its lines. What it starts ends with it."""
+    words = ["rt", "must-fail", *(["--anew"] if anew else []), crate]
+    how = {"cwd": copy, "stdin": subprocess.DEVNULL, "stdout": subprocess.PIPE, "stderr": subprocess.STDOUT}
+    how.update(env={**os.environ, "TMPDIR": room}, start_new_session=True, encoding="utf-8", errors="replace")
+    lines = []
+    with subprocess.Popen(words, **how) as running:
+        try:
+            for line in running.stdout:
+                lines.append(line.rstrip("\n"))
+        finally:
+            if running.poll() is None:
+                # (the checks that it started end with it)
+                running.kill()
+    return lines
+
+
+def try_crate(crate, copy, room, anew):
+    """Tries the edits of a crate, says what each came to, and returns how many were not refused, were bad and were not tried."""
+    begun = time.monotonic()
+    paths = {os.path.basename(path): path for path in edits(crate, MORE)}
+    print(f"== {crate}: {len(paths)} edits, from {time.strftime('%H:%M')}", flush=True)
+    at = os.path.join(copy, "crates", crate, FIRST)
+    os.makedirs(at)
+    for name, path in paths.items():
+        shutil.copyfile(path, os.path.join(at, name))
+    came_to = {}
+    for line in must_fail(crate, copy, room, anew):
+        said = SAYS.match(line)
+        if said:
+            came_to[said[1]] = said[2]
+        if not said or said[2] != "refused, as it must be" or LITTLE.match(said[3]):
+            print(line, flush=True)
+    named = lambda kind: [name[: -len(".edit")] for name in paths if came_to.get(name, "NOT TRIED") == kind]
+    refused, missed, bad, untried = map(named, ("refused, as it must be", "NOT REFUSED", "BAD EDIT", "NOT TRIED"))
+    for title, names in (("refused", refused), ("NOT REFUSED", missed), ("bad", bad), ("not tried", untried)):
+        if names:
+            print(f"{crate}: {len(names)} {title}: {' '.join(names)}", flush=True)
+    marked = [name for name in refused if is_untried(paths[f"{name}.edit"])]
+    if marked:
+        print(f"{crate}: take the line '{UNTRIED}' out of {' '.join(marked)}", flush=True)
+    print(f"{crate}: done in {time.monotonic() - begun:.0f} seconds", flush=True)
+    # The libraries stay for the crates above; the rest is large, and no crate above needs it.
+    for each in os.listdir(os.path.join(copy, "crates")):
+        remove(os.path.join(copy, "crates", each, "out", "incremental"))
+    return len(missed), len(bad), len(untried)
+
+
+def try_all(crates, anew):
+    """Tries the edits of crates, and returns the status."""
+    crates = [crate for crate in crates if edits(crate, MORE)]
+    missed, bad, untried, ended = 0, 0, 0, []
+    whole = tempfile.mkdtemp(prefix="more-edits-")
+    try:
+        copy, room = os.path.join(whole, "copy"), os.path.join(whole, "room")
+        os.mkdir(room)
+        copy_crates(copy)
+        for crate in crates:
+            found = try_crate(crate, copy, room, anew)
+            missed, bad, untried = missed + found[0], bad + found[1], untried + found[2]
+            ended.append(crate)
+    except Interrupted:
+        print(f"interrupted, with {', '.join(crates[len(ended) :])} left", flush=True)
+        return 130
+    finally:
+        remove(whole)
+    of = sum(len(edits(crate, MORE)) for crate in crates)
+    left = missed + bad + untried
+    print(f"{of - left} of {of} edits refused; {missed} not refused, {bad} bad, {untried} not tried")
+    return 1 if left else 0
+
+
+def main(words):
+    names = [word for word in words if not word.startswith("-")]
+    options = {word for word in words if word.startswith("-")}
+    every = crates_in_order()
+    if options - {"--anew", "--apply-only"} or set(names) - set(every):
+        print(__doc__.strip(), file=sys.stderr)
+        return 2
+    crates = [crate for crate in every if not names or crate in names]
+    for number in SIGNALS:
+        signal.signal(number, interrupt)
+    try:
+        faults = apply_all(crates)
+        if "--apply-only" in options:
+            return 1 if faults else 0
+        return max(try_all(crates, "--anew" in options), 1 if faults else 0)
+    except Interrupted:
+        return 130
+
+
+if __name__ == "__main__":
+    sys.exit(main(sys.argv[1:]))
