@@ -3,7 +3,7 @@
 
     bench/bench.py PROGRAM [--times N] [--only LETTERS] [--keep FOLDER]
 
-PROGRAM is crates/hipac/out/hipac, which `./hipac` builds. Each workload is a script of its own, made
+PROGRAM is the proved hipac; `./build` says where it lies. Each workload is a script of its own, made
 here; each is run N times (5), all commands in turn, and the shortest time counts. Workloads (c) and (d) are also run as
 triggers by sqlite3 over an in-memory database, in the same run.
 
