@@ -172,7 +172,8 @@ TABLES = {
     "orders": ("an order desk of five rules, items and customers", "order",
                [lambda n=n: ("orders", order_desk(n)) for n in (10, 100, 1000, 4000)]),
     "conditions": ("conditions that look for one object, objects of the class", "firing",
-                   [lambda n=n, name=name: (name, condition(name, n)) for name in CONDITIONS for n in (50, 5000, 15000)]),
+                   [lambda n=n, name=name: (name, condition(name, n))
+                for name in CONDITIONS for n in (50, 5000, 15000)]),
     "backlog": ("a sequence, first parts that wait", "signal",
                 [lambda n=n: ("sequence", backlog(n)) for n in (500, 16000)]),
     "groups": ("rules on one event", "update",
