@@ -102,10 +102,8 @@ def rule_text(rule: Rule, rulebase: Optional[RuleBase] = None) -> str:
 def rule_head(rule: Rule) -> str:
     """The rule's name, its event, and where the condition is tested. Without a condition also where the action runs."""
     numbered = not scripts.has_one_part(rule.event) and uses_parts(rule)
-    event = event_text(rule.event, numbered)
-    lead = {"every": "", "at": "at "}.get(rule.event[0], "on ")
     action_place = "" if rule.queries or rule.ca == "immediate" else f", then {WHERE[rule.ca]}"
-    return f"rule {rule.name}: {lead}{event}, {WHERE[rule.ec]}{action_place}:"
+    return f"rule {rule.name}: {when_text(rule.event, numbered)}, {WHERE[rule.ec]}{action_place}:"
 
 
 def condition_lines(rule: Rule, one_part: bool) -> List[str]:
@@ -138,6 +136,11 @@ def uses_parts(rule: Rule) -> bool:
 
 
 # Events.
+
+def when_text(event: Form, numbered: bool = False) -> str:
+    """An event with the word before it: `on` an operation, `at` a moment, and nothing before `every`."""
+    return {"every": "", "at": "at "}.get(event[0], "on ") + event_text(event, numbered)
+
 
 def event_text(event: Form, numbered: bool = False) -> str:
     """An event. With `numbered` each simple event in it tells which part of the occurrence it is."""
@@ -318,16 +321,8 @@ def _key(key: Form, one_part: bool) -> str:
 
 def items_texts(rulebase: RuleBase) -> List[str]:
     """Each item as a paragraph, with the numbers that its units have in the report."""
-    texts, unit, clock = [], 1, 0
-    for word, content in rulebase.items:
-        if word == "tx":
-            texts.append(transaction_text(content, unit))
-            unit += 1
-        else:
-            moments = scripts.due_moments(rulebase, clock, content)
-            texts.append(clock_text(content, moments, unit))
-            unit, clock = unit + len(moments), content
-    return texts
+    return [transaction_text(content, unit) if word == "tx" else clock_text(content, moments, unit)
+            for (word, content), unit, moments in scripts.numbered_items(rulebase)]
 
 
 def transaction_text(body: List[Form], unit: int) -> str:

@@ -281,16 +281,28 @@ def has_one_part(event: Form) -> bool:
     return event[0] not in ("seq", "closure")
 
 
+def numbered_items(rulebase: RuleBase) -> Iterator[Tuple[Form, int, List[int]]]:
+    """Each item with the number of its first unit in the report, and with its due moments, each of which is a unit."""
+    unit, clock = 1, 0
+    for item in rulebase.items:
+        moments = due_moments(rulebase, clock, item[1]) if item[0] == "clock" else []
+        yield item, unit, moments
+        if item[0] == "clock":
+            unit, clock = unit + len(moments), item[1]
+        else:
+            unit += 1
+
+
 def due_moments(rulebase: RuleBase, former: int, now: int) -> List[int]:
     """The moments that are due when the clock moves from `former` to `now`, and one above the most that may be."""
     moments = set()
     for rule in rulebase.rules:
         for pattern in patterns(rule.event):
-            moments.update(_moments_of(pattern, former, now))
+            moments.update(moments_of(pattern, former, now))
     return sorted(moments)[:MOST_MOMENTS + 1]
 
 
-def _moments_of(pattern: Form, former: int, now: int) -> range:
+def moments_of(pattern: Form, former: int, now: int) -> range:
     """The moments above `former` and up to `now` that one pattern names."""
     if pattern[0] == "at":
         return range(pattern[1], pattern[1] + 1) if former < pattern[1] <= now else range(0)
