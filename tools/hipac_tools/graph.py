@@ -3,10 +3,12 @@
 `build` finds the nodes and edges of a script, its cycles, its longest chain of firings, and what looks like an oversight.
 All of it is read from the script's text: an edge says that something may happen. Where no edge is, nothing happens.
 """
+from __future__ import annotations
+
 import sys
 import textwrap
 from dataclasses import dataclass
-from typing import Dict, Iterable, Iterator, List, Sequence, Set, Tuple
+from typing import Iterable, Iterator, Sequence
 
 from . import influence, oversights, paths, picture
 from . import rulebase as scripts
@@ -14,12 +16,21 @@ from .influence import Deeds, Pattern, Reach
 from .printing import event_text, folded, when_text
 from .rulebase import Rule, RuleBase
 
+USAGE = """usage: hipac-tools graph SCRIPT.json [--svg FILE]
+
+Tells which rule may set off which, the cycles among them, the longest chain of firings, and what looks like an oversight.
+With --svg it also draws the picture: by Graphviz where `dot` is installed, else by a layout of its own. `-` is standard input.
+The exit status is 0, or 2 where it is no script, or 3 where the words are wrong or a file can't be read or written."""
+
+WRONG_WORDS = 3
 SETS_OFF, PREPARES, FIRES = "sets off", "prepares", "fires"
 OPERATIONS = {"fire": FIRES, "install": "installs", "enable": "enables", "disable": "disables", "remove": "removes"}
 KINDS = (SETS_OFF, PREPARES, *OPERATIONS.values())
 FIRING_KINDS = (SETS_OFF, FIRES)
 """The kinds of edges along which one firing follows from another, one deeper."""
 
+NONE = ("none",)
+NO_TRANSACTION = ("the script has no transaction: all rules are taken as installed, and all their events as possible",)
 MOST_CYCLES = 20
 BOX_WIDTH, MOST_BOX_LINES = 36, 4
 
@@ -59,9 +70,9 @@ class Cycle:
 
     `breaks` tells which couplings part the turns: without them all firings nest at the place of the first event.
     """
-    rules: Tuple[str, ...]
-    labels: Tuple[str, ...]
-    breaks: Tuple[str, ...]
+    rules: tuple[str, ...]
+    labels: tuple[str, ...]
+    breaks: tuple[str, ...]
     may_turn: bool
 
     @property
@@ -73,21 +84,21 @@ class Cycle:
 @dataclass(frozen=True)
 class Chain:
     """The longest chain of firings that may happen. `endless` where a cycle may turn; then `steps` is one way into it."""
-    steps: Tuple[Edge, ...]
+    steps: tuple[Edge, ...]
     endless: bool
 
 
 @dataclass(frozen=True)
 class Graph:
     """All that `graph` tells of a script."""
-    nodes: List[Node]
-    edges: List[Edge]
-    cycles: List[Cycle]
+    nodes: list[Node]
+    edges: list[Edge]
+    cycles: list[Cycle]
     has_more_cycles: bool
     chain: Chain
     limit: int
-    warnings: List[str]
-    scans: List[str]
+    warnings: list[str]
+    scans: list[str]
 
     @property
     def may_meet_limit(self) -> bool:
@@ -95,26 +106,37 @@ class Graph:
         return self.chain.endless or len(self.chain.steps) > self.limit
 
 
-def main(arguments: List[str]) -> int:
-    """`graph SCRIPT.json [--svg FILE]`: the text to standard output, and the picture to a file."""
+def main(arguments: list[str]) -> int:
+    """Writes the text to standard output, and the picture to a file."""
     words = list(arguments)
+    if words in (["--help"], ["-h"]):
+        print(USAGE)
+        return 0
     target = None
     if "--svg" in words[:-1]:
         place = words.index("--svg")
         target = words[place + 1]
         del words[place:place + 2]
-    if len(words) != 1 or words[0].startswith("-"):
-        print("usage: ./hipac-tools graph SCRIPT.json [--svg FILE]", file=sys.stderr)
-        return 3
+    if len(words) != 1 or words[0].startswith("-") and words[0] != "-":
+        print(USAGE, file=sys.stderr)
+        return WRONG_WORDS
     try:
         graph = build(scripts.read_file(words[0]))
-        if target is not None:
-            with open(target, "w", encoding="utf-8") as file:
-                file.write(svg(graph))
-    except (scripts.Refused, OSError) as fault:
-        print(f"graph: {words[0]}: {fault}", file=sys.stderr)
-        return 2
+    except scripts.Refused as fault:
+        print(fault, file=sys.stderr)
+        return fault.status
     sys.stdout.buffer.write(graph_text(graph).encode("utf-8"))
+    return 0 if target is None else _write_picture(graph, target)
+
+
+def _write_picture(graph: Graph, target: str) -> int:
+    """Writes the picture to a file, and gives the exit status."""
+    try:
+        with open(target, "w", encoding="utf-8") as file:
+            file.write(svg(graph))
+    except OSError as fault:
+        print(f"{target}: {fault.strerror}", file=sys.stderr)
+        return WRONG_WORDS
     return 0
 
 
@@ -135,7 +157,7 @@ def build(rulebase: RuleBase) -> Graph:
 
 # Edges.
 
-def _edges(rulebase: RuleBase, sources: Dict[str, Deeds]) -> Iterator[Edge]:
+def _edges(rulebase: RuleBase, sources: dict[str, Deeds]) -> Iterator[Edge]:
     """All edges, in the order of sources, then of rules, then of kinds and labels."""
     last = {rule.name: set(influence.last_patterns(rule.event)) for rule in rulebase.rules}
     whole = {rule.name: {tuple(one) for one in scripts.patterns(rule.event)} for rule in rulebase.rules}
@@ -150,11 +172,11 @@ def _edges(rulebase: RuleBase, sources: Dict[str, Deeds]) -> Iterator[Edge]:
                     yield Edge(source, name, kind)
 
 
-def _labels(events: Iterable[Pattern]) -> List[str]:
+def _labels(events: Iterable[Pattern]) -> list[str]:
     return sorted(event_text(list(event)) for event in events)
 
 
-def _possible(rules: Dict[str, Rule], edges: List[Edge], reach: Reach) -> List[Edge]:
+def _possible(rules: dict[str, Rule], edges: list[Edge], reach: Reach) -> list[Edge]:
     """The edges along which a firing may really follow: both ends may fire, and the event may be completed there."""
     completing = {name: set(_labels(influence.setting_off(rule.event, reach.events))) for name, rule in rules.items()}
     return [edge for edge in edges
@@ -162,9 +184,9 @@ def _possible(rules: Dict[str, Rule], edges: List[Edge], reach: Reach) -> List[E
             and (edge.kind == FIRES or edge.kind == SETS_OFF and edge.label in completing[edge.target])]
 
 
-def _links(edges: Iterable[Edge]) -> Dict[str, Dict[str, Edge]]:
+def _links(edges: Iterable[Edge]) -> dict[str, dict[str, Edge]]:
     """From each source to its targets, with the first edge that leads there."""
-    links: Dict[str, Dict[str, Edge]] = {}
+    links: dict[str, dict[str, Edge]] = {}
     for edge in edges:
         links.setdefault(edge.source, {}).setdefault(edge.target, edge)
     return links
@@ -172,11 +194,11 @@ def _links(edges: Iterable[Edge]) -> Dict[str, Dict[str, Edge]]:
 
 # Cycles.
 
-def _cycles(rules: Dict[str, Rule], edges: List[Edge], possible: List[Edge]) -> Tuple[List[Cycle], bool]:
+def _cycles(rules: dict[str, Rule], edges: list[Edge], possible: list[Edge]) -> tuple[list[Cycle], bool]:
     """For each two rules that follow each other on a cycle the shortest one, each cycle once; and whether there are more."""
     links = _links(edge for edge in edges if edge.kind in FIRING_KINDS and edge.source in rules)
     turning = {(edge.source, edge.target) for edge in possible}
-    found: Dict[Tuple[str, ...], Cycle] = {}
+    found: dict[tuple[str, ...], Cycle] = {}
     order = {name: place for place, name in enumerate(rules)}
     for group in sorted(paths.components(links, rules), key=lambda names: min(order[name] for name in names)):
         inside = {name: [target for target in links.get(name, ()) if target in group] for name in rules if name in group}
@@ -191,13 +213,13 @@ def _cycles(rules: Dict[str, Rule], edges: List[Edge], possible: List[Edge]) -> 
     return list(found.values()), False
 
 
-def _turned(names: Tuple[str, ...], order: Dict[str, int]) -> Tuple[str, ...]:
+def _turned(names: tuple[str, ...], order: dict[str, int]) -> tuple[str, ...]:
     """A cycle begun at the rule that stands first in the script. A way that ends where the cycle closes is one too."""
     start = min(range(len(names)), key=lambda place: order[names[place]])
     return names[start:] + names[:start]
 
 
-def _cycle(names: Tuple[str, ...], edges: List[Edge], rules: Dict[str, Rule], turning: Set[Tuple[str, str]]) -> Cycle:
+def _cycle(names: tuple[str, ...], edges: list[Edge], rules: dict[str, Rule], turning: set[tuple[str, str]]) -> Cycle:
     """A cycle with what leads from rule to rule, and the couplings that part its turns."""
     pairs = list(zip(names, names[1:] + names[:1]))
     labels = tuple(" or ".join(edge.label or FIRES for edge in edges
@@ -214,7 +236,7 @@ def _cycle(names: Tuple[str, ...], edges: List[Edge], rules: Dict[str, Rule], tu
 
 # Chains.
 
-def _chain(possible: List[Edge], order: Sequence[str], reach: Reach) -> Chain:
+def _chain(possible: list[Edge], order: Sequence[str], reach: Reach) -> Chain:
     """The longest way along possible edges from a source that is no rule; where a cycle may turn, a way that enters it."""
     links = _links(possible)
     starts = [name for name in order if name not in reach.firing]
@@ -225,13 +247,13 @@ def _chain(possible: List[Edge], order: Sequence[str], reach: Reach) -> Chain:
         entry = min((way for way in ways if way), key=len)
         turn = paths.shortest_way(links, entry[-1], {entry[-1]}) or entry[-1:]
         return Chain(_steps(links, entry + turn[1:]), True)
-    longest: Dict[str, Tuple[str, ...]] = {}
+    longest: dict[str, tuple[str, ...]] = {}
     for (name,) in groups:
         longest[name] = (name,) + max((longest[target] for target in links.get(name, ())), key=len, default=())
     return Chain(_steps(links, max((longest[start] for start in starts), key=len)), False)
 
 
-def _steps(links: Dict[str, Dict[str, Edge]], names: Sequence[str]) -> Tuple[Edge, ...]:
+def _steps(links: dict[str, dict[str, Edge]], names: Sequence[str]) -> tuple[Edge, ...]:
     return tuple(links[source][target] for source, target in zip(names, names[1:]))
 
 
@@ -240,22 +262,22 @@ def _steps(links: Dict[str, Dict[str, Edge]], names: Sequence[str]) -> Tuple[Edg
 def graph_text(graph: Graph) -> str:
     """The graph for reading: who acts on whom, the cycles, the longest chain, and what looks like an oversight."""
     couplings = {node.name: node.couplings for node in graph.nodes}
-    edges: Dict[str, List[Edge]] = {node.name: [] for node in graph.nodes}
+    edges: dict[str, list[Edge]] = {node.name: [] for node in graph.nodes}
     for edge in graph.edges:
         edges[edge.source].append(edge)
-    sections = ["Who may set off whom"]
+    sections = [_section("Who may set off whom", NO_TRANSACTION if influence.ANY_SCRIPT in edges else ())]
     sections += [_node_text(node, edges[node.name], couplings) for node in graph.nodes]
-    sections += [_cycles_text(graph), _chain_text(graph, couplings), _section("Warnings", graph.warnings)]
+    sections += [_cycles_text(graph), _chain_text(graph, couplings), _section("Warnings", graph.warnings or NONE)]
     scans = list(graph.scans)
     if scans:
         scans.append('a predicate that begins with "key of x = .." looks at one object instead')
-    return "\n\n".join(sections + [_section("Queries that go over a whole class", scans)]) + "\n"
+    return "\n\n".join(sections + [_section("Queries that go over a whole class", scans or NONE)]) + "\n"
 
 
-def _node_text(node: Node, edges: List[Edge], couplings: Dict[str, str]) -> str:
+def _node_text(node: Node, edges: list[Edge], couplings: dict[str, str]) -> str:
     """A node with its edges, those of one kind and label on one line."""
     head = f"{node.name} ({node.couplings}), {node.when}" if node.is_rule else node.name
-    targets: Dict[Tuple[str, str], List[str]] = {}
+    targets: dict[tuple[str, str], list[str]] = {}
     for edge in edges:
         is_task = edge.kind in FIRING_KINDS + (PREPARES,)
         shown = f"{edge.target} ({couplings[edge.target]})" if is_task else edge.target
@@ -273,13 +295,13 @@ def _cycles_text(graph: Graph) -> str:
         lines.append(f"{cycle.path}, by {', '.join(cycle.labels)}")
         lines += ["  " + one for one in cycle.breaks or ("all immediate: each turn is inside the one before",)]
         if not cycle.may_turn:
-            lines.append("  it never turns in this script, since not all of this may happen")
+            lines.append("  it never turns, since not all of this may happen")
     if graph.has_more_cycles:
         lines.append(f"and more than these {len(graph.cycles)}")
-    return _section("Cycles", lines)
+    return _section("Cycles", lines or NONE)
 
 
-def _chain_text(graph: Graph, couplings: Dict[str, str]) -> str:
+def _chain_text(graph: Graph, couplings: dict[str, str]) -> str:
     """The longest chain with its depths, and whether a run may meet A7."""
     chain, limit = graph.chain, graph.limit
     length = "without end" if chain.endless else f"{len(chain.steps)} deep"
@@ -289,12 +311,12 @@ def _chain_text(graph: Graph, couplings: Dict[str, str]) -> str:
         lines.append(f"{depth} {step.target} ({couplings[step.target]}), {way} from {step.source}")
     if chain.endless:
         lines.append("and so on, as long as conditions hold and events are complete")
-    lines.append("a run may meet A7" if graph.may_meet_limit else "no run of this script meets A7")
+    lines.append("a run may meet A7" if graph.may_meet_limit else "no run meets A7")
     return _section(f"Longest chain of firings: {length}, and at most {limit} may nest", lines)
 
 
 def _section(head: str, lines: Sequence[str]) -> str:
-    return "\n".join([head] + [folded("  " + line) for line in lines or ["none"]])
+    return "\n".join([head] + [folded("  " + line) for line in lines])
 
 
 # The picture.
@@ -306,7 +328,7 @@ def svg(graph: Graph) -> str:
     """
     colour = {node.name: picture.COLOURS.get(node.ec, picture.COLOURS["other"]) for node in graph.nodes}
     rules = {node.name for node in graph.nodes if node.is_rule}
-    labels: Dict[Tuple[str, str, str], List[str]] = {}
+    labels: dict[tuple[str, str, str], list[str]] = {}
     for edge in graph.edges:
         if edge.source in rules or edge.kind != "installs":
             labels.setdefault((edge.source, edge.target, edge.kind), []).append(edge.label)

@@ -4,8 +4,10 @@ A source is the script's own transactions, the clock, or a rule's action. What i
 class, a signal, a moment, a commit) and rule operations. All is by the text alone: conditions are taken as possibly true.
 So what isn't found here can't happen in any run; what is found may happen.
 """
+from __future__ import annotations
+
 from dataclasses import dataclass, field
-from typing import Dict, FrozenSet, Iterator, List, Set, Tuple
+from typing import Iterator
 
 from . import rulebase as scripts
 from .rulebase import Form, RuleBase
@@ -17,26 +19,26 @@ ANY_SCRIPT = "any script"
 
 COMMIT = ("commit",)
 
-Pattern = Tuple
+Pattern = tuple
 """A simple event, as a tuple, so that it can stand in a set."""
 
 
 @dataclass
 class Deeds:
     """What one source does: the simple events that it makes, and its rule operations as pairs of word and rule."""
-    events: Set[Pattern] = field(default_factory=set)
-    operations: Set[Tuple[str, str]] = field(default_factory=set)
+    events: set[Pattern] = field(default_factory=set)
+    operations: set[tuple[str, str]] = field(default_factory=set)
 
 
 @dataclass(frozen=True)
 class Reach:
     """What may come to pass: the simple events, the rules that may be installed, and the rules that may fire."""
-    events: FrozenSet[Pattern]
-    installed: FrozenSet[str]
-    firing: FrozenSet[str]
+    events: frozenset[Pattern]
+    installed: frozenset[str]
+    firing: frozenset[str]
 
 
-def all_deeds(rulebase: RuleBase) -> Dict[str, Deeds]:
+def all_deeds(rulebase: RuleBase) -> dict[str, Deeds]:
     """The deeds of each source, by its name: first the script and the clock, then the rules in order."""
     sources = _items_deeds(rulebase)
     for rule in rulebase.rules:
@@ -47,7 +49,7 @@ def all_deeds(rulebase: RuleBase) -> Dict[str, Deeds]:
     return sources
 
 
-def body_deeds(body: List[Form]) -> Deeds:
+def body_deeds(body: list[Form]) -> Deeds:
     """What the statements of a body do."""
     deeds = Deeds()
     for statement in scripts.statements(body):
@@ -58,7 +60,7 @@ def body_deeds(body: List[Form]) -> Deeds:
     return deeds
 
 
-def _items_deeds(rulebase: RuleBase) -> Dict[str, Deeds]:
+def _items_deeds(rulebase: RuleBase) -> dict[str, Deeds]:
     """What a script's items do. Each of its units has a commit event, moments too."""
     patterns = {tuple(one) for rule in rulebase.rules for one in scripts.patterns(rule.event)}
     if not any(word == "tx" for word, _ in rulebase.items):
@@ -89,7 +91,7 @@ def last_patterns(event: Form) -> Iterator[Pattern]:
         yield tuple(event)
 
 
-def setting_off(event: Form, possible: FrozenSet[Pattern]) -> Set[Pattern]:
+def setting_off(event: Form, possible: frozenset[Pattern]) -> set[Pattern]:
     """Those of `last_patterns` at which an event may occur, where no other simple events than these are possible."""
     if event[0] == "or":
         return setting_off(event[1], possible) | setting_off(event[2], possible)
@@ -98,11 +100,11 @@ def setting_off(event: Form, possible: FrozenSet[Pattern]) -> Set[Pattern]:
     return {tuple(event)} & possible
 
 
-def reach(rulebase: RuleBase, sources: Dict[str, Deeds]) -> Reach:
+def reach(rulebase: RuleBase, sources: dict[str, Deeds]) -> Reach:
     """What may come to pass: grows from what the items do, by the rules that may then fire, until nothing is new."""
     rules = {rule.name: rule for rule in rulebase.rules}
     doing = [name for name in sources if name not in rules]
-    firing: Set[str] = set()
+    firing: set[str] = set()
     while True:
         events = frozenset(event for name in doing for event in sources[name].events)
         operations = {operation for name in doing for operation in sources[name].operations}

@@ -1,41 +1,46 @@
 """What looks like an oversight in a script: rules that can't fire, events that don't happen, queries that go far."""
-from typing import Dict, Iterator, List
+from __future__ import annotations
+
+from typing import Iterator
 
 from . import rulebase as scripts
 from .influence import Deeds, Reach
 from .printing import event_text
 from .rulebase import Form, RuleBase
 
+FAILING = (("enable", "enabled"), ("disable", "disabled"), ("fire", "fired"))
+"""The rule operations that fail where the rule is absent."""
 
-def warnings(rulebase: RuleBase, sources: Dict[str, Deeds], reach: Reach) -> List[str]:
+
+def warnings(rulebase: RuleBase, sources: dict[str, Deeds], reach: Reach) -> list[str]:
     """All warnings, in the order of rules and names."""
     return _not_firing(rulebase, sources, reach) + _not_happening(rulebase, reach) + _not_heard(rulebase, sources)
 
 
-def _not_firing(rulebase: RuleBase, sources: Dict[str, Deeds], reach: Reach) -> List[str]:
+def _not_firing(rulebase: RuleBase, sources: dict[str, Deeds], reach: Reach) -> list[str]:
     """The rules that can't fire, and why."""
     found = []
     for rule in rulebase.rules:
-        by_word: Dict[str, List[str]] = {}
+        by_word: dict[str, list[str]] = {}
         for source, deeds in sources.items():
             for word, name in sorted(deeds.operations):
                 if name == rule.name:
                     by_word.setdefault(word, []).append(source)
         if "install" not in by_word:
             found.append(f"rule {rule.name} is never installed, so it never fires")
-            found += [f"rule {rule.name} is absent, so each {word} of it ends with A2; {_listed(by_word[word])} has one"
-                      for word in ("enable", "disable", "fire") if word in by_word]
+            found += [f"rule {rule.name} is {done} by {_listed(by_word[word])}, which ends with A2, as the rule is absent"
+                      for word, done in FAILING if word in by_word]
         elif rule.name not in reach.installed:
-            found.append(f"rule {rule.name} never fires: it is installed by {_listed(by_word['install'])} alone, "
-                         "and never there")
+            found.append(f"rule {rule.name} never fires: it is installed only by rules that never fire, "
+                         f"{_listed(by_word['install'])}")
         elif rule.name not in reach.firing:
             found.append(f"rule {rule.name} never fires: it is installed, and its event never occurs")
     return found
 
 
-def _not_happening(rulebase: RuleBase, reach: Reach) -> List[str]:
+def _not_happening(rulebase: RuleBase, reach: Reach) -> list[str]:
     """The simple events that rules wait for and that nothing makes."""
-    waiting: Dict[str, List[str]] = {}
+    waiting: dict[str, list[str]] = {}
     for rule in rulebase.rules:
         for pattern in {tuple(one): None for one in scripts.patterns(rule.event)}:
             if pattern not in reach.events:
@@ -44,22 +49,22 @@ def _not_happening(rulebase: RuleBase, reach: Reach) -> List[str]:
             for event, names in waiting.items()]
 
 
-def _not_heard(rulebase: RuleBase, sources: Dict[str, Deeds]) -> List[str]:
+def _not_heard(rulebase: RuleBase, sources: dict[str, Deeds]) -> list[str]:
     """The signals that are in no rule's event."""
     heard = {tuple(one) for rule in rulebase.rules for one in scripts.patterns(rule.event)}
-    raised: Dict[str, List[str]] = {}
+    raised: dict[str, list[str]] = {}
     for source, deeds in sources.items():
         for word, *names in sorted(deeds.events - heard):
             if word == "signal":
                 raised.setdefault(names[0], []).append(source)
-    return [f"signal {name} is heard by no rule; {_listed(by)} raises it" for name, by in raised.items()]
+    return [f"signal {name} is heard by no rule, and raised by {_listed(by)}" for name, by in raised.items()]
 
 
-def _listed(names: List[str]) -> str:
+def _listed(names: list[str]) -> str:
     return names[0] if len(names) == 1 else f"{', '.join(names[:-1])} and {names[-1]}"
 
 
-def scans(rulebase: RuleBase) -> List[str]:
+def scans(rulebase: RuleBase) -> list[str]:
     """The queries and the statements `each` that go over all objects of a class."""
     return list(_scans(rulebase))
 
@@ -77,7 +82,7 @@ def _scans(rulebase: RuleBase) -> Iterator[str]:
                 yield f"unit {unit}, {found}"
 
 
-def _scanning_each(body: List[Form]) -> Iterator[str]:
+def _scanning_each(body: list[Form]) -> Iterator[str]:
     for statement in scripts.statements(body):
         if statement[0] == "each" and not asks_key(statement[1], statement[3]):
             yield f"for each {statement[1]}: all of {statement[2]}"

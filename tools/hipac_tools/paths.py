@@ -1,12 +1,14 @@
 """Ways through a graph that is given as the targets of each node, in order. All answers keep to that order."""
-from typing import Collection, Dict, Iterable, Iterator, List, Mapping, Optional, Tuple
+from __future__ import annotations
+
+from typing import Collection, Iterable, Iterator, Mapping
 
 Targets = Mapping[str, Iterable[str]]
 
 
-def shortest_way(targets: Targets, start: str, goals: Collection[str]) -> Optional[Tuple[str, ...]]:
+def shortest_way(targets: Targets, start: str, goals: Collection[str]) -> tuple[str, ...] | None:
     """The shortest way of one step or more from a node to one of the goals, both ends included."""
-    ways: Dict[str, Tuple[str, ...]] = {}
+    ways: dict[str, tuple[str, ...]] = {}
     queue = [(start,)]
     for way in queue:
         for target in targets.get(way[-1], ()):
@@ -18,7 +20,7 @@ def shortest_way(targets: Targets, start: str, goals: Collection[str]) -> Option
     return None
 
 
-def components(targets: Targets, nodes: Iterable[str]) -> List[List[str]]:
+def components(targets: Targets, nodes: Iterable[str]) -> list[list[str]]:
     """The nodes in groups that lead to each other, each group after all groups that it leads to."""
     return _Components(targets, nodes).groups
 
@@ -28,11 +30,11 @@ class _Components:
 
     def __init__(self, targets: Targets, nodes: Iterable[str]) -> None:
         self.targets = targets
-        self.groups: List[List[str]] = []
-        self.number: Dict[str, int] = {}
-        self.low: Dict[str, int] = {}
-        self.open: List[str] = []
-        self.is_open: Dict[str, bool] = {}
+        self.groups: list[list[str]] = []
+        self.number: dict[str, int] = {}
+        self.low: dict[str, int] = {}
+        self.open: list[str] = []
+        self.is_open: dict[str, bool] = {}
         for node in nodes:
             if node not in self.number:
                 self._search(node)

@@ -3,10 +3,12 @@
 The own layout stands boxes on levels, so that arrows go down where they can. Between two levels of boxes lies a level of
 labels. An arrow takes a place on each level that it crosses, so that it has room beside the boxes, and its label too.
 """
+from __future__ import annotations
+
 import shutil
 import subprocess
 from dataclasses import dataclass, field
-from typing import Dict, List, Optional, Sequence, Tuple
+from typing import Sequence
 from xml.sax.saxutils import escape, quoteattr
 
 COLOURS = {"immediate": "#222222", "deferred": "#1f5fbf", "separate": "#b45309", "dependent": "#15803d",
@@ -28,7 +30,7 @@ MOST_SECONDS = 30
 class Box:
     """A node: its lines of text, the first as its title. A faint one can't act."""
     name: str
-    lines: Tuple[str, ...]
+    lines: tuple[str, ...]
     colour: str = COLOURS["other"]
     is_round: bool = False
     is_faint: bool = False
@@ -53,7 +55,7 @@ def draw(boxes: Sequence[Box], arrows: Sequence[Arrow]) -> str:
 
 # By Graphviz.
 
-def _drawn_by_dot(program: str, boxes: Sequence[Box], arrows: Sequence[Arrow]) -> Optional[str]:
+def _drawn_by_dot(program: str, boxes: Sequence[Box], arrows: Sequence[Arrow]) -> str | None:
     """What `dot` makes of the picture, or None where it fails."""
     try:
         ended = subprocess.run([program, "-Tsvg"], input=dot_source(boxes, arrows).encode("utf-8"),
@@ -92,8 +94,8 @@ class _Place:
     """Room on a level: for a box, for a label, or for an arrow that passes by."""
     width: float
     level: int
-    above: List["_Place"] = field(default_factory=list)
-    below: List["_Place"] = field(default_factory=list)
+    above: list["_Place"] = field(default_factory=list)
+    below: list["_Place"] = field(default_factory=list)
     rank: float = 0.0
     x: float = 0.0
 
@@ -106,7 +108,8 @@ class _Layout:
         self.loops = [arrow for arrow in arrows if arrow.source == arrow.target]
         self.arrows = [arrow for arrow in arrows if arrow.source != arrow.target]
         self.levels = self._box_levels()
-        self.places = {name: _Place(self._width(box), 2 * self.levels[name]) for name, box in self.boxes.items()}
+        self.places = {name: _Place(self._width(box) + 2 * self._loop_room(name), 2 * self.levels[name])
+                       for name, box in self.boxes.items()}
         lengths = (abs(self.levels[arrow.target] - self.levels[arrow.source]) for arrow in self.arrows)
         self.is_dense = sum(2 * length for length in lengths) > MOST_PLACES
         self.ways = [[] if self.is_dense else self._way(arrow) for arrow in self.arrows]
@@ -115,9 +118,9 @@ class _Layout:
         self._put_in_columns()
         self.tops = self._tops()
 
-    def _box_levels(self) -> Dict[str, int]:
+    def _box_levels(self) -> dict[str, int]:
         """The level of each box: below all that lead to it, as far as arrows don't go round in circles."""
-        targets: Dict[str, List[str]] = {name: [] for name in self.boxes}
+        targets: dict[str, list[str]] = {name: [] for name in self.boxes}
         for arrow in self.arrows:
             if arrow.target not in targets[arrow.source]:
                 targets[arrow.source].append(arrow.target)
@@ -129,11 +132,11 @@ class _Layout:
         return levels
 
     @staticmethod
-    def _depth_first(targets: Dict[str, List[str]]) -> Tuple[Dict[str, List[str]], List[str]]:
+    def _depth_first(targets: dict[str, list[str]]) -> tuple[dict[str, list[str]], list[str]]:
         """The targets without those that close a circle, and the boxes, each after all that it leads to."""
-        forward: Dict[str, List[str]] = {name: [] for name in targets}
-        order: List[str] = []
-        state: Dict[str, str] = {}
+        forward: dict[str, list[str]] = {name: [] for name in targets}
+        order: list[str] = []
+        state: dict[str, str] = {}
         for root in targets:
             stack = [] if root in state else [(root, iter(targets[root]))]
             state.setdefault(root, "open")
@@ -155,7 +158,12 @@ class _Layout:
     def _width(box: Box) -> float:
         return max(len(line) for line in box.lines) * CHARACTER + 2 * PADDING
 
-    def _way(self, arrow: Arrow) -> List[_Place]:
+    def _loop_room(self, name: str) -> float:
+        """The room that a box's arrow to itself asks for at its right; as much is left free at its left."""
+        labels = [len(arrow.label) * CHARACTER for arrow in self.loops if arrow.source == name]
+        return max(labels) + GAP if labels else 0.0
+
+    def _way(self, arrow: Arrow) -> list[_Place]:
         """The places of an arrow from its upper box to its lower one. On its first level of labels it has its label."""
         upper, lower = sorted((self.places[arrow.source], self.places[arrow.target]), key=lambda place: place.level)
         way = [upper]
@@ -168,10 +176,10 @@ class _Layout:
             below.above.append(above)
         return way
 
-    def _rows(self) -> List[List[_Place]]:
+    def _rows(self) -> list[list[_Place]]:
         """The places by their levels."""
         count = max((place.level for place in self.places.values()), default=0) + 1
-        rows: List[List[_Place]] = [[] for _ in range(count)]
+        rows: list[list[_Place]] = [[] for _ in range(count)]
         for place in list(self.places.values()) + [place for way in self.ways for place in way[1:-1]]:
             rows[place.level].append(place)
         return rows
@@ -204,7 +212,7 @@ class _Layout:
                 place.x += PADDING - left
 
     @staticmethod
-    def _pack(row: List[_Place], wishes: List[Optional[float]]) -> None:
+    def _pack(row: list[_Place], wishes: list[float | None]) -> None:
         """Puts a level's places near their wishes without overlap: pushed to the right first, then back as a whole."""
         least = 0.0
         for number, (place, wish) in enumerate(zip(row, wishes)):
@@ -217,7 +225,7 @@ class _Layout:
         for place in row:
             place.x -= shift
 
-    def _tops(self) -> List[float]:
+    def _tops(self) -> list[float]:
         """The upper edge of each level."""
         tops, y = [], float(PADDING)
         for level in range(len(self.rows) + 1):
@@ -238,8 +246,7 @@ class _Layout:
     def svg(self) -> str:
         """The picture."""
         right = max((place.x + place.width / 2 for row in self.rows for place in row), default=0.0)
-        loops = max((len(arrow.label) * CHARACTER + 3 * GAP for arrow in self.loops), default=0.0)
-        width, height = right + loops + PADDING, self.tops[-1] + PADDING
+        width, height = right + PADDING, self.tops[-1] + PADDING
         colours = sorted({arrow.colour for arrow in self.loops + self.arrows})
         parts = [f'<svg xmlns="http://www.w3.org/2000/svg" viewBox="0 0 {width:.0f} {height:.0f}" width="{width:.0f}" '
                  f'height="{height:.0f}" font-family="{FONT}" font-size="{FONT_SIZE}">', "<defs>"]
@@ -257,9 +264,9 @@ class _Layout:
         return (f'<marker id="head-{colour[1:]}" viewBox="0 0 8 8" refX="8" refY="4" markerWidth="8" markerHeight="8" '
                 f'orient="auto-start-reverse"><path d="M 0 0 L 8 4 L 0 8 z" fill="{colour}"/></marker>')
 
-    def _ports(self) -> List[Tuple[float, float]]:
+    def _ports(self) -> list[tuple[float, float]]:
         """For each arrow where it leaves its upper box and where it enters its lower one, spread over the boxes' edges."""
-        ends: Dict[Tuple[str, bool], List[Tuple[float, int]]] = {}
+        ends: dict[tuple[str, bool], list[tuple[float, int]]] = {}
         for number, arrow in enumerate(self.arrows):
             upper, lower = self._upper_lower(arrow)
             way = self.ways[number] or [self.places[upper], self.places[lower]]
@@ -269,15 +276,16 @@ class _Layout:
         for (name, is_lower), arrows in ends.items():
             place = self.places[name]
             for position, (_, number) in enumerate(sorted(arrows), 1):
-                ports[number][is_lower] = place.x + place.width * (position / (len(arrows) + 1) - 0.5)
+                width = self._width(self.boxes[name])
+                ports[number][is_lower] = place.x + width * (position / (len(arrows) + 1) - 0.5)
         return [(port[0], port[1]) for port in ports]
 
-    def _upper_lower(self, arrow: Arrow) -> Tuple[str, str]:
+    def _upper_lower(self, arrow: Arrow) -> tuple[str, str]:
         if self.levels[arrow.source] <= self.levels[arrow.target]:
             return arrow.source, arrow.target
         return arrow.target, arrow.source
 
-    def _arrow(self, arrow: Arrow, way: List[_Place], ports: Tuple[float, float]) -> Tuple[str, str]:
+    def _arrow(self, arrow: Arrow, way: list[_Place], ports: tuple[float, float]) -> tuple[str, str]:
         """An arrow as curves from level to level, and its label. Labels are drawn last, so that no line crosses them."""
         upper, lower = self._upper_lower(arrow)
         points = [(ports[0], self._bottom(upper))]
@@ -296,10 +304,10 @@ class _Layout:
     def _bottom(self, name: str) -> float:
         return self.tops[2 * self.levels[name]] + self._height(self.boxes[name])
 
-    def _loop(self, arrow: Arrow) -> Tuple[str, str]:
+    def _loop(self, arrow: Arrow) -> tuple[str, str]:
         """An arrow from a box to itself, at its right side, and its label."""
         place, box = self.places[arrow.source], self.boxes[arrow.source]
-        right, top = place.x + place.width / 2, self.tops[place.level]
+        right, top = place.x + self._width(box) / 2, self.tops[place.level]
         upper, lower = top + self._height(box) * 0.25, top + self._height(box) * 0.75
         path = f"M {right:.1f} {upper:.1f} C {right + GAP:.1f} {upper - 8:.1f} {right + GAP:.1f} {lower + 8:.1f} " \
                f"{right:.1f} {lower:.1f}"
@@ -317,14 +325,15 @@ class _Layout:
         return (f'<text x="{x:.1f}" y="{y:.1f}" text-anchor="{anchor}" fill="{arrow.colour}" stroke="white" '
                 f'stroke-width="4" paint-order="stroke">{escape(arrow.label)}</text>')
 
-    def _box(self, box: Box) -> List[str]:
+    def _box(self, box: Box) -> list[str]:
         """A box with its lines; the first one is bold."""
         place = self.places[box.name]
-        left, top = place.x - place.width / 2, self.tops[place.level]
+        width = self._width(box)
+        left, top = place.x - width / 2, self.tops[place.level]
         dashes = ' stroke-dasharray="4 3"' if box.is_faint else ""
         radius = 12 if box.is_round else 3
         parts = [f'<g><title>{escape(" ".join(box.lines))}</title>'
-                 f'<rect x="{left:.1f}" y="{top:.1f}" width="{place.width:.1f}" height="{self._height(box):.1f}" '
+                 f'<rect x="{left:.1f}" y="{top:.1f}" width="{width:.1f}" height="{self._height(box):.1f}" '
                  f'rx="{radius}" fill="white" stroke={quoteattr(box.colour)} stroke-width="1.5"{dashes}/>']
         for number, line in enumerate(box.lines):
             weight = ' font-weight="bold"' if number == 0 else ""

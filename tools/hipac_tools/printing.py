@@ -3,14 +3,21 @@
 Nothing is left out. From the printed text the script can be read back, form by form (the tests do so): each form has
 words of its own, an operand stands in parentheses wherever it could be taken otherwise, and a text has its quotes.
 """
+from __future__ import annotations
+
 import json
 import sys
-from typing import List, Optional, Tuple
 
 from . import rulebase as scripts
 from .rulebase import Form, Rule, RuleBase
 
-WIDTH = 100
+USAGE = """usage: hipac-tools print SCRIPT.json
+
+Writes a script as a person would read it aloud, one rule a paragraph. `-` is standard input.
+The exit status is 0, or 2 where it is no script, or 3 where the words are wrong or the file can't be read."""
+
+WRONG_WORDS = 3
+WIDTH = 110
 INDENT = "  "
 CONTINUED = "    "
 
@@ -29,7 +36,7 @@ LOOSE, OPERAND = OR, MINUS
 
 # For each operator with two sides: how tightly it holds, and what it asks of its left and of its right side.
 BINARY = {
-    "or": (OR, OR, NOT), "and": (AND, AND, NOT),
+    "or": (OR, NOT, NOT), "and": (AND, NOT, NOT),
     **{operator: (COMPARISON, OPERAND, OPERAND) for operator in ("=", "!=", "<", "<=", ">", ">=")},
     **{operator: (SUM, SUM, PRODUCT) for operator in ("+", "-")},
     **{operator: (PRODUCT, PRODUCT, ATOM) for operator in ("*", "/", "%")},
@@ -38,16 +45,19 @@ BINARY = {
 PART_FORMS = ("new", "old", "id", "arg", "time")
 
 
-def main(arguments: List[str]) -> int:
-    """`print SCRIPT.json`: writes the script to standard output."""
-    if len(arguments) != 1 or arguments[0].startswith("-"):
-        print("usage: ./hipac-tools print SCRIPT.json", file=sys.stderr)
-        return 3
+def main(arguments: list[str]) -> int:
+    """Writes the script to standard output."""
+    if arguments in (["--help"], ["-h"]):
+        print(USAGE)
+        return 0
+    if len(arguments) != 1 or arguments[0].startswith("-") and arguments[0] != "-":
+        print(USAGE, file=sys.stderr)
+        return WRONG_WORDS
     try:
         text = script_text(scripts.read_file(arguments[0]))
-    except (scripts.Refused, OSError) as fault:
-        print(f"print: {arguments[0]}: {fault}", file=sys.stderr)
-        return 2
+    except scripts.Refused as fault:
+        print(fault, file=sys.stderr)
+        return fault.status
     sys.stdout.buffer.write(text.encode("utf-8"))
     return 0
 
@@ -77,7 +87,7 @@ def class_text(one: scripts.Class) -> str:
 
 # Rules.
 
-def rule_text(rule: Rule, rulebase: Optional[RuleBase] = None) -> str:
+def rule_text(rule: Rule, rulebase: RuleBase | None = None) -> str:
     """A rule as one paragraph: on one line where it fits, else with its condition and its action on lines of their own."""
     one_part = scripts.has_one_part(rule.event)
     head = rule_head(rule)
@@ -106,7 +116,7 @@ def rule_head(rule: Rule) -> str:
     return f"rule {rule.name}: {when_text(rule.event, numbered)}, {WHERE[rule.ec]}{action_place}:"
 
 
-def condition_lines(rule: Rule, one_part: bool) -> List[str]:
+def condition_lines(rule: Rule, one_part: bool) -> list[str]:
     """One line for each query of the condition."""
     lines = []
     for query in rule.queries:
@@ -147,7 +157,7 @@ def event_text(event: Form, numbered: bool = False) -> str:
     return _event(event, 0 if numbered else None)[0]
 
 
-def _event(event: Form, part: Optional[int]) -> Tuple[str, Optional[int]]:
+def _event(event: Form, part: int | None) -> tuple[str, int | None]:
     """The words of an event whose parts begin with number `part`, and the number after its last; None where not known."""
     word = event[0]
     if word in ("or", "seq", "closure"):
@@ -166,7 +176,7 @@ def _event(event: Form, part: Optional[int]) -> Tuple[str, Optional[int]]:
     return (text, None) if part is None else (f"{text} (part {part})", part + 1)
 
 
-def _composite(event: Form, part: Optional[int]) -> Tuple[str, Optional[int]]:
+def _composite(event: Form, part: int | None) -> tuple[str, int | None]:
     """An event of two events. Each that is composite itself stands in parentheses, save a chain of `or` on the left."""
     word, first, second = event
     first_text, middle = _event(first, part)
@@ -193,15 +203,17 @@ def expression_text(expression: Form, one_part: bool = False, least: int = LOOSE
     return text if tightness >= least else f"({text})"
 
 
-def _expression(expression: Form, one_part: bool) -> Tuple[str, int]:
+def _expression(expression: Form, one_part: bool) -> tuple[str, int]:
     """The words of an expression, and how tightly they hold together."""
     if not isinstance(expression, list):
         return _literal(expression)
     word = expression[0]
     if word in BINARY:
-        tightness, left, right = BINARY[word]
-        sides = (expression_text(expression[1], one_part, left), expression_text(expression[2], one_part, right))
-        return f"{sides[0]} {word} {sides[1]}", tightness
+        tightness, least_left, least_right = BINARY[word]
+        if _is_chain(expression):
+            least_left = tightness
+        left = expression_text(expression[1], one_part, least_left)
+        return f"{left} {word} {expression_text(expression[2], one_part, least_right)}", tightness
     if word == "not":
         return f"not {expression_text(expression[1], one_part, ATOM)}", NOT
     if word == "neg":
@@ -215,7 +227,12 @@ def _expression(expression: Form, one_part: bool) -> Tuple[str, int]:
     return _of_occurrence(expression, one_part), ATOM
 
 
-def _literal(value: Form) -> Tuple[str, int]:
+def _is_chain(expression: Form) -> bool:
+    """Whether an `and` begins with an `and`, or an `or` with an `or`. Where the two are mixed, parentheses help the reader."""
+    return expression[0] in ("and", "or") and isinstance(expression[1], list) and expression[1][0] == expression[0]
+
+
+def _literal(value: Form) -> tuple[str, int]:
     """A value as itself. A negative number is told from `neg` of a number, whose operand has parentheses."""
     if isinstance(value, bool):
         return ("true" if value else "false"), ATOM
@@ -249,14 +266,14 @@ def quoted(text: str) -> str:
 
 # Statements.
 
-def body_lines(body: List[Form], indent: str, one_part: bool = False) -> List[str]:
+def body_lines(body: list[Form], indent: str, one_part: bool = False) -> list[str]:
     """The statements of a body one below the other; an empty body says so."""
     if not body:
         return [f"{indent}do nothing"]
     return [line for statement in body for line in statement_lines(statement, indent, one_part)]
 
 
-def statement_lines(statement: Form, indent: str = "", one_part: bool = False) -> List[str]:
+def statement_lines(statement: Form, indent: str = "", one_part: bool = False) -> list[str]:
     """A statement, with its bodies as indented blocks."""
     word = statement[0]
     if word == "if":
@@ -277,7 +294,7 @@ def statement_lines(statement: Form, indent: str = "", one_part: bool = False) -
     return [indent + _simple_statement(statement, one_part)]
 
 
-def block_lines(lead: str, body: List[Form], indent: str, one_part: bool) -> List[str]:
+def block_lines(lead: str, body: list[Form], indent: str, one_part: bool) -> list[str]:
     """A lead and its body: on one line where the body is one short statement without a body of its own."""
     if len(body) < 2 and not _is_nested(body):
         line = f"{indent}{lead} {body_lines(body, '', one_part)[0]}"
@@ -286,7 +303,7 @@ def block_lines(lead: str, body: List[Form], indent: str, one_part: bool) -> Lis
     return [indent + lead] + body_lines(body, indent + INDENT, one_part)
 
 
-def _is_nested(body: List[Form]) -> bool:
+def _is_nested(body: list[Form]) -> bool:
     """Whether some statement of a body has a body of its own."""
     return any("body" in scripts.STATEMENTS[statement[0]] for statement in body)
 
@@ -319,18 +336,18 @@ def _key(key: Form, one_part: bool) -> str:
 
 # Items.
 
-def items_texts(rulebase: RuleBase) -> List[str]:
+def items_texts(rulebase: RuleBase) -> list[str]:
     """Each item as a paragraph, with the numbers that its units have in the report."""
     return [transaction_text(content, unit) if word == "tx" else clock_text(content, moments, unit)
             for (word, content), unit, moments in scripts.numbered_items(rulebase)]
 
 
-def transaction_text(body: List[Form], unit: int) -> str:
+def transaction_text(body: list[Form], unit: int) -> str:
     """A transaction of the script with its number in the report."""
     return "\n".join(folded(line) for line in block_lines(f"unit {unit}, a transaction:", body, "", False))
 
 
-def clock_text(time: int, moments: List[int], unit: int) -> str:
+def clock_text(time: int, moments: list[int], unit: int) -> str:
     """A move of the clock, with the units that its due moments make."""
     if not moments:
         due = "no moment is due"
@@ -345,34 +362,39 @@ def clock_text(time: int, moments: List[int], unit: int) -> str:
 # Long lines.
 
 def folded(line: str) -> str:
-    """A line broken at spaces where it is too long, best before `and` and `or` and after a comma; never within a text."""
+    """A line broken at spaces where it is too long, but never within a text.
+
+    A good place is before `and` and `or` and after a comma; the better one is in fewer parentheses, then further right.
+    """
     indent = line[:len(line) - len(line.lstrip(" "))]
     lines = []
     while len(line) > WIDTH:
         spaces = _spaces(line, len(indent) + len(CONTINUED))
-        fitting = [place for place in spaces if place <= WIDTH] or spaces[:1]
+        fitting = [space for space in spaces if space[1] <= WIDTH] or spaces[:1]
         if not fitting:
             break
-        good = [place for place in fitting if place > WIDTH // 3 and _is_good_break(line, place)]
-        place = (good or fitting)[-1]
+        good = [space for space in fitting if space[1] > WIDTH // 3 and _is_good_break(line, space[1])]
+        place = max(good)[1] if good else fitting[-1][1]
         lines.append(line[:place])
         line = indent + CONTINUED + line[place + 1:]
     return "\n".join(lines + [line])
 
 
-def _spaces(line: str, start: int) -> List[int]:
-    """The places of the spaces after `start` that are in no text."""
-    places, inside, escaped = [], False, False
+def _spaces(line: str, start: int) -> list[tuple[int, int]]:
+    """The spaces after `start` that are in no text: how deep in parentheses each is, counted down from 0, and its place."""
+    spaces, depth, is_text, is_escaped = [], 0, False, False
     for place, character in enumerate(line):
-        if escaped:
-            escaped = False
-        elif character == "\\" and inside:
-            escaped = True
+        if is_escaped:
+            is_escaped = False
+        elif character == "\\" and is_text:
+            is_escaped = True
         elif character == '"':
-            inside = not inside
-        elif character == " " and not inside and place > start:
-            places.append(place)
-    return places
+            is_text = not is_text
+        elif not is_text:
+            depth += {"(": -1, ")": 1}.get(character, 0)
+            if character == " " and place > start:
+                spaces.append((depth, place))
+    return spaces
 
 
 def _is_good_break(line: str, place: int) -> bool:

@@ -6,21 +6,24 @@ the parts of each form, so that whoever walks over a script needs to know no for
 `read` looks at the shape alone. It is there so that the words which show a script never stumble over one that is malformed;
 `./hipac-tools check` is the word that tells what is wrong with a script.
 """
+from __future__ import annotations
+
 import json
 import re
+import sys
 from dataclasses import dataclass
-from typing import Any, Dict, Iterator, List, NoReturn, Optional, Tuple
+from typing import Any, Iterator, NoReturn
 
 Form = Any
 """An event, an expression or a statement, as JSON gives it."""
 
-EVENTS: Dict[str, Tuple[str, ...]] = {
+EVENTS: dict[str, tuple[str, ...]] = {
     "create": ("name",), "update": ("name",), "delete": ("name",),
     "signal": ("name",), "commit": (), "at": ("moment",), "every": ("moment", "period"),
     "or": ("event", "event"), "seq": ("event", "event"), "closure": ("event", "event"),
 }
 
-EXPRESSIONS: Dict[str, Tuple[str, ...]] = {
+EXPRESSIONS: dict[str, tuple[str, ...]] = {
     **{operator: ("expression", "expression") for operator in
        ("+", "-", "*", "/", "%", "and", "or", "=", "!=", "<", "<=", ">", ">=")},
     "neg": ("expression",), "not": ("expression",),
@@ -31,7 +34,7 @@ EXPRESSIONS: Dict[str, Tuple[str, ...]] = {
 
 RULE_OPERATIONS = ("install", "enable", "disable", "remove", "fire")
 
-STATEMENTS: Dict[str, Tuple[str, ...]] = {
+STATEMENTS: dict[str, tuple[str, ...]] = {
     "create": ("name", "expression", "pairs"), "update": ("name", "expression", "pairs"),
     "delete": ("name", "expression"), "signal": ("name", "arguments"), "emit": ("expression",),
     "if": ("expression", "body", "body"), "each": ("name", "name", "expression", "body"),
@@ -54,12 +57,20 @@ LEAST_NUMBER, LARGEST_NUMBER = -2 ** 63, 2 ** 63 - 1
 class Refused(Exception):
     """What was read is no script. The message says where, and which word tells more."""
 
+    status = 2
+
+
+class Unreadable(Refused):
+    """A file that can't be read."""
+
+    status = 3
+
 
 @dataclass(frozen=True)
 class Class:
     """A class of objects: its fields with their kinds, in the script's order."""
     name: str
-    fields: List[Tuple[str, str]]
+    fields: list[tuple[str, str]]
 
 
 @dataclass(frozen=True)
@@ -76,9 +87,9 @@ class Rule:
     name: str
     event: Form
     ec: str
-    queries: List[Query]
+    queries: list[Query]
     ca: str
-    action: List[Form]
+    action: list[Form]
 
     @property
     def detaches(self) -> bool:
@@ -90,10 +101,10 @@ class Rule:
 class RuleBase:
     """A whole script. `depth` is None where the script gives none."""
     version: int
-    depth: Optional[int]
-    classes: List[Class]
-    rules: List[Rule]
-    items: List[Form]
+    depth: int | None
+    classes: list[Class]
+    rules: list[Rule]
+    items: list[Form]
 
     @property
     def depth_limit(self) -> int:
@@ -110,14 +121,22 @@ def read(text: str) -> RuleBase:
         raise Refused("this is no JSON text: run ./hipac-tools check on it") from fault
 
 
-def read_file(path: str) -> RuleBase:
-    """The script in a file, or `Refused`; a file that can't be read is an `OSError`."""
-    with open(path, "rb") as file:
-        content = file.read()
+def read_file(name: str) -> RuleBase:
+    """The script in a file, or `Refused`. `-` is standard input."""
+    shown = "standard input" if name == "-" else name
     try:
+        if name == "-":
+            content = sys.stdin.buffer.read()
+        else:
+            with open(name, "rb") as file:
+                content = file.read()
         return read(content.decode("utf-8"))
+    except OSError as fault:
+        raise Unreadable(f"{shown}: {fault.strerror}") from fault
     except UnicodeDecodeError as fault:
-        raise Refused("this is no text in UTF-8: run ./hipac-tools check on it") from fault
+        raise Refused(f"{shown}: this is no text in UTF-8: run ./hipac-tools check on it") from fault
+    except Refused as fault:
+        raise Refused(f"{shown}: {fault}") from fault
 
 
 def _no_number(word: str) -> NoReturn:
@@ -238,7 +257,7 @@ class _Reader:
             self._refuse(path)
         return value
 
-    def _one_of(self, value: Any, path: str, words: Tuple[str, ...]) -> str:
+    def _one_of(self, value: Any, path: str, words: tuple[str, ...]) -> str:
         if not isinstance(value, str) or value not in words:
             self._refuse(path)
         return value
@@ -247,7 +266,7 @@ class _Reader:
         if not isinstance(value, list) or len(value) != count:
             self._refuse(path)
 
-    def _list(self, value: Any, path: str) -> Iterator[Tuple[Any, str]]:
+    def _list(self, value: Any, path: str) -> Iterator[tuple[Any, str]]:
         if not isinstance(value, list):
             self._refuse(path)
         return ((part, f"{path}/{position}") for position, part in enumerate(value))
@@ -256,7 +275,7 @@ class _Reader:
         raise Refused(f"this is no script, at {path or '/'}: run ./hipac-tools check on it")
 
 
-def statements(body: List[Form]) -> Iterator[Form]:
+def statements(body: list[Form]) -> Iterator[Form]:
     """All statements of a body, those of inner bodies too, in written order."""
     for statement in body:
         yield statement
@@ -281,7 +300,7 @@ def has_one_part(event: Form) -> bool:
     return event[0] not in ("seq", "closure")
 
 
-def numbered_items(rulebase: RuleBase) -> Iterator[Tuple[Form, int, List[int]]]:
+def numbered_items(rulebase: RuleBase) -> Iterator[tuple[Form, int, list[int]]]:
     """Each item with the number of its first unit in the report, and with its due moments, each of which is a unit."""
     unit, clock = 1, 0
     for item in rulebase.items:
@@ -293,7 +312,7 @@ def numbered_items(rulebase: RuleBase) -> Iterator[Tuple[Form, int, List[int]]]:
             unit += 1
 
 
-def due_moments(rulebase: RuleBase, former: int, now: int) -> List[int]:
+def due_moments(rulebase: RuleBase, former: int, now: int) -> list[int]:
     """The moments that are due when the clock moves from `former` to `now`, and one above the most that may be."""
     moments = set()
     for rule in rulebase.rules:
