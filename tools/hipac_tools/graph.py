@@ -1,7 +1,8 @@
 """The word `graph`: which rule may set off which, as text and as a picture.
 
-`build` finds the nodes and edges of a script, its cycles, its longest chain of firings, and what looks like an oversight.
-All of it is read from the script's text: an edge says that something may happen. Where no edge is, nothing happens.
+`build` finds the nodes and edges of a script, its cycles, its longest chain of firings, and what looks like an
+oversight. All of it is read from the script's text: an edge says that something may happen. Where no edge is, nothing
+happens.
 """
 from __future__ import annotations
 
@@ -18,8 +19,9 @@ from .rulebase import Rule, RuleBase
 
 USAGE = """usage: hipac-tools graph SCRIPT.json [--svg FILE]
 
-Tells which rule may set off which, the cycles among them, the longest chain of firings, and what looks like an oversight.
-With --svg it also draws the picture: by Graphviz where `dot` is installed, else by a layout of its own. `-` is standard input.
+Tells which rule may set off which, the cycles among them, the longest chain of firings, and what looks like an
+oversight. With --svg it also draws the picture: by Graphviz where `dot` is installed, else by a layout of its own.
+`-` is standard input.
 The exit status is 0, or 2 where it is no script, or 3 where the words are wrong or a file can't be read or written."""
 
 WRONG_WORDS = 3
@@ -83,7 +85,7 @@ class Cycle:
 
 @dataclass(frozen=True)
 class Chain:
-    """The longest chain of firings that may happen. `endless` where a cycle may turn; then `steps` is one way into it."""
+    """The longest chain of firings that may happen. Where a cycle may turn it is endless, and `steps` leads into it."""
     steps: tuple[Edge, ...]
     endless: bool
 
@@ -195,13 +197,14 @@ def _links(edges: Iterable[Edge]) -> dict[str, dict[str, Edge]]:
 # Cycles.
 
 def _cycles(rules: dict[str, Rule], edges: list[Edge], possible: list[Edge]) -> tuple[list[Cycle], bool]:
-    """For each two rules that follow each other on a cycle the shortest one, each cycle once; and whether there are more."""
+    """For each two rules that follow each other on a cycle the shortest one, each once; and whether there are more."""
     links = _links(edge for edge in edges if edge.kind in FIRING_KINDS and edge.source in rules)
     turning = {(edge.source, edge.target) for edge in possible}
     found: dict[tuple[str, ...], Cycle] = {}
     order = {name: place for place, name in enumerate(rules)}
     for group in sorted(paths.components(links, rules), key=lambda names: min(order[name] for name in names)):
-        inside = {name: [target for target in links.get(name, ()) if target in group] for name in rules if name in group}
+        inside = {name: [target for target in links.get(name, ()) if target in group]
+                  for name in sorted(group, key=lambda name: order[name])}
         for source, targets in inside.items():
             for target in targets:
                 way = (source,) if target == source else paths.shortest_way(inside, target, {source}) or ()
@@ -237,7 +240,7 @@ def _cycle(names: tuple[str, ...], edges: list[Edge], rules: dict[str, Rule], tu
 # Chains.
 
 def _chain(possible: list[Edge], order: Sequence[str], reach: Reach) -> Chain:
-    """The longest way along possible edges from a source that is no rule; where a cycle may turn, a way that enters it."""
+    """The longest way along possible edges from a source that is no rule; where a cycle may turn, a way into it."""
     links = _links(possible)
     starts = [name for name in order if name not in reach.firing]
     groups = paths.components(links, order)

@@ -1,8 +1,8 @@
 """What each source of a script does, and what of it may come to pass.
 
-A source is the script's own transactions, the clock, or a rule's action. What it does are simple events (an operation on a
-class, a signal, a moment, a commit) and rule operations. All is by the text alone: conditions are taken as possibly true.
-So what isn't found here can't happen in any run; what is found may happen.
+A source is the script's own transactions, the clock, or a rule's action. What it does are simple events (an operation
+on a class, a signal, a moment, a commit) and rule operations. All is by the text alone: conditions are taken as
+possibly true. So what isn't found here can't happen in any run; what is found may happen.
 """
 from __future__ import annotations
 

@@ -28,7 +28,7 @@ def _not_firing(rulebase: RuleBase, sources: dict[str, Deeds], reach: Reach) -> 
                     by_word.setdefault(word, []).append(source)
         if "install" not in by_word:
             found.append(f"rule {rule.name} is never installed, so it never fires")
-            found += [f"rule {rule.name} is {done} by {_listed(by_word[word])}, which ends with A2, as the rule is absent"
+            found += [f"rule {rule.name} is {done} by {_listed(by_word[word])}, which ends with A2 as it is absent"
                       for word, done in FAILING if word in by_word]
         elif rule.name not in reach.installed:
             found.append(f"rule {rule.name} never fires: it is installed only by rules that never fire, "

@@ -1,7 +1,7 @@
 """Boxes and arrows as one SVG element: laid out by Graphviz where its `dot` is installed, else by a layout of our own.
 
-The own layout stands boxes on levels, so that arrows go down where they can. Between two levels of boxes lies a level of
-labels. An arrow takes a place on each level that it crosses, so that it has room beside the boxes, and its label too.
+The own layout puts boxes on levels, so that arrows go down where they can. Between two levels of boxes lies a level
+of labels. An arrow takes a place on each level that it crosses, so that it and its label have room beside the boxes.
 """
 from __future__ import annotations
 
@@ -265,7 +265,7 @@ class _Layout:
                 f'orient="auto-start-reverse"><path d="M 0 0 L 8 4 L 0 8 z" fill="{colour}"/></marker>')
 
     def _ports(self) -> list[tuple[float, float]]:
-        """For each arrow where it leaves its upper box and where it enters its lower one, spread over the boxes' edges."""
+        """For each arrow where it leaves its upper box and where it enters its lower one, spread over their edges."""
         ends: dict[tuple[str, bool], list[tuple[float, int]]] = {}
         for number, arrow in enumerate(self.arrows):
             upper, lower = self._upper_lower(arrow)
@@ -286,7 +286,7 @@ class _Layout:
         return arrow.target, arrow.source
 
     def _arrow(self, arrow: Arrow, way: list[_Place], ports: tuple[float, float]) -> tuple[str, str]:
-        """An arrow as curves from level to level, and its label. Labels are drawn last, so that no line crosses them."""
+        """An arrow as curves from level to level, and its label: all labels are drawn last, so no line crosses one."""
         upper, lower = self._upper_lower(arrow)
         points = [(ports[0], self._bottom(upper))]
         for place in way[1:-1]:

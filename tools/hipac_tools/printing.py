@@ -88,7 +88,7 @@ def class_text(one: scripts.Class) -> str:
 # Rules.
 
 def rule_text(rule: Rule, rulebase: RuleBase | None = None) -> str:
-    """A rule as one paragraph: on one line where it fits, else with its condition and its action on lines of their own."""
+    """A rule as one paragraph: on one line where it fits, else with lines for its condition and its action."""
     one_part = scripts.has_one_part(rule.event)
     head = rule_head(rule)
     conditions = condition_lines(rule, one_part)
@@ -158,7 +158,7 @@ def event_text(event: Form, numbered: bool = False) -> str:
 
 
 def _event(event: Form, part: int | None) -> tuple[str, int | None]:
-    """The words of an event whose parts begin with number `part`, and the number after its last; None where not known."""
+    """The words of an event whose parts begin with number `part`, and the number after its last; None if not known."""
     word = event[0]
     if word in ("or", "seq", "closure"):
         return _composite(event, part)
@@ -228,7 +228,7 @@ def _expression(expression: Form, one_part: bool) -> tuple[str, int]:
 
 
 def _is_chain(expression: Form) -> bool:
-    """Whether an `and` begins with an `and`, or an `or` with an `or`. Where the two are mixed, parentheses help the reader."""
+    """Whether an `and` begins with an `and`, or an `or` with an `or`. Parentheses part the two where they are mixed."""
     return expression[0] in ("and", "or") and isinstance(expression[1], list) and expression[1][0] == expression[0]
 
 
@@ -381,7 +381,7 @@ def folded(line: str) -> str:
 
 
 def _spaces(line: str, start: int) -> list[tuple[int, int]]:
-    """The spaces after `start` that are in no text: how deep in parentheses each is, counted down from 0, and its place."""
+    """The spaces after `start` that are in no text: how deep in parentheses, counted down from 0, and where."""
     spaces, depth, is_text, is_escaped = [], 0, False, False
     for place, character in enumerate(line):
         if is_escaped:

@@ -1,9 +1,9 @@
 """A script as Python values: its classes, its rules, and its items.
 
-Events, expressions and statements stay in their JSON form, as lists: the first part names the form. The tables below give
-the parts of each form, so that whoever walks over a script needs to know no form by itself.
+Events, expressions and statements stay in their JSON form, as lists: the first part names the form. The tables below
+give the parts of each form, so that whoever walks over a script needs to know no form by itself.
 
-`read` looks at the shape alone. It is there so that the words which show a script never stumble over one that is malformed;
+`read` looks at the shape alone, so that the words which show a script never stumble over one that is malformed.
 `./hipac-tools check` is the word that tells what is wrong with a script.
 """
 from __future__ import annotations

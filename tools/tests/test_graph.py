@@ -201,9 +201,9 @@ class Oversights(unittest.TestCase):
         warnings = built(rules, [["tx", [["enable", "a"], ["fire", "b"], ["install", "d"], ["signal", "s", []]]]]).warnings
         self.assertEqual(warnings, [
             "rule a is never installed, so it never fires",
-            "rule a is enabled by the script, which ends with A2, as the rule is absent",
+            "rule a is enabled by the script, which ends with A2 as it is absent",
             "rule b is never installed, so it never fires",
-            "rule b is fired by the script, which ends with A2, as the rule is absent",
+            "rule b is fired by the script, which ends with A2 as it is absent",
             "rule c never fires: it is installed only by rules that never fire, a and b",
             "rule d never fires: it is installed, and its event never occurs",
             "signal t never happens, and d waits for it"])
