@@ -23,7 +23,8 @@ GAP = 28
 LABEL_LEVEL = 3.5 * LINE
 MOST_PLACES = 4000
 """With more places than this on the levels, arrows go straight and only tell their label where they are pointed at."""
-MOST_SECONDS = 30
+MOST_FOR_DOT, MOST_SECONDS = 1000, 30
+"""With more arrows than this Graphviz isn't asked, and no longer than this is it waited for."""
 
 
 @dataclass(frozen=True)
@@ -49,7 +50,7 @@ class Arrow:
 def draw(boxes: Sequence[Box], arrows: Sequence[Arrow]) -> str:
     """The picture as an element `svg`, without a prolog, so that it can stand in a page."""
     program = shutil.which("dot")
-    drawn = _drawn_by_dot(program, boxes, arrows) if program else None
+    drawn = _drawn_by_dot(program, boxes, arrows) if program and len(arrows) <= MOST_FOR_DOT else None
     return drawn or _Layout(boxes, arrows).svg()
 
 
