@@ -134,7 +134,7 @@ class _Reader:
         if first == "'":
             return self.fault("a text stands in double quotes", 'write " in place of \'')
         if two in ("//", "/*") or first == "#":
-            return self.fault("JSON has no comments", length=2)
+            return self.fault("JSON has no comments", length=1 if first == "#" else 2)
         if first == "\ufeff":
             return self.fault("the text begins with a byte order mark", "save it as UTF-8 without one")
         if first in "]},":

@@ -36,7 +36,7 @@ def check_level(place: Place, level: int) -> None:
 def check_text(place: Place, text: str) -> None:
     size = len(text.encode("utf-8"))
     if size > MOST_TEXT_BYTES:
-        raise place.over_limit("text", f"a text has at most {MOST_TEXT_BYTES} bytes, and this has {size}")
+        raise place.over_limit("text", f"a text has at most {MOST_TEXT_BYTES:,} bytes, and this has {size:,}")
 
 
 def read_form(place: Place, scope: Scope, level: int) -> None:

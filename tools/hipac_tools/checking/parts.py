@@ -3,6 +3,7 @@
 from __future__ import annotations
 
 import re
+from dataclasses import dataclass
 from typing import Iterable, Mapping, Optional
 
 from ..near import NO_HABITS, nearest
@@ -51,17 +52,28 @@ def list_at(place: Place, what: str, items: str) -> list[Place]:
     return place.items()
 
 
-def short_list_at(place: Place, what: str, items: str, most: int, word: str) -> list[Place]:
+@dataclass(frozen=True)
+class Limit:
+    """How many items a list may have: `a class` has at most 32 `fields`, else it is refused with this word."""
+
+    owner: str
+    most: int
+    items: str
+    word: str
+
+
+def short_list_at(place: Place, what: str, items: str, limit: Limit) -> list[Place]:
     """A list of no more items than its limit; the first one too many is shown."""
     parts = list_at(place, what, items)
-    if len(parts) > most:
-        first = parts[most].note(f"number {most + 1} of them is here:")
-        raise place.over_limit(word, f"{len(parts)} {items}, and {most} are the most", notes=(first,))
+    if len(parts) > limit.most:
+        first = parts[limit.most].note(f"number {limit.most + 1} is here:")
+        message = f"{limit.owner} has at most {limit.most} {limit.items}, and here are {len(parts)}"
+        raise place.over_limit(limit.word, message, notes=(first,))
     return parts
 
 
 def count_of(number: int) -> str:
-    return "1 part" if number == 1 else f"{number} parts"
+    return {0: "no parts", 1: "1 part"}.get(number, f"{number} parts")
 
 
 def shape_at(place: Place, shape: Shape) -> list[Place]:
@@ -86,7 +98,7 @@ def form_at(place: Place, grammar: Grammar) -> tuple[str, list[Place]]:
         raise place.wrong_shape(f"{grammar.what} begins with its word, and this begins with {kind_of(node.items[0])}",
                                 first_is_no_word(node, grammar))
     if word not in grammar.words:
-        raise place.wrong_shape(f"{quoted(shortened(word))} begins no {grammar.named()}", other_grammar(word, grammar), words_of(grammar))
+        raise place.wrong_shape(f"{quoted(shortened(word))} begins no {grammar.named()}", *what_instead(word, grammar))
     if len(node.items) - 1 != len(grammar.words[word]):
         raise place.wrong_shape(wrong_count(word, grammar, len(node.items) - 1), other_word(word, grammar, len(node.items) - 1))
     return word, place.items()[1:]
@@ -114,16 +126,19 @@ def first_is_no_word(node: Node, grammar: Grammar) -> str:
     return words_of(grammar)
 
 
-def other_grammar(word: str, grammar: Grammar) -> str:
-    """What an unknown word may be meant for: a known word near it, or another kind of form that it begins."""
+def what_instead(word: str, grammar: Grammar) -> list[str]:
+    """What an unknown word may be meant for: a known word near it, or another kind of form that it begins; else what there is."""
     meant = did_you_mean(word, grammar.words, grammar.habits)
-    others = [other.what for other in GRAMMARS if other is not grammar and word in other.words]
-    return meant or (f"it begins {listed(others)}, and {grammar.what} is expected here" if others else "")
+    if meant:
+        return [meant]
+    others = [other.what for other in GRAMMARS if word in other.words]
+    other = [f"it begins {listed(others)}, and {grammar.what} is expected here"] if others else []
+    return other + [words_of(grammar)]
 
 
 def wrong_count(word: str, grammar: Grammar, have: int) -> str:
     want = len(grammar.words[word])
-    return f"{grammar.written(word)} has {count_of(want)} after its word, and this has {have if have else 'none'}"
+    return f"{grammar.written(word)} has {count_of(want)} after its word, and this has {have or 'none'}"
 
 
 def other_word(word: str, grammar: Grammar, have: int) -> str:
@@ -167,11 +182,11 @@ def shown_letter(letter: str) -> str:
     return f"`{letter}`" if letter.isprintable() and letter != " " else {" ": "a space"}.get(letter, f"the character U+{ord(letter):04X}")
 
 
-def new_name_at(place: Place, what: str, noun: str, known: Mapping[str, Place]) -> str:
+def new_name_at(place: Place, what: str, noun: str, known: Mapping[str, Place], *hints: str) -> str:
     """A name that none of those before has."""
     name = name_at(place, what)
     if name in known:
-        raise place.bad_name(f"{noun} `{name}` is there already", notes=(known[name].note("the first one is here:"),))
+        raise place.bad_name(f"{noun} `{name}` is there already", *hints, notes=(known[name].note("the first one is here:"),))
     return name
 
 
@@ -237,7 +252,7 @@ def index_at(place: Place, what: str) -> int:
     """The number of a part or an argument."""
     number = whole_number_at(place, what)
     if not 0 <= number <= MOST_INDEX:
-        raise place.wrong_shape(f"{what} is 0 to {MOST_INDEX}, and this is {number}")
+        raise place.wrong_shape(f"{what} is 0 to {MOST_INDEX:,}, and this is {number}")
     return number
 
 

@@ -58,8 +58,8 @@ class Scope:
     rules: Mapping[str, Place]
     gathered: Gathered
     rows: Mapping[str, Row] = field(default_factory=dict)
-    later_queries: frozenset[str] = frozenset()
-    """Queries of the same condition that come after the place, and so aren't known there."""
+    not_yet: Mapping[str, str] = field(default_factory=dict)
+    """Rows that aren't known at the place although they may seem to be, each with the reason."""
     has_occurrence: bool = True
     """Whether something occurred: not in a body of the script."""
 
@@ -74,8 +74,6 @@ class Scope:
 
     def elsewhere(self, name: str) -> Optional[str]:
         """What another thing of this name is, where a row is expected."""
-        if name in self.later_queries:
-            return "that query comes later: a predicate knows its own row and the queries before it"
-        if name in self.classes:
-            return f"`{name}` is a class, and the name of a row is expected here"
-        return None
+        if name in self.not_yet:
+            return self.not_yet[name]
+        return f"`{name}` is a class, and the name of a row is expected here" if name in self.classes else None

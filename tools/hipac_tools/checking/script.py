@@ -14,12 +14,15 @@ from .forms import (
     CLASS, FIELD, ITEMS, KIND_HABITS, KINDS, MODE_HABITS, MODES, NEEDED_MEMBERS, QUERY, ROOT_MEMBERS, RULE, SECOND_VERSION_MODE, listed,
 )
 from .parts import (
-    did_you_mean, first_word, form_at, kind_of, known_name_at, list_at, new_name_at, shape_at, short_list_at, whole_number_at, word_at,
+    Limit, did_you_mean, first_word, form_at, kind_of, known_name_at, list_at, new_name_at, shape_at, short_list_at, whole_number_at, word_at,
 )
 from .scope import Class, Gathered, Row, Scope, Warned
 from .statements import read_body
 
-MOST_CLASSES, MOST_FIELDS, MOST_RULES, MOST_DEPTH, MOST_MOMENTS = 64, 32, 256, 16, 1_000
+MOST_DEPTH, MOST_MOMENTS = 16, 1_000
+CLASSES = Limit("a script", 64, "classes", "classes")
+FIELDS = Limit("a class", 32, "fields", "fields")
+RULES = Limit("a script", 256, "rules", "rules")
 
 
 @dataclass(frozen=True)
@@ -72,8 +75,7 @@ def check_members(place: Place) -> None:
 
 def extra_member(place: Place, key: Node, missing: list[str]) -> Refused:
     meant = did_you_mean(key.value, missing) or f"its members are {listed(ROOT_MEMBERS, 'and')}"
-    lacking = f"{listed([f'`{name}`' for name in missing], 'and')} {'is' if len(missing) == 1 else 'are'} missing" if missing else ""
-    return place.refused("S2 /", f"a script has no member `{key.value}`", (meant, lacking), at=key)
+    return place.refused("S2 /", f"a script has no member `{key.value}`", (meant,), at=key)
 
 
 def read_version(place: Place) -> int:
@@ -95,7 +97,7 @@ def read_depth(place: Place) -> None:
 def read_classes(place: Place) -> dict[str, Class]:
     classes: dict[str, Class] = {}
     names: dict[str, Place] = {}
-    for class_place in short_list_at(place, "`classes`", "classes", MOST_CLASSES, "classes"):
+    for class_place in short_list_at(place, "`classes`", "classes [name, fields]", CLASSES):
         name_place, fields_place = shape_at(class_place, CLASS)
         name = new_name_at(name_place, "a class's name", "a class", names)
         names[name] = name_place
@@ -106,7 +108,7 @@ def read_classes(place: Place) -> dict[str, Class]:
 def read_fields(class_name: str, place: Place) -> Class:
     kinds: dict[str, str] = {}
     places: dict[str, Place] = {}
-    for field_place in short_list_at(place, "the fields of a class", "fields", MOST_FIELDS, "fields"):
+    for field_place in short_list_at(place, "the fields of a class", "fields [name, kind]", FIELDS):
         name_place, kind_place = shape_at(field_place, FIELD)
         name = new_name_at(name_place, "a field's name", "a field", places)
         kinds[name] = word_at(kind_place, "a kind", KINDS, KIND_HABITS)
@@ -121,7 +123,7 @@ def read_heads(place: Place) -> dict[str, list[Place]]:
     """The parts of each rule by its name; only the forms and the names are read."""
     heads: dict[str, list[Place]] = {}
     names: dict[str, Place] = {}
-    for rule_place in short_list_at(place, "`rules`", "rules", MOST_RULES, "rules"):
+    for rule_place in short_list_at(place, "`rules`", "rules", RULES):
         parts = shape_at(rule_place, RULE)
         name = new_name_at(parts[0], "a rule's name", "a rule", names)
         names[name] = parts[0]
@@ -153,13 +155,16 @@ def read_condition(place: Place, scope: Scope) -> Scope:
         name = new_name_at(name_place, "a query's name", "a query", scope.row_places())
         class_name = known_name_at(class_place, "a class's name", "class", scope.classes)
         scope = scope.with_row(Row(name, scope.classes[class_name], name_place, True))
-        read_expression(predicate, replace(scope, later_queries=names_of(query_places[position + 1:])))
+        read_expression(predicate, replace(scope, not_yet=dict.fromkeys(names_of(query_places[position + 1:]), QUERY_COMES_LATER)))
     return scope
 
 
-def names_of(query_places: list[Place]) -> frozenset[str]:
+QUERY_COMES_LATER = "that query comes later: a predicate knows its own row and the queries before it"
+
+
+def names_of(query_places: list[Place]) -> list[str]:
     """The names that later queries have, as far as they can be seen before these are read."""
-    return frozenset(filter(None, (first_word(place.node) for place in query_places)))
+    return [name for name in (first_word(place.node) for place in query_places) if name is not None]
 
 
 # ---- items
@@ -185,7 +190,7 @@ def read_move(place: Place, clock: int, moved: Optional[Place], moments: Moments
         raise place.wrong_shape(f"the clock {'stands at' if moved else 'begins at'} {clock} and doesn't go back to {time}", notes=notes)
     due = len(moments.due(clock, time, MOST_MOMENTS))
     if due > MOST_MOMENTS:
-        raise place.over_limit("moments", f"this move of the clock from {clock} to {time} has more than {MOST_MOMENTS} due moments",
+        raise place.over_limit("moments", f"this move of the clock from {clock} to {time} has more than {MOST_MOMENTS:,} due moments",
                                "the moments are those that `at` and `every` name in any rule of the script")
     return time
 

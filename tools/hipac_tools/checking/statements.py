@@ -2,18 +2,19 @@
 
 from __future__ import annotations
 
+from dataclasses import replace
 from typing import Callable
 
 from .expressions import read_expression
 from .faults import Place
 from .forms import PAIR, RULE_OPERATIONS, STATEMENTS, listed
 from .parts import (
-    did_you_mean, first_word, form_at, is_number, known_name_at, list_at, name_at, names_there, new_name_at, shape_at, short_list_at,
+    Limit, did_you_mean, first_word, form_at, is_number, known_name_at, list_at, name_at, names_there, new_name_at, shape_at, short_list_at,
 )
 from .scope import Class, Row, Scope
 
 MOST_LEVELS = 16
-MOST_ARGUMENTS = 32
+ARGUMENTS = Limit("a signal", 32, "arguments", "args")
 
 
 def read_body(place: Place, scope: Scope, level: int = 1, what: str = "a body") -> None:
@@ -108,7 +109,7 @@ def warn_of_kind(place: Place, field: str, kind: str, scope: Scope) -> None:
 
 def read_signal(parts: list[Place], scope: Scope, level: int) -> None:
     scope.gathered.signalled.add(name_at(parts[0], "a signal's name"))
-    for argument in short_list_at(parts[1], "the arguments", "expressions", MOST_ARGUMENTS, "args"):
+    for argument in short_list_at(parts[1], "the arguments", "expressions", ARGUMENTS):
         read_expression(argument, scope)
 
 
@@ -132,7 +133,7 @@ def read_if(parts: list[Place], scope: Scope, level: int) -> None:
 
 
 def new_row_at(place: Place, scope: Scope) -> str:
-    return new_name_at(place, "a variable's name", "a row of the name", scope.row_places())
+    return new_name_at(place, "a variable's name", "a row", scope.row_places(), "a variable's name is new among the rows that are known")
 
 
 def read_each(parts: list[Place], scope: Scope, level: int) -> None:
@@ -147,7 +148,7 @@ def read_with(parts: list[Place], scope: Scope, level: int) -> None:
     """The body knows the variable, and the key doesn't."""
     name = new_row_at(parts[0], scope)
     row = Row(name, read_class(parts[1], scope), parts[0], False)
-    read_expression(parts[2], scope)
+    read_expression(parts[2], replace(scope, not_yet={name: "it names the row that this key finds, and is known after it"}))
     read_body(parts[3], scope.with_row(row), level + 1)
 
 
