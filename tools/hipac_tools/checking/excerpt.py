@@ -8,8 +8,8 @@ from ..positions import line_and_column
 
 WIDEST = 100
 """Longer lines are cut: scripts are often written in one line."""
-BEFORE = 30
-"""So many characters of a cut line stand before the value."""
+BEFORE, AFTER = 30, 30
+"""So many characters of a cut line stand before the value, and at least so many from its beginning on."""
 CUT = ".."
 
 
@@ -29,8 +29,7 @@ def cut(line: str, first: int, length: int) -> tuple[str, int, int]:
     """A long line cut to the part round the value."""
     if len(line) <= WIDEST:
         return line, first, length
-    begin = min(max(0, first - BEFORE), len(line) - WIDEST)
-    begin = 0 if begin <= len(CUT) else begin
+    begin = 0 if first <= WIDEST - AFTER else min(first - BEFORE, len(line) - WIDEST)
     stop = begin + WIDEST
     left, right = CUT if begin else "", CUT if stop < len(line) else ""
     length = min(length, stop - first)
