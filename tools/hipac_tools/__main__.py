@@ -1,4 +1,4 @@
-"""The words of `./hipac-tools`: each is a module of this package with a function `main`. A module is loaded only for its own word."""
+"""The words of `./hipac-tools`: each is a module of this package with a function `main`, loaded only for its word."""
 
 from __future__ import annotations
 
@@ -22,7 +22,7 @@ class Word:
 
 WORDS = {
     "check": Word("check", "says where and why a script is refused"),
-    "print": Word("printing", "writes a script in the plain words of its rules"),
+    "print": Word("printing", "writes a script as a person would read it aloud"),
     "graph": Word("graph", "draws which rules can trigger which"),
     "view": Word("view", "shows what a script's transactions did"),
     "why": Word("why", "says why a rule fired, or didn't"),
@@ -42,8 +42,8 @@ def main(arguments: list[str]) -> int:
     name = arguments[0]
     if name not in WORDS:
         meant = nearest(name, WORDS)
-        print(f"hipac-tools: there is no word `{name}`" + (f": did you mean `{meant}`?" if meant else ""), file=sys.stderr)
-        print(usage(), file=sys.stderr)
+        question = f": did you mean `{meant}`?" if meant else ""
+        print(f"hipac-tools: there is no word `{name}`{question}\n\n{usage()}", file=sys.stderr)
         return WRONG_WORDS
     module = importlib.import_module(f"{__package__}.{WORDS[name].module}")
     return module.main(arguments[1:])

@@ -1,7 +1,8 @@
 """`check SCRIPT.json ..`: says whether the program accepts a script, and where it doesn't, says where and why.
 
-The program decides. The tool reads the script a second time, in the program's order of checks, to find the place and the words
-for what the program refused; where its own reading comes to another end, it tells what the program said and no more.
+The program decides. The tool reads the script a second time, in the program's order of checks, to find the place and
+the words for what the program refused; where its own reading comes to another end, it tells what the program said and
+no more.
 """
 
 from __future__ import annotations
@@ -36,7 +37,7 @@ MEANINGS = {
 
 @dataclass(frozen=True)
 class Read:
-    """What the tool's own reading of a script comes to: its text and values as far as they can be read, and its first fault if any."""
+    """What the tool's own reading comes to: the text and its values as far as they can be read, and the first fault."""
 
     text: str
     root: Optional[Node]
@@ -94,7 +95,8 @@ def read(script: bytes) -> Read:
         root = parse(text)
     except UnicodeDecodeError as fault:
         offset = len(script[:fault.start].decode("utf-8"))
-        return Read(text, None, None, Fault("S1", offset, offset + 1, "the bytes here are no UTF-8", ("a script is saved as UTF-8",)))
+        hints = ("a script is saved as UTF-8",)
+        return Read(text, None, None, Fault("S1", offset, offset + 1, "the bytes here are no UTF-8", hints))
     except NotJson as fault:
         return Read(text, None, None, json_fault(fault))
     try:
@@ -120,8 +122,8 @@ def accepted(name: str, own: Read) -> list[str]:
                         counted(script.items, "item", "items")))
     lines = [f"{name}: accepted ({counts})"]
     for warned in sorted(script.warnings, key=lambda warned: warned.place.node.start):
-        node = warned.place.node
-        lines += told(name, own.text, "warning", Fault("", node.start, node.end, warned.message, (warned.hint,) if warned.hint else ()))
+        node, hints = warned.place.node, (warned.hint,) if warned.hint else ()
+        lines += told(name, own.text, "warning", Fault("", node.start, node.end, warned.message, hints))
     return lines
 
 
@@ -130,7 +132,7 @@ def counted(number: int, one: str, more: str) -> str:
 
 
 def refused(name: str, refusal: str, own: Read) -> list[str]:
-    """Where and why a script is refused. The refusal is the program's; the tool's fault is told only where it is the same."""
+    """Where and why a script is refused. The tool's own fault is told only where it is the program's refusal."""
     fault = own.fault if own.fault is not None and own.fault.refusal == refusal else general_fault(refusal, own)
     return told(name, own.text, f"refused {refusal}", fault)
 

@@ -8,7 +8,7 @@ NO_HABITS: Mapping[str, str] = {}
 
 
 def distance(first: str, second: str) -> int:
-    """How many letters must be put in, left out, changed or swapped with their neighbour to get from one word to the other."""
+    """How many letters must be put in, left out, changed or swapped with the next to make one word of the other."""
     rows = [list(range(len(second) + 1))]
     for i, letter in enumerate(first, 1):
         row, above = [i], rows[-1]
@@ -21,7 +21,7 @@ def distance(first: str, second: str) -> int:
 
 
 def nearest(word: str, known: Iterable[str], habits: Mapping[str, str] = NO_HABITS) -> Optional[str]:
-    """The known word that was meant, if one is near; `habits` has words that other languages use, with the known word."""
+    """The known word that was meant, if one is near; `habits` has words of other languages, with the known word."""
     if word.lower() in habits:
         return habits[word.lower()]
     allowed, found = max(len(word), 3) // 3, None

@@ -1,7 +1,7 @@
 """A reader of JSON that keeps where each value stands in its text.
 
-It reads what the program's own reader reads and refuses what that refuses: more than 127 lists and objects in one another,
-halves of surrogate pairs, numbers too large for a float. So a fault that it names is the program's refusal S1.
+It reads what the program's own reader reads and refuses what that refuses: more than 127 lists and objects in one
+another, halves of surrogate pairs, numbers too large for a float. So a fault that it names is the program's refusal S1.
 """
 
 from __future__ import annotations
@@ -23,8 +23,10 @@ FOUR_DIGITS = re.compile(r"[0-9a-fA-F]{4}")
 
 LITERALS = {"true": True, "false": False, "null": None}
 ESCAPES = {'"': '"', "\\": "\\", "/": "/", "b": "\b", "f": "\f", "n": "\n", "r": "\r", "t": "\t"}
+ESCAPES_THERE = 'there are \\" \\\\ \\/ \\b \\f \\n \\r \\t and \\u with four hexadecimal digits'
 FOREIGN_WORDS = {
-    "True": "true", "TRUE": "true", "False": "false", "FALSE": "false", "None": "null", "nil": "null", "NULL": "null", "undefined": "null",
+    "True": "true", "TRUE": "true", "False": "false", "FALSE": "false",
+    "None": "null", "nil": "null", "NULL": "null", "undefined": "null",
 }
 
 
@@ -144,8 +146,9 @@ class _Reader:
     def literal_node(self) -> Node:
         word = WORD.match(self.text, self.offset).group()
         if word not in LITERALS:
-            hint = f"did you mean `{FOREIGN_WORDS[word]}`?" if word in FOREIGN_WORDS else f'a text stands in double quotes: "{word}"'
-            raise self.fault(f"`{word}` is no JSON value", hint, len(word))
+            meant = FOREIGN_WORDS.get(word)
+            hint = f"did you mean `{meant}`?" if meant else f'a text stands in double quotes: "{shortened(word)}"'
+            raise self.fault(f"`{shortened(word)}` is no JSON value", hint, len(word))
         start, self.offset = self.offset, self.offset + len(word)
         return Node(LITERALS[word], start, self.offset)
 
@@ -186,7 +189,8 @@ class _Reader:
         if letter in ("", "\n", "\r"):
             self.offset = start
             end = SPACE_AT_LINE_END.search(self.text, start).start()
-            raise self.fault("this text isn't closed in its line", 'write " at its end; a line break in a text is \\n', end - start)
+            hint = 'write " at its end; a line break in a text is \\n'
+            raise self.fault("this text isn't closed in its line", hint, end - start)
         hint = "write \\t" if letter == "\t" else f"write \\u{ord(letter):04x}"
         raise self.fault("a control character stands in a text", hint)
 
@@ -196,7 +200,7 @@ class _Reader:
             self.offset += 2
             return ESCAPES[letter]
         if letter != "u":
-            raise self.fault(f"`\\{letter}` is no escape", 'there are \\" \\\\ \\/ \\b \\f \\n \\r \\t and \\u with four hexadecimal digits', 2)
+            raise self.fault(f"`\\{letter}` is no escape", ESCAPES_THERE, 2)
         code = self.code_unit()
         if 0xD800 <= code < 0xDC00 and self.text.startswith("\\u", self.offset + 6):
             first, self.offset = self.offset, self.offset + 6

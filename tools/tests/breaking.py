@@ -6,13 +6,14 @@ import copy
 import random
 
 WORDS = [
-    "updte", "create", "emit", "veto", "clock", "acct", "x", "y", "bal", "go", "immediate", "exclusive", "later", "int", "", "1st", "a-b", "n" * 33,
-    "é" * 600, "for", "each", "seq", "count", "of", "=", "==",
+    "updte", "create", "emit", "veto", "clock", "for", "each", "seq", "count", "of", "=", "==", "acct", "x", "y", "bal",
+    "go", "immediate", "exclusive", "later", "int", "", "1st", "a-b", "n" * 33, "é" * 600,
 ]
 NUMBERS = [0, 1, -1, 1.5, 1.0, -0.0, 1e30, 17, 1_001, 65_536, 2 ** 63 - 1, 2 ** 63, 2 ** 64, -(2 ** 63), -(2 ** 63) - 1]
 VALUES = NUMBERS + [
-    None, True, False, [], {}, [[]], ["veto"], ["count"], ["abort"], ["commit"], ["key", "x"], ["of", "x", "bal"], ["arg", 0, 70_000], ["at", -1], ["every", 1, 0], ["emit", 1], ["for", "x", []],
-    ["install", "r"], ["fire", "nobody"], ["neg", ["neg", 1]], ["create", "acct", 1, []], ["update", "acct", 1, [["bal", 1], ["bal", 2]]],
+    None, True, False, [], {}, [[]], ["veto"], ["count"], ["abort"], ["commit"], ["key", "x"], ["of", "x", "bal"],
+    ["arg", 0, 70_000], ["at", -1], ["every", 1, 0], ["emit", 1], ["for", "x", []], ["install", "r"],
+    ["fire", "nobody"], ["neg", ["neg", 1]], ["create", "acct", 1, []], ["update", "acct", 1, [["bal", 1], ["bal", 2]]],
     ["clock", 3], ["tx", []], ["signal", "go", [1] * 33], {"a": 1}, ["a", []], ["bal", "int"], ["x", "acct", True], "a" * 1_025,
 ]
 
@@ -112,7 +113,10 @@ def lengthened(script, path, chance):
     return script
 
 
-BREAKS = [replaced, replaced, renumbered, transplanted, dropped, renamed, renamed, swapped, doubled, wrapped, unwrapped, lengthened]
+BREAKS = [
+    replaced, replaced, renumbered, transplanted, dropped, renamed, renamed, swapped, doubled, wrapped, unwrapped,
+    lengthened,
+]
 
 
 def broken(script: object, chance: random.Random) -> object:

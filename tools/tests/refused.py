@@ -1,7 +1,7 @@
 """Scripts that are refused, each with what `check` says of it.
 
-The marks « and » stand round the value that is named; they are no part of the script. `message` is what stands behind the
-refusal in the first line; `more` are the lines after the excerpt, without the excerpts of other places.
+The marks « and » stand round the value that is named; they are no part of the script. `message` is what stands behind
+the refusal in the first line; `more` are the lines after the excerpt, without the excerpts of other places.
 """
 
 from __future__ import annotations
@@ -9,7 +9,7 @@ from __future__ import annotations
 from dataclasses import dataclass
 
 
-@dataclass(frozen=True, init=False)
+@dataclass(init=False)
 class Case:
     """A refused script."""
 
@@ -24,9 +24,9 @@ class Case:
     def __init__(self, name: str, refusal: str, marked: str, message: str, *more: str):
         start, end = marked.index("«"), marked.index("»") - 1
         script = marked.replace("«", "").replace("»", "")
-        parts = {"name": name, "refusal": refusal, "script": script, "start": start, "end": end, "message": message, "more": more}
-        for part, value in parts.items():
-            object.__setattr__(self, part, value)
+        self.name, self.refusal, self.script = name, refusal, script
+        self.start, self.end = start, end
+        self.message, self.more = message, more
 
 
 # ---- scripts round the value that matters
@@ -47,7 +47,8 @@ def body(statements, rules=""):
     return script(rules=rules, items=f'\n    ["tx", [\n      {statements}\n    ]]')
 
 
-def rule(event='["signal", "go"]', ec='"immediate"', queries="[]", ca='"immediate"', action="[]", version="1", items=""):
+def rule(
+        event='["signal", "go"]', ec='"immediate"', queries="[]", ca='"immediate"', action="[]", version="1", items=""):
     """One rule of these parts, called r."""
     parts = f'\n    ["r",\n      {event},\n      {ec}, {queries}, {ca},\n      {action}]'
     return script(version=version, rules=parts, items=items)
@@ -193,11 +194,11 @@ CASES = [
     Case(
         "no members", "S2 /",
         '«{}»',
-        "the member `version` is missing; so are `classes`, `rules` and `items`", '"version" is the number 1 or 2'),
+        "the member `version` is missing, and so are `classes`, `rules` and `items`", '"version" is the number 1 or 2'),
     Case(
         "a version alone", "S2 /",
         '«{"version": 3}»',
-        "the member `classes` is missing; so are `rules` and `items`",
+        "the member `classes` is missing, and so are `rules` and `items`",
         '"classes" is a list of classes, perhaps empty'),
     Case(
         "a member that is missing", "S2 /",
@@ -997,7 +998,9 @@ CASES = [
         "the moments are those that `at` and `every` name in any rule of the script"),
     Case(
         "due moments of a rule within others", "S5 moments",
-        rule(event='["or", ["commit"], ["seq", ["every", 5, 2], ["every", 6, 2]]]', items='["clock", 4], ["clock", «1005»]'),
+        rule(
+            event='["or", ["commit"], ["seq", ["every", 5, 2], ["every", 6, 2]]]',
+            items='["clock", 4], ["clock", «1005»]'),
         "this move of the clock from 4 to 1005 has more than 1,000 due moments",
         "the moments are those that `at` and `every` name in any rule of the script"),
     Case(

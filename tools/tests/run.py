@@ -19,7 +19,8 @@ from hipac_tools import program  # noqa: E402 - found by the path above
 def main(words: list[str]) -> int:
     ended = program.run(b'{"version": 1, "classes": [], "rules": [], "items": []}', [])
     if (ended.status, ended.output) != (0, "final\nend\n"):
-        print(f"the program {program.program_path()} doesn't run: status {ended.status}\n{ended.errors}", file=sys.stderr)
+        print(f"the program {program.program_path()} doesn't run: status {ended.status}", file=sys.stderr)
+        print(ended.errors, end="", file=sys.stderr)
         return 1
     loader = unittest.TestLoader()
     loader.testNamePatterns = [f"*{word}*" for word in words] or None

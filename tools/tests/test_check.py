@@ -77,8 +77,9 @@ class WholeOutput(InDirectory):
         self.assertEqual(self.check(text, "bank.json"), (status, expected.strip("\n").split("\n")))
 
     def test_a_misspelt_word(self) -> None:
-        text = '{\n  "version": 1,\n  "classes": [],\n  "rules": [\n    ["go", ["signl", "go"], "immediate", [], "immediate", []]\n'
-        self.assert_written(text + '  ],\n  "items": []\n}\n', 2, """
+        rules = '  "rules": [\n    ["go", ["signl", "go"], "immediate", [], "immediate", []]\n  ],\n'
+        text = '{\n  "version": 1,\n  "classes": [],\n' + rules + '  "items": []\n}\n'
+        self.assert_written(text, 2, """
 bank.json:5:12: refused S2 /rules/0/1: "signl" begins no event
   5 |     ["go", ["signl", "go"], "immediate", [], "immediate", []]
     |            ^~~~~~~~~~~~~~~
@@ -86,7 +87,7 @@ bank.json:5:12: refused S2 /rules/0/1: "signl" begins no event
 """)
 
     def test_a_doubled_name_with_its_first_place(self) -> None:
-        text = '{"version": 1, "classes": [\n' + '  ["acct", []],\n' * 1 + '  ["acct", []]\n], "rules": [], "items": []}'
+        text = '{"version": 1, "classes": [\n  ["acct", []],\n  ["acct", []]\n], "rules": [], "items": []}'
         self.assert_written(text, 2, """
 bank.json:3:4: refused S4 /classes/1/0: a class `acct` is there already
   3 |   ["acct", []]
@@ -97,17 +98,16 @@ bank.json:3:4: refused S4 /classes/1/0: a class `acct` is there already
 """)
 
     def test_a_value_of_several_lines(self) -> None:
-        text = '{"version": 1, "classes": [], "rules": [], "items": [\n\t["tx", [["emit", [\n  1,\n  2]]]]]}'
+        text = '{"version": 1, "classes": [], "rules": [], "items": [\n\t["tx", [["emit", [\n  "+",\n  2]]]]]}'
         self.assert_written(text, 2, """
-bank.json:2:19: refused S2 /items/0/1/0/1: an expression begins with its word, and this begins with a number
+bank.json:2:19: refused S2 /items/0/1/0/1: ["+", a, b] has 2 parts after its word, and this has 1
   2 | \t["tx", [["emit", [
     | \t                 ^
-  an expression begins with +, -, *, /, %, and, or, =, !=, <, <=, >, >=, neg, not, of, key, new, old, id, arg, time or count
 """)
 
     def test_a_long_line_is_cut(self) -> None:
         emits = '["emit", 1], ' * 40
-        text = '{"version": 1, "classes": [], "rules": [], "items": [["tx", [' + emits + '["emit", x], ' + emits + "]]]}"
+        text = '{"version": 1, "classes": [], "rules": [], "items": [["tx", [' + emits + '["emit", x], ' + emits
         self.assert_written(text, 2, """
 bank.json:1:591: refused S1: `x` is no JSON value
   1 | ..t", 1], ["emit", 1], ["emit", x], ["emit", 1], ["emit", 1], ["emit", 1], ["emit", 1], ["emit", 1], [..
@@ -125,7 +125,8 @@ bank.json:1:29: refused S2 /classes/0/0: a class's name can't begin with `\u53e3
 """)
 
     def test_an_accepted_script_with_a_warning(self) -> None:
-        text = '{"version": 1, "classes": [], "rules": [["r", ["commit"], "deferred", [], "deferred", []]], "items": [["tx", []]]}'
+        rule = '["r", ["commit"], "deferred", [], "deferred", []]'
+        text = '{"version": 1, "classes": [], "rules": [' + rule + '], "items": [["tx", []]]}'
         self.assert_written(text, 0, """
 bank.json: accepted (1 rule, 0 classes, 1 item)
 bank.json:1:42: warning: the rule `r` is never installed, and so never triggered
@@ -138,7 +139,8 @@ class Bytes(InDirectory):
     def test_one_byte_too_many(self) -> None:
         status, lines = self.check(b" " * 1_048_577)
         self.assertEqual(status, 2)
-        self.assertEqual(lines, ["script.json:1:1: refused S5 size: the script has 1,048,577 bytes, and 1,048,576 are the most"])
+        told = "script.json:1:1: refused S5 size: the script has 1,048,577 bytes, and 1,048,576 are the most"
+        self.assertEqual(lines, [told])
 
     def test_as_many_bytes_as_may_be(self) -> None:
         status, lines = self.check(b" " * 1_048_576)
@@ -182,7 +184,8 @@ class AcceptedScripts(InDirectory):
 
     def test_a_look_at_an_occurrence_where_there_is_none(self) -> None:
         text = script(items='["tx", [["emit", ["count"]]]]')
-        self.assertEqual(self.warnings(text), ["nothing has occurred in a transaction's own body: `count` always ends with A6 here"])
+        warning = "nothing has occurred in a transaction's own body: `count` always ends with A6 here"
+        self.assertEqual(self.warnings(text), [warning])
 
     def test_values_of_another_kind(self) -> None:
         text = script(items='["tx", [["update", "acct", "1", [["bal", "5"], ["owner", "o"]]]]]')
@@ -197,7 +200,8 @@ class AcceptedScripts(InDirectory):
         self.assertIn("  did you mean `payd`?", self.check(text)[1])
 
     def test_a_member_that_stands_twice(self) -> None:
-        self.assertEqual(self.warnings(script(more=' "version": 2,')), ["the member `version` stands here again: its last value counts"])
+        warning = "the member `version` stands here again: its last value counts"
+        self.assertEqual(self.warnings(script(more=' "version": 2,')), [warning])
 
     def test_a_library_without_items_has_no_warnings(self) -> None:
         self.assertEqual(self.warnings(script(rules='["r", ["signal", "go"], "immediate", [], "immediate", []]')), [])
@@ -226,7 +230,8 @@ class TheProgramDecides(InDirectory):
 
     def test_another_fault_than_the_own_one(self) -> None:
         _, lines = self.told(program.Ended(2, "refused S3 /depth\n", ""), script(version="3", more=' "depth": 99,'))
-        self.assertEqual(lines[0], "script.json:2:26: refused S3 /depth: this number is no whole number of 64 bits with sign")
+        told = "script.json:2:26: refused S3 /depth: this number is no whole number of 64 bits with sign"
+        self.assertEqual(lines[0], told)
 
     def test_a_path_in_a_text_that_is_no_json(self) -> None:
         _, lines = self.told(program.Ended(2, "refused S2 /rules\n", ""), "[1")
@@ -261,7 +266,8 @@ class CommandLine(InDirectory):
         bad.write_text("[]", encoding="utf-8")
         status, output, _ = run_word(check.main, str(bad), str(good))
         self.assertEqual(status, 2)
-        self.assertEqual([line.split(str(self.directory))[1][:9] for line in output.splitlines() if "json:" in line], ["/bad.json", "/good.jso"])
+        self.assertEqual(output.splitlines()[0].split(":")[0], str(bad))
+        self.assertEqual(output.splitlines()[-1].split(":")[0], str(good))
 
     def test_a_fault_of_the_program(self) -> None:
         file = self.directory / "script.json"

@@ -15,7 +15,10 @@ from .writing import written
 
 class Values(unittest.TestCase):
     def test_the_values_are_those_of_the_standard_reader(self) -> None:
-        texts = ['{"a": [1, -2.5, 1e3, true, false, null, "\\u00e9\\ud83d\\ude00\\n"], "b": {}}', "12345678901234567890123", '"\\/"', " [ ] "]
+        texts = [
+            '{"a": [1, -2.5, 1e3, true, false, null, "\\u00e9\\ud83d\\ude00\\n"], "b": {}}', "12345678901234567890123",
+            '"\\/"', " [ ] ",
+        ]
         for text in texts:
             self.assertEqual(parse(text).value, json.loads(text))
 
@@ -44,7 +47,8 @@ class Places(unittest.TestCase):
 
     def test_what_is_nowhere_is_found_in_the_nearest_value(self) -> None:
         root = parse('{"rules": [[1, 2]]}')
-        for path, start in {"/depth": 0, "/rules/1": 10, "/rules/0/7/2": 11, "/rules/0/1/0": 15, "/rules/x": 10}.items():
+        starts = {"/depth": 0, "/rules/1": 10, "/rules/0/7/2": 11, "/rules/0/1/0": 15, "/rules/x": 10}
+        for path, start in starts.items():
             found = find(root, path)
             self.assertEqual((found.exact, found.node.start), (False, start), path)
 
@@ -67,11 +71,14 @@ class Refusals(unittest.TestCase):
 
 class NearWords(unittest.TestCase):
     def test_distances(self) -> None:
-        for first, second, apart in [("", "abc", 3), ("abc", "abc", 0), ("abc", "acb", 1), ("abc", "abd", 1), ("update", "updte", 1)]:
+        pairs = [("", "abc", 3), ("abc", "abc", 0), ("abc", "acb", 1), ("abc", "abd", 1), ("update", "updte", 1)]
+        for first, second, apart in pairs:
             self.assertEqual(distance(first, second), apart)
             self.assertEqual(distance(second, first), apart)
 
     def test_the_nearest_word(self) -> None:
-        known = ["create", "update", "delete", "x"]
-        for word, meant in {"updte": "update", "UPDATE": "update", "crate": "create", "remove": None, "y": None, "insert": "create"}.items():
-            self.assertEqual(nearest(word, known, {"insert": "create"}), meant)
+        known, habits = ["create", "update", "delete", "x"], {"insert": "create"}
+        for word, meant in {"updte": "update", "UPDATE": "update", "crate": "create", "insert": "create"}.items():
+            self.assertEqual(nearest(word, known, habits), meant)
+        for word in ("remove", "y", ""):
+            self.assertIsNone(nearest(word, known, habits))

@@ -1,4 +1,4 @@
-"""The schema of scripts: it lets pass what the program accepts, and marks what is refused as far as a schema can say it."""
+"""The schema of scripts: it lets pass what the program accepts, and marks what it refuses as far as it can say."""
 
 from __future__ import annotations
 
@@ -38,7 +38,7 @@ UNSAID_CASES = {
 
 
 def said(name: str, refusal: str) -> bool:
-    """Whether a schema can say why the case of this name is refused. If not, it may still mark another fault of the script."""
+    """Whether a schema can say why the case of this name is refused. If not, it may still mark another fault of it."""
     code, _, rest = refusal.partition(" ")
     return name not in UNSAID_CASES and (code in ("S2", "S3", "S6") or code == "S5" and rest not in UNSAID_LIMITS)
 
@@ -49,7 +49,7 @@ class Schema(unittest.TestCase):
     @classmethod
     def setUpClass(cls) -> None:
         if jsonschema is None:
-            raise AssertionError("the tests of the schema need the Python package jsonschema (Debian: python3-jsonschema)")
+            raise AssertionError("these tests need the Python package jsonschema (Debian: python3-jsonschema)")
         cls.schema = json.loads(SCHEMA.read_text(encoding="utf-8"))
         cls.valid = staticmethod(jsonschema.Draft202012Validator(cls.schema).is_valid)
 

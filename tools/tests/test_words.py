@@ -2,7 +2,6 @@
 
 from __future__ import annotations
 
-import os
 import subprocess
 import unittest
 
@@ -30,8 +29,8 @@ class Words(unittest.TestCase):
 
 class Launcher(unittest.TestCase):
     def launch(self, *arguments: str, text: str = "") -> subprocess.CompletedProcess:
-        return subprocess.run([str(REPOSITORY / "hipac-tools"), *arguments], input=text, capture_output=True, text=True, cwd="/", check=False,
-                              env={**os.environ, "PYTHONIOENCODING": "utf-8"})
+        command = [str(REPOSITORY / "hipac-tools"), *arguments]
+        return subprocess.run(command, input=text, capture_output=True, text=True, cwd="/", check=False)
 
     def test_it_runs_from_any_directory(self) -> None:
         ended = self.launch("check", "-", text="[]")

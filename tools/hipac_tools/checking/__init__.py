@@ -1,1 +1,1 @@
-"""What `check` stands on: a reading of scripts that says where and why the first fault is one, in the order of the program's checks."""
+"""What `check` stands on: a reading of scripts, in the order of the program's checks, that says why and where."""

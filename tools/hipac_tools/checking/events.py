@@ -16,7 +16,7 @@ A_MOMENT = "a moment"
 
 @dataclass
 class Moments:
-    """The moments that the events of a library name: single ones, in order, and those of each first moment and period."""
+    """The moments that a library's events name: single ones, in order, and those of each first moment and period."""
 
     single: list[int] = field(default_factory=list)
     periodic: set[tuple[int, int]] = field(default_factory=set)
@@ -40,7 +40,8 @@ def read_event(place: Place, scope: Scope, moments: Moments, level: int = 1) -> 
     """Reads an event that stands so deep in others, 1 for one by itself."""
     word, parts = form_at(place, EVENTS)
     if level > MOST_LEVELS:
-        raise place.over_limit("event", f"an event has at most {MOST_LEVELS} levels, and this is the first one at level {level}")
+        message = f"an event has at most {MOST_LEVELS} levels, and this is the first one at level {level}"
+        raise place.over_limit("event", message)
     if word in ("create", "update", "delete"):
         known_name_at(parts[0], "a class's name", "class", scope.classes)
     elif word == "signal":

@@ -1,4 +1,4 @@
-"""The reading of expressions. At one value its form comes first, then its level, then a text's length, and then its parts."""
+"""The reading of expressions. At one value its form comes first, then its level, a text's length, and its parts."""
 
 from __future__ import annotations
 
@@ -30,7 +30,8 @@ def read_expression(place: Place, scope: Scope, level: int = 1) -> None:
 
 def check_level(place: Place, level: int) -> None:
     if level > MOST_LEVELS:
-        raise place.over_limit("expr", f"an expression has at most {MOST_LEVELS} levels, and this is the first value at level {level}")
+        message = f"an expression has at most {MOST_LEVELS} levels, and this is the first value at level {level}"
+        raise place.over_limit("expr", message)
 
 
 def check_text(place: Place, text: str) -> None:
@@ -55,24 +56,29 @@ def read_form(place: Place, scope: Scope, level: int) -> None:
 
 
 def read_of_row(word: str, parts: list[Place], scope: Scope) -> None:
-    """`of` and `key`: a row, and a field, whose name is looked at by its form alone. That its class lacks it is told as a warning."""
+    """`of` and `key`. Only the form of a field's name is looked at; that the row's class lacks it is a warning."""
     row = row_at(parts[0], scope)
     if word == "of":
         field = name_at(parts[1], "a field's name")
         kinds = row.class_read.kinds
         if field not in kinds:
-            scope.gathered.warn(parts[1], f"the class `{row.class_read.name}` has no field `{field}`: this always ends with A3",
-                                did_you_mean(field, kinds))
+            message = f"the class `{row.class_read.name}` has no field `{field}`: this always ends with A3"
+            scope.gathered.warn(parts[1], message, did_you_mean(field, kinds))
 
 
 def row_at(place: Place, scope: Scope) -> Row:
     """The name of a row that is known."""
     name = name_at(place, "the name of a row")
     if name not in scope.rows:
-        known = list(scope.rows)
-        hint = scope.elsewhere(name) or did_you_mean(name, known) or (names_there("row", known) if known else "no row has a name here")
-        raise place.bad_name(f"no row is called `{name}` here", hint)
+        raise place.bad_name(f"no row is called `{name}` here", which_row(name, scope))
     return scope.rows[name]
+
+
+def which_row(name: str, scope: Scope) -> str:
+    """What may be meant by the name of a row that isn't known."""
+    known = list(scope.rows)
+    there = names_there("row", known) if known else "no row has a name here"
+    return scope.elsewhere(name) or did_you_mean(name, known) or there
 
 
 def read_of_occurrence(place: Place, word: str, parts: list[Place], scope: Scope) -> None:
@@ -85,4 +91,5 @@ def read_of_occurrence(place: Place, word: str, parts: list[Place], scope: Scope
         if word in ("new", "old"):
             name_at(parts[1], "a field's name")
     if not scope.has_occurrence:
-        scope.gathered.warn(place, f"nothing has occurred in a transaction's own body: `{word}` always ends with A6 here")
+        message = f"nothing has occurred in a transaction's own body: `{word}` always ends with A6 here"
+        scope.gathered.warn(place, message)

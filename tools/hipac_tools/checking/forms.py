@@ -1,4 +1,4 @@
-"""The forms of the language, as data: which words begin an event, an expression, a statement and an item, and the parts of each."""
+"""The forms of the language as data: which words begin events, expressions, statements and items, and their parts."""
 
 from __future__ import annotations
 
@@ -61,21 +61,27 @@ NEEDED_MEMBERS = ("version", "classes", "rules", "items")
 
 KINDS = ("int", "bool", "text")
 KIND_HABITS = {
-    "integer": "int", "number": "int", "long": "int", "i64": "int", "int64": "int", "boolean": "bool", "string": "text", "str": "text",
+    "integer": "int", "number": "int", "long": "int", "i64": "int", "int64": "int",
+    "boolean": "bool", "string": "text", "str": "text",
 }
 
 MODES = ("immediate", "deferred", "separate", "dependent")
 SECOND_VERSION_MODE = "exclusive"
-MODE_HABITS = {"now": "immediate", "later": "deferred", "detached": "separate", "decoupled": "separate", "independent": "separate"}
+MODE_HABITS = {
+    "now": "immediate", "later": "deferred", "detached": "separate", "decoupled": "separate", "independent": "separate",
+}
 
 EVENTS = Grammar(
     "an event",
     {
-        "create": ("class",), "update": ("class",), "delete": ("class",), "signal": ("name",), "commit": (), "at": ("t",),
-        "every": ("first", "period"), "or": ("event", "event"), "seq": ("event", "event"), "closure": ("event", "event"),
+        "create": ("class",), "update": ("class",), "delete": ("class",),
+        "signal": ("name",), "commit": (), "at": ("t",), "every": ("first", "period"),
+        "or": ("event", "event"), "seq": ("event", "event"), "closure": ("event", "event"),
     },
-    {"insert": "create", "modify": "update", "change": "update", "remove": "delete", "then": "seq", "sequence": "seq", "any": "or",
-     "time": "at"},
+    {
+        "insert": "create", "modify": "update", "change": "update", "remove": "delete", "then": "seq",
+        "sequence": "seq", "any": "or", "time": "at",
+    },
 )
 
 TWO_OPERANDS = ("+", "-", "*", "/", "%", "and", "or", "=", "!=", "<", "<=", ">", ">=")
@@ -86,12 +92,15 @@ EXPRESSIONS = Grammar(
     "an expression",
     {
         **{word: ("a", "b") for word in TWO_OPERANDS}, **{word: ("a",) for word in ONE_OPERAND},
-        "of": ("row", "field"), "key": ("row",), "new": ("i", "field"), "old": ("i", "field"), "id": ("i",), "arg": ("i", "j"),
-        "time": ("i",), "count": (),
+        "of": ("row", "field"), "key": ("row",), "new": ("i", "field"), "old": ("i", "field"), "id": ("i",),
+        "arg": ("i", "j"), "time": ("i",), "count": (),
     },
-    {"==": "=", "eq": "=", "is": "=", "<>": "!=", "ne": "!=", "lt": "<", "le": "<=", "=<": "<=", "gt": ">", "ge": ">=", "=>": ">=",
-     "&&": "and", "||": "or", "!": "not", "mod": "%", "rem": "%", "div": "/", "add": "+", "plus": "+", "sub": "-", "minus": "-",
-     "mul": "*", "times": "*", "negate": "neg", "get": "of", "field": "of", "after": "new", "before": "old"},
+    {
+        "==": "=", "eq": "=", "is": "=", "<>": "!=", "ne": "!=", "lt": "<", "le": "<=", "=<": "<=", "gt": ">",
+        "ge": ">=", "=>": ">=", "&&": "and", "||": "or", "!": "not", "mod": "%", "rem": "%", "div": "/", "add": "+",
+        "plus": "+", "sub": "-", "minus": "-", "mul": "*", "times": "*", "negate": "neg", "get": "of", "field": "of",
+        "after": "new", "before": "old",
+    },
 )
 
 RULE_OPERATIONS = ("install", "enable", "disable", "remove", "fire")
@@ -99,13 +108,16 @@ RULE_OPERATIONS = ("install", "enable", "disable", "remove", "fire")
 STATEMENTS = Grammar(
     "a statement",
     {
-        "create": ("class", "key", "pairs"), "update": ("class", "key", "pairs"), "delete": ("class", "key"), "signal": ("name", "args"),
-        "emit": ("expression",), "if": ("expression", "body", "body"), "each": ("name", "class", "predicate", "body"),
-        "for": ("query", "body"), "with": ("name", "class", "key", "body"), "sub": ("body", "otherwise"), "abort": (), "veto": (),
+        "create": ("class", "key", "pairs"), "update": ("class", "key", "pairs"), "delete": ("class", "key"),
+        "signal": ("name", "args"), "emit": ("expression",), "if": ("expression", "body", "body"),
+        "each": ("name", "class", "predicate", "body"), "for": ("query", "body"),
+        "with": ("name", "class", "key", "body"), "sub": ("body", "otherwise"), "abort": (), "veto": (),
         **{word: ("rule",) for word in RULE_OPERATIONS},
     },
-    {"insert": "create", "set": "update", "modify": "update", "print": "emit", "raise": "signal", "trigger": "fire", "foreach": "each",
-     "when": "if", "try": "sub", "rollback": "abort", "uninstall": "remove", "let": "with"},
+    {
+        "insert": "create", "set": "update", "modify": "update", "print": "emit", "raise": "signal", "trigger": "fire",
+        "foreach": "each", "when": "if", "try": "sub", "rollback": "abort", "uninstall": "remove", "let": "with",
+    },
 )
 
 ITEMS = Grammar(

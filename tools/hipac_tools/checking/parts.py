@@ -1,4 +1,4 @@
-"""The parts of which the grammar's forms are made: lists, forms, names and numbers. Each is read here, or refused with its reason."""
+"""The parts of which the forms are made: lists, words, names and numbers. Each is read, or refused with its reason."""
 
 from __future__ import annotations
 
@@ -90,7 +90,8 @@ def form_at(place: Place, grammar: Grammar) -> tuple[str, list[Place]]:
     """The word and the other parts of a form."""
     node = place.node
     if not isinstance(node.value, list):
-        raise place.wrong_shape(f"{grammar.what} is a list [word, ..], and this is {kind_of(node)}", not_a_list(node, grammar))
+        message = f"{grammar.what} is a list [word, ..], and this is {kind_of(node)}"
+        raise place.wrong_shape(message, not_a_list(node, grammar))
     if not node.items:
         raise place.wrong_shape(f"{grammar.what} is a list [word, ..], and this list is empty", words_of(grammar))
     word = node.items[0].value
@@ -99,9 +100,10 @@ def form_at(place: Place, grammar: Grammar) -> tuple[str, list[Place]]:
                                 first_is_no_word(node, grammar))
     if word not in grammar.words:
         raise place.wrong_shape(f"{quoted(shortened(word))} begins no {grammar.named()}", *what_instead(word, grammar))
-    if len(node.items) - 1 != len(grammar.words[word]):
-        raise place.wrong_shape(wrong_count(word, grammar, len(node.items) - 1), other_word(word, grammar, len(node.items) - 1))
-    return word, place.items()[1:]
+    parts = place.items()[1:]
+    if len(parts) != len(grammar.words[word]):
+        raise place.wrong_shape(wrong_count(word, grammar, len(parts)), other_word(word, len(parts)))
+    return word, parts
 
 
 def first_word(node: Node) -> Optional[str]:
@@ -127,7 +129,7 @@ def first_is_no_word(node: Node, grammar: Grammar) -> str:
 
 
 def what_instead(word: str, grammar: Grammar) -> list[str]:
-    """What an unknown word may be meant for: a known word near it, or another kind of form that it begins; else what there is."""
+    """What an unknown word may be meant for: a known word near it, or another kind of form, and what there is."""
     meant = did_you_mean(word, grammar.words, grammar.habits)
     if meant:
         return [meant]
@@ -141,7 +143,7 @@ def wrong_count(word: str, grammar: Grammar, have: int) -> str:
     return f"{grammar.written(word)} has {count_of(want)} after its word, and this has {have or 'none'}"
 
 
-def other_word(word: str, grammar: Grammar, have: int) -> str:
+def other_word(word: str, have: int) -> str:
     """A form with that number of parts which is easily taken for this one."""
     if word == "-" and have == 1:
         return 'the number with the other sign is ["neg", a]'
@@ -179,23 +181,26 @@ def why_no_name(name: str) -> str:
 
 
 def shown_letter(letter: str) -> str:
-    return f"`{letter}`" if letter.isprintable() and letter != " " else {" ": "a space"}.get(letter, f"the character U+{ord(letter):04X}")
+    if letter == " ":
+        return "a space"
+    return f"`{letter}`" if letter.isprintable() else f"the character U+{ord(letter):04X}"
 
 
 def new_name_at(place: Place, what: str, noun: str, known: Mapping[str, Place], *hints: str) -> str:
     """A name that none of those before has."""
     name = name_at(place, what)
     if name in known:
-        raise place.bad_name(f"{noun} `{name}` is there already", *hints, notes=(known[name].note("the first one is here:"),))
+        first = known[name].note("the first one is here:")
+        raise place.bad_name(f"{noun} `{name}` is there already", *hints, notes=(first,))
     return name
 
 
-def known_name_at(place: Place, what: str, noun: str, known: Iterable[str], *more: str) -> str:
+def known_name_at(place: Place, what: str, noun: str, known: Iterable[str]) -> str:
     """A name that is one of these."""
     name = name_at(place, what)
     known = list(known)
     if name not in known:
-        raise place.bad_name(f"there is no {noun} `{name}`", did_you_mean(name, known) or names_there(noun, known), *more)
+        raise place.bad_name(f"there is no {noun} `{name}`", did_you_mean(name, known) or names_there(noun, known))
     return name
 
 
@@ -266,5 +271,6 @@ def word_at(place: Place, what: str, words: Iterable[str], habits: Mapping[str, 
     if not isinstance(word, str):
         raise place.wrong_shape(f"{choice}, and this is {kind_of(place.node)}")
     if word not in words:
-        raise place.wrong_shape(f"{quoted(shortened(word))} is no {what.split(' ', 1)[1]}", did_you_mean(word, words, habits), choice)
+        noun = what.split(" ", 1)[1]
+        raise place.wrong_shape(f"{quoted(shortened(word))} is no {noun}", did_you_mean(word, words, habits), choice)
     return word

@@ -1,5 +1,6 @@
-"""The reading of a whole script in the order of checks: the root, the version, the depth, the classes, the form and name of each rule,
-each rule's other parts, and the items. It mirrors the program's own order, so that the first fault is the one that the program names."""
+"""The reading of a whole script in the order of checks: the root, the version, the depth, the classes, the form and
+name of each rule, each rule's other parts, and the items. It is the program's order, so the first fault is its refusal.
+"""
 
 from __future__ import annotations
 
@@ -11,10 +12,12 @@ from .events import Moments, read_event
 from .expressions import read_expression
 from .faults import Place, Refused
 from .forms import (
-    CLASS, FIELD, ITEMS, KIND_HABITS, KINDS, MODE_HABITS, MODES, NEEDED_MEMBERS, QUERY, ROOT_MEMBERS, RULE, SECOND_VERSION_MODE, listed,
+    CLASS, FIELD, ITEMS, KIND_HABITS, KINDS, MODE_HABITS, MODES, NEEDED_MEMBERS, QUERY, ROOT_MEMBERS, RULE,
+    SECOND_VERSION_MODE, listed,
 )
 from .parts import (
-    Limit, did_you_mean, first_word, form_at, kind_of, known_name_at, list_at, new_name_at, shape_at, short_list_at, whole_number_at, word_at,
+    Limit, did_you_mean, first_word, form_at, kind_of, known_name_at, list_at, new_name_at, shape_at, short_list_at,
+    whole_number_at, word_at,
 )
 from .scope import Class, Gathered, Row, Scope, Warned
 from .statements import read_body
@@ -61,16 +64,17 @@ def read_script(root: Node) -> Script:
 
 def check_members(place: Place) -> None:
     """The members that must be there, perhaps `depth`, and no others. A member too many is shown itself."""
-    node = place.node
+    node, members = place.node, listed(NEEDED_MEMBERS, "and")
     if not isinstance(node.value, dict):
-        raise place.wrong_shape(f"a script is an object with the members {listed(NEEDED_MEMBERS, 'and')}, and this is {kind_of(node)}")
+        raise place.wrong_shape(f"a script is an object with the members {members}, and this is {kind_of(node)}")
     missing = [name for name in NEEDED_MEMBERS if name not in node.members]
     for name, (key, _) in node.members.items():
         if name not in ROOT_MEMBERS:
             raise extra_member(place, key, missing)
     if missing:
-        others = f"; so {'is' if len(missing) == 2 else 'are'} {listed([f'`{name}`' for name in missing[1:]], 'and')}" if missing[1:] else ""
-        raise place.wrong_shape(f"the member `{missing[0]}` is missing{others}", f'"{missing[0]}" is {ROOT_MEMBERS[missing[0]]}')
+        first, others = missing[0], [f"`{name}`" for name in missing[1:]]
+        too = f", and so {'is' if len(others) == 1 else 'are'} {listed(others, 'and')}" if others else ""
+        raise place.wrong_shape(f"the member `{first}` is missing{too}", f'"{first}" is {ROOT_MEMBERS[first]}')
 
 
 def extra_member(place: Place, key: Node, missing: list[str]) -> Refused:
@@ -143,7 +147,8 @@ def read_rule(parts: list[Place], scope: Scope, moments: Moments, version_place:
 
 def read_mode(place: Place, version_place: Place, version: int) -> None:
     if place.node.value == SECOND_VERSION_MODE and version == 1:
-        raise place.wrong_shape("the mode `exclusive` is of version 2", notes=(version_place.note("the script says version 1 here:"),))
+        said = version_place.note("the script says version 1 here:")
+        raise place.wrong_shape("the mode `exclusive` is of version 2", notes=(said,))
     word_at(place, "a mode", MODES + ((SECOND_VERSION_MODE,) if version == 2 else ()), MODE_HABITS)
 
 
@@ -155,7 +160,8 @@ def read_condition(place: Place, scope: Scope) -> Scope:
         name = new_name_at(name_place, "a query's name", "a query", scope.row_places())
         class_name = known_name_at(class_place, "a class's name", "class", scope.classes)
         scope = scope.with_row(Row(name, scope.classes[class_name], name_place, True))
-        read_expression(predicate, replace(scope, not_yet=dict.fromkeys(names_of(query_places[position + 1:]), QUERY_COMES_LATER)))
+        later = dict.fromkeys(names_of(query_places[position + 1:]), QUERY_COMES_LATER)
+        read_expression(predicate, replace(scope, not_yet=later))
     return scope
 
 
@@ -186,12 +192,13 @@ def read_items(place: Place, scope: Scope, moments: Moments) -> int:
 def read_move(place: Place, clock: int, moved: Optional[Place], moments: Moments) -> int:
     time = whole_number_at(place, "the clock's time")
     if time < clock or time < 0:
-        notes = (moved.note("it was moved there here:"),) if moved else ()
-        raise place.wrong_shape(f"the clock {'stands at' if moved else 'begins at'} {clock} and doesn't go back to {time}", notes=notes)
+        stands, notes = ("stands", (moved.note("it was moved there here:"),)) if moved else ("begins", ())
+        raise place.wrong_shape(f"the clock {stands} at {clock} and doesn't go back to {time}", notes=notes)
     due = len(moments.due(clock, time, MOST_MOMENTS))
     if due > MOST_MOMENTS:
-        raise place.over_limit("moments", f"this move of the clock from {clock} to {time} has more than {MOST_MOMENTS:,} due moments",
-                               "the moments are those that `at` and `every` name in any rule of the script")
+        message = f"this move of the clock from {clock} to {time} has more than {MOST_MOMENTS:,} due moments"
+        hint = "the moments are those that `at` and `every` name in any rule of the script"
+        raise place.over_limit("moments", message, hint)
     return time
 
 
@@ -205,4 +212,5 @@ def warn_of_silence(scope: Scope, items: int) -> None:
             gathered.warn(place, f"the rule `{rule}` is never installed, and so never triggered")
     for signal, place in gathered.awaited.items():
         if signal not in gathered.signalled:
-            gathered.warn(place, f"nothing in this script signals `{signal}`", did_you_mean(signal, sorted(gathered.signalled)))
+            meant = did_you_mean(signal, sorted(gathered.signalled))
+            gathered.warn(place, f"nothing in this script signals `{signal}`", meant)

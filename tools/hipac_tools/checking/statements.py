@@ -1,4 +1,4 @@
-"""The reading of bodies and statements. At one value its form comes first, then its level, and then its parts from left to right."""
+"""The reading of bodies and statements. At one value its form comes first, then its level, and then its parts."""
 
 from __future__ import annotations
 
@@ -9,7 +9,8 @@ from .expressions import read_expression
 from .faults import Place
 from .forms import PAIR, RULE_OPERATIONS, STATEMENTS, listed
 from .parts import (
-    Limit, did_you_mean, first_word, form_at, is_number, known_name_at, list_at, name_at, names_there, new_name_at, shape_at, short_list_at,
+    Limit, did_you_mean, first_word, form_at, is_number, known_name_at, list_at, name_at, names_there, new_name_at,
+    shape_at, short_list_at,
 )
 from .scope import Class, Row, Scope
 
@@ -30,9 +31,11 @@ def read_body(place: Place, scope: Scope, level: int = 1, what: str = "a body") 
 def read_statement(place: Place, scope: Scope, level: int) -> None:
     word, parts = form_at(place, STATEMENTS)
     if word == "veto" and not scope.has_occurrence:
-        raise place.wrong_shape('["veto"] stands only in a rule\'s action', 'a transaction\'s own body ends itself with ["abort"]')
+        hint = 'a transaction\'s own body ends itself with ["abort"]'
+        raise place.wrong_shape('["veto"] stands only in a rule\'s action', hint)
     if level > MOST_LEVELS:
-        raise place.over_limit("nesting", f"statements nest at most {MOST_LEVELS} levels, and this is the first one at level {level}")
+        message = f"statements nest at most {MOST_LEVELS} levels, and this is the first one at level {level}"
+        raise place.over_limit("nesting", message)
     if word in RULE_OPERATIONS:
         read_rule_operation(word, parts, scope)
     elif word in READERS:
@@ -85,13 +88,18 @@ def read_pairs(place: Place, changed: Class, scope: Scope) -> dict[str, Place]:
         field_place, value_place = shape_at(pair, PAIR)
         field = new_name_at(field_place, "a field's name", "a pair for the field", named)
         if field not in changed.kinds:
-            known = list(changed.kinds)
-            raise field_place.bad_name(f"the class `{changed.name}` has no field `{field}`",
-                                       did_you_mean(field, known) or (names_there("field", known) if known else "it has no fields"))
+            message = f"the class `{changed.name}` has no field `{field}`"
+            raise field_place.bad_name(message, which_field(field, changed))
         read_expression(value_place, scope)
         warn_of_kind(value_place, field, changed.kinds[field], scope)
         named[field] = field_place
     return named
+
+
+def which_field(field: str, changed: Class) -> str:
+    """What may be meant by a field that the class doesn't have."""
+    known = list(changed.kinds)
+    return did_you_mean(field, known) or (names_there("field", known) if known else "it has no fields")
 
 
 def warn_of_kind(place: Place, field: str, kind: str, scope: Scope) -> None:
@@ -101,7 +109,8 @@ def warn_of_kind(place: Place, field: str, kind: str, scope: Scope) -> None:
         return
     is_of = "int" if is_number(place.node) else "bool" if isinstance(value, bool) else "text"
     if is_of != kind:
-        scope.gathered.warn(place, f"the field `{field}` is of kind {kind} and this is of kind {is_of}: it always ends with A3")
+        message = f"the field `{field}` is of kind {kind} and this is of kind {is_of}: it always ends with A3"
+        scope.gathered.warn(place, message)
 
 
 # ---- signals, values, rules
@@ -133,7 +142,8 @@ def read_if(parts: list[Place], scope: Scope, level: int) -> None:
 
 
 def new_row_at(place: Place, scope: Scope) -> str:
-    return new_name_at(place, "a variable's name", "a row", scope.row_places(), "a variable's name is new among the rows that are known")
+    hint = "a variable's name is new among the rows that are known"
+    return new_name_at(place, "a variable's name", "a row", scope.row_places(), hint)
 
 
 def read_each(parts: list[Place], scope: Scope, level: int) -> None:
@@ -148,7 +158,8 @@ def read_with(parts: list[Place], scope: Scope, level: int) -> None:
     """The body knows the variable, and the key doesn't."""
     name = new_row_at(parts[0], scope)
     row = Row(name, read_class(parts[1], scope), parts[0], False)
-    read_expression(parts[2], replace(scope, not_yet={name: "it names the row that this key finds, and is known after it"}))
+    hint = "it names the row that this key finds, and is known after it"
+    read_expression(parts[2], replace(scope, not_yet={name: hint}))
     read_body(parts[3], scope.with_row(row), level + 1)
 
 
@@ -156,8 +167,9 @@ def read_for(parts: list[Place], scope: Scope, level: int) -> None:
     """Goes over the answer of one of the rule's queries."""
     name, queries = name_at(parts[0], "a query's name"), scope.queries()
     if name not in queries:
-        raise parts[0].bad_name(f"this rule has no query `{name}`" if scope.has_occurrence else "a transaction's own body has no queries",
-                                for_what_else(name, queries, scope))
+        in_action = f"this rule has no query `{name}`"
+        message = in_action if scope.has_occurrence else "a transaction's own body has no queries"
+        raise parts[0].bad_name(message, for_what_else(name, queries, scope))
     read_body(parts[1], scope, level + 1)
 
 
@@ -175,6 +187,6 @@ def read_sub(parts: list[Place], scope: Scope, level: int) -> None:
 
 
 READERS: dict[str, Callable[[list[Place], Scope, int], None]] = {
-    "create": read_create, "update": read_update, "delete": read_delete, "signal": read_signal, "emit": read_emit, "if": read_if,
-    "each": read_each, "for": read_for, "with": read_with, "sub": read_sub,
+    "create": read_create, "update": read_update, "delete": read_delete, "signal": read_signal, "emit": read_emit,
+    "if": read_if, "each": read_each, "for": read_for, "with": read_with, "sub": read_sub,
 }
