@@ -10,7 +10,7 @@ import json
 from dataclasses import dataclass
 from typing import Any, Dict, List, Optional
 
-from . import events, program, report
+from . import events, program, report, rulebase
 from .course import Course, STEPS, TooLong
 from .notes import Note, Signal
 from .report import Fire, Operation, Report
@@ -31,6 +31,7 @@ class NoAccount(Exception):
 @dataclass
 class Account:
     script: Dict[str, Any]
+    base: rulebase.RuleBase
     report: Report
     doubt: Optional[str] = None
 
@@ -45,21 +46,23 @@ def account_of(script_bytes: bytes, report_text: Optional[str] = None, watch: Op
     if report_text is None:
         report_text = _run(script_bytes)
     try:
-        script = json.loads(script_bytes)
+        text = script_bytes.decode("utf-8")
+        base = rulebase.read(text)
         found = report.read(report_text)
-    except (ValueError, RecursionError):
-        raise NoAccount("the script is no JSON text", 2)
+    except (UnicodeDecodeError, rulebase.Refused):
+        raise NoAccount("this is no script; `hipac-tools check` says more", 2)
     except report.ReportFault as fault:
-        raise NoAccount("the report can't be read: {}".format(fault), 2)
+        raise NoAccount(f"the report can't be read: {fault}", 2)
+    account = Account(json.loads(text), base, found)
     try:
-        followed = Course(script, watch, steps).report()
+        followed = Course(account.script, watch, steps).report()
     except TooLong:
-        return derived(script, found, TOO_LONG)
-    except Exception:  # a report of one script beside another one, malformed or not: whatever goes wrong, nothing is told
-        return derived(script, found, DIFFERENT)
+        return derived(account, TOO_LONG)
+    except (LookupError, TypeError, ValueError, AttributeError, RecursionError):
+        return derived(account, DIFFERENT)  # a script that the program would refuse, beside a report given for it
     if followed != found:
-        return derived(script, found, DIFFERENT)
-    return Account(script, followed)
+        return derived(account, DIFFERENT)
+    return Account(account.script, base, followed)
 
 
 def _run(script_bytes: bytes) -> str:
@@ -72,23 +75,16 @@ def _run(script_bytes: bytes) -> str:
     return ended.output
 
 
-def derived(script: Dict[str, Any], found: Report, doubt: str) -> Account:
+def derived(account: Account, doubt: str) -> Account:
     """The report with the notes that its tree alone gives: who stands in whom, and plain triggers."""
-    rules = script.get("rules", []) if isinstance(script, dict) else []
-    plain = {rule[0]: rule[1] for rule in rules if _is_plain(rule) and not _names_fire(script, rule[0])}
-    for unit in found.units:
+    rules = account.script["rules"]
+    plain = {rule[0]: rule[1] for rule in rules if events.is_pure(rule[1]) and not _names_fire(account.script, rule[0])}
+    for unit in account.report.units:
         for transaction in unit.transactions:
             transaction.note = Note(None)
             _derive(transaction, plain)
-    return Account(script, found, doubt)
-
-
-def _is_plain(rule: Any) -> bool:
-    """Whether a rule's event can be read, and needs nothing of the past."""
-    try:
-        return events.is_pure(rule[1]) and bool(events.patterns(rule[1]))
-    except (TypeError, IndexError, RecursionError):
-        return False
+    account.doubt = doubt
+    return account
 
 
 def _names_fire(form: Any, rule: str) -> bool:
