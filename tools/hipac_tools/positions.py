@@ -296,8 +296,9 @@ class _Reader:
 
 
 def shortened(written: str) -> str:
-    """What is written, cut where it is long."""
-    return written if len(written) <= 40 else written[:37] + "..."
+    """What is written, fit for a message: cut where it is long, and without signs that a terminal would obey."""
+    cut = written if len(written) <= 40 else written[:37] + "..."
+    return "".join(letter if letter.isprintable() else "\ufffd" for letter in cut)
 
 
 def number_hint(written: str) -> str:
