@@ -96,7 +96,11 @@ CASES = [
     Case(
         "a member in a list", "S1",
         '["version"«:» 1]',
-        "`:` stands after a member's name alone", "an object is written { }, a list [ ]"),
+        "`:` stands in a list: isn't the list closed before?", "an object is written { }", "it begins here:"),
+    Case(
+        "two colons in a member", "S1",
+        '{"version": 1 «:» 1}',
+        "`,` or `}` is expected here", "is a comma missing before it?"),
     Case(
         "single quotes", "S1",
         body("[«'»emit', 1]"),
