@@ -14,7 +14,7 @@ from hipac_tools import check
 from hipac_tools.positions import NotJson, line_and_column, parse
 
 from .breaking import broken
-from .helpers import accepted_scripts, refusals
+from .trials import accepted_scripts, refusals
 from .writing import written
 
 SEED = 20

@@ -10,7 +10,7 @@ from unittest import mock
 
 from hipac_tools import check, program
 
-from .helpers import REPOSITORY, TESTS, refusals, run_word
+from .trials import REPOSITORY, TESTS, refusals, run_word
 from .refused import CASES, Case, script
 
 

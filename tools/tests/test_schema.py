@@ -8,7 +8,7 @@ import unittest
 from typing import Callable
 
 from .breaking import broken
-from .helpers import REPOSITORY, accepted_scripts, refusals
+from .trials import REPOSITORY, accepted_scripts, refusals
 from .refused import CASES
 from .test_broken import SEED
 

@@ -4,7 +4,7 @@ from __future__ import annotations
 
 import re
 
-from .helpers import REPOSITORY
+from .trials import REPOSITORY
 from .test_check import InDirectory
 
 EXAMPLE = re.compile(r"```json\n(.*?)```\n\n```text\n(.*?)```", re.DOTALL)
