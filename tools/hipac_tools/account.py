@@ -61,6 +61,8 @@ def account_of(script_bytes: bytes, report_text: Optional[str] = None, watch: Op
     except (LookupError, TypeError, ValueError, AttributeError, RecursionError):
         return derived(account, DIFFERENT)  # a script that the program would refuse, beside a report given for it
     if followed != found:
+        if report.write(found) == report.write(followed, trees=False):
+            raise NoAccount("the report has no trees: make it with ./hipac --tree", 2)
         return derived(account, DIFFERENT)
     return Account(account.script, base, followed)
 
@@ -81,7 +83,7 @@ def derived(account: Account, doubt: str) -> Account:
     plain = {rule[0]: rule[1] for rule in rules if events.is_pure(rule[1]) and not _names_fire(account.script, rule[0])}
     for unit in account.report.units:
         for transaction in unit.transactions:
-            transaction.note = Note(None)
+            transaction.note = Note(None, unit=unit.number)
             _derive(transaction, plain)
     account.doubt = doubt
     return account

@@ -5,14 +5,14 @@ const ROUND = 12;
 const INDENT = 18;
 const TWIST = "M3 1 L8 5 L3 9 Z";
 
-const tree = { open: new Set(), lines: [], placeToLine: new Map(), active: NOWHERE, onlyAborts: false };
+const tree = { open: new Set(), lines: [], placeToLine: new Map(), active: NOWHERE, least: NO_ABORT };
 const treeBox = byId("tree");
 const rowsBox = byId("rows");
 
 /* All lines that are to be seen were the tree not cut off by its box: [place, level, position, number of siblings]. */
 function layOut() {
   tree.lines = [];
-  const units = data.units.filter((unit, number) => !tree.onlyAborts || hasAbort[number]);
+  const units = data.units.filter((unit, number) => worstOf[number] >= tree.least);
   const waiting = [];
   const put = (places, level) => {
     for (let at = places.length - 1; at >= 0; at -= 1) waiting.push([places[at], level, at + 1, places.length]);
@@ -120,7 +120,7 @@ function reveal(place) {
     tree.open.add(round);
   }
   tree.active = place;
-  if (tree.onlyAborts && !hasAbort[unitOf[place]]) showOnlyAborts(false);
+  if (worstOf[unitOf[place]] < tree.least) showUnits(NO_ABORT);
   else if (closed) layOut();
   bringIntoView(tree.placeToLine.get(place));
   drawRows();
@@ -132,10 +132,10 @@ function bringIntoView(at) {
   else if (top + ROW > treeBox.scrollTop + treeBox.clientHeight) treeBox.scrollTop = top + 2 * ROW - treeBox.clientHeight;
 }
 
-function showOnlyAborts(only) {
-  tree.onlyAborts = only;
-  byId("show-all").setAttribute("aria-pressed", !only);
-  byId("show-aborted").setAttribute("aria-pressed", only);
+/* Shows the units whose worst abort is at least this one. */
+function showUnits(least) {
+  tree.least = least;
+  ["show-all", "show-any", "show-top"].forEach((id, at) => byId(id).setAttribute("aria-pressed", at === least));
   layOut();
 }
 
