@@ -187,7 +187,8 @@ class Browser:
     def click(self, selector, text=None):
         """Presses and lets go of the mouse on the first element seen that fits, and has this text where one is given."""
         spot = self.evaluate(f"""(() => {{
-            const fits = (one) => one.getClientRects().length > 0 && {json.dumps(text)} === null || one.textContent.trim() === {json.dumps(text)};
+            const text = {json.dumps(text)};
+            const fits = (one) => one.getClientRects().length > 0 && (text === null || one.textContent.trim() === text);
             const one = [...document.querySelectorAll({json.dumps(selector)})].find(fits);
             if (!one) return null;
             one.scrollIntoView({{ block: "nearest" }});

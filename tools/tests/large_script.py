@@ -25,7 +25,7 @@ def order(number):
     first, second = number % ITEMS + 1, number * 7 % ITEMS + 1
     body = [["signal", "order", [first, 1 + number % 3]], ["emit", number]]
     if number % 3 == 0:
-        body.append(["sub", [["signal", "order", [second, 1 + number % 5]]], [["emit", "refused"]]])
+        body.append(["sub", [["update", "item", second, [["stock", 3 - number % 7]]]], [["emit", "refused"]]])
     return body + ([["abort"]] if number % 97 == 0 else [])
 
 

@@ -186,7 +186,11 @@ treeBox.addEventListener("keydown", (event) => {
   if (tree.active === NOWHERE && event.key !== "End") moveBy(1);
   else act();
 });
-treeBox.addEventListener("focus", () => { if (tree.active === NOWHERE) moveBy(1); });
+/* A press of the mouse focuses the tree too; were lines drawn anew then, the press would lose the line that it is on. */
+let isPressed = false;
+treeBox.addEventListener("pointerdown", () => { isPressed = true; });
+window.addEventListener("pointerup", () => { isPressed = false; });
+treeBox.addEventListener("focus", () => { if (tree.active === NOWHERE && !isPressed) moveBy(1); });
 treeBox.addEventListener("scroll", drawRows, { passive: true });
 treeBox.addEventListener("click", (event) => {
   const row = event.target.closest(".row");
