@@ -29,14 +29,32 @@ function layOut() {
   drawRows();
 }
 
+/* Elements of lines that look as before stay where they are, so that a press of the mouse and its release meet the same one. */
+let drawn = new Map();
+
 function drawRows() {
   const first = Math.max(0, Math.floor(treeBox.scrollTop / ROW) - ROUND);
   const last = Math.min(tree.lines.length, Math.ceil((treeBox.scrollTop + treeBox.clientHeight) / ROW) + ROUND);
-  const fragment = document.createDocumentFragment();
-  for (let at = first; at < last; at += 1) fragment.append(rowElement(at));
-  rowsBox.replaceChildren(fragment);
-  if (tree.active !== NOWHERE && tree.placeToLine.has(tree.active)) treeBox.setAttribute("aria-activedescendant", "row-" + tree.active);
+  const wanted = new Map();
+  for (let at = first; at < last; at += 1) wanted.set(lookOf(at), at);
+  for (const [look, row] of drawn) if (!wanted.has(look)) row.remove();
+  const rows = new Map();
+  let former = null;
+  for (const [look, at] of wanted) {
+    const row = drawn.get(look) ?? rowElement(at);
+    if (row.parentNode !== rowsBox) rowsBox.insertBefore(row, former ? former.nextSibling : rowsBox.firstChild);
+    rows.set(look, row);
+    former = row;
+  }
+  drawn = rows;
+  if (tree.active !== NOWHERE) treeBox.setAttribute("aria-activedescendant", "row-" + tree.active);
   else treeBox.removeAttribute("aria-activedescendant");
+}
+
+/* All on which a line's element depends. */
+function lookOf(at) {
+  const [place, ...where] = tree.lines[at];
+  return [place, at, ...where, tree.open.has(place), place === tree.active].join(" ");
 }
 
 function rowElement(at) {
@@ -58,10 +76,11 @@ function rowElement(at) {
   return row;
 }
 
-/* Why a line is there or how it ended, without the places that its details give. */
+/* Why a line is there or how it ended, without what its details say beside; of a closed unit that committed, what it holds. */
 function reasonOf(place) {
   const reason = fact(place, "Aborted") || fact(place, "Detached") || fact(place, "Trigger");
-  return reason.replace(/ \(at [^)]*\)/g, "").replace(/, in the unit's own body/g, "");
+  if (!reason && kindOf(place) === TRANSACTION && !tree.open.has(place)) return contents(place);
+  return reason.replace(/ \(at [^)]*\)/g, "").replace(/, in the unit's own body/g, "").replace(/; `(ec|ca)` is [^.]*/g, "").replace(/`/g, "");
 }
 
 function rowStyle(place, level) {
