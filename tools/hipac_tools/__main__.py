@@ -51,6 +51,7 @@ def main(arguments: list[str]) -> int:
 
 def run() -> int:
     """Runs `main`; a reader that wants no more of the output, as `head`, is no fault."""
+    sys.stdout.reconfigure(errors="backslashreplace")
     try:
         status = main(sys.argv[1:])
         sys.stdout.flush()

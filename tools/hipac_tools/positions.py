@@ -290,14 +290,16 @@ class _Reader:
     def no_comma(self, node: Node, closing: str) -> NotJson:
         if self.peek() in ("]", "}"):
             return self.fault(f"`{self.peek()}` stands where `{closing}` is expected", opened=node.start)
-        if self.peek() == ":":
-            return self.fault("`:` stands after a member's name alone", "an object is written { }, a list [ ]")
+        if self.peek() == ":" and closing == "]":
+            message = "`:` stands in a list: isn't the list closed before?"
+            return self.fault(message, "an object is written { }", opened=node.start)
         return self.fault(f"`,` or `{closing}` is expected here", "is a comma missing before it?")
 
 
 def shortened(written: str) -> str:
-    """What is written, cut where it is long."""
-    return written if len(written) <= 40 else written[:37] + "..."
+    """What is written, fit for a message: cut where it is long, and without signs that a terminal would obey."""
+    cut = written if len(written) <= 40 else written[:37] + "..."
+    return "".join(letter if letter.isprintable() else "\ufffd" for letter in cut)
 
 
 def number_hint(written: str) -> str:

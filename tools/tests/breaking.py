@@ -14,7 +14,8 @@ VALUES = NUMBERS + [
     None, True, False, [], {}, [[]], ["veto"], ["count"], ["abort"], ["commit"], ["key", "x"], ["of", "x", "bal"],
     ["arg", 0, 70_000], ["at", -1], ["every", 1, 0], ["emit", 1], ["for", "x", []], ["install", "r"],
     ["fire", "nobody"], ["neg", ["neg", 1]], ["create", "acct", 1, []], ["update", "acct", 1, [["bal", 1], ["bal", 2]]],
-    ["clock", 3], ["tx", []], ["signal", "go", [1] * 33], {"a": 1}, ["a", []], ["bal", "int"], ["x", "acct", True], "a" * 1_025,
+    ["clock", 3], ["tx", []], ["signal", "go", [1] * 33], {"a": 1}, ["a", []], ["bal", "int"], ["x", "acct", True],
+    "a" * 1_025,
 ]
 
 

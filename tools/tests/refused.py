@@ -96,7 +96,11 @@ CASES = [
     Case(
         "a member in a list", "S1",
         '["version"«:» 1]',
-        "`:` stands after a member's name alone", "an object is written { }, a list [ ]"),
+        "`:` stands in a list: isn't the list closed before?", "an object is written { }", "it begins here:"),
+    Case(
+        "two colons in a member", "S1",
+        '{"version": 1 «:» 1}',
+        "`,` or `}` is expected here", "is a comma missing before it?"),
     Case(
         "single quotes", "S1",
         body("[«'»emit', 1]"),
@@ -208,6 +212,10 @@ CASES = [
         "a member misspelt", "S2 /",
         '{"version": 1, "classes": [], «"ruels"»: [], "items": []}',
         "a script has no member `ruels`", "did you mean `rules`?"),
+    Case(
+        "a member whose name has a line feed", "S2 /",
+        script(more=' «"a\\nb"»: 1,'),
+        "a script has no member `a\ufffdb`", "its members are version, depth, classes, rules and items"),
     Case(
         "a member too many", "S2 /",
         script(more=' «"name"»: "bank",'),
@@ -385,6 +393,11 @@ CASES = [
         "a rule of five parts", "S2 /rules/0",
         script(rules='«["r", ["commit"], "immediate", [], "immediate"]»'),
         "a rule is [name, event, ec, queries, ca, action]: 6 parts, and this has 5"),
+    Case(
+        "a rule without queries", "S2 /rules/0",
+        script(rules='«["r", ["commit"], "immediate", "immediate", []]»'),
+        "a rule is [name, event, ec, queries, ca, action]: 6 parts, and this has 5",
+        "the queries stand between the modes; where there are none, write []"),
     Case(
         "a rule whose name is a list", "S2 /rules/0/0",
         script(rules='[«[]», 0, 0, 0, 0, 0]'),
@@ -810,11 +823,11 @@ CASES = [
     Case(
         "an unknown field", "S4 /items/0/1/0/3/0/0",
         body('["update", "acct", 1, [[«"bla"», 1]]]'),
-        "the class `acct` has no field `bla`", "did you mean `bal`?"),
+        "the class `acct` has no field `bla`", "did you mean `bal`?", "the class is here:"),
     Case(
         "a field of a class that has none", "S4 /items/0/1/0/3/0/0",
         body('["update", "mark", 1, [[«"bal"», 1]]]'),
-        "the class `mark` has no field `bal`", "it has no fields"),
+        "the class `mark` has no field `bal`", "it has no fields", "the class is here:"),
     Case(
         "a field named twice", "S4 /items/0/1/0/3/1/0",
         body('["update", "acct", 1, [["bal", 1], [«"bal"», 2]]]'),
@@ -822,11 +835,12 @@ CASES = [
     Case(
         "a field left out of a create", "S4 /items/0/1/0/3",
         body('["create", "acct", 1, «[["bal", 5]]»]'),
-        "`create` names each field of `acct`, and the field `owner` is missing"),
+        "`create` names each field of `acct`, and the field `owner` is missing", "the class is here:"),
     Case(
         "all fields left out of a create", "S4 /items/0/1/0/3",
         body('["create", "acct", 1, «[]»]'),
-        "`create` names each field of `acct`, and the fields `bal` and `owner` are missing"),
+        "`create` names each field of `acct`, and the fields `bal` and `owner` are missing",
+        "the class is here:"),
     Case(
         "a wrong value before a field left out", "S2 /items/0/1/0/3/0/1",
         body('["create", "acct", 1, [["bal", «null»]]]'),

@@ -9,33 +9,17 @@ from __future__ import annotations
 import json
 import random
 import unittest
-from concurrent.futures import ThreadPoolExecutor
 
-from hipac_tools import check, program
+from hipac_tools import check
 from hipac_tools.positions import NotJson, line_and_column, parse
 
 from .breaking import broken
-from .helpers import accepted_scripts
+from .trials import accepted_scripts, refusals
 from .writing import written
 
 SEED = 20
-SCRIPTS = 500
-TEXTS = 200
-AT_ONCE = 4
-
-
-def refusals(texts: list[str]) -> list[str]:
-    """What the program says of each text: its refusal, or nothing where it is accepted."""
-    def refusal(text: str) -> str:
-        ended = program.run(text.encode("utf-8"), [])
-        if ended.status == 0:
-            return ""
-        if ended.status != 2:
-            raise AssertionError(f"status {ended.status} {ended.errors} for {text}")
-        return ended.output.strip()[len("refused "):]
-
-    with ThreadPoolExecutor(AT_ONCE) as pool:
-        return list(pool.map(refusal, texts))
+SCRIPTS = 400
+TEXTS = 150
 
 
 class BrokenScripts(unittest.TestCase):

@@ -10,7 +10,7 @@ from unittest import mock
 
 from hipac_tools import check, program
 
-from .helpers import REPOSITORY, TESTS, run_word
+from .trials import REPOSITORY, TESTS, refusals, run_word
 from .refused import CASES, Case, script
 
 
@@ -37,13 +37,25 @@ def place_of(case: Case) -> tuple[int, int]:
     return len(before), len(before[-1]) + 1
 
 
-class RefusedScripts(InDirectory):
-    def test_each_is_told_with_its_place_and_meaning(self) -> None:
-        for case in CASES:
+class RefusedScripts(unittest.TestCase):
+    """What is told of each script of the table, where the refusal is what the program says of it."""
+
+    @classmethod
+    def setUpClass(cls) -> None:
+        cls.refusals = refusals([case.script for case in CASES])
+        cls.told = [
+            check.refused("script.json", refusal, check.read(case.script.encode("utf-8")))
+            for case, refusal in zip(CASES, cls.refusals)]
+
+    def test_the_program_refuses_each(self) -> None:
+        for case, refusal in zip(CASES, self.refusals):
             with self.subTest(case.name):
-                status, lines = self.check(case.script)
+                self.assertEqual(refusal, case.refusal)
+
+    def test_each_is_told_with_its_place_and_meaning(self) -> None:
+        for case, lines in zip(CASES, self.told):
+            with self.subTest(case.name):
                 line, column = place_of(case)
-                self.assertEqual(status, 2)
                 self.assertEqual(lines[0], f"script.json:{line}:{column}: refused {case.refusal}: {case.message}")
                 said = [told for told in lines[1:] if " | " not in told and not told.endswith(" |")]
                 self.assertEqual(said, [f"  {told}" for told in case.more])
@@ -55,11 +67,10 @@ class RefusedScripts(InDirectory):
                 self.assertEqual((fault.refusal, fault.start, fault.end), (case.refusal, case.start, case.end))
 
     def test_the_mark_stands_beneath_the_value(self) -> None:
-        for case in CASES:
+        for case, lines in zip(CASES, self.told):
             if not case.script.strip():
                 continue
             with self.subTest(case.name):
-                _, lines = self.check(case.script)
                 source, mark = lines[1], lines[2]
                 begin, end = mark.index("^"), len(mark)
                 value = case.script[case.start:case.end].split("\n")[0]

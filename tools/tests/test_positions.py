@@ -9,7 +9,7 @@ import unittest
 from hipac_tools.near import distance, nearest
 from hipac_tools.positions import NotJson, find, line_and_column, parse
 
-from .helpers import accepted_scripts
+from .trials import accepted_scripts
 from .writing import written
 
 

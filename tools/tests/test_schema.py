@@ -8,9 +8,9 @@ import unittest
 from typing import Callable
 
 from .breaking import broken
-from .helpers import REPOSITORY, accepted_scripts
+from .trials import REPOSITORY, accepted_scripts, refusals
 from .refused import CASES
-from .test_broken import SEED, refusals
+from .test_broken import SEED
 
 try:
     import jsonschema
@@ -18,7 +18,7 @@ except ImportError:
     jsonschema = None
 
 SCHEMA = REPOSITORY / "docs" / "script.schema.json"
-SCRIPTS = 300
+SCRIPTS = 250
 
 UNSAID_LIMITS = ("size", "expr", "event", "nesting", "moments")
 """Limits that no schema can say: bytes, levels, due moments."""
@@ -61,6 +61,16 @@ class Schema(unittest.TestCase):
             with self.subTest(name):
                 self.assertTrue(form.get("title"))
                 self.assertRegex(form.get("description", ""), r"^[^\n]+\.$")
+
+    def test_its_examples_are_valid(self) -> None:
+        """Editors offer them where the form is expected."""
+        self.assertTrue(all(map(self.valid, self.schema["examples"])))
+        forms = self.schema["$defs"]
+        for name, form in forms.items():
+            of_this_form = jsonschema.Draft202012Validator({**form, "$defs": forms})
+            for example in form.get("examples", []):
+                with self.subTest(name, example=example):
+                    self.assertTrue(of_this_form.is_valid(example))
 
     def test_each_form_is_used(self) -> None:
         text = json.dumps(self.schema)

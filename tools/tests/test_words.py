@@ -7,7 +7,7 @@ import unittest
 
 from hipac_tools import __main__ as words
 
-from .helpers import REPOSITORY, run_word
+from .trials import REPOSITORY, run_word
 
 
 class Words(unittest.TestCase):

@@ -76,13 +76,13 @@ def count_of(number: int) -> str:
     return {0: "no parts", 1: "1 part"}.get(number, f"{number} parts")
 
 
-def shape_at(place: Place, shape: Shape) -> list[Place]:
-    """The parts of a list of fixed parts."""
+def shape_at(place: Place, shape: Shape, hint: str = "") -> list[Place]:
+    """The parts of a list of fixed parts; the hint is for a wrong number of them."""
     written = f"{shape.what} is {shape.written()}"
     if not isinstance(place.node.value, list):
         raise place.wrong_shape(f"{written}, and this is {kind_of(place.node)}")
     if len(place.node.items) != len(shape.parts):
-        raise place.wrong_shape(f"{written}: {count_of(len(shape.parts))}, and this has {len(place.node.items)}")
+        raise place.wrong_shape(f"{written}: {count_of(len(shape.parts))}, and this has {len(place.node.items)}", hint)
     return place.items()
 
 

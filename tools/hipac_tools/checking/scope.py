@@ -5,16 +5,19 @@ from __future__ import annotations
 from dataclasses import dataclass, field, replace
 from typing import Mapping, Optional
 
-from .faults import Place
+from .faults import Note, Place
 
 
 @dataclass(frozen=True)
 class Class:
-    """A class, with the kind and the place of each field."""
+    """A class, with the place of its name and the kind of each field."""
 
     name: str
+    place: Place
     kinds: Mapping[str, str]
-    places: Mapping[str, Place]
+
+    def declared(self) -> tuple[Note, ...]:
+        return (self.place.note("the class is here:"),)
 
 
 @dataclass(frozen=True)

@@ -7,7 +7,7 @@ from __future__ import annotations
 from dataclasses import dataclass, replace
 from typing import Optional
 
-from ..positions import Node
+from ..positions import Node, shortened
 from .events import Moments, read_event
 from .expressions import read_expression
 from .faults import Place, Refused
@@ -47,7 +47,7 @@ def read_script(root: Node) -> Script:
         read_depth(place.member("depth"))
     gathered = Gathered()
     for key in root.doubled:
-        gathered.warn(Place(key), f"the member `{key.value}` stands here again: its last value counts")
+        gathered.warn(Place(key), f"the member `{shortened(key.value)}` stands here again: its last value counts")
     classes = read_classes(place.member("classes"))
     heads = read_heads(place.member("rules"))
     scope = Scope(classes, {name: parts[0] for name, parts in heads.items()}, gathered)
@@ -79,7 +79,7 @@ def check_members(place: Place) -> None:
 
 def extra_member(place: Place, key: Node, missing: list[str]) -> Refused:
     meant = did_you_mean(key.value, missing) or f"its members are {listed(ROOT_MEMBERS, 'and')}"
-    return place.refused("S2 /", f"a script has no member `{key.value}`", (meant,), at=key)
+    return place.refused("S2 /", f"a script has no member `{shortened(key.value)}`", (meant,), at=key)
 
 
 def read_version(place: Place) -> int:
@@ -105,11 +105,12 @@ def read_classes(place: Place) -> dict[str, Class]:
         name_place, fields_place = shape_at(class_place, CLASS)
         name = new_name_at(name_place, "a class's name", "a class", names)
         names[name] = name_place
-        classes[name] = read_fields(name, fields_place)
+        classes[name] = Class(name, name_place, read_fields(fields_place))
     return classes
 
 
-def read_fields(class_name: str, place: Place) -> Class:
+def read_fields(place: Place) -> dict[str, str]:
+    """The kind of each field."""
     kinds: dict[str, str] = {}
     places: dict[str, Place] = {}
     for field_place in short_list_at(place, "the fields of a class", "fields [name, kind]", FIELDS):
@@ -117,7 +118,7 @@ def read_fields(class_name: str, place: Place) -> Class:
         name = new_name_at(name_place, "a field's name", "a field", places)
         kinds[name] = word_at(kind_place, "a kind", KINDS, KIND_HABITS)
         places[name] = name_place
-    return Class(class_name, kinds, places)
+    return kinds
 
 
 # ---- rules
@@ -128,11 +129,18 @@ def read_heads(place: Place) -> dict[str, list[Place]]:
     heads: dict[str, list[Place]] = {}
     names: dict[str, Place] = {}
     for rule_place in short_list_at(place, "`rules`", "rules", RULES):
-        parts = shape_at(rule_place, RULE)
+        parts = shape_at(rule_place, RULE, without_queries(rule_place.node))
         name = new_name_at(parts[0], "a rule's name", "a rule", names)
         names[name] = parts[0]
         heads[name] = parts
     return heads
+
+
+def without_queries(node: Node) -> str:
+    """What helps where a rule of five parts has its second mode in the place of the queries."""
+    modes = MODES + (SECOND_VERSION_MODE,)
+    forgotten = len(node.items) == len(RULE.parts) - 1 and node.items[2].value in modes and node.items[3].value in modes
+    return "the queries stand between the modes; where there are none, write []" if forgotten else ""
 
 
 def read_rule(parts: list[Place], scope: Scope, moments: Moments, version_place: Place, version: int) -> None:

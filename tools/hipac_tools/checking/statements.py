@@ -61,13 +61,10 @@ def read_create(parts: list[Place], scope: Scope, level: int) -> None:
     named = read_pairs(parts[2], made, scope)
     missing = [field for field in made.kinds if field not in named]
     if missing:
-        fields = "the field" if len(missing) == 1 else "the fields"
-        raise parts[2].bad_name(f"`create` names each field of `{made.name}`, and {fields} {listed_fields(missing)} "
-                                f"{'is' if len(missing) == 1 else 'are'} missing")
-
-
-def listed_fields(fields: list[str]) -> str:
-    return listed([f"`{field}`" for field in fields], "and")
+        fields = listed([f"`{field}`" for field in missing], "and")
+        lacking = f"the field {fields} is missing" if len(missing) == 1 else f"the fields {fields} are missing"
+        message = f"`create` names each field of `{made.name}`, and {lacking}"
+        raise parts[2].bad_name(message, notes=made.declared())
 
 
 def read_update(parts: list[Place], scope: Scope, level: int) -> None:
@@ -89,7 +86,7 @@ def read_pairs(place: Place, changed: Class, scope: Scope) -> dict[str, Place]:
         field = new_name_at(field_place, "a field's name", "a pair for the field", named)
         if field not in changed.kinds:
             message = f"the class `{changed.name}` has no field `{field}`"
-            raise field_place.bad_name(message, which_field(field, changed))
+            raise field_place.bad_name(message, which_field(field, changed), notes=changed.declared())
         read_expression(value_place, scope)
         warn_of_kind(value_place, field, changed.kinds[field], scope)
         named[field] = field_place
