@@ -33,7 +33,7 @@ LINK = re.compile(r"\]\(([^)\s]+)\)")
 
 @dataclass(frozen=True)
 class Block:
-    """A fenced block of the page: the word behind its fence, its text, its line, and the script named last before it."""
+    """A fenced block: the word behind its fence, its text, its line, and the script that is named last before it."""
 
     word: str
     text: str
