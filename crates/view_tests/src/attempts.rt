@@ -2,10 +2,11 @@
 //!
 //! A function that owns views or attempts has few `?`, and hands them on by reference: with many its proof takes minutes.
 
+use crate::fixtures;
+use crate::fixtures::{balance, shown};
 use hp_attempt::{Attempt, Outcome, Settled, first_failed, holds, settle, settle_front};
 use hp_rule::{Step, Task};
-use hp_store::{CellValue, Layer, Snapshot};
-use hp_value::{Cell, Coupling, Field, Key, Kind, Occurrence, Row, RuleNo, Value};
+use hp_value::{Cell, Coupling, Key, Occurrence, RuleNo};
 use hp_view::{Reads, Seen, View};
 use std::alloc::{AllocError, Global};
 use std::collections::VecDeque;
@@ -13,52 +14,12 @@ use std::process::Abort;
 use std::sync::Arc;
 use std::test::Fail;
 
-fn fields(alloc: Global) -> Result<Arc<Vec<Field>>, AllocError> {
-    let name = String::from_str(alloc, "bal")?;
-    let mut fields = Vec::new(alloc);
-    fields.push(Field {
-        name,
-        kind: Kind::Int,
-    })?;
-    Ok(Arc::new(alloc, fields)?)
-}
-
-fn balance(alloc: Global, value: i64) -> Result<CellValue, AllocError> {
-    let fields = fields(alloc)?;
-    let mut values = Vec::new(alloc);
-    values.push(Value::Int(value))?;
-    let row = Row::new(alloc, &fields, values)?;
-    Ok(CellValue::Row(row))
-}
-
-// Keys with balances that are 100 more.
-fn accounts(alloc: Global) -> Result<Arc<Layer>, AllocError> {
-    let mut layer = Layer::new(alloc);
-    for (key, value) in [(-3, 97), (2, 102), (10, 110)] {
-        layer.insert(Cell::Object(0, key), Some(balance(alloc, value)?))?;
-    }
-    Ok(Arc::new(alloc, layer)?)
-}
-
-// Class 0 with the keys -3, 2 and 10.
 fn bank(alloc: Global) -> Result<View, AllocError> {
-    let accounts = accounts(alloc)?;
-    let snapshot = Snapshot::empty(alloc)?.with_layer(alloc, accounts)?;
-    View::new(alloc, snapshot)
+    View::new(alloc, fixtures::bank(alloc)?)
 }
 
 fn set(alloc: Global, view: &mut View, key: Key, value: i64) -> Result<(), AllocError> {
     view.put(Cell::Object(0, key), balance(alloc, value)?)
-}
-
-// The balance of an object, if the view shows it.
-fn shown(view: &View, key: Key) -> Option<i64> {
-    if let Some(CellValue::Row(row)) = view.peek(Cell::Object(0, key)) {
-        if let Ok(Value::Int(n)) = row.field("bal") {
-            return Some(*n);
-        }
-    }
-    None
 }
 
 fn task(alloc: Global, rule: RuleNo, depth: u8) -> Result<Task, AllocError> {

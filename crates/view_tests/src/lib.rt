@@ -6,6 +6,8 @@ mod attempts;
 #[cfg(test)]
 mod boards;
 #[cfg(test)]
+mod fixtures;
+#[cfg(test)]
 mod stores;
 #[cfg(test)]
 mod views;

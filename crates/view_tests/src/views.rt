@@ -1,48 +1,13 @@
 //! Views over a small bank, with values worked out by hand.
 
+use crate::fixtures::{balance, balance_in, bank, shown};
 use hp_query::{Query, answer};
-use hp_store::{CellValue, Layer, Snapshot};
-use hp_value::{Cell, Comparison, Env, Expr, Field, Key, KeyedRow, Kind, Row, Value};
+use hp_store::{Layer, Snapshot};
+use hp_value::{Cell, Comparison, Env, Expr, Key, KeyedRow, Value};
 use hp_view::{Found, Reads, Seen, View};
 use std::alloc::{AllocError, Global};
 use std::process::Abort;
-use std::sync::Arc;
 use std::test::Fail;
-
-fn balance(alloc: Global, value: i64) -> Result<CellValue, AllocError> {
-    let mut fields = Vec::new(alloc);
-    fields.push(Field {
-        name: String::from_str(alloc, "bal")?,
-        kind: Kind::Int,
-    })?;
-    let mut values = Vec::new(alloc);
-    values.push(Value::Int(value))?;
-    let row = Row::new(alloc, &Arc::new(alloc, fields)?, values)?;
-    Ok(CellValue::Row(row))
-}
-
-// Class 0 with the keys -3, 2 and 10, whose balances are 100 more.
-fn bank(alloc: Global) -> Result<Snapshot, AllocError> {
-    let mut layer = Layer::new(alloc);
-    layer.insert(Cell::Object(0, 10), Some(balance(alloc, 110)?))?;
-    layer.insert(Cell::Object(0, -3), Some(balance(alloc, 97)?))?;
-    layer.insert(Cell::Object(0, 2), Some(balance(alloc, 102)?))?;
-    Snapshot::empty(alloc)?.with_layer(alloc, Arc::new(alloc, layer)?)
-}
-
-// The balance in a cell, if it has one.
-fn balance_in(value: Option<&CellValue>) -> Option<i64> {
-    if let Some(CellValue::Row(row)) = value {
-        if let Ok(Value::Int(n)) = row.field("bal") {
-            return Some(*n);
-        }
-    }
-    None
-}
-
-fn shown(view: &View, key: Key) -> Option<i64> {
-    balance_in(view.peek(Cell::Object(0, key)))
-}
 
 // What was read, in order: each cell of class 0 by its key, the keys of a class by their number.
 fn assert_reads(rt: &impl Abort, reads: &Reads, wanted: &[(Seen, Option<i64>, usize)]) {
