@@ -1,18 +1,15 @@
 //! Libraries and bodies: what they show, what they list for an occurrence, and where their first fault stands.
 
+use crate::fixtures::{class, rule, text};
 use hp_event::Pattern;
 use hp_rule::{
-    Assignment, Body, CheckError, CheckFault, Coupling, EventExpr, Library, Limit, Member,
-    PathStep, Query, Rule, RuleOperation, Stmt,
+    Assignment, Body, CheckError, CheckFault, EventExpr, Library, Limit, Member, PathStep, Query,
+    Rule, RuleOperation, Stmt,
 };
-use hp_value::{ClassDef, Comparison, Expr, Field, Key, Kind, Prim, Row, Value};
+use hp_value::{ClassDef, Comparison, Expr, Key, Prim, Row, Value};
 use std::alloc::{AllocError, Global};
 use std::sync::Arc;
 use std::test::Fail;
-
-fn text(alloc: Global, s: &str) -> Result<String, AllocError> {
-    String::from_str(alloc, s)
-}
 
 fn number(alloc: Global, z: i64) -> Result<Box<Expr>, AllocError> {
     Ok(Box::new(alloc, Expr::literal(Value::Int(z)))?)
@@ -38,21 +35,6 @@ fn is_poor(alloc: Global, row: &str) -> Result<Box<Expr>, AllocError> {
     Ok(Box::new(alloc, below)?)
 }
 
-fn class(alloc: Global, name: &str, fields: &[&str]) -> Result<ClassDef, AllocError> {
-    let mut all = Vec::new(alloc);
-    for field in fields {
-        let name = text(alloc, *field)?;
-        all.push(Field {
-            name,
-            kind: Kind::Int,
-        })?;
-    }
-    Ok(ClassDef {
-        name: text(alloc, name)?,
-        fields: Arc::new(alloc, all)?,
-    })
-}
-
 fn accounts(alloc: Global) -> Result<Vec<ClassDef>, AllocError> {
     let mut all = Vec::new(alloc);
     all.push(class(alloc, "account", &["bal", "limit"])?)?;
@@ -65,17 +47,6 @@ fn query(alloc: Global, name: &str, row: &str) -> Result<Query, AllocError> {
         name: text(alloc, name)?,
         class: 0,
         predicate: is_poor(alloc, row)?,
-    })
-}
-
-fn rule(alloc: Global, name: &str, event: EventExpr) -> Result<Rule, AllocError> {
-    Ok(Rule {
-        name: text(alloc, name)?,
-        event: Arc::new(alloc, event)?,
-        ec: Coupling::Immediate,
-        condition: Vec::new(alloc),
-        ca: Coupling::Immediate,
-        action: Vec::new(alloc),
     })
 }
 

@@ -3,6 +3,7 @@
 //! A test makes its library and its view, and a function beside it has the rest by reference; what an operation gives is told in
 //! plain numbers. A function that owns much and has many ways out takes minutes to prove.
 
+use crate::fixtures::{class, rule, text};
 use hp_event::Pattern;
 use hp_ops::{
     Given, create, delete, find_object, find_status, fire, given_values, new_object, set_rule,
@@ -10,9 +11,7 @@ use hp_ops::{
 };
 use hp_rule::{Assignment, CheckError, Coupling, EventExpr, Library, Rule, RuleOperation, Task};
 use hp_store::{Snapshot, Status};
-use hp_value::{
-    Cause, Cell, ClassDef, ClassNo, Env, Expr, Field, Halt, Key, Kind, Prim, Row, RuleNo, Value,
-};
+use hp_value::{Cause, Cell, ClassNo, Env, Expr, Halt, Key, Prim, Row, RuleNo, Value};
 use hp_view::View;
 use std::alloc::{AllocError, Global};
 use std::process::Abort;
@@ -24,52 +23,26 @@ const ON_GO: RuleNo = 0;
 
 const ON_BOTH: RuleNo = 1;
 
-fn text(alloc: Global, s: &str) -> Result<String, AllocError> {
-    String::from_str(alloc, s)
-}
-
-fn fields(alloc: Global) -> Result<Arc<Vec<Field>>, AllocError> {
-    let mut all = Vec::new(alloc);
-    all.push(Field {
-        name: text(alloc, "bal")?,
-        kind: Kind::Int,
-    })?;
-    Ok(Arc::new(alloc, all)?)
-}
-
 fn on_signal(alloc: Global, name: &str) -> Result<EventExpr, AllocError> {
     Ok(EventExpr::One(Pattern::Signal(text(alloc, name)?)))
-}
-
-fn rule(alloc: Global, name: &str, event: EventExpr, ec: Coupling) -> Result<Rule, AllocError> {
-    Ok(Rule {
-        name: text(alloc, name)?,
-        event: Arc::new(alloc, event)?,
-        ec,
-        condition: Vec::new(alloc),
-        ca: Coupling::Separate,
-        action: Vec::new(alloc),
-    })
 }
 
 fn rules(alloc: Global) -> Result<Vec<Rule>, AllocError> {
     let mut all = Vec::new(alloc);
     let go = on_signal(alloc, "go")?;
-    all.push(rule(alloc, "goes", go, Coupling::Deferred)?)?;
+    let mut goes = rule(alloc, "goes", go)?;
+    goes.ec = Coupling::Deferred;
+    all.push(goes)?;
     let first = Box::new(alloc, on_signal(alloc, "first")?)?;
     let second = Box::new(alloc, on_signal(alloc, "second")?)?;
     let both = EventExpr::Seq(first, second);
-    all.push(rule(alloc, "pairs", both, Coupling::Immediate)?)?;
+    all.push(rule(alloc, "pairs", both)?)?;
     Ok(all)
 }
 
 // One class of accounts, the two rules, and firings at most two deep.
 fn library(alloc: Global) -> Result<Arc<Library>, CheckError> {
-    let mut classes = Vec::new(alloc);
-    classes.push(ClassDef {
-        name: text(alloc, "account")?,
-        fields: fields(alloc)?,
-    })?;
+    let classes = vec![in alloc; class(alloc, "account", &["bal"])?]?;
     let library = Library::check(alloc, classes, rules(alloc)?, 2)?;
     Ok(Arc::new(alloc, library)?)
 }
@@ -79,9 +52,9 @@ fn empty_view(alloc: Global) -> Result<View, AllocError> {
 }
 
 fn account(alloc: Global, balance: i64) -> Result<Row, AllocError> {
-    let mut values = Vec::new(alloc);
-    values.push(Value::Int(balance))?;
-    Row::new(alloc, &fields(alloc)?, values)
+    let class = class(alloc, "account", &["bal"])?;
+    let values = vec![in alloc; Value::Int(balance)]?;
+    Row::new(alloc, &class.fields, values)
 }
 
 fn balance(row: &Row) -> Option<i64> {

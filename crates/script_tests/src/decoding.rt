@@ -1,3 +1,5 @@
+//! Scripts that are read, and those that are refused, with the refusal that the rules give.
+
 use hp_rule::{Stmt, Unit};
 use hp_script::{DecodeError, Limit, Refusal, Script, decode, refusal_text};
 use std::alloc::Global;
