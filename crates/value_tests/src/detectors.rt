@@ -3,6 +3,7 @@
 use hp_detect::{Detector, EventExpr, Knowledge, Occurrence, Pattern, Prim, detect, is_pure};
 use hp_value::Value;
 use std::alloc::{AllocError, Global};
+use std::process::Abort;
 use std::sync::Arc;
 use std::test::Fail;
 
@@ -57,36 +58,55 @@ fn signals(alloc: Global, words: &str) -> Result<Vec<Prim>, AllocError> {
     Ok(all)
 }
 
-/// An occurrence as a text such as `2:a1b2`: its count, and the name and the argument of each part.
-fn shown(alloc: Global, answer: &Option<Occurrence>) -> Result<String, AllocError> {
-    let mut text = String::new(alloc);
+/// Puts the name and the argument of a signal to a text.
+fn put_part(text: &mut String, part: &Prim) -> Result<(), AllocError> {
+    if let Prim::Signal { name, args } = part {
+        text.push_str(name.as_str())?;
+        if let Some(Value::Int(argument)) = args.first() {
+            write!(text, "{argument}")?;
+        }
+    }
+    Ok(())
+}
+
+/// Puts an occurrence to a text, as `2:a1b2`: its count, and the name and the argument of each part.
+fn put_answer(text: &mut String, answer: &Option<Occurrence>) -> Result<(), AllocError> {
     let Some(occurrence) = answer else {
-        text.push('-')?;
-        return Ok(text);
+        return text.push('-');
     };
     let count = occurrence.count;
     write!(text, "{count}:")?;
     for part in &occurrence.parts {
-        if let Prim::Signal { name, args } = part {
-            text.push_str(name.as_str())?;
-            if let Some(Value::Int(argument)) = args.first() {
-                write!(text, "{argument}")?;
-            }
-        }
+        put_part(text, part)?;
     }
+    Ok(())
+}
+
+/// An answer's text.
+fn shown(alloc: Global, answer: &Option<Occurrence>) -> Result<String, AllocError> {
+    let mut text = String::new(alloc);
+    put_answer(&mut text, answer)?;
     Ok(text)
+}
+
+/// Puts answers to an empty text.
+fn put_answers(text: &mut String, answers: &[Option<Occurrence>]) -> Result<(), AllocError> {
+    for answer in answers {
+        if !text.is_empty() {
+            text.push(' ')?;
+        }
+        put_answer(text, answer)?;
+    }
+    Ok(())
 }
 
 /// What the event answers along the signals.
 fn answers(alloc: Global, postfix: &str, words: &str) -> Result<String, AllocError> {
     let expr = event(alloc, postfix)?;
+    let signals = signals(alloc, words)?;
+    let answers = detect(alloc, &expr, &signals)?;
     let mut text = String::new(alloc);
-    for answer in &detect(alloc, &expr, &signals(alloc, words)?)? {
-        if !text.is_empty() {
-            text.push(' ')?;
-        }
-        text.push_str(shown(alloc, answer)?.as_str())?;
-    }
+    put_answers(&mut text, &answers)?;
     Ok(text)
 }
 
@@ -180,20 +200,30 @@ fn steadily(
     }
 }
 
+/// The last answer along signals, of which each refused one left the detector as it was.
+fn last_answer(
+    rt: &impl Abort,
+    alloc: Global,
+    detector: &mut Detector,
+    signals: &[Prim],
+) -> Result<Option<Occurrence>, AllocError> {
+    let mut last = None;
+    for prim in signals {
+        let (answer, unchanged) = steadily(alloc, detector, prim)?;
+        assert!(rt; unchanged);
+        last = answer;
+    }
+    Ok(last)
+}
+
 /// To be run with each allocation refused in turn, by `rt try --test --fail-alloc N`: a refused step changes nothing, and
 /// the next one answers as if there had been none.
 #[test]
 fn refused_steps_change_nothing(rt: HostRuntime) -> Result<(), Fail> {
-    let alloc = rt.alloc();
-    let expr = event(alloc, "ab;t*c;")?;
-    let mut detector = Detector::fresh(alloc, &expr)?;
-    let mut last = None;
-    for prim in &signals(alloc, "a1 b2 a3 b4 t5 a6 c7")? {
-        let (answer, unchanged) = steadily(alloc, &mut detector, prim)?;
-        assert!(rt; unchanged);
-        last = answer;
-    }
-    assert_eq!(rt; shown(alloc, &last)?.as_str(), "5:a3b4t5c7");
+    let signals = signals(rt.alloc(), "a1 b2 a3 b4 t5 a6 c7")?;
+    let mut detector = stepped(rt.alloc(), &event(rt.alloc(), "ab;t*c;")?, "")?;
+    let last = last_answer(&rt, rt.alloc(), &mut detector, &signals)?;
+    assert_eq!(rt; shown(rt.alloc(), &last)?.as_str(), "5:a3b4t5c7");
     Ok(())
 }
 

@@ -1,5 +1,6 @@
 //! Worked values of expressions, each worked out by hand, and the public functions on their happy path.
 
+use crate::fixtures::{account, row};
 use hp_value::{
     Answer, Arithmetic, Cause, ClassDef, Comparison, Env, Expr, Field, Halt, KeyedRow, Kind,
     ObjectList, Occurrence, Prim, Row, Value,
@@ -362,25 +363,11 @@ fn rows_of_a_class(rt: HostRuntime) -> Result<(), Fail> {
     Ok(())
 }
 
-/// A row of one number under a name.
-fn number(alloc: Global, name: &str, value: i64) -> Result<Row, AllocError> {
-    let name = String::from_str(alloc, name)?;
-    let mut fields = Vec::new(alloc);
-    fields.push(Field {
-        name,
-        kind: Kind::Int,
-    })?;
-    let fields = Arc::new(alloc, fields)?;
-    let mut values = Vec::new(alloc);
-    values.push(Value::Int(value))?;
-    Row::new(alloc, &fields, values)
-}
-
 /// Two objects: one with the number 5 under the name `bal`, and one with another number under a name.
 fn two_objects(alloc: Global, name: &str, value: i64) -> Result<ObjectList, AllocError> {
     let mut objects = ObjectList::new(alloc);
-    objects.push(1, number(alloc, "bal", 5)?)?;
-    objects.push(2, number(alloc, name, value)?)?;
+    objects.push(1, account(alloc, 5)?)?;
+    objects.push(2, row(alloc, name, Value::Int(value))?)?;
     Ok(objects)
 }
 
@@ -395,18 +382,33 @@ fn are_same(
     Ok(*objects == others)
 }
 
+/// The first has one name for both numbers, the second has two.
+fn compare(
+    rt: &impl Abort,
+    alloc: Global,
+    alike: &ObjectList,
+    mixed: &ObjectList,
+) -> Result<(), AllocError> {
+    assert!(rt; are_same(alloc, alike, "bal", 7)?);
+    assert!(rt; !are_same(alloc, alike, "bal", 8)?);
+    assert!(rt; !are_same(alloc, alike, "sum", 7)?);
+    assert!(rt; are_same(alloc, mixed, "sum", 7)?);
+    assert!(rt; !are_same(alloc, mixed, "sum", 8)?);
+    Ok(())
+}
+
+fn three_objects(alloc: Global) -> Result<ObjectList, AllocError> {
+    let mut objects = two_objects(alloc, "bal", 7)?;
+    objects.push(3, account(alloc, 9)?)?;
+    Ok(objects)
+}
+
 #[test]
 fn lists_of_objects_are_compared(rt: HostRuntime) -> Result<(), Fail> {
-    let alloc = rt.alloc();
-    let alike = two_objects(alloc, "bal", 7)?;
-    assert!(rt; are_same(alloc, &alike, "bal", 7)?);
-    assert!(rt; !are_same(alloc, &alike, "bal", 8)?);
-    assert!(rt; !are_same(alloc, &alike, "sum", 7)?);
-    let mixed = two_objects(alloc, "sum", 7)?;
-    assert!(rt; are_same(alloc, &mixed, "sum", 7)?);
-    assert!(rt; !are_same(alloc, &mixed, "sum", 8)?);
-    let mut more = two_objects(alloc, "bal", 7)?;
-    more.push(3, number(alloc, "bal", 9)?)?;
+    let alike = two_objects(rt.alloc(), "bal", 7)?;
+    let mixed = two_objects(rt.alloc(), "sum", 7)?;
+    compare(&rt, rt.alloc(), &alike, &mixed)?;
+    let more = three_objects(rt.alloc())?;
     assert!(rt; alike != more && more != alike);
     Ok(())
 }

@@ -6,6 +6,8 @@ mod detectors;
 #[cfg(test)]
 mod expressions;
 #[cfg(test)]
+mod fixtures;
+#[cfg(test)]
 mod patterns;
 #[cfg(test)]
 mod queries;

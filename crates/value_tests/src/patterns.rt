@@ -1,21 +1,9 @@
 //! Each pattern against each kind of primitive occurrence.
 
+use crate::fixtures::{account, text};
 use hp_event::{Pattern, Prim};
-use hp_value::{Field, Kind, Row, Value};
 use std::alloc::{AllocError, Global};
-use std::sync::Arc;
 use std::test::Fail;
-
-fn text(alloc: Global, name: &str) -> Result<String, AllocError> {
-    String::from_str(alloc, name)
-}
-
-fn row(alloc: Global, balance: i64) -> Result<Row, AllocError> {
-    let name = text(alloc, "bal")?;
-    let kind = Kind::Int;
-    let fields = Arc::new(alloc, vec![in alloc; Field { name, kind }]?)?;
-    Row::new(alloc, &fields, vec![in alloc; Value::Int(balance)]?)
-}
 
 fn occurrences(alloc: Global) -> Result<Vec<Prim>, AllocError> {
     let (class, key) = (2, 7);
@@ -23,18 +11,18 @@ fn occurrences(alloc: Global) -> Result<Vec<Prim>, AllocError> {
     all.push(Prim::Create {
         class,
         key,
-        new: row(alloc, 1)?,
+        new: account(alloc, 1)?,
     })?;
     all.push(Prim::Update {
         class,
         key,
-        old: row(alloc, 1)?,
-        new: row(alloc, 1)?,
+        old: account(alloc, 1)?,
+        new: account(alloc, 1)?,
     })?;
     all.push(Prim::Delete {
         class,
         key,
-        old: row(alloc, 1)?,
+        old: account(alloc, 1)?,
     })?;
     all.push(Prim::Signal {
         name: text(alloc, "go")?,

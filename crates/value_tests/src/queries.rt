@@ -1,18 +1,14 @@
 //! Answers over a plain map, with values worked out by hand.
 
+use crate::fixtures::{account, row, text};
 use hp_query::{PlainObjects, Query, Verdict, answer, evaluate_condition, selected_rows};
 use hp_value::{
-    Answer, Arithmetic, Cause, ClassNo, Comparison, Env, Expr, Field, Halt, Key, KeyedRow, Kind,
-    Occurrence, Row, Value,
+    Answer, Arithmetic, Cause, ClassNo, Comparison, Env, Expr, Halt, Key, KeyedRow, Occurrence,
+    Value,
 };
 use std::alloc::{AllocError, Global};
 use std::process::Abort;
-use std::sync::Arc;
 use std::test::Fail;
-
-fn text(alloc: Global, s: &str) -> Result<String, AllocError> {
-    String::from_str(alloc, s)
-}
 
 fn number(alloc: Global, z: i64) -> Result<Box<Expr>, AllocError> {
     Ok(Box::new(alloc, Expr::literal(Value::Int(z)))?)
@@ -55,17 +51,6 @@ fn query(
     })
 }
 
-fn row(alloc: Global, value: Value) -> Result<Row, AllocError> {
-    let mut fields = Vec::new(alloc);
-    fields.push(Field {
-        name: text(alloc, "bal")?,
-        kind: Kind::Int,
-    })?;
-    let mut values = Vec::new(alloc);
-    values.push(value)?;
-    Row::new(alloc, &Arc::new(alloc, fields)?, values)
-}
-
 fn put(
     alloc: Global,
     objects: &mut PlainObjects,
@@ -73,7 +58,7 @@ fn put(
     key: Key,
     balance: i64,
 ) -> Result<(), AllocError> {
-    objects.insert(class, key, row(alloc, Value::Int(balance))?)
+    objects.insert(class, key, account(alloc, balance)?)
 }
 
 // Class 0 with the keys -20, -3, 2, 10, and class 1 with the keys 2 and 5, between them in the map.
@@ -130,7 +115,7 @@ fn the_first_fault_in_key_order(rt: HostRuntime) -> Result<(), Fail> {
     let alloc = rt.alloc();
     let mut objects = accounts(alloc)?;
     let env = Env::new(None, &[]);
-    let named = row(alloc, Value::Text(text(alloc, "much")?))?;
+    let named = row(alloc, "bal", Value::Text(text(alloc, "much")?))?;
     objects.insert(0, 2, named)?;
 
     // 10 / bal = 2 is true at -20, divides by zero at -3, and meets a text at 2.
@@ -213,7 +198,7 @@ fn of_key(
 fn one_key_is_asked_for(rt: HostRuntime) -> Result<(), Fail> {
     let alloc = rt.alloc();
     let mut objects = accounts(alloc)?;
-    let named = row(alloc, Value::Text(text(alloc, "much")?))?;
+    let named = row(alloc, "bal", Value::Text(text(alloc, "much")?))?;
     objects.insert(0, 2, named)?;
     for turned in [false, true] {
         assert_keys(&rt, &of_key(alloc, &mut objects, 10, turned)?, &[10]);
@@ -266,37 +251,48 @@ fn assert_answer(rt: &impl Abort, answer: Option<&Answer>, name: &str, wanted: &
     }
 }
 
-#[test]
-fn a_later_query_names_the_first_row(rt: HostRuntime) -> Result<(), Fail> {
-    let alloc = rt.alloc();
-    let mut objects = accounts(alloc)?;
-
-    // x: -20, 2, 10, whose first has balance 5; y: those of class 1 above it.
-    let mut queries = Vec::new(alloc);
-    queries.push(query(alloc, "x", 0, is_above(alloc, "x", 0)?)?)?;
+// x: -20, 2, 10, whose first has balance 5; y: those of class 1 above it.
+fn two_queries(alloc: Global) -> Result<Vec<Query>, AllocError> {
     let richer = compared(
         alloc,
         balance_of(alloc, "y")?,
         Comparison::Greater,
         balance_of(alloc, "x")?,
     )?;
+    let mut queries = Vec::new(alloc);
+    queries.push(query(alloc, "x", 0, is_above(alloc, "x", 0)?)?)?;
     queries.push(query(alloc, "y", 1, richer)?)?;
-    match verdict(alloc, &queries, &mut objects)? {
+    Ok(queries)
+}
+
+// Both queries have answers, with these keys.
+fn assert_kept(
+    rt: &impl Abort,
+    alloc: Global,
+    queries: &[Query],
+    objects: &mut PlainObjects,
+    xs: &[Key],
+    ys: &[Key],
+) -> Result<(), AllocError> {
+    match verdict(alloc, queries, objects)? {
         Verdict::Satisfied(kept) => {
             assert_eq!(rt; kept.len(), 2);
-            assert_answer(&rt, kept.get(0), "x", &[-20, 2, 10]);
-            assert_answer(&rt, kept.get(1), "y", &[2, 5]);
+            assert_answer(rt, kept.get(0), "x", xs);
+            assert_answer(rt, kept.get(1), "y", ys);
         }
         other => panic!(rt; "not satisfied: {other:?}"),
     }
+    Ok(())
+}
 
+#[test]
+fn a_later_query_names_the_first_row(rt: HostRuntime) -> Result<(), Fail> {
+    let alloc = rt.alloc();
+    let queries = two_queries(alloc)?;
+    let mut objects = accounts(alloc)?;
+    assert_kept(&rt, alloc, &queries, &mut objects, &[-20, 2, 10], &[2, 5])?;
     put(alloc, &mut objects, 0, -21, 8)?;
-    match verdict(alloc, &queries, &mut objects)? {
-        Verdict::Satisfied(kept) => {
-            assert_answer(&rt, kept.get(1), "y", &[2]);
-        }
-        other => panic!(rt; "not satisfied: {other:?}"),
-    }
+    assert_kept(&rt, alloc, &queries, &mut objects, &[-21, -20, 2, 10], &[2])?;
     Ok(())
 }
 

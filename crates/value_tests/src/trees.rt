@@ -1,66 +1,37 @@
+//! What trees say of the objects and of the emitted values, worked out by hand.
+
+use crate::fixtures::account;
 use hp_tree::{
     ConditionEnd, Ending, Item, Node, Objects, Operation, TopReport, UnitReport, What, emits,
     replay,
 };
-use hp_value::{Cause, ClassNo, Coupling, Field, Key, Kind, Row, RuleOperation, Value};
+use hp_value::{Cause, ClassNo, Coupling, Key, RuleOperation, Value};
 use std::alloc::Global;
-use std::sync::Arc;
 use std::test::Fail;
 
 /// The class `acct` with its one field `bal`.
 const ACCT: ClassNo = 0;
 
-fn fields(alloc: Global) -> Result<Arc<Vec<Field>>, Fail> {
-    let mut list = Vec::new(alloc);
-    list.push(Field {
-        name: String::from_str(alloc, "bal")?,
-        kind: Kind::Int,
-    })?;
-    Ok(Arc::new(alloc, list)?)
-}
-
-fn account(alloc: Global, fields: &Arc<Vec<Field>>, balance: i64) -> Result<Row, Fail> {
-    let mut values = Vec::new(alloc);
-    values.push(Value::Int(balance))?;
-    Ok(Row::new(alloc, fields, values)?)
-}
-
-fn create(
-    alloc: Global,
-    fields: &Arc<Vec<Field>>,
-    key: Key,
-    balance: i64,
-) -> Result<Operation, Fail> {
+fn create(alloc: Global, key: Key, balance: i64) -> Result<Operation, Fail> {
     Ok(Operation::Create {
         class: ACCT,
         key,
-        new: account(alloc, fields, balance)?,
+        new: account(alloc, balance)?,
     })
 }
 
-fn update(
-    alloc: Global,
-    fields: &Arc<Vec<Field>>,
-    key: Key,
-    balance: i64,
-) -> Result<Operation, Fail> {
+fn update(alloc: Global, key: Key, balance: i64) -> Result<Operation, Fail> {
     Ok(Operation::Update {
         class: ACCT,
         key,
-        new: account(alloc, fields, balance)?,
+        new: account(alloc, balance)?,
     })
 }
 
 /// A firing of the rule `up`, whose action sets the balance of object 1, and then has these items.
-fn up(
-    alloc: Global,
-    fields: &Arc<Vec<Field>>,
-    balance: i64,
-    end: Ending,
-    more: Option<Item>,
-) -> Result<Item, Fail> {
+fn up(alloc: Global, balance: i64, end: Ending, more: Option<Item>) -> Result<Item, Fail> {
     let mut items = Vec::new(alloc);
-    items.push(Item::Operation(update(alloc, fields, 1, balance)?))?;
+    items.push(Item::Operation(update(alloc, 1, balance)?))?;
     if let Some(item) = more {
         items.push(item)?;
     }
@@ -77,17 +48,16 @@ fn up(
 
 /// The tree of the depth limit: each update fires the rule anew, and the third firing is too deep.
 fn depth_limit(alloc: Global) -> Result<Vec<Item>, Fail> {
-    let fields = fields(alloc)?;
-    let third = up(alloc, &fields, 4, Ending::Aborted(Cause::Depth), None)?;
-    let second = up(alloc, &fields, 3, Ending::Committed, Some(third))?;
-    let first = up(alloc, &fields, 2, Ending::Committed, Some(second))?;
+    let third = up(alloc, 4, Ending::Aborted(Cause::Depth), None)?;
+    let second = up(alloc, 3, Ending::Committed, Some(third))?;
+    let first = up(alloc, 2, Ending::Committed, Some(second))?;
     let mut tree = Vec::new(alloc);
     tree.push(Item::Operation(Operation::OnRule {
         operation: RuleOperation::Install,
         rule: 0,
     }))?;
-    tree.push(Item::Operation(create(alloc, &fields, 1, 0)?))?;
-    tree.push(Item::Operation(update(alloc, &fields, 1, 1)?))?;
+    tree.push(Item::Operation(create(alloc, 1, 0)?))?;
+    tree.push(Item::Operation(update(alloc, 1, 1)?))?;
     tree.push(first)?;
     Ok(tree)
 }
@@ -112,10 +82,9 @@ fn replays_up_to_the_depth_limit(rt: HostRuntime) -> Result<(), Fail> {
 
 #[test]
 fn replays_over_what_was_there(rt: HostRuntime) -> Result<(), Fail> {
-    let fields = fields(rt.alloc())?;
     let mut objects = Objects::new(rt.alloc());
     for (key, balance) in [(-20, 1), (-3, 2), (2, 3)] {
-        objects.insert(ACCT, key, account(rt.alloc(), &fields, balance)?)?;
+        objects.insert(ACCT, key, account(rt.alloc(), balance)?)?;
     }
     objects.remove(ACCT, 2);
     let mut tree = Vec::new(rt.alloc());
@@ -123,7 +92,7 @@ fn replays_over_what_was_there(rt: HostRuntime) -> Result<(), Fail> {
         class: ACCT,
         key: -20,
     }))?;
-    tree.push(Item::Operation(create(rt.alloc(), &fields, 10, 4)?))?;
+    tree.push(Item::Operation(create(rt.alloc(), 10, 4)?))?;
     let objects = replay(objects, &tree)?;
     let mut keys = Vec::new(rt.alloc());
     for (name, _) in objects.iter() {
@@ -149,32 +118,42 @@ fn sub(alloc: Global, end: Ending, number: i64, more: Option<Item>) -> Result<It
     }))
 }
 
-#[test]
-fn an_aborted_node_emits_nothing(rt: HostRuntime) -> Result<(), Fail> {
-    let inner = sub(rt.alloc(), Ending::Committed, 2, None)?;
-    let aborted = sub(rt.alloc(), Ending::Aborted(Cause::Asked), 1, Some(inner))?;
-    let inner = sub(rt.alloc(), Ending::Committed, 4, None)?;
-    let committed = sub(rt.alloc(), Ending::Committed, 3, Some(inner))?;
-    let mut tree = Vec::new(rt.alloc());
-    tree.push(aborted)?;
-    tree.push(committed)?;
+/// A node that ended so has emitted a number, and one inside it another.
+fn pair(alloc: Global, end: Ending, outer: i64, inner: i64) -> Result<Item, Fail> {
+    let inner = sub(alloc, Ending::Committed, inner, None)?;
+    sub(alloc, end, outer, Some(inner))
+}
+
+fn emitting(alloc: Global) -> Result<UnitReport, Fail> {
+    let mut tree = Vec::new(alloc);
+    tree.push(pair(alloc, Ending::Aborted(Cause::Asked), 1, 2)?)?;
+    tree.push(pair(alloc, Ending::Committed, 3, 4)?)?;
     tree.push(Item::Emit(Value::Int(5)))?;
-    let unit = UnitReport {
-        moment: Some(7),
-        tops: vec![in rt.alloc();
-            TopReport {
-                task: None,
-                end: Ending::Committed,
-                tree
-            },
-        ]?,
+    let top = TopReport {
+        task: None,
+        end: Ending::Committed,
+        tree,
     };
-    let mut numbers = Vec::new(rt.alloc());
+    Ok(UnitReport {
+        moment: Some(7),
+        tops: vec![in alloc; top]?,
+    })
+}
+
+fn emitted(alloc: Global, unit: &UnitReport) -> Result<Vec<Option<i64>>, Fail> {
+    let mut numbers = Vec::new(alloc);
     for top in &unit.tops {
-        for value in emits(rt.alloc(), &top.tree)? {
+        for value in emits(alloc, &top.tree)? {
             numbers.push(value.as_int().ok())?;
         }
     }
+    Ok(numbers)
+}
+
+#[test]
+fn an_aborted_node_emits_nothing(rt: HostRuntime) -> Result<(), Fail> {
+    let unit = emitting(rt.alloc())?;
+    let numbers = emitted(rt.alloc(), &unit)?;
     assert_eq!(rt; numbers.as_slice(), [Some(3), Some(4), Some(5)].as_slice());
     Ok(())
 }
