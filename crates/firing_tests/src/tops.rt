@@ -100,7 +100,7 @@ struct Remains {
     is_enabled: bool,
 }
 
-fn left_in(
+fn what_remains_in(
     rt: &(impl Threads + Sync),
     alloc: Global,
     library: &Library,
@@ -116,6 +116,16 @@ fn left_in(
     })
 }
 
+fn what_remains(
+    rt: &(impl Threads + Sync),
+    alloc: Global,
+    library: &Library,
+    unit: &Unit,
+) -> Result<Remains, Halt> {
+    let mut view = installed(alloc, library)?;
+    Ok(what_remains_in(rt, alloc, library, &mut view, unit)?)
+}
+
 // After the unit's own transaction come those of the tasks that were due, each of another rule.
 fn assert_rules(rt: &impl Abort, tops: &[TopReport], wanted: &[RuleNo]) {
     assert_eq!(rt; tops.len().saturating_sub(1), wanted.len());
@@ -128,16 +138,22 @@ fn assert_due(
     rt: &(impl Threads + Abort + Sync),
     alloc: Global,
     library: &Library,
-    view: &mut View,
     unit: &Unit,
     wanted: &[RuleNo],
-) -> Result<(), AllocError> {
-    let report = run_unit_on(rt, alloc, library, view, unit, 1)?;
+) -> Result<(), Halt> {
+    let mut view = installed(alloc, library)?;
+    let report = run_unit_on(rt, alloc, library, &mut view, unit, 1)?;
     assert_rules(rt, &report.tops, wanted);
     Ok(())
 }
 
-// Runs such a transaction, and then again as a unit: tasks of the wanted rules are due.
+// The unit of a transaction that ends so.
+fn unit(alloc: Global, library: &Arc<Library>, end: Wanted) -> Result<Unit, CheckError> {
+    let body = Library::body(library, alloc, body(alloc, end)?)?;
+    Ok(Unit::Transaction(body))
+}
+
+// Runs such a transaction, and then again with its cascade: tasks of the wanted rules are due.
 fn left(
     rt: &(impl Threads + Abort + Sync),
     alloc: Global,
@@ -145,12 +161,9 @@ fn left(
     wanted: &[RuleNo],
 ) -> Result<Remains, Fail> {
     let library = library(alloc)?;
-    let unit = Unit::Transaction(Library::body(&library, alloc, body(alloc, end)?)?);
-    let mut view = installed(alloc, &library)?;
-    let left = left_in(rt, alloc, &library, &mut view, &unit)?;
-    let mut view = installed(alloc, &library)?;
-    assert_due(rt, alloc, &library, &mut view, &unit, wanted)?;
-    Ok(left)
+    let unit = unit(alloc, &library, end)?;
+    assert_due(rt, alloc, &library, &unit, wanted)?;
+    Ok(what_remains(rt, alloc, &library, &unit)?)
 }
 
 #[test]
