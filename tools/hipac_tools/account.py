@@ -43,6 +43,7 @@ class Account:
 def account_of(script_bytes: bytes, report_text: Optional[str] = None, watch: Optional[str] = None,
                steps: int = STEPS) -> Account:
     """Runs the program where no report is given, reads the report, and notes why things happened in it."""
+    is_own = report_text is None
     if report_text is None:
         report_text = _run(script_bytes)
     try:
@@ -57,11 +58,13 @@ def account_of(script_bytes: bytes, report_text: Optional[str] = None, watch: Op
     try:
         followed = Course(account.script, watch, steps).report()
     except TooLong:
-        return derived(account, TOO_LONG)
+        return derived(account, TOO_LONG, is_own)
     except (LookupError, TypeError, ValueError, AttributeError, RecursionError):
-        return derived(account, DIFFERENT)  # a script that the program would refuse, beside a report given for it
+        return derived(account, DIFFERENT, is_own)  # a script that the program would refuse, beside a report given for it
     if followed != found:
-        return derived(account, DIFFERENT)
+        if report.write(found) == report.write(followed, trees=False):
+            raise NoAccount("the report has no trees: make it with ./hipac --tree", 2)
+        return derived(account, DIFFERENT, is_own)
     return Account(account.script, base, followed)
 
 
@@ -75,13 +78,14 @@ def _run(script_bytes: bytes) -> str:
     return ended.output
 
 
-def derived(account: Account, doubt: str) -> Account:
-    """The report with the notes that its tree alone gives: who stands in whom, and plain triggers."""
-    rules = account.script["rules"]
+def derived(account: Account, doubt: str, is_own: bool) -> Account:
+    """The report with the notes that its tree alone gives: who stands in whom, and plain triggers where the report is the
+    script's own for certain."""
+    rules = account.script["rules"] if is_own else []
     plain = {rule[0]: rule[1] for rule in rules if events.is_pure(rule[1]) and not _names_fire(account.script, rule[0])}
     for unit in account.report.units:
         for transaction in unit.transactions:
-            transaction.note = Note(None)
+            transaction.note = Note(None, unit=unit.number)
             _derive(transaction, plain)
     account.doubt = doubt
     return account

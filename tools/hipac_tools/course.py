@@ -136,6 +136,8 @@ class Course:
                 unit.transactions.append(self._transaction(head, task, lambda: self._task(task), task.depth))
                 later.extend(self.detached)
             self.detached = later
+        for transaction in unit.transactions:
+            transaction.note.unit = unit.number
 
     def _transaction(self, node: Transaction, task: Optional[Task], body: Callable[[], None], depth: int) -> Transaction:
         node.note = Note(None, trigger=task.trigger if task else None)

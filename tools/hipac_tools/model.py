@@ -16,6 +16,8 @@ from .report import Act, Emit, Fire, Operation, Sub, Transaction, children
 
 TRANSACTION, OPERATION, EMIT, SUB, FIRE, ACT = range(6)
 NOWHERE = -1
+END_PLACES = {TRANSACTION: 4, SUB: 2, FIRE: 5, ACT: 4}
+"""Where a node's end stands in its row, for those that have one."""
 
 
 @dataclass
@@ -68,20 +70,20 @@ class _Maker:
             facts.append(("Never ran", f"Rule {dropped.rule} was {reasons.dropped_words(dropped)}."))
         place = self._add(transaction, [TRANSACTION, NOWHERE, unit, head, str(transaction.end), transaction.emits], facts)
         self.page.nodes[place].append(self._trigger_place(transaction))
-        self._items(transaction, unit, place)
+        self._items(transaction, place)
         return place
 
-    def _items(self, holder: Any, unit: int, parent: int) -> None:
+    def _items(self, holder: Any, parent: int) -> None:
         for node in children(holder):
             if isinstance(node, Operation):
-                self._operation(node, unit, parent)
+                self._operation(node, parent)
             elif isinstance(node, Emit):
-                self._add(node, [EMIT, parent, node.value], self._common(node, unit))
+                self._add(node, [EMIT, parent, node.value], self._common(node))
             else:
-                self._items(node, unit, self._holder(node, unit, parent))
+                self._items(node, self._holder(node, parent))
 
-    def _operation(self, node: Operation, unit: int, parent: int) -> None:
-        place = self._add(node, [OPERATION, parent, node.verb, node.subject, node.row], self._common(node, unit))
+    def _operation(self, node: Operation, parent: int) -> None:
+        place = self._add(node, [OPERATION, parent, node.verb, node.subject, node.row], self._common(node))
         undone = undone_by(node)
         if node.on_object:
             history = self.histories.setdefault((node.name, node.key or 0), [])
@@ -89,7 +91,7 @@ class _Maker:
         elif node.name in self.operations:
             self.operations[node.name].append(place)
 
-    def _holder(self, node: Any, unit: int, parent: int) -> int:
+    def _holder(self, node: Any, parent: int) -> int:
         facts: List[Tuple[str, str]] = []
         if isinstance(node, Sub):
             row = [SUB, parent, str(node.end)]
@@ -102,7 +104,7 @@ class _Maker:
             facts.append(("Condition", _sentence("; ".join(reasons.condition_words(node)))))
         if not node.end.committed:
             facts.append(("Aborted", " ".join(reasons.chain(node))))
-        place = self._add(node, row, facts + self._common(node, unit))
+        place = self._add(node, row, facts + self._common(node))
         if not isinstance(node, Sub):
             self.page.nodes[place].append(self._trigger_place(node))
             self.firings.setdefault(node.rule, []).append(place)
@@ -118,11 +120,11 @@ class _Maker:
             return NOWHERE
         return self.node_places.get(id(trigger.operation or trigger.within), NOWHERE)
 
-    def _common(self, node: Any, unit: int) -> List[Tuple[str, str]]:
+    def _common(self, node: Any) -> List[Tuple[str, str]]:
         facts = []
         if node.note.path:
             facts.append(("Statement", node.note.path))
-        undone = reasons.undone_words(node, unit)
+        undone = reasons.undone_words(node)
         if undone:
             facts.append(("Undone", _sentence(undone.split(": ", 1)[1])))
         return facts

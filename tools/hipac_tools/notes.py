@@ -70,10 +70,12 @@ class Dropped:
 
 @dataclass
 class Note:
-    """A node's parent and place in the script; for a firing its trigger, for one that aborted the reason."""
+    """A node's parent and place in the script; of a top-level transaction the unit's number, of a firing its trigger, of what
+    aborted the reason."""
 
     parent: Optional[Holder]
     path: str = ""
+    unit: Optional[int] = None
     trigger: Optional[Signal] = None
     occurrence: Optional[Occurrence] = None
     queries: List[Query] = field(default_factory=list)

@@ -5,7 +5,7 @@ from __future__ import annotations
 from typing import Any, List, Optional
 
 from .notes import Dropped, Query, Signal, Stop, ancestry, undone_by
-from .report import Act, DETACHED_MODES, End, Fire, Operation, Sub, Transaction
+from .report import Act, End, Fire, Sub, Transaction
 from .values import Occurrence
 
 CAUSES = {
@@ -35,14 +35,12 @@ def at(path: str) -> str:
     return " (at {})".format(path) if path else ""
 
 
-def name_of(node: Any, unit: Optional[int] = None) -> str:
+def name_of(node: Any) -> str:
     """A node that holds others, in a few words."""
     if isinstance(node, Sub):
         return "the `sub`" + at(node.note.path if node.note else "")
     if isinstance(node, Transaction):
-        if node.rule is not None:
-            return "{} {}".format(node.mode, node.rule)
-        return "the transaction itself" if unit is None else "unit {}".format(unit)
+        return "unit {}".format(node.note.unit) if node.rule is None else "{} {}".format(node.mode, node.rule)
     return "the action of rule {}".format(node.rule)
 
 
@@ -109,12 +107,12 @@ def stop_words(end: End, stop: Optional[Stop]) -> str:
     return stop.words + at(stop.path)
 
 
-def undone_words(node: Any, unit: Optional[int] = None) -> str:
+def undone_words(node: Any) -> str:
     """What undid an item; empty where it lasts."""
     holder = undone_by(node)
     if holder is None:
         return ""
-    return "undone: {} aborted ({})".format(name_of(holder, unit), holder.end.cause)
+    return "undone: {} aborted ({})".format(name_of(holder), holder.end.cause)
 
 
 def chain(node: Any) -> List[str]:
@@ -182,11 +180,3 @@ def _origin(node: Any) -> List[str]:
 
 def _sentence(words: str) -> str:
     return words[:1].upper() + words[1:] + "."
-
-
-def is_detached(mode: str) -> bool:
-    return mode in DETACHED_MODES
-
-
-def operation_words(operation: Operation) -> str:
-    return " ".join(part for part in (operation.verb, operation.subject, operation.row) if part)

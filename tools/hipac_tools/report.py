@@ -314,8 +314,8 @@ def _fields(text: str) -> Tuple[Tuple[str, str], ...]:
     return tuple(fields)
 
 
-def write(report: Report) -> str:
-    """The report's text with its trees, the inverse of `read`."""
+def write(report: Report, trees: bool = True) -> str:
+    """The report's text, the inverse of `read`; without its trees if they aren't wanted."""
     lines: List[str] = []
     for unit in report.units:
         for transaction in unit.transactions:
@@ -324,7 +324,8 @@ def write(report: Report) -> str:
                 head = "{} {}".format(transaction.mode, transaction.rule)
             lines.append("{} {}".format(head, transaction.end))
             lines.extend("emit " + value for value in transaction.emits)
-            _write_items(transaction.items, 1, lines)
+            if trees:
+                _write_items(transaction.items, 1, lines)
     lines.append("final")
     for thing in report.objects:
         lines.append(" ".join(part for part in ("object", thing.name, str(thing.key), thing.row) if part))

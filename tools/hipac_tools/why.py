@@ -9,7 +9,8 @@ from typing import Any, Dict, Iterator, List, Optional, Tuple
 
 from . import reasons
 from .account import Account, NoAccount, account_of
-from .notes import Dropped, Signal, undone_by
+from .course import STEPS
+from .notes import Signal, ancestry, undone_by
 from .printing import event_text
 from .report import Act, Fire, Operation, Sub, Transaction, Unit, walk
 
@@ -50,16 +51,16 @@ def main(arguments: List[str]) -> int:
     return DONE
 
 
-def explanation(script_bytes: bytes, number: int, rule: Optional[str] = None, steps: Optional[int] = None) -> str:
-    """The whole answer as one text."""
-    watch = {} if steps is None else {"steps": steps}
-    account = account_of(script_bytes, watch=rule, **watch)
+def explanation(script_bytes: bytes, number: int, rule: Optional[str] = None, steps: int = STEPS,
+                width: int = WIDTH) -> str:
+    """The whole answer as one text, its lines folded at a width."""
+    account = account_of(script_bytes, watch=rule, steps=steps)
     if not 1 <= number <= len(account.report.units):
         raise WrongWords(f"there is no unit {number}; the last one is unit {len(account.report.units)}")
     if rule is not None and rule not in account.rules:
         raise WrongWords(f"there is no rule {rule}; the rules are {', '.join(account.rules)}")
     unit = account.report.units[number - 1]
-    lines = Lines()
+    lines = Lines(width)
     if account.doubt is not None:
         lines.say(0, f"{account.doubt}: only what the report itself tells is said here.")
     if rule is None:
@@ -72,12 +73,13 @@ def explanation(script_bytes: bytes, number: int, rule: Optional[str] = None, st
 class Lines:
     """Lines of text, folded and indented."""
 
-    def __init__(self) -> None:
+    def __init__(self, width: int) -> None:
+        self.width = width
         self.lines: List[str] = []
 
     def say(self, level: int, words: str) -> None:
         lead = "  " * level
-        self.lines += textwrap.wrap(words, WIDTH, initial_indent=lead, subsequent_indent=lead + "  ",
+        self.lines += textwrap.wrap(words, self.width, initial_indent=lead, subsequent_indent=lead + "  ",
                                     break_long_words=False, break_on_hyphens=False)
 
     def say_some(self, level: int, sentences: List[str]) -> None:
@@ -200,7 +202,7 @@ class RuleAnswer:
         if isinstance(node, Fire):
             say(2, f"Its condition was {condition_verdict(node)}: {'; '.join(reasons.condition_words(node))}.")
         self._action(node)
-        undone = reasons.undone_words(node, self.unit.number)
+        undone = reasons.undone_words(node)
         if undone and node.items:
             say(2, f"What it did was {undone}.")
 
@@ -239,7 +241,7 @@ class RuleAnswer:
         for operation in self._undone_operations():
             self.lines.say(1, f"The operation {operation.verb} {self.rule} in unit {self._unit_of(operation)}"
                               f"{reasons.at(operation.note.path)} doesn't count, as it was undone: "
-                              f"{reasons.name_of(undone_by(operation), self._unit_of(operation))} aborted.")
+                              f"{reasons.name_of(undone_by(operation))} aborted.")
         mentioned = [signal for signal in signals if signal.watched.mentions]
         words = "What its event mentions was signalled: " + counted(mentioned) if mentioned else \
             "Nothing that its event mentions was signalled either"
@@ -261,11 +263,7 @@ class RuleAnswer:
         return f", since {operation.verb} {self.rule} in unit {unit}{reasons.at(operation.note.path)}"
 
     def _unit_of(self, node: Any) -> int:
-        top = node
-        while top.note.parent is not None:
-            top = top.note.parent
-        return next(unit.number for unit in self.account.report.units
-                    if any(transaction is top for transaction in unit.transactions))
+        return ancestry(node)[-1].note.unit
 
     def _undone_operations(self) -> List[Operation]:
         """The last operation up to this unit that would have enabled the rule, had it not been undone."""

@@ -5,6 +5,7 @@
 const data = JSON.parse(document.getElementById("data").textContent);
 const [TRANSACTION, OPERATION, EMIT, SUB, FIRE, ACT] = [0, 1, 2, 3, 4, 5];
 const NOWHERE = -1;
+const [NO_ABORT, INNER_ABORT, TOP_ABORT] = [0, 1, 2];
 const FACTS = [6, 5, 3, 3, 6, 5];
 const END = [4, NOWHERE, NOWHERE, 2, 5, 4];
 const ON_OBJECTS = ["create", "update", "delete"];
@@ -14,7 +15,7 @@ const parents = new Int32Array(nodes.length).fill(NOWHERE);
 const undoneBy = new Int32Array(nodes.length).fill(NOWHERE);
 const inside = new Array(nodes.length);
 const unitOf = new Int32Array(nodes.length);
-const hasAbort = new Uint8Array(data.units.length);
+const worstOf = new Uint8Array(data.units.length);
 const rulesByName = new Map(data.rules.map((rule) => [rule[0], rule]));
 const objectsByName = new Map(data.objects.map((object) => [object[0] + " " + object[1], object]));
 
@@ -50,7 +51,7 @@ function connect() {
     const last = unit + 1 < data.units.length ? data.units[unit + 1][2][0] : nodes.length;
     for (let place = own; place < last; place += 1) {
       unitOf[place] = unit;
-      if (isAborted(place)) hasAbort[unit] = 1;
+      if (isAborted(place)) worstOf[unit] = Math.max(worstOf[unit], kindOf(place) === TRANSACTION ? TOP_ABORT : INNER_ABORT);
     }
   });
 }

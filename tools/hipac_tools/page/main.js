@@ -71,8 +71,9 @@ document.addEventListener("keydown", (event) => {
 });
 
 byId("keys").addEventListener("click", () => byId("help").showModal());
-byId("show-all").addEventListener("click", () => showOnlyAborts(false));
-byId("show-aborted").addEventListener("click", () => showOnlyAborts(true));
+byId("show-all").addEventListener("click", () => showUnits(NO_ABORT));
+byId("show-any").addEventListener("click", () => showUnits(INNER_ABORT));
+byId("show-top").addEventListener("click", () => showUnits(TOP_ABORT));
 byId("next-abort").addEventListener("click", () => moveAbort(1));
 byId("former-abort").addEventListener("click", () => moveAbort(-1));
 byId("open-all").addEventListener("click", () => {

@@ -13,20 +13,28 @@ function drawOverview() {
   pen.scale(scale, scale);
   const step = barStep(width);
   const bar = Math.max(1, step - (step > 3 ? 2 : 0));
-  data.units.forEach(([, moment, [own, ...cascade]], at) => {
-    const left = at * step;
-    pen.fillStyle = isAborted(own) ? colour("--bad") : hasAbort[at] ? colour("--doubt") : colour("--good");
-    pen.globalAlpha = isAborted(own) ? 1 : 0.6;
-    pen.fillRect(left, moment === null ? 4 : 10, bar, moment === null ? 18 : 12);
-    if (cascade.length === 0) return;
-    pen.fillStyle = cascade.some(isAborted) ? colour("--bad") : colour("--accent");
-    pen.fillRect(left, 25, bar, 4);
-  });
-  pen.globalAlpha = 1;
+  const colours = { calm: colour("--good"), cascade: colour("--accent"), bad: colour("--bad") };
+  for (const isBad of [false, true]) drawBars(pen, step, bar, colours, isBad);
   if (tree.active !== NOWHERE) {
     pen.fillStyle = colour("--ink");
     pen.fillRect(unitOf[tree.active] * step, 31, Math.max(3, bar), 3);
   }
+}
+
+/* Where bars are narrower than a dot, the aborted ones come last, so that none is hidden. */
+function drawBars(pen, step, bar, colours, isBad) {
+  pen.globalAlpha = isBad ? 1 : 0.6;
+  data.units.forEach(([, moment, [own, ...cascade]], at) => {
+    if (isAborted(own) === isBad) {
+      pen.fillStyle = isBad ? colours.bad : colours.calm;
+      pen.fillRect(at * step, moment === null ? 4 : 10, bar, moment === null ? 18 : 12);
+    }
+    if (cascade.length > 0 && cascade.some(isAborted) === isBad) {
+      pen.fillStyle = isBad ? colours.bad : colours.cascade;
+      pen.fillRect(at * step, 25, bar, 4);
+    }
+  });
+  pen.globalAlpha = 1;
 }
 
 const barStep = (width) => Math.min(14, width / Math.max(1, data.units.length));

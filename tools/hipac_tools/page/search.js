@@ -13,11 +13,12 @@ function textsOfNodes() {
 function find(wanted) {
   const words = wanted.toLowerCase().split(/\s+/).filter(Boolean);
   if (words.length === 0) return { found: [], count: 0 };
-  const found = [...foundUnits(words), ...foundNames("rule", [...rulesByName.keys()], words),
+  const units = foundUnits(words);
+  const found = [...units, ...foundNames("rule", [...rulesByName.keys()], words),
     ...foundNames("object", [...objectsByName.keys()], words)];
   let count = found.length;
   textsOfNodes().forEach((text, place) => {
-    if (!words.every((word) => text.includes(word))) return;
+    if (!words.every((word) => text.includes(word)) || units.some((unit) => unit.place === place)) return;
     count += 1;
     if (found.length < MOST_FOUND) found.push({ where: "unit " + unitNumber(place), what: lineOf(place), go: () => choose(place, true) });
   });
@@ -29,7 +30,8 @@ function foundUnits(words) {
   const number = words[words.length - 1];
   if (words.length > 2 || (words.length === 2 && words[0] !== "unit")) return [];
   const unit = data.units.find((one) => String(one[0]) === number);
-  return unit ? [{ where: "unit", what: lineOf(unit[2][0]), go: () => choose(unit[2][0], true) }] : [];
+  const place = unit ? unit[2][0] : NOWHERE;
+  return unit ? [{ where: "unit", what: lineOf(place), place, go: () => choose(place, true) }] : [];
 }
 
 function foundNames(kind, names, words) {

@@ -5,14 +5,14 @@ const ROUND = 12;
 const INDENT = 18;
 const TWIST = "M3 1 L8 5 L3 9 Z";
 
-const tree = { open: new Set(), lines: [], placeToLine: new Map(), active: NOWHERE, onlyAborts: false };
+const tree = { open: new Set(), lines: [], placeToLine: new Map(), active: NOWHERE, least: NO_ABORT };
 const treeBox = byId("tree");
 const rowsBox = byId("rows");
 
 /* All lines that are to be seen were the tree not cut off by its box: [place, level, position, number of siblings]. */
 function layOut() {
   tree.lines = [];
-  const units = data.units.filter((unit, number) => !tree.onlyAborts || hasAbort[number]);
+  const units = data.units.filter((unit, number) => worstOf[number] >= tree.least);
   const waiting = [];
   const put = (places, level) => {
     for (let at = places.length - 1; at >= 0; at -= 1) waiting.push([places[at], level, at + 1, places.length]);
@@ -29,14 +29,32 @@ function layOut() {
   drawRows();
 }
 
+/* Elements of lines that look as before stay where they are, so that a press of the mouse and its release meet the same one. */
+let drawn = new Map();
+
 function drawRows() {
   const first = Math.max(0, Math.floor(treeBox.scrollTop / ROW) - ROUND);
   const last = Math.min(tree.lines.length, Math.ceil((treeBox.scrollTop + treeBox.clientHeight) / ROW) + ROUND);
-  const fragment = document.createDocumentFragment();
-  for (let at = first; at < last; at += 1) fragment.append(rowElement(at));
-  rowsBox.replaceChildren(fragment);
-  if (tree.active !== NOWHERE && tree.placeToLine.has(tree.active)) treeBox.setAttribute("aria-activedescendant", "row-" + tree.active);
+  const wanted = new Map();
+  for (let at = first; at < last; at += 1) wanted.set(lookOf(at), at);
+  for (const [look, row] of drawn) if (!wanted.has(look)) row.remove();
+  const rows = new Map();
+  let former = null;
+  for (const [look, at] of wanted) {
+    const row = drawn.get(look) ?? rowElement(at);
+    if (row.parentNode !== rowsBox) rowsBox.insertBefore(row, former ? former.nextSibling : rowsBox.firstChild);
+    rows.set(look, row);
+    former = row;
+  }
+  drawn = rows;
+  if (tree.active !== NOWHERE) treeBox.setAttribute("aria-activedescendant", "row-" + tree.active);
   else treeBox.removeAttribute("aria-activedescendant");
+}
+
+/* All on which a line's element depends. */
+function lookOf(at) {
+  const [place, ...where] = tree.lines[at];
+  return [place, at, ...where, tree.open.has(place), place === tree.active].join(" ");
 }
 
 function rowElement(at) {
@@ -58,10 +76,11 @@ function rowElement(at) {
   return row;
 }
 
-/* Why a line is there or how it ended, without the places that its details give. */
+/* Why a line is there or how it ended, without what its details say beside; of a closed unit that committed, what it holds. */
 function reasonOf(place) {
   const reason = fact(place, "Aborted") || fact(place, "Detached") || fact(place, "Trigger");
-  return reason.replace(/ \(at [^)]*\)/g, "").replace(/, in the unit's own body/g, "");
+  if (!reason && kindOf(place) === TRANSACTION && !tree.open.has(place)) return contents(place);
+  return reason.replace(/ \(at [^)]*\)/g, "").replace(/, in the unit's own body/g, "").replace(/; `(ec|ca)` is [^.]*/g, "").replace(/`/g, "");
 }
 
 function rowStyle(place, level) {
@@ -120,7 +139,7 @@ function reveal(place) {
     tree.open.add(round);
   }
   tree.active = place;
-  if (tree.onlyAborts && !hasAbort[unitOf[place]]) showOnlyAborts(false);
+  if (worstOf[unitOf[place]] < tree.least) showUnits(NO_ABORT);
   else if (closed) layOut();
   bringIntoView(tree.placeToLine.get(place));
   drawRows();
@@ -132,10 +151,10 @@ function bringIntoView(at) {
   else if (top + ROW > treeBox.scrollTop + treeBox.clientHeight) treeBox.scrollTop = top + 2 * ROW - treeBox.clientHeight;
 }
 
-function showOnlyAborts(only) {
-  tree.onlyAborts = only;
-  byId("show-all").setAttribute("aria-pressed", !only);
-  byId("show-aborted").setAttribute("aria-pressed", only);
+/* Shows the units whose worst abort is at least this one. */
+function showUnits(least) {
+  tree.least = least;
+  ["show-all", "show-any", "show-top"].forEach((id, at) => byId(id).setAttribute("aria-pressed", at === least));
   layOut();
 }
 
@@ -186,7 +205,11 @@ treeBox.addEventListener("keydown", (event) => {
   if (tree.active === NOWHERE && event.key !== "End") moveBy(1);
   else act();
 });
-treeBox.addEventListener("focus", () => { if (tree.active === NOWHERE) moveBy(1); });
+/* A press of the mouse focuses the tree too; were lines drawn anew then, the press would lose the line that it is on. */
+let isPressed = false;
+treeBox.addEventListener("pointerdown", () => { isPressed = true; });
+window.addEventListener("pointerup", () => { isPressed = false; });
+treeBox.addEventListener("focus", () => { if (tree.active === NOWHERE && !isPressed) moveBy(1); });
 treeBox.addEventListener("scroll", drawRows, { passive: true });
 treeBox.addEventListener("click", (event) => {
   const row = event.target.closest(".row");
