@@ -1,12 +1,13 @@
 #!/usr/bin/env python3
 """Tries the edits of crates/NAME/more-edits: the prover must refuse each of them.
 
-    checks/more_edits.py [--anew] [NAME ..]      tries those of the crates named, or of all crates
-    checks/more_edits.py --apply-only [NAME ..]  proves nothing: looks whether the edits of both folders apply
+    checks/more_edits.py [--anew] [--untried] [NAME ..]  tries those of the crates named, or of all crates
+    checks/more_edits.py --apply-only [NAME ..]          proves nothing: looks whether the edits of both folders apply
 
 The gate tries the edits of must-fail and not these. Here a copy of the crates is made in a temporary folder, in which more-edits
 stands as must-fail, and `rt must-fail NAME` runs there, crate by crate, lowest first. The copy begins with what checks of the same
-crates kept on this machine, and what an edit came to is kept for a later run. `--anew` tries all again.
+crates kept on this machine, and what an edit came to is kept for a later run. `--anew` tries all again. `--untried` tries those
+alone that have a line `# untried`.
 
 The status is 0 where each edit applies and was refused, 1 where one wasn't, and 130 where the run was interrupted. The copy is
 then removed, and what was tried of the crates that had ended stays kept.
@@ -30,9 +31,8 @@ MORE = "more-edits"
 # A line of an edit that was never tried, which is taken out once the prover has refused it.
 UNTRIED = "# untried"
 
-# What `rt` says of an edit, and of each that is refused for a reason that says little of a contract.
-SAYS = re.compile(r"(?:rt: )?must-fail [^/]+/(\S+): (refused, as it must be|NOT REFUSED|BAD EDIT|NOT TRIED)(.*)")
-LITTLE = re.compile(r" \(only ")
+# What `rt` says of an edit.
+SAYS = re.compile(r"rt: must-fail [^/]+/(\S+): (refused, as it must be|NOT REFUSED|BAD EDIT|NOT TRIED)")
 
 
 SIGNALS = (signal.SIGINT, signal.SIGTERM, signal.SIGHUP)
@@ -162,7 +162,7 @@ def remove(path):
 
 
 def must_fail(crate, copy, room, anew):
-    """Runs `rt must-fail` on a crate of the copy, and returns its lines. What it starts ends with it."""
+    """Runs `rt must-fail` on a crate of the copy, shows its lines and returns them. What it starts ends with it."""
     words = ["rt", "must-fail", *(["--anew"] if anew else []), crate]
     how = {"cwd": copy, "stdin": subprocess.DEVNULL, "stdout": subprocess.PIPE, "stderr": subprocess.STDOUT}
     how.update(env={**os.environ, "TMPDIR": room}, start_new_session=True, encoding="utf-8", errors="replace")
@@ -170,7 +170,8 @@ def must_fail(crate, copy, room, anew):
     with subprocess.Popen(words, **how) as running:
         try:
             for line in running.stdout:
-                lines.append(line.rstrip("\n"))
+                print(line, end="", flush=True)
+                lines.append(line)
         finally:
             if running.poll() is None:
                 # (the checks that it started end with it)
@@ -178,10 +179,10 @@ def must_fail(crate, copy, room, anew):
     return lines
 
 
-def try_crate(crate, copy, room, anew):
-    """Tries the edits of a crate, says what each came to, and returns how many were not refused, were bad and were not tried."""
+def try_crate(crate, paths, copy, room, anew):
+    """Tries edits of a crate, says what each came to, and returns how many were not refused, were bad and were not tried."""
     begun = time.monotonic()
-    paths = {os.path.basename(path): path for path in edits(crate, MORE)}
+    paths = {os.path.basename(path): path for path in paths}
     print(f"== {crate}: {len(paths)} edits, from {time.strftime('%H:%M')}", flush=True)
     at = os.path.join(copy, "crates", crate, FIRST)
     os.makedirs(at)
@@ -192,8 +193,6 @@ def try_crate(crate, copy, room, anew):
         said = SAYS.match(line)
         if said:
             came_to[said[1]] = said[2]
-        if not said or said[2] != "refused, as it must be" or LITTLE.match(said[3]):
-            print(line, flush=True)
     named = lambda kind: [name[: -len(".edit")] for name in paths if came_to.get(name, "NOT TRIED") == kind]
     refused, missed, bad, untried = map(named, ("refused, as it must be", "NOT REFUSED", "BAD EDIT", "NOT TRIED"))
     for title, names in (("refused", refused), ("NOT REFUSED", missed), ("bad", bad), ("not tried", untried)):
@@ -209,9 +208,10 @@ def try_crate(crate, copy, room, anew):
     return len(missed), len(bad), len(untried)
 
 
-def try_all(crates, anew):
+def try_all(crates, anew, untried_alone):
     """Tries the edits of crates, and returns the status."""
-    crates = [crate for crate in crates if edits(crate, MORE)]
+    wanted = {crate: [path for path in edits(crate, MORE) if is_untried(path) or not untried_alone] for crate in crates}
+    crates = [crate for crate in crates if wanted[crate]]
     missed, bad, untried, ended = 0, 0, 0, []
     whole = tempfile.mkdtemp(prefix="more-edits-")
     try:
@@ -219,7 +219,7 @@ def try_all(crates, anew):
         os.mkdir(room)
         copy_crates(copy)
         for crate in crates:
-            found = try_crate(crate, copy, room, anew)
+            found = try_crate(crate, wanted[crate], copy, room, anew)
             missed, bad, untried = missed + found[0], bad + found[1], untried + found[2]
             ended.append(crate)
     except Interrupted:
@@ -227,7 +227,7 @@ def try_all(crates, anew):
         return 130
     finally:
         remove(whole)
-    of = sum(len(edits(crate, MORE)) for crate in crates)
+    of = sum(map(len, wanted.values()))
     left = missed + bad + untried
     print(f"{of - left} of {of} edits refused; {missed} not refused, {bad} bad, {untried} not tried")
     return 1 if left else 0
@@ -237,7 +237,7 @@ def main(words):
     names = [word for word in words if not word.startswith("-")]
     options = {word for word in words if word.startswith("-")}
     every = crates_in_order()
-    if options - {"--anew", "--apply-only"} or set(names) - set(every):
+    if options - {"--anew", "--untried", "--apply-only"} or set(names) - set(every):
         print(__doc__.strip(), file=sys.stderr)
         return 2
     crates = [crate for crate in every if not names or crate in names]
@@ -247,7 +247,7 @@ def main(words):
         faults = apply_all(crates)
         if "--apply-only" in options:
             return 1 if faults else 0
-        return max(try_all(crates, "--anew" in options), 1 if faults else 0)
+        return max(try_all(crates, "--anew" in options, "--untried" in options), 1 if faults else 0)
     except Interrupted:
         return 130
 
