@@ -1,7 +1,7 @@
 """A script with its report, and with what can be said of the report's nodes.
 
-Notes come from the course (`course.py`) where it gives the program's report line by line. Where it doesn't, or where the
-script does more than the course follows, `derived` tells what the report's tree alone tells, and `doubt` says so.
+Notes come from the course (`course.py`) where it gives the program's report line by line. Where it doesn't, or where
+the script does more than the course follows, `derived` tells what the report's tree alone tells, and `doubt` says so.
 """
 
 from __future__ import annotations
@@ -60,7 +60,8 @@ def account_of(script_bytes: bytes, report_text: Optional[str] = None, watch: Op
     except TooLong:
         return derived(account, TOO_LONG, is_own)
     except (LookupError, TypeError, ValueError, AttributeError, RecursionError):
-        return derived(account, DIFFERENT, is_own)  # a script that the program would refuse, beside a report given for it
+        # A script that the program would refuse, beside a report given for it.
+        return derived(account, DIFFERENT, is_own)
     if followed != found:
         if report.write(found) == report.write(followed, trees=False):
             raise NoAccount("the report has no trees: make it with ./hipac --tree", 2)
@@ -72,15 +73,15 @@ def _run(script_bytes: bytes) -> str:
     ended = program.run(script_bytes, ["--tree"])
     if ended.status == 2:
         line = ended.output.strip()
-        raise NoAccount("the script is {}; `hipac-tools check` says more".format(line), 2)
+        raise NoAccount(f"the script is {line}; `hipac-tools check` says more", 2)
     if ended.status != 0:
-        raise NoAccount("the program ended with status {}: {}".format(ended.status, ended.errors.strip()), ended.status)
+        raise NoAccount(f"the program ended with status {ended.status}: {ended.errors.strip()}", ended.status)
     return ended.output
 
 
 def derived(account: Account, doubt: str, is_own: bool) -> Account:
-    """The report with the notes that its tree alone gives: who stands in whom, and plain triggers where the report is the
-    script's own for certain."""
+    """The report with the notes that its tree alone gives: who stands in whom, and plain triggers where the report is
+    the script's own for certain."""
     rules = account.script["rules"] if is_own else []
     plain = {rule[0]: rule[1] for rule in rules if events.is_pure(rule[1]) and not _names_fire(account.script, rule[0])}
     for unit in account.report.units:
@@ -104,8 +105,8 @@ def _names_fire(form: Any, rule: str) -> bool:
 
 
 def _derive(holder: Any, plain: Dict[str, List[Any]]) -> None:
-    """The first immediate firing of a plain rule after an operation that its event matches is that operation's: were the
-    rule not enabled there, no later signal could trigger it unless an operation on a rule came between."""
+    """The first immediate firing of a plain rule after an operation that its event matches is that operation's: were
+    the rule not enabled there, no later signal could trigger it unless an operation on a rule came between."""
     last: Optional[Operation] = None
     fired: List[str] = []
     for node in holder.items:
