@@ -7,6 +7,7 @@ the script does more than the course follows, `derived` tells what the report's 
 from __future__ import annotations
 
 import json
+import sys
 from dataclasses import dataclass
 from typing import Any, Dict, List, Optional
 
@@ -16,6 +17,8 @@ from .notes import Note, Signal
 from .report import Fire, Operation, Report
 from .values import Primitive
 
+REFUSED, WRONG_WORDS, FAILED = 2, 3, 4
+STANDARD_INPUT = "-"
 TOO_LONG = "The script does more than is followed here"
 DIFFERENT = "The report isn't the one that following the script gives"
 
@@ -40,6 +43,14 @@ class Account:
         return {rule[0]: rule for rule in self.script["rules"]}
 
 
+def bytes_of(name: str) -> bytes:
+    """A file's bytes, or those of standard input."""
+    if name == STANDARD_INPUT:
+        return sys.stdin.buffer.read()
+    with open(name, "rb") as file:
+        return file.read()
+
+
 def account_of(script_bytes: bytes, report_text: Optional[str] = None, watch: Optional[str] = None,
                steps: int = STEPS) -> Account:
     """Runs the program where no report is given, reads the report, and notes why things happened in it."""
@@ -51,9 +62,9 @@ def account_of(script_bytes: bytes, report_text: Optional[str] = None, watch: Op
         base = rulebase.read(text)
         found = report.read(report_text)
     except (UnicodeDecodeError, rulebase.Refused):
-        raise NoAccount("this is no script; `hipac-tools check` says more", 2)
+        raise NoAccount("this is no script; `hipac-tools check` says more", REFUSED)
     except report.ReportFault as fault:
-        raise NoAccount(f"the report can't be read: {fault}", 2)
+        raise NoAccount(f"the report can't be read: {fault}", REFUSED)
     account = Account(json.loads(text), base, found)
     try:
         followed = Course(account.script, watch, steps).report()
@@ -64,18 +75,18 @@ def account_of(script_bytes: bytes, report_text: Optional[str] = None, watch: Op
         return derived(account, DIFFERENT, is_own)
     if followed != found:
         if report.write(found) == report.write(followed, trees=False):
-            raise NoAccount("the report has no trees: make it with ./hipac --tree", 2)
+            raise NoAccount("the report has no trees: make it with ./hipac --tree", REFUSED)
         return derived(account, DIFFERENT, is_own)
     return Account(account.script, base, followed)
 
 
 def _run(script_bytes: bytes) -> str:
     ended = program.run(script_bytes, ["--tree"])
-    if ended.status == 2:
-        line = ended.output.strip()
-        raise NoAccount(f"the script is {line}; `hipac-tools check` says more", 2)
+    if ended.status == REFUSED:
+        raise NoAccount(f"the script is {ended.output.strip()}; `hipac-tools check` says more", REFUSED)
     if ended.status != 0:
-        raise NoAccount(f"the program ended with status {ended.status}: {ended.errors.strip()}", ended.status)
+        status = ended.status if ended.status in (WRONG_WORDS, FAILED) else FAILED
+        raise NoAccount(f"the program ended with status {ended.status}: {ended.errors.strip()}", status)
     return ended.output
 
 

@@ -8,7 +8,7 @@ from collections import Counter
 from typing import Any, Dict, Iterator, List, Optional, Tuple
 
 from . import reasons
-from .account import Account, NoAccount, account_of
+from .account import Account, NoAccount, REFUSED, WRONG_WORDS, account_of, bytes_of
 from .course import STEPS
 from .notes import Signal, ancestry, undone_by
 from .printing import event_text
@@ -17,10 +17,10 @@ from .report import Act, Fire, Operation, Sub, Transaction, Unit, walk
 USAGE = """usage: hipac-tools why SCRIPT.json UNIT [RULE]
 
 Says why the unit of that number ended as it did: what aborted, by which cause, and what led there. With a rule it says
-why the rule fired in that unit, or why it didn't. Units are numbered from 1, as in the report.
+why the rule fired in that unit, or why it didn't. Units are numbered from 1, as in the report; `-` is standard input.
 The exit status is 0, 2 for a script that is refused, 3 for wrong words, 4 where the program failed."""
 
-DONE, REFUSED, WRONG_WORDS = 0, 2, 3
+DONE = 0
 WIDTH = 110
 MOST_LINES = 12
 
@@ -38,9 +38,7 @@ def main(arguments: List[str]) -> int:
         return WRONG_WORDS
     name, number = arguments[0], int(arguments[1])
     try:
-        with open(name, "rb") as file:
-            script_bytes = file.read()
-        text = explanation(script_bytes, number, arguments[2] if len(arguments) == 3 else None)
+        text = explanation(bytes_of(name), number, arguments[2] if len(arguments) == 3 else None)
     except (OSError, NoAccount) as fault:
         print(f"why: {name}: {fault}", file=sys.stderr)
         return fault.status if isinstance(fault, NoAccount) else REFUSED
@@ -202,7 +200,7 @@ class RuleAnswer:
 
     def _firing(self, transaction: Transaction, node: Any) -> None:
         say = self.lines.say
-        say(1, f"{node} (in {head_of(self.unit, transaction)})")
+        say(1, f"{node}, in {reasons.name_of(transaction)}")
         for sentence in reasons.origins(node):
             say(2, sentence)
         if isinstance(node, Fire):
