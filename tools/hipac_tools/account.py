@@ -1,12 +1,13 @@
 """A script with its report, and with what can be said of the report's nodes.
 
-Notes come from the course (`course.py`) where it gives the program's report line by line. Where it doesn't, or where the
-script does more than the course follows, `derived` tells what the report's tree alone tells, and `doubt` says so.
+Notes come from the course (`course.py`) where it gives the program's report line by line. Where it doesn't, or where
+the script does more than the course follows, `derived` tells what the report's tree alone tells, and `doubt` says so.
 """
 
 from __future__ import annotations
 
 import json
+import sys
 from dataclasses import dataclass
 from typing import Any, Dict, List, Optional
 
@@ -16,6 +17,8 @@ from .notes import Note, Signal
 from .report import Fire, Operation, Report
 from .values import Primitive
 
+REFUSED, WRONG_WORDS, FAILED = 2, 3, 4
+STANDARD_INPUT = "-"
 TOO_LONG = "The script does more than is followed here"
 DIFFERENT = "The report isn't the one that following the script gives"
 
@@ -40,6 +43,14 @@ class Account:
         return {rule[0]: rule for rule in self.script["rules"]}
 
 
+def bytes_of(name: str) -> bytes:
+    """A file's bytes, or those of standard input."""
+    if name == STANDARD_INPUT:
+        return sys.stdin.buffer.read()
+    with open(name, "rb") as file:
+        return file.read()
+
+
 def account_of(script_bytes: bytes, report_text: Optional[str] = None, watch: Optional[str] = None,
                steps: int = STEPS) -> Account:
     """Runs the program where no report is given, reads the report, and notes why things happened in it."""
@@ -51,36 +62,37 @@ def account_of(script_bytes: bytes, report_text: Optional[str] = None, watch: Op
         base = rulebase.read(text)
         found = report.read(report_text)
     except (UnicodeDecodeError, rulebase.Refused):
-        raise NoAccount("this is no script; `hipac-tools check` says more", 2)
+        raise NoAccount("this is no script; `hipac-tools check` says more", REFUSED)
     except report.ReportFault as fault:
-        raise NoAccount(f"the report can't be read: {fault}", 2)
+        raise NoAccount(f"the report can't be read: {fault}", REFUSED)
     account = Account(json.loads(text), base, found)
     try:
         followed = Course(account.script, watch, steps).report()
     except TooLong:
         return derived(account, TOO_LONG, is_own)
     except (LookupError, TypeError, ValueError, AttributeError, RecursionError):
-        return derived(account, DIFFERENT, is_own)  # a script that the program would refuse, beside a report given for it
+        # A script that the program would refuse, beside a report given for it.
+        return derived(account, DIFFERENT, is_own)
     if followed != found:
         if report.write(found) == report.write(followed, trees=False):
-            raise NoAccount("the report has no trees: make it with ./hipac --tree", 2)
+            raise NoAccount("the report has no trees: make it with ./hipac --tree", REFUSED)
         return derived(account, DIFFERENT, is_own)
     return Account(account.script, base, followed)
 
 
 def _run(script_bytes: bytes) -> str:
     ended = program.run(script_bytes, ["--tree"])
-    if ended.status == 2:
-        line = ended.output.strip()
-        raise NoAccount("the script is {}; `hipac-tools check` says more".format(line), 2)
+    if ended.status == REFUSED:
+        raise NoAccount(f"the script is {ended.output.strip()}; `hipac-tools check` says more", REFUSED)
     if ended.status != 0:
-        raise NoAccount("the program ended with status {}: {}".format(ended.status, ended.errors.strip()), ended.status)
+        status = ended.status if ended.status in (WRONG_WORDS, FAILED) else FAILED
+        raise NoAccount(f"the program ended with status {ended.status}: {ended.errors.strip()}", status)
     return ended.output
 
 
 def derived(account: Account, doubt: str, is_own: bool) -> Account:
-    """The report with the notes that its tree alone gives: who stands in whom, and plain triggers where the report is the
-    script's own for certain."""
+    """The report with the notes that its tree alone gives: who stands in whom, and plain triggers where the report is
+    the script's own for certain."""
     rules = account.script["rules"] if is_own else []
     plain = {rule[0]: rule[1] for rule in rules if events.is_pure(rule[1]) and not _names_fire(account.script, rule[0])}
     for unit in account.report.units:
@@ -104,8 +116,8 @@ def _names_fire(form: Any, rule: str) -> bool:
 
 
 def _derive(holder: Any, plain: Dict[str, List[Any]]) -> None:
-    """The first immediate firing of a plain rule after an operation that its event matches is that operation's: were the
-    rule not enabled there, no later signal could trigger it unless an operation on a rule came between."""
+    """The first immediate firing of a plain rule after an operation that its event matches is that operation's: were
+    the rule not enabled there, no later signal could trigger it unless an operation on a rule came between."""
     last: Optional[Operation] = None
     fired: List[str] = []
     for node in holder.items:

@@ -107,7 +107,7 @@ class Course:
         result = Report()
         clock = 0
         for number, item in enumerate(self.script["items"]):
-            path = "/items/{}/1".format(number)
+            path = f"/items/{number}/1"
             if item[0] == "tx":
                 self._unit(result, None, lambda: self._body(item[1], path, Environment(), 0))
                 continue
@@ -133,14 +133,16 @@ class Course:
             for task in generation:
                 self.detached = []
                 head = Transaction(COMMITTED, task.rule.name, task.mode)
-                unit.transactions.append(self._transaction(head, task, lambda: self._task(task), task.depth))
+                done = self._transaction(head, task.trigger, lambda: self._task(task), task.depth)
+                unit.transactions.append(done)
                 later.extend(self.detached)
             self.detached = later
         for transaction in unit.transactions:
             transaction.note.unit = unit.number
 
-    def _transaction(self, node: Transaction, task: Optional[Task], body: Callable[[], None], depth: int) -> Transaction:
-        node.note = Note(None, trigger=task.trigger if task else None)
+    def _transaction(self, node: Transaction, trigger: Optional[Signal], body: Callable[[], None],
+                     depth: int) -> Transaction:
+        node.note = Note(None, trigger=trigger)
         self.here = self.top = node
         self.queued = []
         self.journal.clear()
@@ -162,7 +164,7 @@ class Course:
         return Mark(len(self.journal), len(self.queued), len(self.detached))
 
     def _abort(self, node: Any, mark: Mark, stop: Stop) -> None:
-        """Undoes all since the mark. Of what was detached the exclusive tasks are released and the dependent dropped."""
+        """Undoes all since the mark. Of the detached tasks it releases the exclusive and drops the dependent ones."""
         while len(self.journal) > mark.journal:
             container, name, old = self.journal.pop()
             if old is _NONE:
@@ -207,7 +209,7 @@ class Course:
 
     def _body(self, body: List[Any], path: str, environment: Environment, depth: int) -> None:
         for number, statement in enumerate(body):
-            here = "{}/{}".format(path, number)
+            here = f"{path}/{number}"
             self._count_step()
             try:
                 self._statement(statement, here, environment, depth)
@@ -221,7 +223,7 @@ class Course:
         name = statement[1]
         key, fields = self._evaluated(statement, environment)
         if key in self.objects[name]:
-            raise Fault("A1", "create {} {} met an object that is there already".format(name, key))
+            raise Fault("A1", f"create {name} {key} met an object that is there already")
         row = {field: fields[field] for field in self.kinds[name]}
         self._put(self.objects[name], key, row)
         node = self._add(Operation("create", name, key, _texts(row)), path)
@@ -253,8 +255,8 @@ class Course:
         for field, value in fields.items():
             kind = self.kinds[name][field]
             if kind_of(value) != kind:
-                words = "{} {} {}: {} is to be of kind {} and is {}"
-                raise Fault("A3", words.format(word, name, key, field, kind, value_text(value)))
+                words = f"{word} {name} {key}: {field} is to be of kind {kind} and is {value_text(value)}"
+                raise Fault("A3", words)
         return key, fields
 
     def _key(self, word: str, name: str, expression: Any, environment: Environment) -> int:
@@ -264,12 +266,12 @@ class Course:
 
     def _fit_key(self, word: str, name: str, key: Any) -> None:
         if not is_int(key):
-            raise Fault("A3", "{} {}: the key is {}, which is no whole number".format(word, name, value_text(key)))
+            raise Fault("A3", f"{word} {name}: the key is {value_text(key)}, which is no whole number")
 
     def _row(self, word: str, name: str, key: int) -> Dict[str, Any]:
         row = self.objects[name].get(key)
         if row is None:
-            raise Fault("A2", "{} {} {} met no such object".format(word, name, key))
+            raise Fault("A2", f"{word} {name} {key} met no such object")
         return row
 
     def _say(self, statement: List[Any], path: str, environment: Environment, depth: int) -> None:
@@ -281,7 +283,7 @@ class Course:
 
     def _if(self, statement: List[Any], path: str, environment: Environment, depth: int) -> None:
         arm = 2 if truth(statement[1], environment, "the test of `if`") else 3
-        self._body(statement[arm], "{}/{}".format(path, arm), environment, depth)
+        self._body(statement[arm], f"{path}/{arm}", environment, depth)
 
     def _each(self, statement: List[Any], path: str, environment: Environment, depth: int) -> None:
         _, name, of, predicate, body = statement
@@ -334,7 +336,7 @@ class Course:
         verb, name = statement
         before = self.status[name]
         if verb in ("enable", "disable") and before == "absent":
-            raise Fault("A2", "{} {} met a rule that is absent".format(verb, name))
+            raise Fault("A2", f"{verb} {name} met a rule that is absent")
         node = self._add(Operation(verb, name), path)
         if STATUS_AFTER[verb] == before or (verb == "install" and before == "disabled"):
             return
@@ -345,10 +347,9 @@ class Course:
     def _fire(self, statement: List[Any], path: str, environment: Environment, depth: int) -> None:
         name = statement[1]
         if self.status[name] == "absent":
-            raise Fault("A2", "fire {} met a rule that is absent".format(name))
+            raise Fault("A2", f"fire {name} met a rule that is absent")
         if depth + 1 > self.limit:
-            raise Fault("A7", "fire {} would be a firing at depth {}, and the limit is {}".format(
-                name, depth + 1, self.limit))
+            raise Fault("A7", f"fire {name} would be a firing at depth {depth + 1}, and the limit is {self.limit}")
         rule = self.by_name[name]
         signal = Signal(None, self.here, path, depth, triggered=[name])
         self.top.note.signals.append(signal)
@@ -373,8 +374,8 @@ class Course:
                 tasks.append(Task(rule, rule.ec, depth + 1, signal, occurrence))
         signal.triggered = [task.rule.name for task in tasks]
         if tasks and depth + 1 > self.limit:
-            words = "{} would trigger {} at depth {}, and the limit is {}"
-            words = words.format(primitive, " and ".join(signal.triggered), depth + 1, self.limit)
+            names = " and ".join(signal.triggered)
+            words = f"{primitive} would trigger {names} at depth {depth + 1}, and the limit is {self.limit}"
             raise Aborting(Stop(End("A7"), words, path))
         self._spread(tasks)
 
@@ -457,12 +458,12 @@ class Course:
         environment = Environment(task.occurrence, rows, answers)
         parent, mark, self.here = self.here, self._mark(), node
         try:
-            self._body(task.rule.action, "/rules/{}/5".format(task.rule.number), environment, task.depth)
+            self._body(task.rule.action, f"/rules/{task.rule.number}/5", environment, task.depth)
         except Aborting as aborting:
             self._abort(node, mark, aborting.stop)
         except Vetoing as vetoing:
             self._abort(node, mark, vetoing.stop)
-            raise Aborting(Stop(vetoing.stop.end, "vetoed by {}".format(task.rule.name), vetoing.stop.path, node))
+            raise Aborting(Stop(vetoing.stop.end, f"vetoed by {task.rule.name}", vetoing.stop.path, node))
         finally:
             self.here = parent
 

@@ -1,7 +1,8 @@
 """Events and what of the past they hold on to.
 
-A detector's state is a value that is never changed in place: a transaction that aborts gets the rule's past back by taking
-the state of before. Pending occurrences of a sequence share one growing list for that, each state with bounds of its own.
+A detector's state is a value that is never changed in place: a transaction that aborts gets the rule's past back by
+taking the state of before. Pending occurrences of a sequence share one growing list for that, each state with bounds of
+its own.
 """
 
 from __future__ import annotations

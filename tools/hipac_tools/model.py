@@ -1,7 +1,7 @@
 """What the page of `view` shows, as plain lists that JSON can hold.
 
-All nodes stand in one list, in order of time, each with its parent's place in it: so a page can hold tens of thousands of
-them and make the elements of those alone that are looked at. Sentences stand in a list of their own, each once.
+All nodes stand in one list, in order of time, each with its parent's place in it: so a page can hold tens of thousands
+of them and make the elements of those alone that are looked at. Sentences stand in a list of their own, each once.
 """
 
 from __future__ import annotations
@@ -68,7 +68,8 @@ class _Maker:
             facts.append(("Aborted", " ".join(reasons.chain(transaction))))
         for dropped in transaction.note.dropped:
             facts.append(("Never ran", f"Rule {dropped.rule} was {reasons.dropped_words(dropped)}."))
-        place = self._add(transaction, [TRANSACTION, NOWHERE, unit, head, str(transaction.end), transaction.emits], facts)
+        row = [TRANSACTION, NOWHERE, unit, head, str(transaction.end), transaction.emits]
+        place = self._add(transaction, row, facts)
         self.page.nodes[place].append(self._trigger_place(transaction))
         self._items(transaction, place)
         return place

@@ -27,7 +27,7 @@ class Signal:
 
 @dataclass
 class Watched:
-    """What one rule that is watched was like at a signal, and why its event didn't occur there though it mentions it."""
+    """What one rule that is watched was like at a signal, and why its event, if it mentions that, didn't occur."""
 
     status: str
     since: Optional[Operation]
@@ -70,8 +70,8 @@ class Dropped:
 
 @dataclass
 class Note:
-    """A node's parent and place in the script; of a top-level transaction the unit's number, of a firing its trigger, of what
-    aborted the reason."""
+    """A node's parent and place in the script; of a top-level transaction the unit's number, of a firing its trigger,
+    of what aborted the reason."""
 
     parent: Optional[Holder]
     path: str = ""

@@ -28,20 +28,21 @@ def listed(things: List[str], most: int) -> str:
     """Some things in one line, with the number of those left out."""
     if len(things) <= most:
         return ", ".join(things)
-    return "{} and {} more".format(", ".join(things[:most]), len(things) - most)
+    shown = ", ".join(things[:most])
+    return f"{shown} and {len(things) - most} more"
 
 
 def at(path: str) -> str:
-    return " (at {})".format(path) if path else ""
+    return f" (at {path})" if path else ""
 
 
 def name_of(node: Any) -> str:
     """A node that holds others, in a few words."""
     if isinstance(node, Sub):
-        return "the `sub`" + at(node.note.path if node.note else "")
+        return "the `sub`" + at(node.note.path)
     if isinstance(node, Transaction):
-        return "unit {}".format(node.note.unit) if node.rule is None else "{} {}".format(node.mode, node.rule)
-    return "the action of rule {}".format(node.rule)
+        return f"unit {node.note.unit}" if node.rule is None else f"{node.mode} {node.rule}"
+    return f"the action of rule {node.rule}"
 
 
 def place_of(signal: Signal) -> str:
@@ -53,57 +54,59 @@ def place_of(signal: Signal) -> str:
         return ", in the unit's own body"
     if isinstance(node, Sub):
         action = next((holder for holder in ancestry(node) if isinstance(holder, (Fire, Act))), None)
-        return ", in a `sub`" + (" of the action of rule {}".format(action.rule) if action else "")
+        return ", in a `sub`" + (f" of the action of rule {action.rule}" if action else "")
     return ", in " + name_of(node)
 
 
 def trigger_words(signal: Optional[Signal], occurrence: Optional[Occurrence] = None) -> str:
     """What triggered a rule, as the end of a sentence: `triggered by update item 7, in the action of rule reserve`."""
     if signal is None:
-        return "triggered by a signal (which one {})".format(UNTOLD)
-    words = "triggered by {}" if signal.primitive is not None else "asked for by {}"
-    words = words.format(signal) + at(signal.path) + place_of(signal)
+        return f"triggered by a signal (which one {UNTOLD})"
+    deed = "triggered" if signal.primitive is not None else "asked for"
+    words = f"{deed} by {signal}{at(signal.path)}{place_of(signal)}"
     if occurrence is not None and len(occurrence.parts) > 1:
         parts = [str(part) for part in occurrence.parts[:-1]]
-        words += ", after {}".format(listed(parts, MOST_PARTS))
+        words += f", after {listed(parts, MOST_PARTS)}"
     return words
 
 
 def query_words(query: Query) -> str:
-    objects = "1 object" if query.looked_at == 1 else "{} objects".format(query.looked_at)
+    objects = "1 object" if query.looked_at == 1 else f"{query.looked_at} objects"
     if query.fault is not None:
-        return "query {} met a fault: {}".format(query.name, query.fault)
+        return f"query {query.name} met a fault: {query.fault}"
     if query.looked_at == 0:
-        return "query {} is empty: there is no object of {}".format(query.name, query.on)
+        return f"query {query.name} is empty: there is no object of {query.on}"
     if not query.keys:
-        return "query {} is empty: none of the {} of {} fits".format(query.name, objects, query.on)
+        return f"query {query.name} is empty: none of the {objects} of {query.on} fits"
     keys = listed([str(key) for key in query.keys], MOST_KEYS)
-    return "query {} found {} of the {} of {}: {}".format(query.name, len(query.keys), objects, query.on, keys)
+    return f"query {query.name} found {len(query.keys)} of the {objects} of {query.on}: {keys}"
 
 
 def condition_words(firing: Fire) -> List[str]:
     """How a condition went, query by query."""
-    queries = [query_words(query) for query in firing.note.queries] if firing.note else []
+    queries = [query_words(query) for query in firing.note.queries]
     if firing.condition == "satisfied":
-        return queries or ["it has no queries" if firing.note and firing.note.trigger else "each query found an object"]
+        is_followed = firing.note.occurrence is not None
+        return queries or ["it has no queries" if is_followed else "each query found an object"]
     if queries:
         return queries
     if firing.condition == "unsatisfied":
         return ["a query is empty; which one " + UNTOLD]
-    return ["a query met a fault: {}".format(CAUSES[firing.condition.split(" ")[1]])]
+    cause = firing.condition.split(" ")[1]
+    return [f"a query met a fault: {CAUSES[cause]}"]
 
 
 def stop_words(end: End, stop: Optional[Stop]) -> str:
     """Why a transaction aborted, in a few words and without the chain that leads there."""
     if end.cause == "A9":
         if stop is None:
-            return "rule {} vetoed; what triggered it {}".format(end.rule, UNTOLD)
+            return f"rule {end.rule} vetoed; what triggered it {UNTOLD}"
         if stop.firing is None:
-            return "the statement `veto`{}".format(at(stop.path))
+            return f"the statement `veto`{at(stop.path)}"
         note = stop.firing.note
-        return "vetoed by {}, which was {}".format(end.rule, trigger_words(note.trigger, note.occurrence))
+        return f"vetoed by {end.rule}, which was {trigger_words(note.trigger, note.occurrence)}"
     if stop is None:
-        return "{}; which statement {}".format(CAUSES[end.cause or ""], UNTOLD)
+        return f"{CAUSES[str(end.cause)]}; which statement {UNTOLD}"
     return stop.words + at(stop.path)
 
 
@@ -112,16 +115,16 @@ def undone_words(node: Any) -> str:
     holder = undone_by(node)
     if holder is None:
         return ""
-    return "undone: {} aborted ({})".format(name_of(holder), holder.end.cause)
+    return f"undone: {name_of(holder)} aborted ({holder.end.cause})"
 
 
 def chain(node: Any) -> List[str]:
     """Sentences from an aborted node back to the statement of the unit's own body by which all began."""
     sentences = []
-    stop = node.note.stop if node.note else None
+    stop = node.note.stop
     if node.end.cause != "A9" or stop is None or stop.firing is None:
         return [_sentence(stop_words(node.end, stop))] + _origin(node)
-    sentences.append("Rule {} vetoed{}.".format(node.end.rule, at(stop.path)))
+    sentences.append(f"Rule {node.end.rule} vetoed{at(stop.path)}.")
     return sentences + origins(stop.firing)
 
 
@@ -130,11 +133,11 @@ def origins(firing: Any) -> List[str]:
     sentences = []
     while firing is not None:
         note = firing.note
-        who = "It was" if not sentences else "Rule {} was".format(firing.rule)
-        if note is None or note.trigger is None:
-            sentences.append("What triggered rule {} {}.".format(firing.rule, UNTOLD))
+        who = "It was" if not sentences else f"Rule {firing.rule} was"
+        if note.trigger is None:
+            sentences.append(f"What triggered rule {firing.rule} {UNTOLD}.")
             break
-        sentences.append("{} {}{}.".format(who, trigger_words(note.trigger, note.occurrence), later_words(firing)))
+        sentences.append(f"{who} {trigger_words(note.trigger, note.occurrence)}{later_words(firing)}.")
         firing = _action_round(note.trigger.within)
     return sentences
 
@@ -144,38 +147,37 @@ def later_words(firing: Any) -> str:
     if firing.mode == "immediate":
         return ""
     where = "at the end of the transaction" if firing.mode == "deferred" else "in a transaction of its own"
-    part = "its action ran" if isinstance(firing, Act) else "it ran"
-    return "; {} is {}, so {} {}".format("`ca`" if isinstance(firing, Act) else "`ec`", firing.mode, part, where)
+    mode, part = ("ca", "its action ran") if isinstance(firing, Act) else ("ec", "it ran")
+    return f"; `{mode}` is {firing.mode}, so {part} {where}"
 
 
 def dropped_words(dropped: Dropped) -> str:
     """Why a task that was made never ran."""
-    words = "{} ({}), but its {} never ran: {}".format(
-        trigger_words(dropped.trigger), dropped.mode, dropped.step, dropped.why)
+    words = f"{trigger_words(dropped.trigger)} ({dropped.mode}), but its {dropped.step} never ran: {dropped.why}"
     by = dropped.by
     if dropped.why == "an elder sibling vetoed":
-        return words + ", rule {}".format(by.rule)
+        return words + f", rule {by.rule}"
     if dropped.why.startswith("a transaction") or dropped.why.startswith("the transaction"):
-        return words + " ({}: {})".format(name_of(by), stop_words(by.end, by.note.stop))
+        return words + f" ({name_of(by)}: {stop_words(by.end, by.note.stop)})"
     return words
 
 
 def _action_round(node: Any) -> Any:
-    """The firing in whose action a node stands, or that a transaction of a cascade runs; none in a unit's own body."""
-    while node is not None and not isinstance(node, (Fire, Act)):
-        if isinstance(node, Transaction):
-            return None
+    """The firing in whose action a node stands, or that its cascade's transaction is for; none in a unit's own body."""
+    while isinstance(node, Sub):
         node = node.note.parent
+    if isinstance(node, Transaction):
+        return node.items[0] if node.rule is not None and node.items else None
     return node
 
 
 def _origin(node: Any) -> List[str]:
     """How the rule came to run in whose action an aborted node stands."""
-    firing = node if isinstance(node, (Fire, Act)) else _action_round(node.note.parent) if node.note else None
+    firing = node if isinstance(node, (Fire, Act)) else _action_round(node.note.parent)
     if firing is None:
         return []
     first = origins(firing)
-    return [first[0].replace("It was", "Rule {} was".format(firing.rule), 1)] + first[1:]
+    return [first[0].replace("It was", f"Rule {firing.rule} was", 1)] + first[1:]
 
 
 def _sentence(words: str) -> str:

@@ -1,7 +1,7 @@
 """The report of a run, as `./hipac --tree` writes it, read into a tree of plain objects.
 
-Values stay the texts that the report has: a whole number of 64 bits is more than a page's script could hold as a number,
-and nothing here reckons with them.
+Values stay the texts that the report has: a whole number of 64 bits is more than a page's script could hold as a
+number, and nothing here reckons with them.
 """
 
 from __future__ import annotations
@@ -56,11 +56,11 @@ class Operation:
 
     @property
     def subject(self) -> str:
-        return self.name if self.key is None else "{} {}".format(self.name, self.key)
+        return self.name if self.key is None else f"{self.name} {self.key}"
 
     @property
     def row(self) -> str:
-        return " ".join("{}={}".format(name, value) for name, value in self.fields)
+        return " ".join(f"{name}={value}" for name, value in self.fields)
 
     def __str__(self) -> str:
         return " ".join(part for part in ("op", self.verb, self.subject, self.row) if part)
@@ -86,7 +86,7 @@ class Sub:
     note: Any = field(default=None, compare=False, repr=False)
 
     def __str__(self) -> str:
-        return "sub {}".format(self.end)
+        return f"sub {self.end}"
 
 
 @dataclass
@@ -106,7 +106,7 @@ class Fire:
         return self.action if isinstance(self.action, End) else COMMITTED
 
     def __str__(self) -> str:
-        return "fire {} {} {} {}".format(self.rule, self.mode, self.condition, self.action)
+        return f"fire {self.rule} {self.mode} {self.condition} {self.action}"
 
 
 @dataclass
@@ -120,7 +120,7 @@ class Act:
     note: Any = field(default=None, compare=False, repr=False)
 
     def __str__(self) -> str:
-        return "act {} {} {}".format(self.rule, self.mode, self.end)
+        return f"act {self.rule} {self.mode} {self.end}"
 
 
 @dataclass
@@ -156,7 +156,7 @@ class FinalObject:
 
     @property
     def row(self) -> str:
-        return " ".join("{}={}".format(name, value) for name, value in self.fields)
+        return " ".join(f"{name}={value}" for name, value in self.fields)
 
 
 @dataclass
@@ -184,7 +184,7 @@ def read(text: str) -> Report:
     """Reads a report; raises ReportFault where it isn't one."""
     lines = text.split("\n")
     if lines[-1] != "":
-        raise ReportFault("line {}: the report doesn't end with a line feed".format(len(lines)))
+        raise ReportFault(f"line {len(lines)}: the report doesn't end with a line feed")
     return _Reader(lines[:-1]).report()
 
 
@@ -203,9 +203,9 @@ class _Reader:
                 if self._line(line, result):
                     break
             except (ValueError, IndexError):
-                raise ReportFault("line {}: {!r} is no line of a report here".format(self.at + 1, line[:80]))
+                raise ReportFault(f"line {self.at + 1}: {line[:80]!r} is no line of a report here")
         if not self.lines or self.lines[self.at] != "end" or self.at + 1 != len(self.lines):
-            raise ReportFault("line {}: the report has no last line `end`".format(self.at + 1))
+            raise ReportFault(f"line {self.at + 1}: the report has no last line `end`")
         return result
 
     def _line(self, line: str, result: Report) -> bool:
@@ -319,17 +319,17 @@ def write(report: Report, trees: bool = True) -> str:
     lines: List[str] = []
     for unit in report.units:
         for transaction in unit.transactions:
-            head = "unit {}".format(unit.number) + ("" if unit.moment is None else " time {}".format(unit.moment))
+            head = f"unit {unit.number}" + ("" if unit.moment is None else f" time {unit.moment}")
             if transaction.rule is not None:
-                head = "{} {}".format(transaction.mode, transaction.rule)
-            lines.append("{} {}".format(head, transaction.end))
+                head = f"{transaction.mode} {transaction.rule}"
+            lines.append(f"{head} {transaction.end}")
             lines.extend("emit " + value for value in transaction.emits)
             if trees:
                 _write_items(transaction.items, 1, lines)
     lines.append("final")
     for thing in report.objects:
         lines.append(" ".join(part for part in ("object", thing.name, str(thing.key), thing.row) if part))
-    lines.extend("rule {} {}".format(name, status) for name, status in report.rules)
+    lines.extend(f"rule {name} {status}" for name, status in report.rules)
     lines.append("end")
     return "\n".join(lines) + "\n"
 

@@ -1,7 +1,7 @@
 """Values and expressions of a script, evaluated over named rows and the occurrence that triggered a rule.
 
-Scripts are the lists that JSON gives: the program has accepted the script before anything here looks at it, so forms and
-names are known to be right, and only what happens at run time is met here.
+Scripts are the lists that JSON gives: the program has accepted the script before anything here looks at it, so forms
+and names are known to be right, and only what happens at run time is met here.
 """
 
 from __future__ import annotations
@@ -48,10 +48,11 @@ class Primitive:
         if self.kind == "commit":
             return "the commit event"
         if self.kind == "time":
-            return "moment {}".format(self.moment)
+            return f"moment {self.moment}"
         if self.kind == "signal":
-            return "signal {} [{}]".format(self.name, ", ".join(value_text(value) for value in self.arguments))
-        return "{} {} {}".format(self.kind, self.name, self.key)
+            arguments = ", ".join(value_text(value) for value in self.arguments)
+            return f"signal {self.name} [{arguments}]"
+        return f"{self.kind} {self.name} {self.key}"
 
 
 @dataclass(frozen=True)
@@ -112,7 +113,7 @@ def truth(expression: Any, environment: Environment, what: str) -> bool:
     """The value of a predicate or a test, which must be a truth value."""
     value = evaluate(expression, environment)
     if not isinstance(value, bool):
-        raise Fault("A3", "{} gives {}, which is no truth value".format(what, value_text(value)))
+        raise Fault("A3", f"{what} gives {value_text(value)}, which is no truth value")
     return value
 
 
@@ -125,7 +126,7 @@ def _in_range(value: int, words: str) -> int:
 def _arithmetic(word: str, left: Any, right: Any) -> int:
     if not (is_int(left) and is_int(right)):
         raise _unfit(word, left, right, "two whole numbers")
-    words = "{} {} {}".format(left, word, right)
+    words = f"{left} {word} {right}"
     if word in ("/", "%"):
         if right == 0:
             raise Fault("A5", words + " divides by zero")
@@ -150,7 +151,7 @@ def _ordered(word: str, left: Any, right: Any) -> bool:
 
 
 def _unfit(word: str, left: Any, right: Any, wanted: str) -> Fault:
-    return Fault("A3", "`{}` asks for {} and met {} and {}".format(word, wanted, value_text(left), value_text(right)))
+    return Fault("A3", f"`{word}` asks for {wanted} and met {value_text(left)} and {value_text(right)}")
 
 
 _BINARY: Dict[str, Callable[[str, Any, Any], Any]] = {}
@@ -162,17 +163,17 @@ _BINARY.update({word: _ordered for word in ("<", "<=", ">", ">=")})
 def _decided(expression: List[Any], environment: Environment) -> bool:
     """`and` and `or`: the right side counts only where the left doesn't decide."""
     word = expression[0]
-    left = truth(expression[1], environment, "the left of `{}`".format(word))
+    left = truth(expression[1], environment, f"the left of `{word}`")
     if left == (word == "or"):
         return left
-    return truth(expression[2], environment, "the right of `{}`".format(word))
+    return truth(expression[2], environment, f"the right of `{word}`")
 
 
 def _negative(expression: List[Any], environment: Environment) -> int:
     value = evaluate(expression[1], environment)
     if not is_int(value):
-        raise Fault("A3", "`neg` asks for a whole number and met {}".format(value_text(value)))
-    return _in_range(-value, "neg {}".format(value))
+        raise Fault("A3", f"`neg` asks for a whole number and met {value_text(value)}")
+    return _in_range(-value, f"neg {value}")
 
 
 def _not(expression: List[Any], environment: Environment) -> bool:
@@ -182,7 +183,7 @@ def _not(expression: List[Any], environment: Environment) -> bool:
 def _of(expression: List[Any], environment: Environment) -> Any:
     row = environment.rows[expression[1]]
     if expression[2] not in row.fields:
-        raise Fault("A3", "{} {} has no field {}".format(row.name, row.key, expression[2]))
+        raise Fault("A3", f"{row.name} {row.key} has no field {expression[2]}")
     return row.fields[expression[2]]
 
 
@@ -192,15 +193,15 @@ def _key(expression: List[Any], environment: Environment) -> int:
 
 def _part(expression: List[Any], environment: Environment) -> Primitive:
     if environment.occurrence is None:
-        raise Fault("A6", "`{}` stands where there is no occurrence".format(expression[0]))
+        raise Fault("A6", f"`{expression[0]}` stands where there is no occurrence")
     parts = environment.occurrence.parts
     if expression[1] >= len(parts):
-        raise Fault("A6", "the occurrence has no part {}".format(expression[1]))
+        raise Fault("A6", f"the occurrence has no part {expression[1]}")
     return parts[expression[1]]
 
 
 def _lacking(expression: List[Any], part: Primitive) -> Fault:
-    return Fault("A6", "part {} is {}, which has no `{}`".format(expression[1], part, expression[0]))
+    return Fault("A6", f"part {expression[1]} is {part}, which has no `{expression[0]}`")
 
 
 def _side(expression: List[Any], environment: Environment) -> Any:
@@ -209,7 +210,7 @@ def _side(expression: List[Any], environment: Environment) -> Any:
     if row is None:
         raise _lacking(expression, part)
     if expression[2] not in row:
-        raise Fault("A3", "{} {} has no field {}".format(part.name, part.key, expression[2]))
+        raise Fault("A3", f"{part.name} {part.key} has no field {expression[2]}")
     return row[expression[2]]
 
 
@@ -225,7 +226,7 @@ def _argument(expression: List[Any], environment: Environment) -> Any:
     if part.kind != "signal":
         raise _lacking(expression, part)
     if expression[2] >= len(part.arguments):
-        raise Fault("A6", "{} has no argument {}".format(part, expression[2]))
+        raise Fault("A6", f"{part} has no argument {expression[2]}")
     return part.arguments[expression[2]]
 
 

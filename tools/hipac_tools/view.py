@@ -12,16 +12,17 @@ from pathlib import Path
 from typing import Any, Dict, List, Optional
 
 from . import graph, printing
-from .account import Account, NoAccount, account_of
+from .account import Account, NoAccount, REFUSED, STANDARD_INPUT, WRONG_WORDS, account_of, bytes_of
 from .model import page_model
 
 USAGE = """usage: hipac-tools view SCRIPT.json [REPORT] [--out FILE.html]
 
 Makes a page that shows the script's units, the tree of what each did, rules, objects and their histories. REPORT is one
 that ./hipac wrote with --tree; where it isn't given the program is run. The page goes to standard output or to FILE.
+For SCRIPT.json or REPORT `-` is standard input.
 The exit status is 0, 2 for a script or a report that can't be shown, 3 for wrong words, 4 where the program failed."""
 
-DONE, REFUSED, WRONG_WORDS = 0, 2, 3
+DONE = 0
 PAGE = Path(__file__).with_name("page")
 CODE = ("data.js", "tree.js", "panels.js", "search.js", "overview.js", "main.js")
 
@@ -65,17 +66,15 @@ def _words(arguments: List[str]) -> Optional[Words]:
             return None
         out = names[place + 1]
         del names[place:place + 2]
-    if len(names) not in (1, 2) or any(name.startswith("-") for name in names):
+    if len(names) not in (1, 2) or any(name.startswith("-") and name != STANDARD_INPUT for name in names):
         return None
     return Words(names[0], names[1] if len(names) == 2 else None, out)
 
 
 def page_of(words: Words) -> bytes:
-    script_bytes = Path(words.script).read_bytes()
-    report_text = None
-    if words.report is not None:
-        report_text = Path(words.report).read_bytes().decode("utf-8", "replace")
-    return page_text(account_of(script_bytes, report_text), Path(words.script).name).encode("utf-8")
+    report_text = None if words.report is None else bytes_of(words.report).decode("utf-8", "replace")
+    name = "standard input" if words.script == STANDARD_INPUT else Path(words.script).name
+    return page_text(account_of(bytes_of(words.script), report_text), name).encode("utf-8")
 
 
 def page_text(account: Account, name: str) -> str:

@@ -8,7 +8,7 @@ from collections import Counter
 from typing import Any, Dict, Iterator, List, Optional, Tuple
 
 from . import reasons
-from .account import Account, NoAccount, account_of
+from .account import Account, NoAccount, REFUSED, WRONG_WORDS, account_of, bytes_of
 from .course import STEPS
 from .notes import Signal, ancestry, undone_by
 from .printing import event_text
@@ -17,10 +17,10 @@ from .report import Act, Fire, Operation, Sub, Transaction, Unit, walk
 USAGE = """usage: hipac-tools why SCRIPT.json UNIT [RULE]
 
 Says why the unit of that number ended as it did: what aborted, by which cause, and what led there. With a rule it says
-why the rule fired in that unit, or why it didn't. Units are numbered from 1, as in the report.
+why the rule fired in that unit, or why it didn't. Units are numbered from 1, as in the report; `-` is standard input.
 The exit status is 0, 2 for a script that is refused, 3 for wrong words, 4 where the program failed."""
 
-DONE, REFUSED, WRONG_WORDS = 0, 2, 3
+DONE = 0
 WIDTH = 110
 MOST_LINES = 12
 
@@ -38,9 +38,7 @@ def main(arguments: List[str]) -> int:
         return WRONG_WORDS
     name, number = arguments[0], int(arguments[1])
     try:
-        with open(name, "rb") as file:
-            script_bytes = file.read()
-        text = explanation(script_bytes, number, arguments[2] if len(arguments) == 3 else None)
+        text = explanation(bytes_of(name), number, arguments[2] if len(arguments) == 3 else None)
     except (OSError, NoAccount) as fault:
         print(f"why: {name}: {fault}", file=sys.stderr)
         return fault.status if isinstance(fault, NoAccount) else REFUSED
@@ -124,7 +122,8 @@ class UnitAnswer:
             for sentence in detachment(transaction):
                 say(1, sentence)
         if transaction.end.committed:
-            say(1, "All of its own statements ran." if transaction.rule is None else "It ran to its end.")
+            is_body = transaction.rule is None and self.unit.moment is None
+            say(1, "All of its own statements ran." if is_body else "It ran to its end.")
         else:
             for sentence in reasons.chain(transaction):
                 say(1, sentence)
@@ -132,24 +131,27 @@ class UnitAnswer:
         firings = Counter(fired_line(node) for node in walk(transaction) if isinstance(node, (Fire, Act)))
         if firings:
             say(1, "Firings:")
-            self.lines.say_some(2, [line + ("" if times == 1 else f" ({times} times)") for line, times in firings.items()])
+            self.lines.say_some(2, often(firings))
 
     def _inner(self, transaction: Transaction) -> None:
-        """The parts that aborted by themselves while the transaction went on."""
-        for node in walk(transaction):
-            if not isinstance(node, (Sub, Fire, Act)) or node.end.committed or self._is_told(node, transaction):
-                continue
-            self.lines.say(1, f"Within it {reasons.name_of(node)} aborted {node.end.cause}"
-                              + (f" {node.end.rule}" if node.end.rule else "") + ":")
+        """The parts that aborted by themselves while the transaction went on. A veto that aborts several nodes at once
+        is told of the outermost."""
+        aborted = [node for node in walk(transaction)
+                   if isinstance(node, (Sub, Fire, Act)) and not node.end.committed and not is_part_of_veto(node)]
+        for node in aborted[:MOST_LINES]:
+            self.lines.say(1, f"Within it {reasons.name_of(node)} {node.end}:")
             for sentence in reasons.chain(node):
                 self.lines.say(2, sentence)
+        if len(aborted) > MOST_LINES:
+            self.lines.say(1, f"and {len(aborted) - MOST_LINES} more parts aborted within it")
 
-    def _is_told(self, node: Any, transaction: Transaction) -> bool:
-        """A veto aborts several nodes at once; it is told of the outermost."""
-        if node.end.cause != "A9":
-            return False
-        parent = node.note.parent
-        return parent is not None and parent.end == node.end
+
+def is_part_of_veto(node: Any) -> bool:
+    """Whether a veto only passed through a node, on its way to the transaction that it aborts."""
+    if node.end.cause != "A9":
+        return False
+    stop = node.note.stop
+    return node.note.parent.end == node.end if stop is None else stop.firing is None
 
 
 def detachment(transaction: Transaction) -> List[str]:
@@ -161,7 +163,9 @@ def detachment(transaction: Transaction) -> List[str]:
 
 
 def fired_line(node: Any) -> str:
-    return " ".join(str(node).split(" ")[1:]) if isinstance(node, Fire) else f"{node.rule} {node.mode} action {node.end}"
+    if isinstance(node, Act):
+        return f"{node.rule} {node.mode} action {node.end}"
+    return str(node)[len("fire "):]
 
 
 class RuleAnswer:
@@ -196,7 +200,7 @@ class RuleAnswer:
 
     def _firing(self, transaction: Transaction, node: Any) -> None:
         say = self.lines.say
-        say(1, f"{node} (in {head_of(self.unit, transaction)})")
+        say(1, f"{node}, in {reasons.name_of(transaction)}")
         for sentence in reasons.origins(node):
             say(2, sentence)
         if isinstance(node, Fire):
@@ -213,8 +217,7 @@ class RuleAnswer:
         elif node.end.committed:
             self.lines.say(2, "Its action committed.")
         else:
-            cause = f"{node.end.cause}" + (f" {node.end.rule}" if node.end.rule else "")
-            self.lines.say(2, f"Its action aborted {cause}: {reasons.stop_words(node.end, node.note.stop)}.")
+            self.lines.say(2, f"Its action {node.end}: {reasons.stop_words(node.end, node.note.stop)}.")
 
     # Where it didn't fire
 
@@ -301,9 +304,12 @@ def condition_verdict(node: Fire) -> str:
 
 def counted(signals: List[Signal]) -> str:
     """What was signalled, each with how often."""
-    counts = Counter(str(signal) for signal in signals)
-    return reasons.listed([name + ("" if number == 1 else f" ({number} times)") for name, number in counts.items()],
-                          MOST_LINES)
+    return reasons.listed(often(Counter(str(signal) for signal in signals)), MOST_LINES)
+
+
+def often(counts: Dict[str, int]) -> List[str]:
+    """Things with how often they were there, where that is more than once."""
+    return [thing + ("" if number == 1 else f" ({number} times)") for thing, number in counts.items()]
 
 
 def times(number: int) -> str:

@@ -154,7 +154,8 @@ class Browser:
     def _event(self, message):
         method, said = message.get("method"), message.get("params", {})
         if method == "Runtime.exceptionThrown":
-            self.faults.append(said["exceptionDetails"].get("exception", {}).get("description", said["exceptionDetails"]["text"]))
+            details = said["exceptionDetails"]
+            self.faults.append(details.get("exception", {}).get("description", details["text"]))
         elif method == "Log.entryAdded" and said["entry"]["level"] == "error":
             self.faults.append(said["entry"]["text"])
         elif method == "Runtime.consoleAPICalled" and said["type"] in ("error", "assert"):
@@ -185,7 +186,7 @@ class Browser:
         return self.evaluate(f"document.querySelector({json.dumps(selector)})?.innerText ?? null")
 
     def click(self, selector, text=None):
-        """Presses and lets go of the mouse on the first element seen that fits, and has this text where one is given."""
+        """Clicks with the mouse on the first element that fits and is seen, with this text where one is given."""
         spot = self.evaluate(f"""(() => {{
             const text = {json.dumps(text)};
             const fits = (one) => one.getClientRects().length > 0 && (text === null || one.textContent.trim() === text);
@@ -214,7 +215,8 @@ class Browser:
             self.key(letter)
 
     def dark(self, is_dark):
-        self.call("Emulation.setEmulatedMedia", features=[{"name": "prefers-color-scheme", "value": "dark" if is_dark else "light"}])
+        scheme = {"name": "prefers-color-scheme", "value": "dark" if is_dark else "light"}
+        self.call("Emulation.setEmulatedMedia", features=[scheme])
 
     def size(self, width, height):
         self.call("Emulation.setDeviceMetricsOverride", width=width, height=height, deviceScaleFactor=1, mobile=False)

@@ -5,7 +5,7 @@ ITEMS = 40
 
 
 def large_script(units=UNITS):
-    """A shop: an order reserves items, a keeper vetoes what would be oversold, and what was sold is billed and counted."""
+    """A shop: an order reserves items, a keeper vetoes what would be oversold, what was sold is billed and counted."""
     items = [["tx", [["install", name] for name in ("reserve", "oversell", "tell", "count", "bill", "refill", "audit")]
               + [["create", "item", key, [["stock", 12]]] for key in range(1, ITEMS + 1)]
               + [["create", "tally", 1, [["sold", 0], ["note", "first </script><img src=x onerror=alert(1)>"]]]]]]
@@ -45,5 +45,6 @@ def rules():
            [["update", "bill", ["arg", 0, 0], [["amount", ["arg", 0, 1]]]]]]]],
         ["refill", ["every", 10, 10], "immediate", [["low", "item", ["<", ["of", "low", "stock"], 6]]], "immediate",
          [["for", "low", [["update", "item", ["key", "low"], [["stock", 40]]]]]]],
-        ["audit", ["closure", ["update", "bill"], ["every", 100, 100]], "separate", [], "immediate", [["emit", ["count"]]]],
+        ["audit", ["closure", ["update", "bill"], ["every", 100, 100]], "separate", [], "immediate",
+         [["emit", ["count"]]]],
     ]

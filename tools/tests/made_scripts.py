@@ -3,7 +3,10 @@
 import random
 
 KINDS = ("int", "bool", "text")
-TEXTS = ("", "a", "two words", "x=1 y=2", "</script>", "<img src=x onerror=alert(1)>", "quote\" back\\ tab\t", "\u00e9\u2028\x7f\x01")
+TEXTS = ("", "a", "two words", "x=1 y=2", "</script>", "<img src=x onerror=alert(1)>", "quote\" back\\ tab\t",
+         "\u00e9\u2028\x7f\x01")
+CLASSES = [["acct", [["bal", "int"], ["open", "bool"]]], ["item", [["name", "text"], ["count", "int"]]], ["bare", []]]
+NUMBERS = {"acct": "bal", "item": "count", "bare": "none"}
 
 
 class ScriptMaker:
@@ -11,7 +14,6 @@ class ScriptMaker:
 
     def __init__(self, seed):
         self.random = random.Random(seed)
-        self.classes = [["acct", [["bal", "int"], ["open", "bool"]]], ["item", [["name", "text"], ["count", "int"]]], ["bare", []]]
         self.rule_names = ["r{}".format(number) for number in range(self.random.randint(1, 7))]
         self.in_rule = False
         self.modes = ["immediate"] * 4 + ["deferred"] * 2 + ["separate", "dependent", "exclusive"]
@@ -28,7 +30,8 @@ class ScriptMaker:
                 items.append(["clock", clock])
             else:
                 items.append(["tx", self.body({}, {}, 0)])
-        return {"version": 2, "depth": self.random.randint(2, 5), "classes": self.classes, "rules": rules, "items": items}
+        depth = self.random.randint(2, 5)
+        return {"version": 2, "depth": depth, "classes": CLASSES, "rules": rules, "items": items}
 
     def chance(self, of):
         return self.random.random() < of
@@ -64,18 +67,18 @@ class ScriptMaker:
 
     def predicate(self, known):
         name = list(known)[-1]
-        kind = known[name]
         return self.random.choice([
             True, [">", ["key", name], self.random.randint(0, 4)],
             ["and", ["<", ["key", name], 4], self.test(known)],
-            ["=", ["of", name, "count"], 2] if kind == "item" else ["<", ["of", name, "bal"], 5] if kind == "acct" else False,
+            ["<", ["of", name, NUMBERS[known[name]]], 3] if known[name] != "bare" else False,
             self.test(known),
         ])
 
     def test(self, known):
         return self.random.choice([
             ["<", self.number(known, 0), self.number(known, 0)], ["=", self.number(known, 0), self.number(known, 0)],
-            ["not", ["=", self.number(known, 0), 3]], ["or", True, ["=", ["/", 1, 0], 1]], ["<", self.text(), self.text()],
+            ["not", ["=", self.number(known, 0), 3]], ["or", True, ["=", ["/", 1, 0], 1]],
+            ["<", self.text(), self.text()],
         ])
 
     def number(self, known, level):
@@ -83,7 +86,7 @@ class ScriptMaker:
         if self.in_rule:
             forms += [["count"], ["id", 0], ["arg", 0, 0], ["new", 0, "bal"], ["old", 0, "count"], ["time", 0]]
         for name in known:
-            forms += [["key", name]] * 3 + [["of", name, {"acct": "bal", "item": "count", "bare": "none"}[known[name]]]] * 3
+            forms += [["key", name]] * 3 + [["of", name, NUMBERS[known[name]]]] * 3
         if level < 3 and self.chance(0.4):
             word = self.pick("+", "-", "*", "/", "%")
             return [word, self.number(known, level + 1), self.number(known, level + 1)]
@@ -93,7 +96,8 @@ class ScriptMaker:
         return self.random.choice(TEXTS)
 
     def body(self, known, queries, level, in_action=False):
-        return [self.statement(known, queries, level, in_action) for _ in range(self.random.randint(0 if level else 1, 4))]
+        count = self.random.randint(0 if level else 1, 4)
+        return [self.statement(known, queries, level, in_action) for _ in range(count)]
 
     def statement(self, known, queries, level, in_action):
         words = ["create", "create", "update", "update", "update", "delete", "signal", "emit", "emit", "rule"]
@@ -115,7 +119,8 @@ class ScriptMaker:
     def make_update(self, known, queries, level, in_action):
         name = self.pick("acct", "acct", "item")
         pairs = self.fields(name, known)
-        return ["update", name, self.random.choice([1, 2, 1, 2, 3, self.number(known, 1)]), pairs[:self.random.randint(0, len(pairs))]]
+        key = self.random.choice([1, 2, 1, 2, 3, self.number(known, 1)])
+        return ["update", name, key, pairs[:self.random.randint(0, len(pairs))]]
 
     def make_delete(self, known, queries, level, in_action):
         return ["delete", self.pick("acct", "item", "bare"), self.random.randint(1, 4)]
@@ -131,7 +136,8 @@ class ScriptMaker:
         return [verb, self.random.choice(self.rule_names)]
 
     def make_if(self, known, queries, level, in_action):
-        return ["if", self.test(known), self.body(known, queries, level + 1, in_action), self.body(known, queries, level + 1, in_action)]
+        bodies = [self.body(known, queries, level + 1, in_action) for _ in range(2)]
+        return ["if", self.test(known)] + bodies
 
     def make_each(self, known, queries, level, in_action):
         name, of = "e{}".format(len(known)), self.pick("acct", "item", "bare")
@@ -143,7 +149,8 @@ class ScriptMaker:
 
     def make_with(self, known, queries, level, in_action):
         name, of = "w{}".format(len(known)), self.pick("acct", "item", "bare")
-        return ["with", name, of, self.number(known, 1), self.body(dict(known, **{name: of}), queries, level + 1, in_action)]
+        inner = dict(known, **{name: of})
+        return ["with", name, of, self.number(known, 1), self.body(inner, queries, level + 1, in_action)]
 
     def make_sub(self, known, queries, level, in_action):
         return ["sub", self.body(known, queries, level + 1, in_action), self.body(known, queries, level + 1, in_action)]

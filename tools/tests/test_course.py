@@ -43,8 +43,8 @@ class SameReportTest(unittest.TestCase):
 
 
 class JudgedQueriesTest(unittest.TestCase):
-    """Beside each rule whose condition has several queries stand rules with the same event that ask its first queries only
-    and do nothing. They fire where the rule fires and just before it, so their conditions tell where the rule's own ended."""
+    """Beside each rule whose condition has several queries stand rules with the same event that ask its first queries
+    only and do nothing. They fire where the rule fires, just before it: their conditions tell where its own ended."""
 
     def test_the_query_that_ends_a_condition_is_the_one_noted(self):
         judged = 0
@@ -68,7 +68,8 @@ def probed(script):
         name, event, ec, queries, _, _ = rule
         if ec not in DETACHED and len(queries) > 1:
             beside[name] = [f"{name}_first_{count}" for count in range(1, len(queries))]
-            rules += [[other, event, ec, queries[:count + 1], "immediate", []] for count, other in enumerate(beside[name])]
+            rules += [[other, event, ec, queries[:count], "immediate", []]
+                      for count, other in enumerate(beside[name], 1)]
         rules.append(rule)
     probe["rules"] = rules
     for rule in rules:
@@ -78,7 +79,7 @@ def probed(script):
 
 
 def in_step(form, beside):
-    """The same statements, with an operation on a probed rule done to its probes too; what is fired fires them before."""
+    """The same statements, with an operation on a probed rule done to its probes too; `fire` fires them before it."""
     if not isinstance(form, list):
         return form
     changed = []

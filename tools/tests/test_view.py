@@ -58,7 +58,8 @@ class ModelTest(unittest.TestCase):
                     while here != NOWHERE:
                         rounds.append(here)
                         here = page.nodes[here][1]
-                    aborted = [one for one in rounds if str(page.nodes[one][END_PLACES[page.nodes[one][0]]]).startswith("aborted")]
+                    ends = {one: page.nodes[one][END_PLACES[page.nodes[one][0]]] for one in rounds}
+                    aborted = [one for one in rounds if ends[one].startswith("aborted")]
                     with self.subTest(script=name, place=place):
                         self.assertEqual(undone, aborted[0] if aborted else NOWHERE)
 
@@ -84,8 +85,8 @@ class ModelTest(unittest.TestCase):
                 self.assertEqual(places, [place for place, node in enumerate(page.nodes) if node[0] in (FIRE, ACT)])
 
     def test_triggers_lead_to_the_operation(self):
-        script = json.loads(next(path for path in EXAMPLES if path.name == "constraint.json").read_text(encoding="utf-8"))
-        page = page_model(account(script))
+        path = next(path for path in EXAMPLES if path.name == "constraint.json")
+        page = page_model(account(json.loads(path.read_text(encoding="utf-8"))))
         fired = next(node for node in page.nodes if node[0] == FIRE and node[2] == "ceiling")
         self.assertEqual(page.nodes[fired[-1]][2:5], ["update", "acct 1", "bal=-30 limit=0"])
 

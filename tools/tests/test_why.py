@@ -1,4 +1,4 @@
-"""What `why` says, sentence by sentence: of each cause of an abort, and of each reason for which a rule doesn't fire."""
+"""What `why` says, sentence by sentence: of each cause of an abort, and of each reason for a rule not to fire."""
 
 import contextlib
 import io
@@ -14,9 +14,12 @@ ACCOUNT = ["create", "acct", 1, [["bal", 10], ["open", True]]]
 GO = ["signal", "go", []]
 ORDER = ["signal", "order", [7]]
 
-RESERVE = ["reserve", ["signal", "order"], "immediate", [], "immediate", [["update", "item", ["arg", 0, 0], [["stock", -1]]]]]
-OVERSELL = ["oversell", ["update", "item"], "immediate", [["low", "item", ["<", ["of", "low", "stock"], 0]]], "immediate",
-            [["veto"]]]
+ITEM = ["create", "item", 7, [["stock", 3]]]
+
+RESERVE = ["reserve", ["signal", "order"], "immediate", [], "immediate",
+           [["update", "item", ["arg", 0, 0], [["stock", -1]]]]]
+OVERSELL = ["oversell", ["update", "item"], "immediate", [["low", "item", ["<", ["of", "low", "stock"], 0]]],
+            "immediate", [["veto"]]]
 
 
 def simple(name, event, ec="immediate", queries=(), ca="immediate", action=()):
@@ -61,7 +64,8 @@ class CausesTest(WhyCase):
 
     def test_a3(self):
         fields = [["bal", 1], ["open", True]]
-        self.one([["create", "acct", True, fields]], "A3", "Create acct: the key is true, which is no whole number (at /items/0/1/0).")
+        self.one([["create", "acct", True, fields]], "A3", "Create acct: the key is true, which is no whole number "
+                                                           "(at /items/0/1/0).")
         self.one([ACCOUNT, ["update", "acct", 1, [["bal", "x"]]]], "A3",
                  'Update acct 1: bal is to be of kind int and is "x" (at /items/0/1/1).')
         self.one([["emit", ["+", 1, "x"]]], "A3", '`+` asks for two whole numbers and met 1 and "x" (at /items/0/1/0).')
@@ -70,8 +74,10 @@ class CausesTest(WhyCase):
         self.one([["if", 1, [], []]], "A3", "The test of `if` gives 1, which is no truth value (at /items/0/1/0).")
 
     def test_a4(self):
-        self.one([["emit", ["+", 2 ** 63 - 1, 1]]], "A4", "9223372036854775807 + 1 is outside 64 bits (at /items/0/1/0).")
-        self.one([["emit", ["%", -2 ** 63, -1]]], "A4", "-9223372036854775808 % -1 is outside 64 bits (at /items/0/1/0).")
+        self.one([["emit", ["+", 2 ** 63 - 1, 1]]], "A4", "9223372036854775807 + 1 is outside 64 bits (at "
+                                                          "/items/0/1/0).")
+        self.one([["emit", ["%", -2 ** 63, -1]]], "A4", "-9223372036854775808 % -1 is outside 64 bits (at "
+                                                        "/items/0/1/0).")
 
     def test_a5(self):
         self.one([["emit", ["/", 1, 0]]], "A5", "1 / 0 divides by zero (at /items/0/1/0).")
@@ -98,54 +104,62 @@ class CausesTest(WhyCase):
 
     def test_a9_tells_the_chain_that_led_to_the_veto(self):
         checked = simple("checked", ["update", "item"], "deferred", action=[["veto"]])
-        shop = script([RESERVE, checked], install("reserve", "checked") + [["create", "item", 7, [["stock", 3]]]], [ORDER])
+        shop = script([RESERVE, checked], install("reserve", "checked") + [ITEM], [ORDER])
         self.says(shop, 2, [
             "unit 2 aborted A9 checked", "Rule checked vetoed (at /rules/1/5/0).",
-            "It was triggered by update item 7 (at /rules/0/5/0), in the action of rule reserve; `ec` is deferred, so it ran at "
+            "It was triggered by update item 7 (at /rules/0/5/0), in the action of rule reserve; `ec` is deferred, "
+            "so it ran at "
             "the end of the transaction.",
             "Rule reserve was triggered by signal order [7] (at /items/1/1/0), in the unit's own body.",
             "Firings:", "reserve immediate satisfied committed", "checked deferred satisfied aborted A9 checked"])
 
     def test_a9_of_an_immediate_rule_aborts_what_it_was_triggered_in(self):
-        shop = script([RESERVE, OVERSELL], install("reserve", "oversell") + [["create", "item", 7, [["stock", 3]]]], [ORDER])
+        shop = script([RESERVE, OVERSELL], install("reserve", "oversell") + [ITEM], [ORDER])
         self.says(shop, 2, [
             "unit 2 committed", "All of its own statements ran.",
             "Within it the action of rule reserve aborted A9 oversell:", "Rule oversell vetoed (at /rules/1/5/0).",
             "It was triggered by update item 7 (at /rules/0/5/0), in the action of rule reserve.",
             "Rule reserve was triggered by signal order [7] (at /items/1/1/0), in the unit's own body.",
-            "Firings:", "reserve immediate satisfied aborted A9 oversell", "oversell immediate satisfied aborted A9 oversell"])
+            "Firings:", "reserve immediate satisfied aborted A9 oversell", "oversell immediate satisfied aborted A9 "
+                                                                           "oversell"])
 
 
 class CascadeTest(WhyCase):
-    RULES = [simple("always", ["signal", "go"], "separate", action=[["veto"]]), simple("kept", ["signal", "go"], "dependent"),
+    RULES = [simple("always", ["signal", "go"], "separate", action=[["veto"]]),
+             simple("kept", ["signal", "go"], "dependent"),
              simple("undone", ["signal", "go"], "exclusive")]
 
     def test_what_was_detached_and_what_was_dropped_is_told(self):
         of = script(self.RULES, install("always", "kept", "undone"), [GO, ["abort"]], [GO])
         self.says(of, 2, [
             "unit 2 aborted A8", "The statement `abort` (at /items/1/1/1).",
-            "separate always aborted A9 always", "Rule always was triggered by signal go [] (at /items/1/1/0), in the unit's own body.",
+            "separate always aborted A9 always", "Rule always was triggered by signal go [] (at /items/1/1/0), in "
+                                                 "the unit's own body.",
             "Rule always vetoed (at /rules/0/5/0).",
-            "It was triggered by signal go [] (at /items/1/1/0), in the unit's own body; `ec` is separate, so it ran in a "
+            "It was triggered by signal go [] (at /items/1/1/0), in the unit's own body; `ec` is separate, so it ran "
+            "in a "
             "transaction of its own.",
             "Firings:", "always separate satisfied aborted A9 always",
-            "exclusive undone committed", "Rule undone was triggered by signal go [] (at /items/1/1/0), in the unit's own body.",
+            "exclusive undone committed", "Rule undone was triggered by signal go [] (at /items/1/1/0), in the "
+                                          "unit's own body.",
             "It ran to its end.", "Firings:", "undone exclusive satisfied committed",
             "no dependent kept",
-            "Rule kept was triggered by signal go [] (at /items/1/1/0), in the unit's own body (dependent), but its condition never "
+            "Rule kept was triggered by signal go [] (at /items/1/1/0), in the unit's own body (dependent), but its "
+            "condition never "
             "ran: a transaction that it depends on aborted (unit 2: the statement `abort` (at /items/1/1/1))."])
         self.assertEqual(self.answer(of, 3)[-2:], [
             "no exclusive undone",
-            "Rule undone was triggered by signal go [] (at /items/2/1/0), in the unit's own body (exclusive), but its condition "
+            "Rule undone was triggered by signal go [] (at /items/2/1/0), in the unit's own body (exclusive), but "
+            "its condition "
             "never ran: all the transactions round it committed."])
 
 
 class FiringTest(WhyCase):
     def test_a_firing_is_told_with_its_trigger_condition_and_end(self):
-        shop = script([RESERVE, OVERSELL], install("reserve", "oversell") + [["create", "item", 7, [["stock", 3]]]], [ORDER])
+        shop = script([RESERVE, OVERSELL], install("reserve", "oversell") + [ITEM], [ORDER])
         self.says(shop, 2, [
             "rule oversell fired once in unit 2",
-            "fire oversell immediate satisfied aborted A9 oversell (in unit 2 committed)",
+            "fire oversell immediate satisfied aborted A9 oversell, in unit 2",
             "It was triggered by update item 7 (at /rules/0/5/0), in the action of rule reserve.",
             "Rule reserve was triggered by signal order [7] (at /items/1/1/0), in the unit's own body.",
             "Its condition was satisfied: query low found 1 of the 1 object of item: 7.",
@@ -155,14 +169,18 @@ class FiringTest(WhyCase):
         queries = [["a", "acct", True], ["i", "item", [">", ["of", "i", "stock"], 5]], ["b", "acct", True]]
         asks = simple("asks", ["signal", "go"], queries=queries)
         of = script([asks], install("asks") + [ACCOUNT, GO], [["create", "item", 1, [["stock", 3]]], GO])
-        self.assertIn("Its condition was unsatisfied: query a found 1 of the 1 object of acct: 1; query i is empty: there is no object "
+        self.assertIn("Its condition was unsatisfied: query a found 1 of the 1 object of acct: 1; query i is empty: "
+                      "there is no object "
                       "of item.", self.answer(of, 1, "asks"))
-        self.assertIn("Its condition was unsatisfied: query a found 1 of the 1 object of acct: 1; query i is empty: none of the 1 object "
+        self.assertIn("Its condition was unsatisfied: query a found 1 of the 1 object of acct: 1; query i is empty: "
+                      "none of the 1 object "
                       "of item fits.", self.answer(of, 2, "asks"))
 
     def test_the_query_that_met_a_fault_is_named(self):
-        asks = simple("asks", ["signal", "go"], queries=[["a", "acct", True], ["b", "acct", ["=", ["/", 1, ["-", ["of", "b", "bal"], 10]], 0]]])
-        self.assertIn("Its condition was ended by a fault, A5: query a found 1 of the 1 object of acct: 1; query b met a fault: 1 / 0 "
+        faulty = ["=", ["/", 1, ["-", ["of", "b", "bal"], 10]], 0]
+        asks = simple("asks", ["signal", "go"], queries=[["a", "acct", True], ["b", "acct", faulty]])
+        self.assertIn("Its condition was ended by a fault, A5: query a found 1 of the 1 object of acct: 1; query b "
+                      "met a fault: 1 / 0 "
                       "divides by zero.", self.answer(script([asks], install("asks") + [ACCOUNT, GO]), 1, "asks"))
 
     def test_the_parts_of_a_composite_event_are_told(self):
@@ -173,11 +191,13 @@ class FiringTest(WhyCase):
 
     def test_what_a_statement_fires_is_told(self):
         of = script([simple("tell", ["signal", "go"])], install("tell") + [["fire", "tell"]])
-        self.assertIn("It was asked for by a statement `fire` (at /items/0/1/1), in the unit's own body.", self.answer(of, 1, "tell"))
+        self.assertIn("It was asked for by a statement `fire` (at /items/0/1/1), in the unit's own "
+                      "body.", self.answer(of, 1, "tell"))
 
     def test_what_was_undone_is_told(self):
         of = script([simple("tell", ["signal", "go"], action=[["emit", 1]])], install("tell"), [GO, ["abort"]])
-        self.assertEqual(self.answer(of, 2, "tell")[-2:], ["Its action committed.", "What it did was undone: unit 2 aborted (A8)."])
+        self.assertEqual(self.answer(of, 2, "tell")[-2:], ["Its action committed.", "What it did was undone: unit 2 "
+                                                                                    "aborted (A8)."])
 
 
 class SilenceTest(WhyCase):
@@ -199,36 +219,43 @@ class SilenceTest(WhyCase):
 
     def test_disabled_before(self):
         of = script([self.TELL], install("tell"), [["disable", "tell"]], [GO])
-        self.assertIn("It was disabled all the time, since disable tell in unit 2 (at /items/1/1/0).", self.answer(of, 3, "tell"))
+        self.assertIn("It was disabled all the time, since disable tell in unit 2 (at "
+                      "/items/1/1/0).", self.answer(of, 3, "tell"))
 
     def test_disabled_within_the_unit(self):
         of = script([self.TELL], install("tell"), [["signal", "other", []], ["disable", "tell"], GO])
-        self.assertIn("At signal go [] (at /items/1/1/2) it was disabled, since disable tell in unit 2 (at /items/1/1/1).",
+        self.assertIn("At signal go [] (at /items/1/1/2) it was disabled, since disable tell in unit 2 (at "
+                      "/items/1/1/1).",
                       self.answer(of, 2, "tell"))
 
     def test_its_event_didnt_occur(self):
         of = script([self.TELL], install("tell"), [ACCOUNT, ["update", "acct", 1, []], ["update", "acct", 1, []]])
         self.says(of, 2, [
             "rule tell didn't fire in unit 2", "Its event is: signal go.",
-            "It was enabled, but its event didn't occur, nor any part of it. What was signalled: create acct 1, update acct 1 "
+            "It was enabled, but its event didn't occur, nor any part of it. What was signalled: create acct 1, "
+            "update acct 1 "
             "(2 times), the commit event."], "tell")
 
     def test_a_sequence_that_waits(self):
         pair = simple("pair", ["seq", ["signal", "a"], ["signal", "b"]])
         of = script([pair], install("pair"), [["signal", "b", []], ["signal", "a", []]])
         self.assertEqual(self.answer(of, 2, "pair")[2:], [
-            "At signal b [] (at /items/1/1/0) it was enabled, but its event didn't occur: the second event of its `seq` occurred, but "
+            "At signal b [] (at /items/1/1/0) it was enabled, but its event didn't occur: the second event of its "
+            "`seq` occurred, but "
             "no occurrence of the first is left that came before.",
-            "At signal a [] (at /items/1/1/1) it was enabled, but its event didn't occur: the first event of its `seq` occurred, and "
+            "At signal a [] (at /items/1/1/1) it was enabled, but its event didn't occur: the first event of its "
+            "`seq` occurred, and "
             "the second hasn't yet."])
 
     def test_a_closure_that_waits(self):
         batch = simple("batch", ["closure", ["signal", "a"], ["signal", "b"]])
         of = script([batch], install("batch"), [["signal", "b", []], ["signal", "a", []]])
         self.assertEqual(self.answer(of, 2, "batch")[2:], [
-            "At signal b [] (at /items/1/1/0) it was enabled, but its event didn't occur: the end of its `closure` occurred, but "
+            "At signal b [] (at /items/1/1/0) it was enabled, but its event didn't occur: the end of its `closure` "
+            "occurred, but "
             "nothing of what it gathers since the last end.",
-            "At signal a [] (at /items/1/1/1) it was enabled, but its event didn't occur: its `closure` gathered this, and its end "
+            "At signal a [] (at /items/1/1/1) it was enabled, but its event didn't occur: its `closure` gathered "
+            "this, and its end "
             "hasn't occurred yet."])
 
     def test_too_deep(self):
@@ -241,7 +268,8 @@ class SilenceTest(WhyCase):
         rules = [simple("stop", ["signal", "go"], action=[["veto"]]), self.TELL]
         self.says(script(rules, install("stop", "tell"), [GO]), 2, [
             "rule tell didn't fire in unit 2",
-            "It was triggered by signal go [] (at /items/1/1/0), in the unit's own body (immediate), but its condition never ran: an "
+            "It was triggered by signal go [] (at /items/1/1/0), in the unit's own body (immediate), but its "
+            "condition never ran: an "
             "elder sibling vetoed, rule stop."], "tell")
 
     def test_a_deferred_task_that_its_transaction_took_along(self):
@@ -249,8 +277,10 @@ class SilenceTest(WhyCase):
         of = script([late], install("late"), [["sub", [GO, ["abort"]], []]])
         self.says(of, 2, [
             "rule late didn't fire in unit 2",
-            "It was triggered by signal go [] (at /items/1/1/0/1/0), in a `sub` (deferred), but its condition never ran: the "
-            "transaction that queued it aborted (the `sub` (at /items/1/1/0): the statement `abort` (at /items/1/1/0/1/1))."], "late")
+            "It was triggered by signal go [] (at /items/1/1/0/1/0), in a `sub` (deferred), but its condition never "
+            "ran: the "
+            "transaction that queued it aborted (the `sub` (at /items/1/1/0): the statement `abort` (at "
+            "/items/1/1/0/1/1))."], "late")
 
     def test_nothing_was_signalled(self):
         self.assertIn("Nothing was signalled in that unit.", self.answer(script([self.TELL], [["abort"]]), 1, "tell"))
@@ -258,7 +288,8 @@ class SilenceTest(WhyCase):
 
 class DoubtTest(WhyCase):
     def test_of_a_script_that_is_too_long_only_the_report_is_told(self):
-        of = script([simple("tell", ["signal", "go"])], install("tell") + [GO], [["abort"]], [["disable", "tell"]], [GO])
+        tell = simple("tell", ["signal", "go"])
+        of = script([tell], install("tell") + [GO], [["abort"]], [["disable", "tell"]], [GO])
         doubt = "The script does more than is followed here: only what the report itself tells is said here."
         self.assertEqual(self.answer(of, 2, steps=2)[1:], [
             "unit 2 aborted A8", "The statement `abort`; which statement can't be told from the report."])
@@ -287,7 +318,8 @@ class CommandTest(unittest.TestCase):
             self.assertEqual(self.run_words(bad, "1")[0], 2)
             self.assertIn("refused S2 /", self.run_words(bad, "1")[2])
             self.assertEqual(self.run_words(good, "2")[::2], (3, "why: there is no unit 2; the last one is unit 1\n"))
-            self.assertEqual(self.run_words(good, "1", "no")[::2], (3, "why: there is no rule no; the rules are tell\n"))
+            self.assertEqual(self.run_words(good, "1", "no")[::2], (3, "why: there is no rule no; the rules are "
+                                                                       "tell\n"))
             self.assertEqual(self.run_words(good)[0], 3)
             self.assertEqual(self.run_words(os.path.join(folder, "none.json"), "1")[0], 2)
             self.assertEqual(self.run_words("--help")[0], 0)

@@ -22,14 +22,15 @@ const objectsByName = new Map(data.objects.map((object) => [object[0] + " " + ob
 const kindOf = (place) => nodes[place][0];
 const endOf = (place) => (END[kindOf(place)] < 0 ? "" : nodes[place][END[kindOf(place)]]);
 const isAborted = (place) => endOf(place).startsWith("aborted");
-const factsOf = (place) => nodes[place][FACTS[kindOf(place)]].map(([label, sentence]) => [label, data.sentences[sentence]]);
+const rawFactsOf = (place) => nodes[place][FACTS[kindOf(place)]];
+const factsOf = (place) => rawFactsOf(place).map(([label, sentence]) => [label, data.sentences[sentence]]);
 const triggerOf = (place) => nodes[place][FACTS[kindOf(place)] + 1] ?? NOWHERE;
 const unitNumber = (place) => data.units[unitOf[place]][0];
 const rootOf = (place) => data.units[unitOf[place]][2][0];
 const insideOf = (place) => inside[place] || [];
 
 function fact(place, label) {
-  const found = nodes[place][FACTS[kindOf(place)]].find((one) => one[0] === label);
+  const found = rawFactsOf(place).find((one) => one[0] === label);
   return found ? data.sentences[found[1]] : "";
 }
 
@@ -51,7 +52,8 @@ function connect() {
     const last = unit + 1 < data.units.length ? data.units[unit + 1][2][0] : nodes.length;
     for (let place = own; place < last; place += 1) {
       unitOf[place] = unit;
-      if (isAborted(place)) worstOf[unit] = Math.max(worstOf[unit], kindOf(place) === TRANSACTION ? TOP_ABORT : INNER_ABORT);
+      if (!isAborted(place)) continue;
+      worstOf[unit] = Math.max(worstOf[unit], kindOf(place) === TRANSACTION ? TOP_ABORT : INNER_ABORT);
     }
   });
 }
@@ -62,13 +64,16 @@ function said(place) {
   const node = nodes[place];
   switch (node[0]) {
     case TRANSACTION: return saidOfTransaction(place, node);
-    case OPERATION: return [["kind", node[2]], [ON_OBJECTS.includes(node[2]) ? "name object" : "name rule", node[3]], ["row-text", node[4]]];
+    case OPERATION: return [["kind", node[2]], [nameStyle(node[2]), node[3]], ["row-text", node[4]]];
     case EMIT: return [["kind", "emit"], ["value", node[2]]];
     case SUB: return [["kind", "sub"], ["end", node[2]]];
-    case FIRE: return [["kind", "fire"], ["name rule", node[2]], ["chip", node[3]], ["condition", node[4]], ["end", node[5]]];
-    default: return [["kind", "act"], ["name rule", node[2]], ["chip", node[3]], ["end", node[4]]];
+    case FIRE: return [["kind", "fire"], ...saidOfTask(node), ["condition", node[4]], ["end", node[5]]];
+    default: return [["kind", "act"], ...saidOfTask(node), ["end", node[4]]];
   }
 }
+
+const nameStyle = (verb) => (ON_OBJECTS.includes(verb) ? "name object" : "name rule");
+const saidOfTask = (node) => [["name rule", node[2]], ["chip", node[3]]];
 
 function saidOfTransaction(place, node) {
   const moment = data.units[unitOf[place]][1];

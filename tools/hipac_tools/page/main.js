@@ -96,7 +96,8 @@ function start() {
   listObjects();
   wireGraph();
   layOut();
-  fill("details", [element("h2", "", "Details"), element("p", "faint", "Choose a line of the tree, or press / to search.")]);
+  const hint = "Choose a line of the tree, or press / to search.";
+  fill("details", [element("h2", "", "Details"), element("p", "faint", hint)]);
   drawOverview();
   goToAddress();
   document.documentElement.dataset.ready = String(Math.round(performance.now()));

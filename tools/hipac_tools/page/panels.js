@@ -71,10 +71,11 @@ function shortName(place) {
 function showDetails(place) {
   const chips = element("div", "chips");
   for (const [style, text] of said(place).slice(1)) {
-    if (text && !style.startsWith("name") && style !== "row-text" && style !== "value") chips.append(piece(style, text));
+    if (text && ["chip", "condition", "end"].includes(style)) chips.append(piece(style, text));
   }
   if (undoneBy[place] !== NOWHERE) chips.append(element("span", "chip warn", "undone"));
-  fill("details", [element("h2", "", shortName(place)), chips, trail(place), facts(place), actions(place), emitted(place)]);
+  const head = element("h2", "", shortName(place));
+  fill("details", [head, chips, trail(place), facts(place), actions(place), emitted(place)]);
 }
 
 function trail(place) {
@@ -98,7 +99,8 @@ function facts(place) {
   for (const [label, sentence] of rows) {
     const style = label === "Aborted" || label === "Undone" ? "bad" : "";
     const isPlain = label === "Row" || label === "Value";
-    made.append(element("dt", "", label), isPlain ? element("dd", "name", sentence) : sentenceElement("dd", style, sentence));
+    const content = isPlain ? element("dd", "name", sentence) : sentenceElement("dd", style, sentence);
+    made.append(element("dt", "", label), content);
   }
   return made;
 }
@@ -133,7 +135,8 @@ function emitted(place) {
   const node = nodes[place];
   if (node[0] !== TRANSACTION || node[5].length === 0) return null;
   const box = element("div");
-  box.append(element("h3", "", "Emitted"), table(["Value"], node[5], (value) => cells("", element("span", "name", value))));
+  const values = table(["Value"], node[5], (value) => cells("", element("span", "name", value)));
+  box.append(element("h3", "", "Emitted"), values);
   return box;
 }
 
@@ -152,14 +155,18 @@ function drawRule(name) {
   const chips = element("div", "chips");
   chips.append(element("span", statusChip(status), status + " at the end"));
   const all = button("All rules", () => { listRules(); byId("panel-rules").focus(); }, "plain");
-  const fired = table(["Unit", "Firing", "Trigger"], firings, (place) => cells(undoneBy[place] === NOWHERE ? "" : "undone",
-    button("unit " + unitNumber(place), () => choose(place, true)), firingChips(place), fact(place, "Trigger")));
-  const worked = table(["Unit", "Operation", ""], operations, (place) => cells(undoneBy[place] === NOWHERE ? "" : "undone",
-    button("unit " + unitNumber(place), () => choose(place, true)), nodes[place][2], outcome(undoneBy[place])));
-  fill("rules", [all, element("h2", "", "Rule " + name), chips, data.texts[name] ? element("pre", "", data.texts[name]) : null,
+  const fired = table(["Unit", "Firing", "Trigger"], firings, (place) =>
+    cells(rowFate(undoneBy[place]), unitButton(place), firingChips(place), fact(place, "Trigger")));
+  const worked = table(["Unit", "Operation", "Became"], operations, (place) =>
+    cells(rowFate(undoneBy[place]), unitButton(place), nodes[place][2], outcome(undoneBy[place])));
+  const text = data.texts[name] ? element("pre", "", data.texts[name]) : null;
+  fill("rules", [all, element("h2", "", "Rule " + name), chips, text,
     element("h3", "", "Firings (" + firings.length + ")"), fired,
     element("h3", "", "Operations on it (" + operations.length + ")"), worked]);
 }
+
+const rowFate = (undone) => (undone === NOWHERE ? "" : "undone");
+const unitButton = (place) => button("unit " + unitNumber(place), () => choose(place, true));
 
 function firingChips(place) {
   const box = element("span", "chips");
@@ -177,11 +184,13 @@ const outcome = (undone) => {
 
 function listObjects() {
   const box = element("div");
-  const filter = element("input", "filter", undefined, { type: "search", placeholder: "Filter by class, key or value" });
+  const filter = element("input", "filter", undefined, { type: "search" });
+  filter.placeholder = "Filter by class, key or value";
   filter.setAttribute("aria-label", "Filter the objects");
   const draw = () => {
     const wanted = filter.value.toLowerCase();
-    const found = data.objects.filter(([name, key, row]) => (name + " " + key + " " + (row ?? "")).toLowerCase().includes(wanted));
+    const fits = ([name, key, row]) => (name + " " + key + " " + (row ?? "")).toLowerCase().includes(wanted);
+    const found = data.objects.filter(fits);
     box.replaceChildren(table(["Object", "At the end", "Operations"], found, objectRow));
   };
   filter.addEventListener("input", draw);
@@ -199,9 +208,10 @@ function drawObject(name) {
   const all = button("All objects", () => { listObjects(); byId("panel-objects").focus(); }, "plain");
   const state = element("p", "faint", row === null ? "It isn't there at the end." : "At the end: ");
   if (row !== null) state.append(element("span", "name", row || "there, without fields"));
-  const rows = table(["Unit", "What", "Row after it", "Became"], history, ([place, undone]) => cells(undone === NOWHERE ? "" : "undone",
-    button("unit " + unitNumber(place), () => choose(place, true)), nodes[place][2], element("span", "name", nodes[place][4]),
-    outcome(undone)));
+  const rows = table(["Unit", "What", "Row after it", "Became"], history, ([place, undone]) => {
+    const after = element("span", "name", nodes[place][4]);
+    return cells(rowFate(undone), unitButton(place), nodes[place][2], after, outcome(undone));
+  });
   fill("objects", [all, element("h2", "", name), state, element("h3", "", "History (" + history.length + ")"), rows]);
 }
 

@@ -1,6 +1,7 @@
 /* Search over units, rules, objects and every line. The texts are made at the first search. */
 
 const MOST_FOUND = 200;
+const MOST_NAMES = 40;
 const search = { texts: null, found: [], active: 0 };
 const searchBox = byId("search");
 const resultsBox = byId("results");
@@ -20,7 +21,8 @@ function find(wanted) {
   textsOfNodes().forEach((text, place) => {
     if (!words.every((word) => text.includes(word)) || units.some((unit) => unit.place === place)) return;
     count += 1;
-    if (found.length < MOST_FOUND) found.push({ where: "unit " + unitNumber(place), what: lineOf(place), go: () => choose(place, true) });
+    if (found.length >= MOST_FOUND) return;
+    found.push({ where: "unit " + unitNumber(place), what: lineOf(place), go: () => choose(place, true) });
   });
   return { found, count };
 }
@@ -36,7 +38,8 @@ function foundUnits(words) {
 
 function foundNames(kind, names, words) {
   const fitting = names.filter((name) => words.every((word) => (kind + " " + name).toLowerCase().includes(word)));
-  return fitting.slice(0, 40).map((name) => ({ where: kind, what: name, go: () => (kind === "rule" ? showRule(name) : showObject(name)) }));
+  const show = kind === "rule" ? showRule : showObject;
+  return fitting.slice(0, MOST_NAMES).map((name) => ({ where: kind, what: name, go: () => show(name) }));
 }
 
 function drawResults() {

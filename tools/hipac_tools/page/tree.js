@@ -29,7 +29,7 @@ function layOut() {
   drawRows();
 }
 
-/* Elements of lines that look as before stay where they are, so that a press of the mouse and its release meet the same one. */
+/* Elements of lines that look as before stay where they are: a press of the mouse and its release must meet one element. */
 let drawn = new Map();
 
 function drawRows() {
@@ -76,11 +76,13 @@ function rowElement(at) {
   return row;
 }
 
-/* Why a line is there or how it ended, without what its details say beside; of a closed unit that committed, what it holds. */
+/* Why a line is there or how it ended, in short; of a closed unit that committed, what it holds. */
+const LEFT_OUT = [/ \(at [^)]*\)/g, /, in the unit's own body/g, /; `(ec|ca)` is [^.]*/g, /`/g];
+
 function reasonOf(place) {
   const reason = fact(place, "Aborted") || fact(place, "Detached") || fact(place, "Trigger");
   if (!reason && kindOf(place) === TRANSACTION && !tree.open.has(place)) return contents(place);
-  return reason.replace(/ \(at [^)]*\)/g, "").replace(/, in the unit's own body/g, "").replace(/; `(ec|ca)` is [^.]*/g, "").replace(/`/g, "");
+  return LEFT_OUT.reduce((text, left) => text.replace(left, ""), reason);
 }
 
 function rowStyle(place, level) {
@@ -147,8 +149,9 @@ function reveal(place) {
 
 function bringIntoView(at) {
   const top = at * ROW;
+  const last = treeBox.scrollTop + treeBox.clientHeight - ROW;
   if (top < treeBox.scrollTop) treeBox.scrollTop = Math.max(0, top - ROW);
-  else if (top + ROW > treeBox.scrollTop + treeBox.clientHeight) treeBox.scrollTop = top + 2 * ROW - treeBox.clientHeight;
+  else if (top > last) treeBox.scrollTop += top + ROW - last;
 }
 
 /* Shows the units whose worst abort is at least this one. */
@@ -205,7 +208,7 @@ treeBox.addEventListener("keydown", (event) => {
   if (tree.active === NOWHERE && event.key !== "End") moveBy(1);
   else act();
 });
-/* A press of the mouse focuses the tree too; were lines drawn anew then, the press would lose the line that it is on. */
+/* A press of the mouse focuses the tree too, and chooses a line by itself. */
 let isPressed = false;
 treeBox.addEventListener("pointerdown", () => { isPressed = true; });
 window.addEventListener("pointerup", () => { isPressed = false; });
