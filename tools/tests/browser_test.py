@@ -16,12 +16,12 @@ from pathlib import Path
 
 from hipac_tools import report, view
 from hipac_tools.account import account_of
-from hipac_tools.course import Course
 
 from .browser import Browser
 from .large_script import UNITS, large_script
 from .made_scripts import TEXTS
 from .test_report import EXAMPLES
+from .trials import followed
 
 MOST_MILLISECONDS = 2_000
 MOST_ELEMENTS = 2_500
@@ -30,7 +30,7 @@ EVERYTHING_FOCUSABLE = "button, input, [tabindex='0'], a[href]"
 
 def page_of(script, folder, name):
     """Writes the page of a script into a folder, with the report that the course gives (test_course compares it)."""
-    one = account_of(json.dumps(script).encode(), report.write(Course(script).report()))
+    one = account_of(json.dumps(script).encode(), report.write(followed(script)))
     path = Path(folder, name + ".html")
     path.write_text(view.page_text(one, name + ".json"), encoding="utf-8")
     return path, one

@@ -10,19 +10,19 @@ import unittest
 
 from hipac_tools import program, report, view
 from hipac_tools.account import account_of
-from hipac_tools.course import Course
 from hipac_tools.model import ACT, EMIT, END_PLACES, FIRE, NOWHERE, OPERATION, TRANSACTION, page_model
 from hipac_tools.report import walk
 
 from .made_scripts import TEXTS, made_script
 from .test_report import EXAMPLES
+from .trials import followed
 
 SEEDS = range(25)
 
 
 def account(script):
     """An account whose report the course itself gives; that it is the program's is the matter of test_course."""
-    return account_of(json.dumps(script).encode(), report.write(Course(script).report()))
+    return account_of(json.dumps(script).encode(), report.write(followed(script)))
 
 
 def data_of(page):
