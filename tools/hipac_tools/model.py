@@ -94,16 +94,13 @@ class _Maker:
             self.operations[node.name].append(place)
 
     def _holder(self, node: Any, parent: int) -> int:
-        facts: List[Tuple[str, str]] = []
         if isinstance(node, Sub):
             row = [SUB, parent, str(node.end)]
         elif isinstance(node, Act):
             row = [ACT, parent, node.rule, node.mode, str(node.end)]
-            facts.append(("Trigger", self._trigger(node)))
         else:
             row = [FIRE, parent, node.rule, node.mode, node.condition, str(node.action)]
-            facts.append(("Trigger", self._trigger(node)))
-            facts.append(("Condition", " ".join(reasons.condition_sentences(node))))
+        facts = [] if isinstance(node, Sub) else self._task(node)
         if not node.end.committed:
             facts.append(("Aborted", " ".join(reasons.chain(node))))
         place = self._add(node, row, facts + self._common(node))
@@ -111,6 +108,17 @@ class _Maker:
             self.page.nodes[place].append(self._trigger_place(node))
             self.firings.setdefault(node.rule, []).append(place)
         return place
+
+    def _task(self, node: Any) -> List[Tuple[str, str]]:
+        """What triggered a firing, and how its condition and its action went."""
+        facts = [("Trigger", self._trigger(node))]
+        action = reasons.action_sentence(node, self.account.mode_of_action(node.rule))
+        if isinstance(node, Fire):
+            end = [action] if node.action == "none" else []
+            facts.append(("Condition", " ".join(reasons.condition_sentences(node) + end)))
+        if node.end.committed and not (isinstance(node, Fire) and node.action == "none"):
+            facts.append(("Action", action))
+        return facts
 
     def _trigger(self, node: Any) -> str:
         trigger = sentence(reasons.trigger_words(node.note.trigger, node.note.occurrence))

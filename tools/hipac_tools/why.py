@@ -134,18 +134,17 @@ class UnitAnswer:
         elif transaction.end.committed:
             say(1, "All of its own statements ran." if self.unit.moment is None else "It ran to its end.")
         if not transaction.end.committed:
-            self.lines.say_all(1, reasons.chain(transaction))
+            self.lines.say_all(1, new_in_chain(transaction, transaction))
         self._inner(transaction)
-        own = transaction.items[0] if transaction.rule is not None else None
         tasks = Counter(fates.line_of(node) for node in walk(transaction)
-                        if isinstance(node, (Fire, Act)) and node is not own)
+                        if isinstance(node, (Fire, Act)) and node is not own_task(transaction))
         if tasks:
             say(1, "Rules:")
             self.lines.say_some(2, often(tasks))
 
     def _task(self, transaction: Transaction) -> None:
         """What triggered a transaction of the cascade, and how its one task went. A veto is told as the abort."""
-        note, task = transaction.note, transaction.items[0]
+        note, task = transaction.note, own_task(transaction)
         self.lines.say(1, f"Rule {transaction.rule} was {reasons.trigger_words(note.trigger, note.occurrence)}.")
         if isinstance(task, Fire) and task.condition != "satisfied":
             self.lines.say(1, " ".join(reasons.condition_sentences(task)))
@@ -155,14 +154,30 @@ class UnitAnswer:
     def _inner(self, transaction: Transaction) -> None:
         """The parts that aborted by themselves while the transaction went on. A veto that aborts several nodes at once
         is told of the outermost."""
-        told = transaction.items[0] if transaction.rule is not None else None
+        own = own_task(transaction)
         aborted = [node for node in walk(transaction) if isinstance(node, (Sub, Fire, Act)) and not node.end.committed
-                   and not is_part_of_veto(node) and not (node is told and node.end.cause != "A9")]
+                   and not is_part_of_veto(node) and not (node is own and node.end.cause != "A9")]
         for node in aborted[:MOST_LINES]:
             self.lines.say(1, f"Within it {reasons.name_of(node)} {node.end}:")
-            self.lines.say_all(2, reasons.chain(node))
+            self.lines.say_all(2, new_in_chain(node, transaction))
         if len(aborted) > MOST_LINES:
             self.lines.say(1, f"and {len(aborted) - MOST_LINES} more parts aborted within it")
+
+
+def own_task(transaction: Transaction) -> Any:
+    """The task that a transaction of a cascade is for; none of a unit's own transaction."""
+    return None if transaction.rule is None else transaction.items[0]
+
+
+def new_in_chain(node: Any, transaction: Transaction) -> List[str]:
+    """What led to an abort, without what was said before of how the transaction of a cascade came to be."""
+    sentences, own = reasons.chain(node), own_task(transaction)
+    if own is not None:
+        for who in ("It", f"Rule {own.rule}"):
+            known = reasons.origins(own, who)
+            if sentences[-len(known):] == known:
+                return sentences[:-len(known)]
+    return sentences
 
 
 def is_part_of_veto(node: Any) -> bool:

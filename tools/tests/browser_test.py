@@ -86,7 +86,7 @@ class ExamplesTest(BrowserCase):
         self.browser.click(".row.top .kind", "unit 3")
         self.assertIn("aborted A9 solvent", self.selected())
         self.assertIn("Rule solvent vetoed", self.selected())
-        self.assertIn("It was triggered by update acct 1 (at /items/2/1/0)", self.panel("details"))
+        self.assertIn("It was triggered by update acct 1 (bal 70 -> -1) at /items/2/1/0", self.panel("details"))
         self.browser.key("ArrowRight")
         self.assertIn("bal=-1 limit=0 undone", self.selected())
         self.assertIn("undone", self.browser.evaluate("document.querySelector('.row.selected').className"))
@@ -173,7 +173,7 @@ class ExamplesTest(BrowserCase):
         rows = self.browser.evaluate("[...document.querySelectorAll('.row')].map((row) => row.innerText)")
         lines = [re.sub(r"\s+", " ", row) for row in rows]
         place = next(at for at, line in enumerate(lines) if line.startswith("dependent operator committed"))
-        self.assertIn("Triggered by signal burst [2], in the action of rule burst", lines[place])
+        self.assertIn("Triggered by signal burst [2] at /rules/3/5/0/2/0, in the action of rule burst", lines[place])
 
     def test_every_control_has_a_name_and_the_tree_says_what_it_is(self):
         self.page("workflow")

@@ -203,7 +203,7 @@ class AcceptedScripts(InDirectory):
 
     def test_a_key_that_is_asked_for_too_late(self) -> None:
         key, owes = '["=", ["id", 0], ["key", "a"]]', '["<", ["of", "a", "bal"], 0]'
-        hints = [f"{what} goes over all objects of `acct`; with this test of the key first it would look at one"
+        hints = [f"{what} goes over all of `acct`: with this test of the key first it looks at one object"
                  for what in ("the query `a`", "`each` `a`")]
         self.assertEqual(self.hints(f'["and", {owes}, {key}]'), hints)
         self.assertEqual(self.hints(f'["and", ["and", {owes}, {owes}], ["and", {key}, {key}]]'), hints)

@@ -138,8 +138,6 @@ class CascadeTest(WhyCase):
             "separate always aborted A9 always",
             "Rule always was triggered by signal go [] at /items/1/1/0, in the unit's own body.",
             "Rule always vetoed (at /rules/0/5/0).",
-            "It was triggered by signal go [] at /items/1/1/0, in the unit's own body.",
-            "It is separate, so it ran in a transaction of its own.",
             "exclusive undone committed",
             "Rule undone was triggered by signal go [] at /items/1/1/0, in the unit's own body.",
             "Its action ran and changed nothing.",
@@ -210,8 +208,8 @@ class FiringTest(WhyCase):
     def test_the_query_that_met_a_fault_is_named(self):
         faulty = ["=", ["/", 1, ["-", ["of", "b", "bal"], 10]], 0]
         asks = simple("asks", ["signal", "go"], queries=[["a", "acct", True], ["b", "acct", faulty]])
-        self.assertIn("Its condition ended with a fault (A5). Query a went over 1 object of acct and found acct 1. Query "
-                      "b met a fault: 1 / 0 divides by zero.",
+        self.assertIn("Its condition ended with a fault (A5). Query a went over 1 object of acct and found acct 1. "
+                      "Query b met a fault: 1 / 0 divides by zero.",
                       self.answer(script([asks], install("asks") + [ACCOUNT, GO]), 1, "asks"))
 
     def trigger(self, event, *statements):

@@ -38,7 +38,7 @@ def read_predicate(place: Place, scope: Scope, name: str, what: str) -> None:
     for test in later:
         if is_key_asked(name, test.node.value):
             of = scope.rows[name].class_read.name
-            message = f"{what} goes over all objects of `{of}`; with this test of the key first it would look at one"
+            message = f"{what} goes over all of `{of}`: with this test of the key first it looks at one object"
             scope.gathered.hint(test, message)
             return
 
