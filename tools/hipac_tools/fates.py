@@ -46,6 +46,12 @@ def line_of(node: Any) -> str:
     return node.rule + (f" ({mode})" if mode else "") + f" {WORDS[fate]}" + (f" ({cause})" if cause else "")
 
 
+def dropped_line(dropped: Dropped) -> str:
+    """`ready (deferred) was dropped`."""
+    mode = "" if dropped.mode == "immediate" else f" ({dropped.mode})"
+    return f"{dropped.rule}{mode} {WORDS[DROPPED]}"
+
+
 def is_by_event(one: Any) -> bool:
     """Whether what made a task was an event, and no statement `fire`."""
     return one.trigger is None or one.trigger.primitive is not None

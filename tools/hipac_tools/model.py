@@ -102,12 +102,17 @@ class _Maker:
             row = [FIRE, parent, node.rule, node.mode, node.condition, str(node.action)]
         facts = [] if isinstance(node, Sub) else self._task(node)
         if not node.end.committed:
-            facts.append(("Aborted", " ".join(reasons.chain(node))))
+            facts.append(("Aborted", self._aborted(node)))
         place = self._add(node, row, facts + self._common(node))
         if not isinstance(node, Sub):
             self.page.nodes[place].append(self._trigger_place(node))
             self.firings.setdefault(node.rule, []).append(place)
         return place
+
+    def _aborted(self, node: Any) -> str:
+        """Why a node aborted; what triggered it is a fact of its own."""
+        told = [] if isinstance(node, Sub) else reasons.trigger_sentences(node, f"Rule {node.rule}")
+        return " ".join(one for one in reasons.chain(node) if one not in told)
 
     def _task(self, node: Any) -> List[Tuple[str, str]]:
         """What triggered a firing, and how its condition and its action went."""

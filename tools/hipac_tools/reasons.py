@@ -105,15 +105,21 @@ def later_sentences(firing: Any) -> List[str]:
     return [f"{who} is {firing.mode}, so it ran {where}."]
 
 
+def trigger_sentences(firing: Any, who: str) -> List[str]:
+    """What triggered a firing, and when it ran."""
+    note = firing.note
+    if note.trigger is None:
+        return [f"What triggered rule {firing.rule} {UNTOLD}."]
+    return [f"{who} was {trigger_words(note.trigger, note.occurrence)}."] + later_sentences(firing)
+
+
 def origins(firing: Any, who: str = "It") -> List[str]:
     """The triggers of a firing, of the firing in whose action it was triggered, and so on."""
     sentences: List[str] = []
     while firing is not None:
-        note = firing.note
-        if note.trigger is None:
-            return sentences + [f"What triggered rule {firing.rule} {UNTOLD}."]
-        sentences += [f"{who} was {trigger_words(note.trigger, note.occurrence)}."] + later_sentences(firing)
-        firing = _action_round(note.trigger.within)
+        sentences += trigger_sentences(firing, who)
+        trigger = firing.note.trigger
+        firing = None if trigger is None else _action_round(trigger.within)
         who = "" if firing is None else f"Rule {firing.rule}"
     return sentences
 

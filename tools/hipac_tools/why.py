@@ -136,11 +136,19 @@ class UnitAnswer:
         if not transaction.end.committed:
             self.lines.say_all(1, new_in_chain(transaction, transaction))
         self._inner(transaction)
+        self._rules(transaction)
+
+    def _rules(self, transaction: Transaction) -> None:
+        """What became of the rules within a transaction. What was detached from it is told apart."""
         tasks = Counter(fates.line_of(node) for node in walk(transaction)
                         if isinstance(node, (Fire, Act)) and node is not own_task(transaction))
+        tasks.update(fates.dropped_line(one) for one in transaction.note.dropped if one.mode not in DETACHED)
         if tasks:
-            say(1, "Rules:")
+            self.lines.say(1, "Rules:")
             self.lines.say_some(2, often(tasks))
+        is_alone = len(self.unit.transactions) == 1 and not transaction.note.dropped
+        if not tasks and is_alone and transaction.end.committed and self.account.doubt is None:
+            self.lines.say(1, "No rule was triggered.")
 
     def _task(self, transaction: Transaction) -> None:
         """What triggered a transaction of the cascade, and how its one task went. A veto is told as the abort."""
@@ -228,7 +236,7 @@ class RuleAnswer:
             self.lines.say_all(2, reasons.origins(node))
             say(2, " ".join(reasons.condition_sentences(node)))
         else:
-            self.lines.say_all(2, reasons.origins(node)[:1] + reasons.later_sentences(node))
+            self.lines.say_all(2, reasons.trigger_sentences(node, "It"))
         say(2, reasons.action_sentence(node, self.account.mode_of_action(self.rule)))
         undone = reasons.undone_words(node)
         if undone and node.items:

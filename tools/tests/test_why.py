@@ -369,6 +369,7 @@ class SilenceTest(WhyCase):
             "rule late was triggered once in unit 2, and was dropped",
             "It was triggered by signal go [] at /items/1/1/0/1/0, in a `sub`.",
             "It was dropped before its condition was tested, as the `sub` at /items/1/1/0 aborted (A8)."], "late")
+        self.assertEqual(self.answer(of, 2)[-2:], ["Rules:", "late (deferred) was dropped"])
 
     def test_nothing_was_signalled(self):
         self.assertIn("Nothing was signalled in that unit.", self.answer(script([self.TELL], [["abort"]]), 1, "tell"))
@@ -402,7 +403,8 @@ class CommandTest(unittest.TestCase):
                 json.dump(script([simple("tell", ["signal", "go"])], [["emit", "\u00e9"]]), file)
             with open(bad, "w", encoding="utf-8") as file:
                 file.write("{}")
-            self.assertEqual(self.run_words(good, "1"), (0, "unit 1 committed\n  All of its own statements ran.\n", ""))
+            self.assertEqual(self.run_words(good, "1"), (0, "unit 1 committed\n  All of its own statements ran.\n"
+                                                              "  No rule was triggered.\n", ""))
             self.assertEqual(self.run_words(bad, "1")[0], 2)
             self.assertIn("refused S2 /", self.run_words(bad, "1")[2])
             self.assertEqual(self.run_words(good, "2")[::2], (3, "why: there is no unit 2; the last one is unit 1\n"))
