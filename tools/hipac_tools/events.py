@@ -85,7 +85,7 @@ def lacking(event: Form, state: Any, primitive: Primitive) -> str:
         if right is not None:
             return _in_vain(event[0], state[2], first, last)
         if left is not None:
-            return f"{last} has yet to follow"
+            return f"{'the next ' if event[2][0] == 'every' else ''}{last} has yet to follow"
     within = (lacking(arm, before, primitive) for arm, before in zip(event[1:], state))
     return " and ".join(dict.fromkeys(words for words in within if words))
 

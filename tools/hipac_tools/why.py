@@ -139,10 +139,12 @@ class UnitAnswer:
         self._rules(transaction)
 
     def _rules(self, transaction: Transaction) -> None:
-        """What became of the rules within a transaction. What was detached from it is told apart."""
+        """What became of the rules within a transaction. What was detached from it is told apart, save for exclusive
+        tasks that no abort released, of which there is nothing more to tell."""
         tasks = Counter(fates.line_of(node) for node in walk(transaction)
                         if isinstance(node, (Fire, Act)) and node is not own_task(transaction))
-        tasks.update(fates.dropped_line(one) for one in transaction.note.dropped if one.mode not in DETACHED)
+        tasks.update(fates.dropped_line(one) for one in transaction.note.dropped
+                     if one.mode not in DETACHED or one.why == NO_ABORT)
         if tasks:
             self.lines.say(1, "Rules:")
             self.lines.say_some(2, often(tasks))

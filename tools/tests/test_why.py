@@ -144,7 +144,7 @@ class CascadeTest(WhyCase):
             "dependent kept dropped",
             "Rule kept was triggered by signal go [] at /items/1/1/0, in the unit's own body.",
             "It was dropped before its condition was tested, as unit 2 aborted (A8)."])
-        self.assertNotIn("exclusive undone dropped", self.answer(of, 3))
+        self.assertEqual(self.answer(of, 3)[2:4], ["Rules:", "undone (exclusive) was dropped"])
         self.says(of, 3, [
             "rule undone was triggered once in unit 3, and was dropped",
             "It was triggered by signal go [] at /items/2/1/0, in the unit's own body.",
@@ -348,6 +348,8 @@ class SilenceTest(WhyCase):
             "signal b has yet to follow and signal c has yet to follow."])
         self.assertEqual(self.mentions(["closure", ["every", 2, 2], ["signal", "b"]], "b"), [
             'there was no moment of "every 2 moments from moment 2" before it.'])
+        self.assertEqual(self.mentions(["seq", ["signal", "a"], ["every", 2, 2]], "a"), [
+            'the next moment of "every 2 moments from moment 2" has yet to follow.'])
 
     def test_too_deep(self):
         rules = [simple("outer", ["signal", "out"], action=[GO]), self.TELL]
