@@ -7,9 +7,8 @@ import os
 import sys
 from dataclasses import dataclass
 
+from .command import DONE, WRONG_WORDS
 from .near import nearest
-
-WRONG_WORDS = 3
 
 
 @dataclass(frozen=True)
@@ -25,7 +24,7 @@ WORDS = {
     "print": Word("printing", "writes a script as a person would read it aloud"),
     "graph": Word("graph", "draws which rules can trigger which"),
     "view": Word("view", "shows what a script's transactions did"),
-    "why": Word("why", "says why a rule fired, or didn't"),
+    "why": Word("why", "says why a rule acted, or didn't"),
 }
 
 
@@ -38,7 +37,7 @@ def usage() -> str:
 def main(arguments: list[str]) -> int:
     if not arguments or arguments[0] in ("--help", "-h", "help"):
         print(usage())
-        return 0
+        return DONE
     name = arguments[0]
     if name not in WORDS:
         meant = nearest(name, WORDS)
@@ -58,7 +57,7 @@ def run() -> int:
         return status
     except BrokenPipeError:
         os.dup2(os.open(os.devnull, os.O_WRONLY), sys.stdout.fileno())
-        return 0
+        return DONE
 
 
 if __name__ == "__main__":

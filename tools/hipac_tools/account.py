@@ -6,19 +6,16 @@ the script does more than the course follows, `derived` tells what the report's 
 
 from __future__ import annotations
 
-import json
-import sys
 from dataclasses import dataclass
-from typing import Any, Dict, List, Optional
+from typing import Any, Dict, List, Optional, Set
 
-from . import events, program, report, rulebase
+from . import events, language, program, report, rulebase
+from .command import FAILED, REFUSED, WRONG_WORDS
 from .course import Course, STEPS, TooLong
 from .notes import Note, Signal
 from .report import Fire, Operation, Report
 from .values import Primitive
 
-REFUSED, WRONG_WORDS, FAILED = 2, 3, 4
-STANDARD_INPUT = "-"
 TOO_LONG = "The script does more than is followed here"
 DIFFERENT = "The report isn't the one that following the script gives"
 
@@ -33,22 +30,17 @@ class NoAccount(Exception):
 
 @dataclass
 class Account:
-    script: Dict[str, Any]
     base: rulebase.RuleBase
     report: Report
     doubt: Optional[str] = None
 
     @property
-    def rules(self) -> Dict[str, List[Any]]:
-        return {rule[0]: rule for rule in self.script["rules"]}
+    def rules(self) -> Dict[str, rulebase.Rule]:
+        return {rule.name: rule for rule in self.base.rules}
 
-
-def bytes_of(name: str) -> bytes:
-    """A file's bytes, or those of standard input."""
-    if name == STANDARD_INPUT:
-        return sys.stdin.buffer.read()
-    with open(name, "rb") as file:
-        return file.read()
+    def mode_of_action(self, rule: str) -> str:
+        """The mode of a rule's action; of a rule that only another script's report knows, nothing is known."""
+        return self.rules[rule].ca if rule in self.rules else "not immediate"
 
 
 def account_of(script_bytes: bytes, report_text: Optional[str] = None, watch: Optional[str] = None,
@@ -58,16 +50,15 @@ def account_of(script_bytes: bytes, report_text: Optional[str] = None, watch: Op
     if report_text is None:
         report_text = _run(script_bytes)
     try:
-        text = script_bytes.decode("utf-8")
-        base = rulebase.read(text)
+        base = rulebase.read(script_bytes.decode("utf-8"))
         found = report.read(report_text)
     except (UnicodeDecodeError, rulebase.Refused):
         raise NoAccount("this is no script; `hipac-tools check` says more", REFUSED)
     except report.ReportFault as fault:
         raise NoAccount(f"the report can't be read: {fault}", REFUSED)
-    account = Account(json.loads(text), base, found)
+    account = Account(base, found)
     try:
-        followed = Course(account.script, watch, steps).report()
+        followed = Course(base, watch, steps).report()
     except TooLong:
         return derived(account, TOO_LONG, is_own)
     except (LookupError, TypeError, ValueError, AttributeError, RecursionError):
@@ -77,7 +68,7 @@ def account_of(script_bytes: bytes, report_text: Optional[str] = None, watch: Op
         if report.write(found) == report.write(followed, trees=False):
             raise NoAccount("the report has no trees: make it with ./hipac --tree", REFUSED)
         return derived(account, DIFFERENT, is_own)
-    return Account(account.script, base, followed)
+    return Account(base, followed)
 
 
 def _run(script_bytes: bytes) -> str:
@@ -93,8 +84,9 @@ def _run(script_bytes: bytes) -> str:
 def derived(account: Account, doubt: str, is_own: bool) -> Account:
     """The report with the notes that its tree alone gives: who stands in whom, and plain triggers where the report is
     the script's own for certain."""
-    rules = account.script["rules"] if is_own else []
-    plain = {rule[0]: rule[1] for rule in rules if events.is_pure(rule[1]) and not _names_fire(account.script, rule[0])}
+    fired = _fired_by_statements(account.base)
+    plain = {rule.name: rule.event for rule in account.base.rules
+             if is_own and language.has_one_part(rule.event) and rule.name not in fired}
     for unit in account.report.units:
         for transaction in unit.transactions:
             transaction.note = Note(None, unit=unit.number)
@@ -103,16 +95,10 @@ def derived(account: Account, doubt: str, is_own: bool) -> Account:
     return account
 
 
-def _names_fire(form: Any, rule: str) -> bool:
-    """Whether a statement `fire` for the rule stands somewhere in the script."""
-    waiting = [form]
-    while waiting:
-        here = waiting.pop()
-        if here == ["fire", rule]:
-            return True
-        if isinstance(here, (list, dict)):
-            waiting.extend(here.values() if isinstance(here, dict) else here)
-    return False
+def _fired_by_statements(base: rulebase.RuleBase) -> Set[str]:
+    """The rules for which a statement `fire` stands somewhere in the script."""
+    bodies = [rule.action for rule in base.rules] + [item[1] for item in base.items if item[0] == "tx"]
+    return {statement[1] for body in bodies for statement in language.statements(body) if statement[0] == "fire"}
 
 
 def _derive(holder: Any, plain: Dict[str, List[Any]]) -> None:
@@ -138,4 +124,4 @@ def _matches(event: Optional[List[Any]], operation: Operation) -> bool:
     if event is None or not operation.on_object:
         return False
     primitive = Primitive(operation.verb, operation.name, operation.key)
-    return any(events.matches(pattern, primitive) for pattern in events.patterns(event))
+    return any(events.matches(pattern, primitive) for pattern in language.patterns(event))

@@ -12,10 +12,12 @@ from dataclasses import dataclass
 from typing import Optional
 
 from . import program
+from .command import DONE, FAILED, REFUSED, WRONG_WORDS, bytes_of, shown
 from .checking.excerpt import excerpt
 from .checking.faults import Fault, Note, Refused
 from .checking.script import Script, read_script
 from .positions import Node, NotJson, find, line_and_column, parse
+from .wording import counted
 
 USAGE = """usage: hipac-tools check SCRIPT.json ..
 
@@ -23,7 +25,6 @@ Says of each script whether the program accepts it. Of a refused one it says whe
 The exit status is the program's: 0 accepted, 2 refused, 3 the words are wrong, 4 the program failed."""
 
 MOST_BYTES = 1_048_576
-ACCEPTED, REFUSED, WRONG_WORDS, FAILED = 0, 2, 3, 4
 
 MEANINGS = {
     "S1": "the script is no JSON text",
@@ -48,7 +49,7 @@ class Read:
 def main(arguments: list[str]) -> int:
     if arguments in (["--help"], ["-h"]):
         print(USAGE)
-        return ACCEPTED
+        return DONE
     if not arguments or any(argument.startswith("-") and argument != "-" for argument in arguments):
         print(USAGE, file=sys.stderr)
         return WRONG_WORDS
@@ -62,23 +63,15 @@ def check(name: str) -> int:
     except OSError as fault:
         print(f"{name}: {fault.strerror}", file=sys.stderr)
         return WRONG_WORDS
-    shown = "standard input" if name == "-" else name
     ended = program.run(script, [])
-    if ended.status == ACCEPTED:
-        print("\n".join(accepted(shown, read(script))))
+    if ended.status == DONE:
+        print("\n".join(accepted(shown(name), read(script))))
     elif ended.status == REFUSED and ended.output.startswith("refused "):
-        print("\n".join(refused(shown, ended.output[len("refused "):].strip(), read(script))))
+        print("\n".join(refused(shown(name), ended.output[len("refused "):].strip(), read(script))))
     else:
-        print(f"{shown}: the program ended with status {ended.status}\n{ended.errors}", end="", file=sys.stderr)
+        print(f"{shown(name)}: the program ended with status {ended.status}\n{ended.errors}", end="", file=sys.stderr)
         return ended.status if ended.status in (WRONG_WORDS, FAILED) else FAILED
     return ended.status
-
-
-def bytes_of(name: str) -> bytes:
-    if name == "-":
-        return sys.stdin.buffer.read()
-    with open(name, "rb") as file:
-        return file.read()
 
 
 # ---- the tool's own reading
@@ -114,21 +107,17 @@ def json_fault(fault: NotJson) -> Fault:
 
 
 def accepted(name: str, own: Read) -> list[str]:
-    """The line for an accepted script, and what can't be meant in it."""
+    """The line for an accepted script, what can't be meant in it, and what could be better."""
     if own.script is None:
         return [f"{name}: accepted"]
     script = own.script
-    counts = ", ".join((counted(script.rules, "rule", "rules"), counted(script.classes, "class", "classes"),
-                        counted(script.items, "item", "items")))
+    counts = ", ".join((counted(script.rules, "rule"), counted(script.classes, "class", "classes"),
+                        counted(script.items, "item")))
     lines = [f"{name}: accepted ({counts})"]
     for warned in sorted(script.warnings, key=lambda warned: warned.place.node.start):
-        node, hints = warned.place.node, (warned.hint,) if warned.hint else ()
-        lines += told(name, own.text, "warning", Fault("", node.start, node.end, warned.message, hints))
+        node, hints = warned.place.node, (warned.help,) if warned.help else ()
+        lines += told(name, own.text, warned.word, Fault("", node.start, node.end, warned.message, hints))
     return lines
-
-
-def counted(number: int, one: str, more: str) -> str:
-    return f"{number} {one if number == 1 else more}"
 
 
 def refused(name: str, refusal: str, own: Read) -> list[str]:

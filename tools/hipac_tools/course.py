@@ -11,9 +11,10 @@ import sys
 from dataclasses import dataclass
 from typing import Any, Callable, Dict, List, Optional, Tuple
 
-from . import events
-from .notes import Dropped, Note, Query, Signal, Stop, Watched
+from . import events, language
+from .notes import ABORT, Dropped, NO_ABORT, Note, Query, Signal, Stop, VETO, Watched
 from .report import (Act, COMMITTED, Emit, End, FinalObject, Fire, Holder, Operation, Report, Sub, Transaction, Unit)
+from .rulebase import Query as Asked, Rule, RuleBase, numbered_items
 from .values import Environment, Fault, Occurrence, Primitive, Row, evaluate, is_int, kind_of, truth, value_text
 
 STEPS = 3_000_000
@@ -42,20 +43,6 @@ class Vetoing(Exception):
 
 
 @dataclass
-class Rule:
-    number: int
-    name: str
-    event: List[Any]
-    ec: str
-    queries: List[List[Any]]
-    ca: str
-    action: List[Any]
-
-    def __post_init__(self) -> None:
-        self.pure = events.is_pure(self.event)
-
-
-@dataclass
 class Task:
     """A condition to test, or (with answers) an action to run."""
 
@@ -80,14 +67,15 @@ class Mark:
 class Course:
     """The state of a script on its way: objects, rules, their pasts, and what is to be done later."""
 
-    def __init__(self, script: Dict[str, Any], watch: Optional[str] = None, steps: int = STEPS):
-        self.script = script
+    def __init__(self, base: RuleBase, watch: Optional[str] = None, steps: int = STEPS):
+        self.base = base
         self.watch = watch
         self.steps = steps
-        self.limit = script.get("depth", 8)
-        self.kinds = {name: dict(fields) for name, fields in script["classes"]}
-        self.rules = [Rule(number, *parts) for number, parts in enumerate(script["rules"])]
+        self.limit = base.depth_limit
+        self.kinds = {one.name: dict(one.fields) for one in base.classes}
+        self.rules = base.rules
         self.by_name = {rule.name: rule for rule in self.rules}
+        self.bodies = {rule.name: f"/rules/{number}/5" for number, rule in enumerate(self.rules)}
         self.listeners = _listeners(self.rules)
         self.objects: Dict[str, Dict[int, Dict[str, Any]]] = {name: {} for name in self.kinds}
         self.status: Dict[str, str] = {rule.name: "absent" for rule in self.rules}
@@ -105,15 +93,12 @@ class Course:
         """Runs all items; raises TooLong where that takes more steps than are followed."""
         sys.setrecursionlimit(max(sys.getrecursionlimit(), RECURSION))
         result = Report()
-        clock = 0
-        for number, item in enumerate(self.script["items"]):
+        for number, (item, _, moments) in enumerate(numbered_items(self.base)):
             path = f"/items/{number}/1"
             if item[0] == "tx":
                 self._unit(result, None, lambda: self._body(item[1], path, Environment(), 0))
-                continue
-            for moment in events.due_moments([rule.event for rule in self.rules], clock, item[1]):
+            for moment in moments:
                 self._unit(result, moment, lambda: self._signal(Primitive("time", moment=moment), path, 0))
-            clock = item[1]
         for name in self.kinds:
             for key in sorted(self.objects[name]):
                 result.objects.append(FinalObject(name, key, _texts(self.objects[name][key])))
@@ -122,34 +107,33 @@ class Course:
 
     def _unit(self, result: Report, moment: Optional[int], body: Callable[[], None]) -> None:
         self.detached = []
-        unit = Unit(len(result.units) + 1, moment, [self._transaction(Transaction(COMMITTED), None, body, 0)])
+        unit = Unit(len(result.units) + 1, moment, [self._transaction(Transaction(COMMITTED), body)])
         result.units.append(unit)
         while self.detached:
             generation = [task for task in self.detached if task.mode != "exclusive" or task.released]
             for task in self.detached:
                 if task.mode == "exclusive" and not task.released:
-                    self._drop(task, unit.transactions[0], "all the transactions round it committed")
+                    self._drop(task, NO_ABORT)
             later: List[Task] = []
             for task in generation:
                 self.detached = []
                 head = Transaction(COMMITTED, task.rule.name, task.mode)
-                done = self._transaction(head, task.trigger, lambda: self._task(task), task.depth)
+                done = self._transaction(head, lambda: self._task(task), task)
                 unit.transactions.append(done)
                 later.extend(self.detached)
             self.detached = later
         for transaction in unit.transactions:
             transaction.note.unit = unit.number
 
-    def _transaction(self, node: Transaction, trigger: Optional[Signal], body: Callable[[], None],
-                     depth: int) -> Transaction:
-        node.note = Note(None, trigger=trigger)
+    def _transaction(self, node: Transaction, body: Callable[[], None], task: Optional[Task] = None) -> Transaction:
+        node.note = Note(None) if task is None else Note(None, trigger=task.trigger, occurrence=task.occurrence)
         self.here = self.top = node
         self.queued = []
         self.journal.clear()
         mark = self._mark()
         try:
             body()
-            self._signal(Primitive("commit"), "", depth)
+            self._signal(Primitive("commit"), "", 0 if task is None else task.depth)
             while self.queued:
                 tasks, self.queued = self.queued, []
                 self._group(tasks)
@@ -172,7 +156,7 @@ class Course:
             else:
                 container[name] = old
         for task in self.queued[mark.queued:]:
-            self._drop(task, node, "the transaction that queued it aborted")
+            self._drop(task, ABORT, node)
         del self.queued[mark.queued:]
         made = self.detached[mark.detached:]
         del self.detached[mark.detached:]
@@ -180,7 +164,7 @@ class Course:
             if task.mode == "exclusive":
                 task.released = True
             if task.mode == "dependent":
-                self._drop(task, node, "a transaction that it depends on aborted")
+                self._drop(task, ABORT, node)
             else:
                 self.detached.append(task)
         node.note.stop = stop
@@ -189,9 +173,9 @@ class Course:
         else:
             node.end = stop.end
 
-    def _drop(self, task: Task, by: Any, why: str) -> None:
-        step = "condition" if task.answers is None else "action"
-        self.top.note.dropped.append(Dropped(task.rule.name, task.mode, step, task.trigger, by, why))
+    def _drop(self, task: Task, why: str, by: Any = None) -> None:
+        dropped = Dropped(task.rule.name, task.mode, task.answers is not None, task.trigger, task.occurrence, why, by)
+        self.top.note.dropped.append(dropped)
 
     def _put(self, container: Dict[Any, Any], name: Any, value: Any) -> None:
         self.journal.append((container, name, container.get(name, _NONE)))
@@ -223,7 +207,7 @@ class Course:
         name = statement[1]
         key, fields = self._evaluated(statement, environment)
         if key in self.objects[name]:
-            raise Fault("A1", f"create {name} {key} met an object that is there already")
+            raise Fault("A1", f"`create {name} {key}`: {name} {key} is there already")
         row = {field: fields[field] for field in self.kinds[name]}
         self._put(self.objects[name], key, row)
         node = self._add(Operation("create", name, key, _texts(row)), path)
@@ -255,8 +239,8 @@ class Course:
         for field, value in fields.items():
             kind = self.kinds[name][field]
             if kind_of(value) != kind:
-                words = f"{word} {name} {key}: {field} is to be of kind {kind} and is {value_text(value)}"
-                raise Fault("A3", words)
+                of = f"the field {field} is of kind {kind}, and the value is {value_text(value)}"
+                raise Fault("A3", f"`{word} {name} {key}`: {of}")
         return key, fields
 
     def _key(self, word: str, name: str, expression: Any, environment: Environment) -> int:
@@ -266,12 +250,12 @@ class Course:
 
     def _fit_key(self, word: str, name: str, key: Any) -> None:
         if not is_int(key):
-            raise Fault("A3", f"{word} {name}: the key is {value_text(key)}, which is no whole number")
+            raise Fault("A3", f"`{word} {name}`: the key is {value_text(key)}, which is no whole number")
 
     def _row(self, word: str, name: str, key: int) -> Dict[str, Any]:
         row = self.objects[name].get(key)
         if row is None:
-            raise Fault("A2", f"{word} {name} {key} met no such object")
+            raise Fault("A2", f"`{word} {name} {key}`: there is no {name} {key}")
         return row
 
     def _say(self, statement: List[Any], path: str, environment: Environment, depth: int) -> None:
@@ -336,7 +320,7 @@ class Course:
         verb, name = statement
         before = self.status[name]
         if verb in ("enable", "disable") and before == "absent":
-            raise Fault("A2", f"{verb} {name} met a rule that is absent")
+            raise Fault("A2", f"`{verb} {name}`: rule {name} isn't installed")
         node = self._add(Operation(verb, name), path)
         if STATUS_AFTER[verb] == before or (verb == "install" and before == "disabled"):
             return
@@ -347,9 +331,9 @@ class Course:
     def _fire(self, statement: List[Any], path: str, environment: Environment, depth: int) -> None:
         name = statement[1]
         if self.status[name] == "absent":
-            raise Fault("A2", f"fire {name} met a rule that is absent")
+            raise Fault("A2", f"`fire {name}`: rule {name} isn't installed")
         if depth + 1 > self.limit:
-            raise Fault("A7", f"fire {name} would be a firing at depth {depth + 1}, and the limit is {self.limit}")
+            raise Fault("A7", f"`fire {name}` would be a firing at depth {depth + 1}, and the limit is {self.limit}")
         rule = self.by_name[name]
         signal = Signal(None, self.here, path, depth, triggered=[name])
         self.top.note.signals.append(signal)
@@ -368,7 +352,7 @@ class Course:
             if self.status[rule.name] != "enabled":
                 continue
             state, occurrence = events.step(rule.event, self.pasts[rule.name], primitive)
-            if not rule.pure:
+            if not language.has_one_part(rule.event):
                 self._put(self.pasts, rule.name, state)
             if occurrence is not None:
                 tasks.append(Task(rule, rule.ec, depth + 1, signal, occurrence))
@@ -390,7 +374,7 @@ class Course:
         if primitive.kind != "time":
             return heard
         return [rule for rule in heard
-                if any(events.matches(pattern, primitive) for pattern in events.patterns(rule.event))]
+                if any(events.matches(pattern, primitive) for pattern in language.patterns(rule.event))]
 
     def _spread(self, tasks: List[Task]) -> None:
         """Queues the deferred tasks, detaches the separate ones, then runs the immediate ones."""
@@ -410,7 +394,7 @@ class Course:
                 self._task(task)
             except Aborting as aborting:
                 for younger in tasks[place + 1:]:
-                    self._drop(younger, aborting.stop.firing, "an elder sibling vetoed")
+                    self._drop(younger, VETO, aborting.stop.firing)
                 raise
 
     def _task(self, task: Task) -> None:
@@ -435,30 +419,49 @@ class Course:
 
     def _condition(self, node: Fire, task: Task) -> Optional[Dict[str, List[Row]]]:
         environment = Environment(task.occurrence)
-        for name, of, predicate in task.rule.queries:
-            rows = self._rows(of)
-            query = Query(name, of, len(rows))
+        for asked in task.rule.queries:
+            query = Query(asked.name, asked.class_name, len(self.objects[asked.class_name]))
             node.note.queries.append(query)
             try:
-                answer = [row for row in rows
-                          if self._true_of(predicate, environment.naming(name, row), "the predicate")]
+                answer = self._answer(asked, query, environment)
             except Fault as fault:
                 node.condition, query.fault = "fault " + fault.cause, fault.words
                 return None
-            query.keys = [row.key for row in answer]
             if not answer:
                 node.condition = "unsatisfied"
                 return None
-            environment.rows[name] = answer[0]
-            environment.answers[name] = answer
+            environment.rows[asked.name] = answer[0]
+            environment.answers[asked.name] = answer
         return environment.answers
+
+    def _answer(self, asked: Asked, query: Query, environment: Environment) -> List[Row]:
+        """The rows that fit. Of one object that was asked for by its key and doesn't fit, the note tells why."""
+        query.key = self._asked_key(asked, environment)
+        rows = self._rows(asked.class_name, query.key)
+        answer = [row for row in rows
+                  if self._true_of(asked.predicate, environment.naming(asked.name, row), "the predicate")]
+        query.keys = [row.key for row in answer]
+        if query.key is not None and rows and not answer:
+            here = environment.naming(asked.name, rows[0])
+            query.failed = next(test for test in language.conjuncts(asked.predicate) if not evaluate(test, here))
+            query.values = _values_in(query.failed, here)
+        return answer
+
+    def _asked_key(self, asked: Asked, environment: Environment) -> Optional[int]:
+        """The key of the one object that a query looks at; none where it goes over the whole class, or where the
+        program doesn't come to evaluate it."""
+        first = language.conjuncts(asked.predicate)[0]
+        if not self.objects[asked.class_name] or not language.is_key_asked(asked.name, first):
+            return None
+        key = evaluate(first[2] if first[1] == ["key", asked.name] else first[1], environment)
+        return key if is_int(key) else None
 
     def _action(self, node: Any, task: Task, answers: Dict[str, List[Row]]) -> None:
         rows = {name: answer[0] for name, answer in answers.items()}
         environment = Environment(task.occurrence, rows, answers)
         parent, mark, self.here = self.here, self._mark(), node
         try:
-            self._body(task.rule.action, f"/rules/{task.rule.number}/5", environment, task.depth)
+            self._body(task.rule.action, self.bodies[task.rule.name], environment, task.depth)
         except Aborting as aborting:
             self._abort(node, mark, aborting.stop)
         except Vetoing as vetoing:
@@ -467,9 +470,10 @@ class Course:
         finally:
             self.here = parent
 
-    def _rows(self, name: str) -> List[Row]:
+    def _rows(self, name: str, only: Optional[int] = None) -> List[Row]:
         objects = self.objects[name]
-        return [Row(name, key, objects[key]) for key in sorted(objects)]
+        keys = sorted(objects) if only is None else [only]
+        return [Row(name, key, objects[key]) for key in keys if key in objects]
 
     def _true_of(self, predicate: Any, environment: Environment, what: str) -> bool:
         self._count_step()
@@ -495,12 +499,23 @@ def _listeners(rules: List[Rule]) -> Dict[Tuple[str, str], List[Rule]]:
     """The rules, in rule order, by the kinds of primitives that their events mention."""
     found: Dict[Tuple[str, str], List[Rule]] = {}
     for rule in rules:
-        for pattern in events.patterns(rule.event):
+        for pattern in language.patterns(rule.event):
             word = "time" if pattern[0] in ("at", "every") else pattern[0]
             heard = found.setdefault((word, pattern[1] if word not in ("time", "commit") else ""), [])
             if rule not in heard:
                 heard.append(rule)
     return found
+
+
+def _values_in(test: Any, environment: Environment) -> List[Tuple[Any, str]]:
+    """The values that a test was made with, each with the form that gave it. What `and` or `or` left out may fail."""
+    values = []
+    for leaf in language.leaves(test):
+        try:
+            values.append((leaf, value_text(evaluate(leaf, environment))))
+        except Fault:
+            continue
+    return values
 
 
 def _texts(row: Dict[str, Any]) -> Tuple[Tuple[str, str], ...]:

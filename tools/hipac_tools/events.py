@@ -10,9 +10,13 @@ from __future__ import annotations
 from dataclasses import dataclass
 from typing import Any, List, Optional, Tuple
 
+from .language import COMPOSITE, Form, has_one_part, moments_of
+from .printing import noun_text
 from .values import Occurrence, Primitive
 
-OPERATIONS = ("create", "update", "delete")
+NOTHING = Occurrence((), 0, is_counted=True)
+"""What a closure has gathered where its last event has occurred before, and its first one not since then."""
+
 Step = Tuple[Any, Optional[Occurrence]]
 
 
@@ -38,49 +42,14 @@ class Pending:
         return Pending(listed, self.start, self.end + 1)
 
 
-def matches(pattern: List[Any], primitive: Primitive) -> bool:
-    """Whether a primitive event's pattern is met by what was signalled."""
-    word = pattern[0]
-    if word == "commit":
-        return primitive.kind == "commit"
-    if word in ("at", "every"):
-        if primitive.kind != "time" or primitive.moment is None:
-            return False
-        if word == "at":
-            return primitive.moment == pattern[1]
-        return primitive.moment >= pattern[1] and (primitive.moment - pattern[1]) % pattern[2] == 0
-    return primitive.kind == word and primitive.name == pattern[1]
+def matches(pattern: Form, primitive: Primitive) -> bool:
+    """Whether a simple event is met by what was signalled."""
+    if primitive.kind == "time":
+        return primitive.moment in moments_of(pattern, primitive.moment - 1, primitive.moment)
+    return primitive.kind == pattern[0] and (primitive.kind == "commit" or primitive.name == pattern[1])
 
 
-def patterns(event: List[Any]) -> List[List[Any]]:
-    """The primitive patterns within an event, from left to right."""
-    if event[0] in ("or", "seq"):
-        return patterns(event[1]) + patterns(event[2])
-    if event[0] == "closure":
-        return patterns(event[1]) + patterns(event[2])
-    return [event]
-
-
-def is_pure(event: List[Any]) -> bool:
-    """Whether the event needs nothing of the past."""
-    return event[0] not in ("seq", "closure") and (event[0] != "or" or all(is_pure(arm) for arm in event[1:]))
-
-
-def due_moments(events: List[List[Any]], after: int, until: int) -> List[int]:
-    """The moments above one time and up to another that a pattern of these events names."""
-    due = set()
-    for event in events:
-        for pattern in patterns(event):
-            if pattern[0] == "at" and after < pattern[1] <= until:
-                due.add(pattern[1])
-            elif pattern[0] == "every":
-                first, period = pattern[1:]
-                start = first if first > after else first + ((after - first) // period + 1) * period
-                due.update(range(start, until + 1, period))
-    return sorted(due)
-
-
-def fresh(event: List[Any]) -> Any:
+def fresh(event: Form) -> Any:
     """The state of a detector with an empty past."""
     word = event[0]
     if word == "or":
@@ -92,10 +61,10 @@ def fresh(event: List[Any]) -> Any:
     return None
 
 
-def step(event: List[Any], state: Any, primitive: Primitive) -> Step:
+def step(event: Form, state: Any, primitive: Primitive) -> Step:
     """The state after one more thing was signalled, and the event's occurrence at it, if there is one."""
     word = event[0]
-    if word not in ("or", "seq", "closure"):
+    if word not in COMPOSITE:
         return None, Occurrence((primitive,), 1) if matches(event, primitive) else None
     left_state, left = step(event[1], state[0], primitive)
     right_state, right = step(event[2], state[1], primitive)
@@ -105,25 +74,33 @@ def step(event: List[Any], state: Any, primitive: Primitive) -> Step:
     return (left_state, right_state, kept), occurrence
 
 
-def lacking(event: List[Any], state: Any, primitive: Primitive) -> str:
-    """Why the event doesn't occur here though something in it matches; empty where it occurs or nothing matches."""
-    if is_pure(event) or step(event, state, primitive)[1] is not None:
+def lacking(event: Form, state: Any, primitive: Primitive) -> str:
+    """What the event waits for, or has waited for in vain, where something in it occurs here and it doesn't itself: the
+    end of a sentence that begins with `as`. Empty where the event occurs or nothing in it does."""
+    if has_one_part(event) or step(event, state, primitive)[1] is not None:
         return ""
-    left, right = (step(arm, before, primitive)[1] for arm, before in zip(event[1:], state))
-    if event[0] == "seq" and right is not None:
-        return "the second event of its `seq` occurred, but no occurrence of the first is left that came before"
-    if event[0] == "seq" and left is not None:
-        return "the first event of its `seq` occurred, and the second hasn't yet"
-    if event[0] == "closure" and right is not None:
-        return "the end of its `closure` occurred, but nothing of what it gathers since the last end"
-    if event[0] == "closure" and left is not None:
-        return "its `closure` gathered this, and its end hasn't occurred yet"
+    if event[0] != "or":
+        left, right = (step(arm, before, primitive)[1] for arm, before in zip(event[1:], state))
+        first, last = (noun_text(arm) for arm in event[1:])
+        if right is not None:
+            return _in_vain(event[0], state[2], first, last)
+        if left is not None:
+            return f"{'the next ' if event[2][0] == 'every' else ''}{last} has yet to follow"
     within = (lacking(arm, before, primitive) for arm, before in zip(event[1:], state))
-    return next((words for words in within if words), "")
+    return " and ".join(dict.fromkeys(words for words in within if words))
+
+
+def _in_vain(word: str, past: Any, first: str, last: str) -> str:
+    """Why the last event of a sequence or a closure completes nothing."""
+    if word == "seq" and past.start > 0:
+        return f"each {first} before it is taken by an earlier {last}"
+    if word == "closure" and past is not None:
+        return f"there was no {first} since the last {last}"
+    return f"there was no {first} before it"
 
 
 def _joined(first: Occurrence, last: Occurrence, count: int) -> Occurrence:
-    return Occurrence(first.parts + last.parts, count)
+    return Occurrence(first.parts + last.parts, count, first.is_counted or last.is_counted)
 
 
 def _sequence(pending: Pending, left: Optional[Occurrence], right: Optional[Occurrence]) -> Step:
@@ -138,9 +115,10 @@ def _sequence(pending: Pending, left: Optional[Occurrence], right: Optional[Occu
 
 
 def _closure(run: Optional[Occurrence], left: Optional[Occurrence], right: Optional[Occurrence]) -> Step:
-    """The run is the last occurrence of the first event since the last stop, with the counts of all of them."""
+    """The run is the last occurrence of the first event since the last stop, with the counts of all of them. It is
+    none where there was neither, and NOTHING right after a stop."""
     if right is not None:
-        return None, None if run is None else _joined(run, right, run.count)
+        return NOTHING, _joined(run, right, run.count) if run is not None and run.count > 0 else None
     if left is not None:
-        return Occurrence(left.parts, left.count + (run.count if run else 0)), None
+        return Occurrence(left.parts, left.count + (run.count if run else 0), is_counted=True), None
     return run, None

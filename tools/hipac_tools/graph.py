@@ -11,8 +11,9 @@ import textwrap
 from dataclasses import dataclass
 from typing import Iterable, Iterator, Sequence
 
-from . import influence, oversights, paths, picture
+from . import influence, language, oversights, paths, picture
 from . import rulebase as scripts
+from .command import DONE, WRONG_WORDS
 from .influence import Deeds, Pattern, Reach
 from .printing import event_text, folded, when_text
 from .rulebase import Rule, RuleBase
@@ -24,7 +25,6 @@ oversight. With --svg it also draws the picture: by Graphviz where `dot` is inst
 `-` is standard input.
 The exit status is 0, or 2 where it is no script, or 3 where the words are wrong or a file can't be read or written."""
 
-WRONG_WORDS = 3
 SETS_OFF, PREPARES, FIRES = "sets off", "prepares", "fires"
 OPERATIONS = {"fire": FIRES, "install": "installs", "enable": "enables", "disable": "disables", "remove": "removes"}
 KINDS = (SETS_OFF, PREPARES, *OPERATIONS.values())
@@ -113,7 +113,7 @@ def main(arguments: list[str]) -> int:
     words = list(arguments)
     if words in (["--help"], ["-h"]):
         print(USAGE)
-        return 0
+        return DONE
     target = None
     if "--svg" in words[:-1]:
         place = words.index("--svg")
@@ -128,7 +128,7 @@ def main(arguments: list[str]) -> int:
         print(fault, file=sys.stderr)
         return fault.status
     sys.stdout.buffer.write(graph_text(graph).encode("utf-8"))
-    return 0 if target is None else _write_picture(graph, target)
+    return DONE if target is None else _write_picture(graph, target)
 
 
 def _write_picture(graph: Graph, target: str) -> int:
@@ -139,7 +139,7 @@ def _write_picture(graph: Graph, target: str) -> int:
     except OSError as fault:
         print(f"{target}: {fault.strerror}", file=sys.stderr)
         return WRONG_WORDS
-    return 0
+    return DONE
 
 
 def build(rulebase: RuleBase) -> Graph:
@@ -162,7 +162,7 @@ def build(rulebase: RuleBase) -> Graph:
 def _edges(rulebase: RuleBase, sources: dict[str, Deeds]) -> Iterator[Edge]:
     """All edges, in the order of sources, then of rules, then of kinds and labels."""
     last = {rule.name: set(influence.last_patterns(rule.event)) for rule in rulebase.rules}
-    whole = {rule.name: {tuple(one) for one in scripts.patterns(rule.event)} for rule in rulebase.rules}
+    whole = {rule.name: {tuple(one) for one in language.patterns(rule.event)} for rule in rulebase.rules}
     for source, deeds in sources.items():
         for name in last:
             for label in _labels(deeds.events & last[name]):

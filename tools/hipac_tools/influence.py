@@ -9,8 +9,9 @@ from __future__ import annotations
 from dataclasses import dataclass, field
 from typing import Iterator
 
-from . import rulebase as scripts
-from .rulebase import Form, RuleBase
+from . import language
+from .language import Form
+from .rulebase import RuleBase
 
 THE_SCRIPT = "the script"
 THE_CLOCK = "the clock"
@@ -52,17 +53,17 @@ def all_deeds(rulebase: RuleBase) -> dict[str, Deeds]:
 def body_deeds(body: list[Form]) -> Deeds:
     """What the statements of a body do."""
     deeds = Deeds()
-    for statement in scripts.statements(body):
-        if statement[0] in ("create", "update", "delete", "signal"):
+    for statement in language.statements(body):
+        if statement[0] in language.OBJECT_OPERATIONS + ("signal",):
             deeds.events.add((statement[0], statement[1]))
-        elif statement[0] in scripts.RULE_OPERATIONS:
+        elif statement[0] in language.RULE_OPERATIONS:
             deeds.operations.add((statement[0], statement[1]))
     return deeds
 
 
 def _items_deeds(rulebase: RuleBase) -> dict[str, Deeds]:
     """What a script's items do. Each of its units has a commit event, moments too."""
-    patterns = {tuple(one) for rule in rulebase.rules for one in scripts.patterns(rule.event)}
+    patterns = {tuple(one) for rule in rulebase.rules for one in language.patterns(rule.event)}
     if not any(word == "tx" for word, _ in rulebase.items):
         installs = {("install", rule.name) for rule in rulebase.rules}
         return {ANY_SCRIPT: Deeds(patterns, installs)}
@@ -73,7 +74,7 @@ def _items_deeds(rulebase: RuleBase) -> dict[str, Deeds]:
             script.events |= deeds.events
             script.operations |= deeds.operations
     end = max((content for word, content in rulebase.items if word == "clock"), default=0)
-    clock = Deeds({one for one in patterns if scripts.moments_of(list(one), 0, end)}, set())
+    clock = Deeds({one for one in patterns if language.moments_of(list(one), 0, end)}, set())
     if clock.events:
         clock.events.add(COMMIT)
         return {THE_SCRIPT: script, THE_CLOCK: clock}

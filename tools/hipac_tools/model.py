@@ -13,6 +13,7 @@ from . import reasons
 from .account import Account
 from .notes import undone_by
 from .report import Act, Emit, Fire, Operation, Sub, Transaction, children
+from .wording import sentence
 
 TRANSACTION, OPERATION, EMIT, SUB, FIRE, ACT = range(6)
 NOWHERE = -1
@@ -53,7 +54,7 @@ class _Maker:
         for unit in self.account.report.units:
             places = [self._transaction(unit.number, transaction) for transaction in unit.transactions]
             self.page.units.append([unit.number, unit.moment, places])
-        self.page.classes = [name for name, _ in self.account.script["classes"]]
+        self.page.classes = [one.name for one in self.account.base.classes]
         self._objects()
         for name, status in self.account.report.rules:
             self.page.rules.append([name, status, self.firings[name], self.operations[name]])
@@ -63,11 +64,11 @@ class _Maker:
         head = "" if transaction.rule is None else f"{transaction.mode} {transaction.rule}"
         facts = []
         if transaction.rule is not None:
-            facts.append(("Detached", _sentence(self._trigger(transaction))))
+            facts.append(("Detached", self._trigger(transaction)))
         if not transaction.end.committed:
             facts.append(("Aborted", " ".join(reasons.chain(transaction))))
         for dropped in transaction.note.dropped:
-            facts.append(("Never ran", f"Rule {dropped.rule} was {reasons.dropped_words(dropped)}."))
+            facts.append(("Dropped", " ".join(reasons.dropped_sentences(dropped, f"Rule {dropped.rule}"))))
         row = [TRANSACTION, NOWHERE, unit, head, str(transaction.end), transaction.emits]
         place = self._add(transaction, row, facts)
         self.page.nodes[place].append(self._trigger_place(transaction))
@@ -93,26 +94,40 @@ class _Maker:
             self.operations[node.name].append(place)
 
     def _holder(self, node: Any, parent: int) -> int:
-        facts: List[Tuple[str, str]] = []
         if isinstance(node, Sub):
             row = [SUB, parent, str(node.end)]
         elif isinstance(node, Act):
             row = [ACT, parent, node.rule, node.mode, str(node.end)]
-            facts.append(("Trigger", _sentence(self._trigger(node))))
         else:
             row = [FIRE, parent, node.rule, node.mode, node.condition, str(node.action)]
-            facts.append(("Trigger", _sentence(self._trigger(node))))
-            facts.append(("Condition", _sentence("; ".join(reasons.condition_words(node)))))
+        facts = [] if isinstance(node, Sub) else self._task(node)
         if not node.end.committed:
-            facts.append(("Aborted", " ".join(reasons.chain(node))))
+            facts.append(("Aborted", self._aborted(node)))
         place = self._add(node, row, facts + self._common(node))
         if not isinstance(node, Sub):
             self.page.nodes[place].append(self._trigger_place(node))
             self.firings.setdefault(node.rule, []).append(place)
         return place
 
+    def _aborted(self, node: Any) -> str:
+        """Why a node aborted; what triggered it is a fact of its own."""
+        told = [] if isinstance(node, Sub) else reasons.trigger_sentences(node, f"Rule {node.rule}")
+        return " ".join(one for one in reasons.chain(node) if one not in told)
+
+    def _task(self, node: Any) -> List[Tuple[str, str]]:
+        """What triggered a firing, and how its condition and its action went."""
+        facts = [("Trigger", self._trigger(node))]
+        action = reasons.action_sentence(node, self.account.mode_of_action(node.rule))
+        if isinstance(node, Fire):
+            end = [action] if node.action == "none" else []
+            facts.append(("Condition", " ".join(reasons.condition_sentences(node) + end)))
+        if node.end.committed and not (isinstance(node, Fire) and node.action == "none"):
+            facts.append(("Action", action))
+        return facts
+
     def _trigger(self, node: Any) -> str:
-        return reasons.trigger_words(node.note.trigger, node.note.occurrence) + reasons.later_words(node)
+        trigger = sentence(reasons.trigger_words(node.note.trigger, node.note.occurrence))
+        return " ".join([trigger] + reasons.later_sentences(node))
 
     def _trigger_place(self, node: Any) -> int:
         """The node to look at for a trigger: the operation, else the transaction in which something was signalled."""
@@ -127,7 +142,7 @@ class _Maker:
             facts.append(("Statement", node.note.path))
         undone = reasons.undone_words(node)
         if undone:
-            facts.append(("Undone", _sentence(undone.split(": ", 1)[1])))
+            facts.append(("Undone", sentence(undone)))
         return facts
 
     def _add(self, node: Any, row: List[Any], facts: List[Tuple[str, str]]) -> int:
@@ -150,7 +165,3 @@ class _Maker:
         names = sorted(set(final) | set(self.histories), key=lambda name: (order.get(name[0], len(order)), name))
         for name, key in names:
             self.page.objects.append([name, str(key), final.get((name, key)), self.histories.get((name, key), [])])
-
-
-def _sentence(words: str) -> str:
-    return words[:1].upper() + words[1:] + "."

@@ -3,8 +3,9 @@
 from __future__ import annotations
 
 from dataclasses import dataclass, field
-from typing import Any, List, Optional
+from typing import Any, List, Optional, Tuple
 
+from .language import Form
 from .report import End, Holder, Operation
 from .values import Occurrence, Primitive
 
@@ -37,13 +38,17 @@ class Watched:
 
 @dataclass
 class Query:
-    """What a query of a condition found: its answer's keys, or the fault on the way."""
+    """What a query of a condition found: its answer's keys, or the fault on the way. Where it asked for one object by
+    its key and found that this doesn't fit: the first test of its predicate that failed, and the values in it."""
 
     name: str
     on: str
-    looked_at: int
+    objects: int
+    key: Optional[int] = None
     keys: List[int] = field(default_factory=list)
     fault: Optional[str] = None
+    failed: Form = None
+    values: List[Tuple[Form, str]] = field(default_factory=list)
 
 
 @dataclass
@@ -56,16 +61,23 @@ class Stop:
     firing: Optional[Any] = None
 
 
+ABORT, VETO, NO_ABORT = range(3)
+"""Why a task never ran: a transaction round its trigger aborted, a rule before it vetoed, or (an exclusive task) no
+transaction round it aborted."""
+
+
 @dataclass
 class Dropped:
-    """A task that was made and never ran, and the node whose end dropped it."""
+    """A task that was made and never ran: why, and the node whose end dropped it. Where the condition had been tested
+    before, the task was the action's."""
 
     rule: str
     mode: str
-    step: str
+    is_tested: bool
     trigger: Signal
-    by: Any
-    why: str
+    occurrence: Occurrence
+    why: int
+    by: Any = None
 
 
 @dataclass
@@ -91,6 +103,15 @@ def ancestry(node: Any) -> List[Any]:
         node = node.note.parent
         found.append(node)
     return found
+
+
+def is_idle(task: Any) -> bool:
+    """Whether an action ran and neither changed nor signalled anything. Only of a course that was followed is it known
+    that nothing was signalled."""
+    if task.items or task.note.occurrence is None:
+        return False
+    top = (ancestry(task) or [task])[-1]
+    return not any(signal.within is task for signal in top.note.signals)
 
 
 def undone_by(node: Any) -> Optional[Any]:

@@ -8,15 +8,17 @@ from __future__ import annotations
 import json
 import sys
 
+from . import language
 from . import rulebase as scripts
-from .rulebase import Form, Rule, RuleBase
+from .command import DONE, WRONG_WORDS
+from .language import Form
+from .rulebase import Rule, RuleBase
 
 USAGE = """usage: hipac-tools print SCRIPT.json
 
 Writes a script as a person would read it aloud, one rule a paragraph. `-` is standard input.
 The exit status is 0, or 2 where it is no script, or 3 where the words are wrong or the file can't be read."""
 
-WRONG_WORDS = 3
 WIDTH = 110
 INDENT = "  "
 CONTINUED = "    "
@@ -42,14 +44,12 @@ BINARY = {
     **{operator: (PRODUCT, PRODUCT, ATOM) for operator in ("*", "/", "%")},
 }
 
-PART_FORMS = ("new", "old", "id", "arg", "time")
-
 
 def main(arguments: list[str]) -> int:
     """Writes the script to standard output."""
     if arguments in (["--help"], ["-h"]):
         print(USAGE)
-        return 0
+        return DONE
     if len(arguments) != 1 or arguments[0].startswith("-") and arguments[0] != "-":
         print(USAGE, file=sys.stderr)
         return WRONG_WORDS
@@ -59,7 +59,7 @@ def main(arguments: list[str]) -> int:
         print(fault, file=sys.stderr)
         return fault.status
     sys.stdout.buffer.write(text.encode("utf-8"))
-    return 0
+    return DONE
 
 
 def script_text(rulebase: RuleBase) -> str:
@@ -89,7 +89,7 @@ def class_text(one: scripts.Class) -> str:
 
 def rule_text(rule: Rule, rulebase: RuleBase | None = None) -> str:
     """A rule as one paragraph: on one line where it fits, else with lines for its condition and its action."""
-    one_part = scripts.has_one_part(rule.event)
+    one_part = language.has_one_part(rule.event)
     head = rule_head(rule)
     conditions = condition_lines(rule, one_part)
     action = body_lines(rule.action, "", one_part)
@@ -111,7 +111,7 @@ def rule_text(rule: Rule, rulebase: RuleBase | None = None) -> str:
 
 def rule_head(rule: Rule) -> str:
     """The rule's name, its event, and where the condition is tested. Without a condition also where the action runs."""
-    numbered = not scripts.has_one_part(rule.event) and uses_parts(rule)
+    numbered = not language.has_one_part(rule.event) and uses_parts(rule)
     action_place = "" if rule.queries or rule.ca == "immediate" else f", then {WHERE[rule.ca]}"
     return f"rule {rule.name}: {when_text(rule.event, numbered)}, {WHERE[rule.ec]}{action_place}:"
 
@@ -141,7 +141,7 @@ def uses_parts(rule: Rule) -> bool:
     def asks(form: Form) -> bool:
         if not isinstance(form, list):
             return False
-        return bool(form) and form[0] in PART_FORMS or any(asks(part) for part in form)
+        return bool(form) and form[0] in language.OF_A_PART or any(asks(part) for part in form)
     return any(asks(query.predicate) for query in rule.queries) or asks(rule.action)
 
 
@@ -157,12 +157,20 @@ def event_text(event: Form, numbered: bool = False) -> str:
     return _event(event, 0 if numbered else None)[0]
 
 
+def noun_text(event: Form) -> str:
+    """An event as a thing that there may be one of, or none: `create of order`, `(signal a followed by signal b)`."""
+    text = event_text(event)
+    if event[0] in language.COMPOSITE:
+        return f"({text})"
+    return f"moment of \"{text}\"" if event[0] == "every" else text
+
+
 def _event(event: Form, part: int | None) -> tuple[str, int | None]:
     """The words of an event whose parts begin with number `part`, and the number after its last; None if not known."""
     word = event[0]
-    if word in ("or", "seq", "closure"):
+    if word in language.COMPOSITE:
         return _composite(event, part)
-    if word in ("create", "update", "delete"):
+    if word in language.OBJECT_OPERATIONS:
         text = f"{word} of {event[1]}"
     elif word == "signal":
         text = f"signal {event[1]}"
@@ -181,9 +189,9 @@ def _composite(event: Form, part: int | None) -> tuple[str, int | None]:
     word, first, second = event
     first_text, middle = _event(first, part)
     second_text, last = _event(second, part if word == "or" else middle)
-    if first[0] in ("or", "seq", "closure") and not word == first[0] == "or":
+    if first[0] in language.COMPOSITE and not word == first[0] == "or":
         first_text = f"({first_text})"
-    if second[0] in ("or", "seq", "closure"):
+    if second[0] in language.COMPOSITE:
         second_text = f"({second_text})"
     if word == "seq":
         return f"{first_text} followed by {second_text}", last
@@ -305,7 +313,7 @@ def block_lines(lead: str, body: list[Form], indent: str, one_part: bool) -> lis
 
 def _is_nested(body: list[Form]) -> bool:
     """Whether some statement of a body has a body of its own."""
-    return any("body" in scripts.STATEMENTS[statement[0]] for statement in body)
+    return any(language.BODY in language.sorts(language.STATEMENTS[statement[0]]) for statement in body)
 
 
 def _simple_statement(statement: Form, one_part: bool) -> str:
@@ -323,7 +331,7 @@ def _simple_statement(statement: Form, one_part: bool) -> str:
         return f"signal {statement[1]}" + (f" with {values}" if values else "")
     if word == "emit":
         return f"emit {expression_text(statement[1], one_part)}"
-    if word in scripts.RULE_OPERATIONS:
+    if word in language.RULE_OPERATIONS:
         return f"{word} rule {statement[1]}"
     return word
 

@@ -7,10 +7,9 @@ import subprocess
 from dataclasses import dataclass
 from pathlib import Path
 
-REPOSITORY = Path(__file__).resolve().parents[2]
+from .command import FAILED
 
-CANNOT_RUN = 4
-"""The status where the program can't be started: that of the program's own faults."""
+REPOSITORY = Path(__file__).resolve().parents[2]
 
 
 @dataclass(frozen=True)
@@ -28,9 +27,10 @@ def program_path() -> str:
 
 
 def run(script_bytes: bytes, words: list[str]) -> Ended:
-    """Runs the program with these words of the command line and the script on its standard input."""
+    """Runs the program with these words of the command line and the script on its standard input. A program that can't
+    be started counts as one that failed."""
     try:
         ended = subprocess.run([program_path(), *words], input=script_bytes, capture_output=True, check=False)
     except OSError as fault:
-        return Ended(CANNOT_RUN, "", f"the program can't be run: {fault}\n")
+        return Ended(FAILED, "", f"the program can't be run: {fault}\n")
     return Ended(ended.returncode, ended.stdout.decode("utf-8", "replace"), ended.stderr.decode("utf-8", "replace"))

@@ -2,15 +2,17 @@
 
 from __future__ import annotations
 
-from typing import Any, List, Optional
+from typing import Any, Dict, List, Optional
 
-from .notes import Dropped, Query, Signal, Stop, ancestry, undone_by
+from .notes import ABORT, Dropped, NO_ABORT, Query, Signal, Stop, ancestry, is_idle, undone_by
+from .printing import expression_text
 from .report import Act, End, Fire, Sub, Transaction
-from .values import Occurrence
+from .values import Occurrence, Primitive, value_text
+from .wording import counted, sentence, some_of
 
 CAUSES = {
-    "A1": "a `create` met an object that is there",
-    "A2": "a statement named an object that isn't there, or a rule that is absent",
+    "A1": "a `create` of an object that is there already",
+    "A2": "a statement named an object that isn't there, or a rule that isn't installed",
     "A3": "a value was of the wrong kind, or a row lacked the field read",
     "A4": "a result was outside 64 bits",
     "A5": "a division had the divisor 0",
@@ -22,28 +24,48 @@ CAUSES = {
 UNTOLD = "can't be told from the report"
 MOST_PARTS = 6
 MOST_KEYS = 8
+MOST_FIELDS = 6
+LONGEST_VALUE = 40
 
 
-def listed(things: List[str], most: int) -> str:
-    """Some things in one line, with the number of those left out."""
-    if len(things) <= most:
-        return ", ".join(things)
-    shown = ", ".join(things[:most])
-    return f"{shown} and {len(things) - most} more"
-
+# ---- things by their names
 
 def at(path: str) -> str:
+    """A place in the script, after a sentence."""
     return f" (at {path})" if path else ""
 
 
 def name_of(node: Any) -> str:
     """A node that holds others, in a few words."""
     if isinstance(node, Sub):
-        return "the `sub`" + at(node.note.path)
+        return "the `sub`" + (f" at {node.note.path}" if node.note.path else "")
     if isinstance(node, Transaction):
         return f"unit {node.note.unit}" if node.rule is None else f"{node.mode} {node.rule}"
     return f"the action of rule {node.rule}"
 
+
+def aborted_words(node: Any) -> str:
+    """`unit 3 aborted (A9 credit)`."""
+    return f"{name_of(node)} aborted ({str(node.end).split(' ', 1)[1]})"
+
+
+def deed_words(primitive: Primitive) -> str:
+    """What was signalled, with the values there: those that an update changed, or those of the object."""
+    old, new = primitive.old, primitive.new
+    if primitive.kind == "update" and old is not None and new is not None:
+        changes = [f"{name} {_short(old[name])} -> {_short(new[name])}" for name in new if old[name] != new[name]]
+        return f"{primitive} ({some_of(changes, MOST_FIELDS) if changes else 'nothing changed'})"
+    row: Dict[str, Any] = new or old or {}
+    values = some_of([f"{name} {_short(value)}" for name, value in row.items()], MOST_FIELDS)
+    return f"{primitive} ({values})" if values else str(primitive)
+
+
+def _short(value: Any) -> str:
+    text = value_text(value)
+    return text if len(text) <= LONGEST_VALUE else text[:LONGEST_VALUE] + ".."
+
+
+# ---- triggers
 
 def place_of(signal: Signal) -> str:
     """Where something was signalled: the innermost transaction round it, and what that stands in."""
@@ -59,107 +81,47 @@ def place_of(signal: Signal) -> str:
 
 
 def trigger_words(signal: Optional[Signal], occurrence: Optional[Occurrence] = None) -> str:
-    """What triggered a rule, as the end of a sentence: `triggered by update item 7, in the action of rule reserve`."""
+    """What triggered a rule, as the end of a sentence:
+    `triggered by update item 7 (stock 5 -> 3) at /rules/0/5/0, in the action of rule reserve`."""
     if signal is None:
         return f"triggered by a signal (which one {UNTOLD})"
-    deed = "triggered" if signal.primitive is not None else "asked for"
-    words = f"{deed} by {signal}{at(signal.path)}{place_of(signal)}"
+    is_moment = signal.primitive is not None and signal.primitive.kind == "time"
+    path = f" at {signal.path}" if signal.path and not is_moment else ""
+    if signal.primitive is None:
+        return f"fired by the statement `fire`{path}{place_of(signal)}"
+    words = f"triggered by {deed_words(signal.primitive)}{path}{place_of(signal)}"
     if occurrence is not None and len(occurrence.parts) > 1:
-        parts = [str(part) for part in occurrence.parts[:-1]]
-        words += f", after {listed(parts, MOST_PARTS)}"
+        words += f", after {some_of([deed_words(part) for part in occurrence.parts[:-1]], MOST_PARTS)}"
+        words += f"; the count is {occurrence.count}" if occurrence.is_counted else ""
     return words
 
 
-def query_words(query: Query) -> str:
-    objects = "1 object" if query.looked_at == 1 else f"{query.looked_at} objects"
-    if query.fault is not None:
-        return f"query {query.name} met a fault: {query.fault}"
-    if query.looked_at == 0:
-        return f"query {query.name} is empty: there is no object of {query.on}"
-    if not query.keys:
-        return f"query {query.name} is empty: none of the {objects} of {query.on} fits"
-    keys = listed([str(key) for key in query.keys], MOST_KEYS)
-    return f"query {query.name} found {len(query.keys)} of the {objects} of {query.on}: {keys}"
-
-
-def condition_words(firing: Fire) -> List[str]:
-    """How a condition went, query by query."""
-    queries = [query_words(query) for query in firing.note.queries]
-    if firing.condition == "satisfied":
-        is_followed = firing.note.occurrence is not None
-        return queries or ["it has no queries" if is_followed else "each query found an object"]
-    if queries:
-        return queries
-    if firing.condition == "unsatisfied":
-        return ["a query is empty; which one " + UNTOLD]
-    cause = firing.condition.split(" ")[1]
-    return [f"a query met a fault: {CAUSES[cause]}"]
-
-
-def stop_words(end: End, stop: Optional[Stop]) -> str:
-    """Why a transaction aborted, in a few words and without the chain that leads there."""
-    if end.cause == "A9":
-        if stop is None:
-            return f"rule {end.rule} vetoed; what triggered it {UNTOLD}"
-        if stop.firing is None:
-            return f"the statement `veto`{at(stop.path)}"
-        note = stop.firing.note
-        return f"vetoed by {end.rule}, which was {trigger_words(note.trigger, note.occurrence)}"
-    if stop is None:
-        return f"{CAUSES[str(end.cause)]}; which statement {UNTOLD}"
-    return stop.words + at(stop.path)
-
-
-def undone_words(node: Any) -> str:
-    """What undid an item; empty where it lasts."""
-    holder = undone_by(node)
-    if holder is None:
-        return ""
-    return f"undone: {name_of(holder)} aborted ({holder.end.cause})"
-
-
-def chain(node: Any) -> List[str]:
-    """Sentences from an aborted node back to the statement of the unit's own body by which all began."""
-    sentences = []
-    stop = node.note.stop
-    if node.end.cause != "A9" or stop is None or stop.firing is None:
-        return [_sentence(stop_words(node.end, stop))] + _origin(node)
-    sentences.append(f"Rule {node.end.rule} vetoed{at(stop.path)}.")
-    return sentences + origins(stop.firing)
-
-
-def origins(firing: Any) -> List[str]:
-    """The triggers of a firing, of the firing in whose action it was triggered, and so on."""
-    sentences = []
-    while firing is not None:
-        note = firing.note
-        who = "It was" if not sentences else f"Rule {firing.rule} was"
-        if note.trigger is None:
-            sentences.append(f"What triggered rule {firing.rule} {UNTOLD}.")
-            break
-        sentences.append(f"{who} {trigger_words(note.trigger, note.occurrence)}{later_words(firing)}.")
-        firing = _action_round(note.trigger.within)
-    return sentences
-
-
-def later_words(firing: Any) -> str:
-    """That a firing ran later than its trigger, where it did."""
+def later_sentences(firing: Any) -> List[str]:
+    """When a firing ran, where that was later than its trigger."""
     if firing.mode == "immediate":
-        return ""
+        return []
+    who = "Its action" if isinstance(firing, Act) else "It"
     where = "at the end of the transaction" if firing.mode == "deferred" else "in a transaction of its own"
-    mode, part = ("ca", "its action ran") if isinstance(firing, Act) else ("ec", "it ran")
-    return f"; `{mode}` is {firing.mode}, so {part} {where}"
+    return [f"{who} is {firing.mode}, so it ran {where}."]
 
 
-def dropped_words(dropped: Dropped) -> str:
-    """Why a task that was made never ran."""
-    words = f"{trigger_words(dropped.trigger)} ({dropped.mode}), but its {dropped.step} never ran: {dropped.why}"
-    by = dropped.by
-    if dropped.why == "an elder sibling vetoed":
-        return words + f", rule {by.rule}"
-    if dropped.why.startswith("a transaction") or dropped.why.startswith("the transaction"):
-        return words + f" ({name_of(by)}: {stop_words(by.end, by.note.stop)})"
-    return words
+def trigger_sentences(firing: Any, who: str) -> List[str]:
+    """What triggered a firing, and when it ran."""
+    note = firing.note
+    if note.trigger is None:
+        return [f"What triggered rule {firing.rule} {UNTOLD}."]
+    return [f"{who} was {trigger_words(note.trigger, note.occurrence)}."] + later_sentences(firing)
+
+
+def origins(firing: Any, who: str = "It") -> List[str]:
+    """The triggers of a firing, of the firing in whose action it was triggered, and so on."""
+    sentences: List[str] = []
+    while firing is not None:
+        sentences += trigger_sentences(firing, who)
+        trigger = firing.note.trigger
+        firing = None if trigger is None else _action_round(trigger.within)
+        who = "" if firing is None else f"Rule {firing.rule}"
+    return sentences
 
 
 def _action_round(node: Any) -> Any:
@@ -171,14 +133,101 @@ def _action_round(node: Any) -> Any:
     return node
 
 
-def _origin(node: Any) -> List[str]:
-    """How the rule came to run in whose action an aborted node stands."""
+def dropped_sentences(dropped: Dropped, who: str = "It") -> List[str]:
+    """What triggered a task that never ran, and why it never did."""
+    before = "its action ran" if dropped.is_tested else "its condition was tested"
+    if dropped.why == NO_ABORT:
+        fate = f"It is {dropped.mode} and was dropped, as no transaction round its trigger aborted."
+    elif dropped.why == ABORT:
+        fate = f"It was dropped before {before}, as {aborted_words(dropped.by)}."
+    else:
+        fate = f"It was dropped before {before}, as rule {dropped.by.rule} vetoed first."
+    return [f"{who} was {trigger_words(dropped.trigger, dropped.occurrence)}.", fate]
+
+
+# ---- conditions and actions
+
+def query_words(query: Query, is_one_part: bool) -> str:
+    """What a query found, or why it found nothing."""
+    if query.fault is not None:
+        return f"query {query.name} met a fault: {query.fault}"
+    if query.objects == 0:
+        return f"query {query.name} found nothing, as there is no object of {query.on}"
+    if query.key is None:
+        keys = f"{query.on} {some_of([str(key) for key in query.keys], MOST_KEYS)}" if query.keys else "none that fits"
+        return f"query {query.name} went over {counted(query.objects, 'object')} of {query.on} and found {keys}"
+    if query.keys:
+        return f"query {query.name} found {query.on} {query.key}"
+    if query.failed is None:
+        return f"query {query.name} found nothing, as there is no {query.on} {query.key}"
+    test = expression_text(query.failed, is_one_part)
+    values = [f"{expression_text(form, is_one_part)} is {value}" for form, value in query.values]
+    where = f" ({some_of(list(dict.fromkeys(values)), MOST_FIELDS)})" if values else ""
+    return f"query {query.name} found nothing, as {test} isn't true of {query.on} {query.key}{where}"
+
+
+def query_sentences(firing: Fire) -> List[str]:
+    """How a condition went, query by query."""
+    occurrence = firing.note.occurrence
+    is_one_part = occurrence is not None and len(occurrence.parts) <= 1
+    queries = [sentence(query_words(query, is_one_part)) for query in firing.note.queries]
+    if queries:
+        return queries
+    if firing.condition == "satisfied":
+        return [] if occurrence is not None else ["Each query found an object."]
+    if firing.condition == "unsatisfied":
+        return [f"A query found nothing; which one {UNTOLD}."]
+    return [f"A query met a fault: {CAUSES[firing.condition.split(' ')[1]]}."]
+
+
+def condition_sentences(firing: Fire) -> List[str]:
+    """Whether a condition was satisfied, and why."""
+    queries = query_sentences(firing)
+    if firing.condition == "satisfied":
+        return ["Its condition was satisfied."] + queries if queries else ["It has no condition."]
+    verdict = "Its condition wasn't satisfied."
+    if firing.condition != "unsatisfied":
+        verdict = f"Its condition ended with a fault ({firing.condition.split(' ')[1]})."
+    return [verdict] + queries
+
+
+def action_sentence(node: Any, mode: str) -> str:
+    """What became of a firing's action, which is of that mode."""
+    if isinstance(node, Fire) and not isinstance(node.action, End):
+        return "So it did nothing." if node.action == "none" else f"Its action is {mode}, so it was put off."
+    if node.end.committed:
+        return "Its action ran and changed nothing." if is_idle(node) else "Its action committed."
+    if node.end == End("A9", node.rule):
+        return sentence(f"it vetoed{at(node.note.stop.path if node.note.stop else '')}")
+    return f"Its action {node.end}. {sentence(stop_words(node.end, node.note.stop))}"
+
+
+# ---- aborts
+
+def stop_words(end: End, stop: Optional[Stop]) -> str:
+    """Why a transaction aborted, in a few words and without the chain that leads there."""
+    if end.cause == "A9":
+        if stop is None:
+            return f"rule {end.rule} vetoed; what triggered it {UNTOLD}"
+        if stop.firing is None:
+            return f"the statement `veto`{at(stop.path)}"
+        return f"rule {end.rule} vetoed{at(stop.path)}"
+    if stop is None:
+        return f"{CAUSES[str(end.cause)]}; which statement {UNTOLD}"
+    return stop.words + at(stop.path)
+
+
+def undone_words(node: Any) -> str:
+    """What undid an item; empty where it lasts."""
+    holder = undone_by(node)
+    return "" if holder is None else aborted_words(holder)
+
+
+def chain(node: Any) -> List[str]:
+    """Sentences from an aborted node back to the statement of the unit's own body by which all began."""
+    stop = node.note.stop
+    sentences = [sentence(stop_words(node.end, stop))]
+    if node.end.cause == "A9" and stop is not None and stop.firing is not None:
+        return sentences + origins(stop.firing)
     firing = node if isinstance(node, (Fire, Act)) else _action_round(node.note.parent)
-    if firing is None:
-        return []
-    first = origins(firing)
-    return [first[0].replace("It was", f"Rule {firing.rule} was", 1)] + first[1:]
-
-
-def _sentence(words: str) -> str:
-    return words[:1].upper() + words[1:] + "."
+    return sentences + ([] if firing is None else origins(firing, f"Rule {firing.rule}"))

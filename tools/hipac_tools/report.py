@@ -10,10 +10,7 @@ import json
 from dataclasses import dataclass, field
 from typing import Any, Iterator, List, Optional, Tuple, Union
 
-RULE_OPERATIONS = ("install", "enable", "disable", "remove")
-OBJECT_OPERATIONS = ("create", "update", "delete")
-DETACHED_MODES = ("separate", "dependent", "exclusive")
-MODES = ("immediate", "deferred") + DETACHED_MODES
+from .language import DETACHED, MODES, OBJECT_OPERATIONS, STATUS_OPERATIONS
 
 
 class ReportFault(Exception):
@@ -216,7 +213,7 @@ class _Reader:
         word, _, rest = line.partition(" ")
         if word == "unit":
             self._unit(rest, result)
-        elif word in DETACHED_MODES:
+        elif word in DETACHED:
             rule, _, end = rest.partition(" ")
             self._transaction(Transaction(_end(end), rule, word), result.units[-1].transactions)
         elif word == "emit":
@@ -280,7 +277,7 @@ def _node(text: str) -> Node:
 
 def _operation(text: str) -> Operation:
     verb, _, rest = text.partition(" ")
-    if verb in RULE_OPERATIONS:
+    if verb in STATUS_OPERATIONS:
         return Operation(verb, rest)
     if verb not in OBJECT_OPERATIONS:
         raise ValueError

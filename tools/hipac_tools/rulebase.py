@@ -1,69 +1,31 @@
 """A script as Python values: its classes, its rules, and its items.
 
-Events, expressions and statements stay in their JSON form, as lists: the first part names the form. The tables below
-give the parts of each form, so that whoever walks over a script needs to know no form by itself.
-
-`read` looks at the shape alone, so that the words which show a script never stumble over one that is malformed.
+Events, expressions and statements stay in their JSON form, as lists; `language` says what each form is made of. `read`
+looks at the shape alone, so that the words which show a script never stumble over one that is malformed.
 `./hipac-tools check` is the word that tells what is wrong with a script.
 """
 from __future__ import annotations
 
 import json
-import re
-import sys
 from dataclasses import dataclass
 from typing import Any, Iterator, NoReturn
 
-Form = Any
-"""An event, an expression or a statement, as JSON gives it."""
+from . import command, language
+from .language import Form
 
-EVENTS: dict[str, tuple[str, ...]] = {
-    "create": ("name",), "update": ("name",), "delete": ("name",),
-    "signal": ("name",), "commit": (), "at": ("moment",), "every": ("moment", "period"),
-    "or": ("event", "event"), "seq": ("event", "event"), "closure": ("event", "event"),
-}
-
-EXPRESSIONS: dict[str, tuple[str, ...]] = {
-    **{operator: ("expression", "expression") for operator in
-       ("+", "-", "*", "/", "%", "and", "or", "=", "!=", "<", "<=", ">", ">=")},
-    "neg": ("expression",), "not": ("expression",),
-    "of": ("name", "name"), "key": ("name",),
-    "new": ("place", "name"), "old": ("place", "name"), "id": ("place",),
-    "arg": ("place", "place"), "time": ("place",), "count": (),
-}
-
-RULE_OPERATIONS = ("install", "enable", "disable", "remove", "fire")
-
-STATEMENTS: dict[str, tuple[str, ...]] = {
-    "create": ("name", "expression", "pairs"), "update": ("name", "expression", "pairs"),
-    "delete": ("name", "expression"), "signal": ("name", "arguments"), "emit": ("expression",),
-    "if": ("expression", "body", "body"), "each": ("name", "name", "expression", "body"),
-    "for": ("name", "body"), "with": ("name", "name", "expression", "body"),
-    "sub": ("body", "body"), "abort": (), "veto": (),
-    **{operation: ("name",) for operation in RULE_OPERATIONS},
-}
-
-COUPLINGS = ("immediate", "deferred", "separate", "dependent", "exclusive")
-DETACHED = ("separate", "dependent", "exclusive")
-"""The couplings whose tasks run in a top-level transaction of their own."""
-
-KINDS = ("int", "bool", "text")
-DEFAULT_DEPTH = 8
-MOST_LEVELS = 16
-MOST_MOMENTS = 1000
-LEAST_NUMBER, LARGEST_NUMBER = -2 ** 63, 2 ** 63 - 1
+TABLES = {"event": language.EVENTS, "expression": language.EXPRESSIONS, "statement": language.STATEMENTS}
 
 
 class Refused(Exception):
     """What was read is no script. The message says where, and which word tells more."""
 
-    status = 2
+    status = command.REFUSED
 
 
 class Unreadable(Refused):
     """A file that can't be read."""
 
-    status = 3
+    status = command.WRONG_WORDS
 
 
 @dataclass(frozen=True)
@@ -94,7 +56,7 @@ class Rule:
     @property
     def detaches(self) -> bool:
         """Whether some task of the rule runs in a top-level transaction of its own."""
-        return self.ec in DETACHED or self.ca in DETACHED
+        return self.ec in language.DETACHED or self.ca in language.DETACHED
 
 
 @dataclass(frozen=True)
@@ -109,7 +71,7 @@ class RuleBase:
     @property
     def depth_limit(self) -> int:
         """How deep firings may nest."""
-        return DEFAULT_DEPTH if self.depth is None else self.depth
+        return language.DEFAULT_DEPTH if self.depth is None else self.depth
 
 
 def read(text: str) -> RuleBase:
@@ -123,14 +85,9 @@ def read(text: str) -> RuleBase:
 
 def read_file(name: str) -> RuleBase:
     """The script in a file, or `Refused`. `-` is standard input."""
-    shown = "standard input" if name == "-" else name
+    shown = command.shown(name)
     try:
-        if name == "-":
-            content = sys.stdin.buffer.read()
-        else:
-            with open(name, "rb") as file:
-                content = file.read()
-        return read(content.decode("utf-8"))
+        return read(command.bytes_of(name).decode("utf-8"))
     except OSError as fault:
         raise Unreadable(f"{shown}: {fault.strerror}") from fault
     except UnicodeDecodeError as fault:
@@ -151,10 +108,10 @@ class _Reader:
         members = {"version", "classes", "rules", "items"}
         if not isinstance(value, dict) or set(value) - {"depth"} != members:
             self._refuse("")
-        self._whole(value["version"], "/version", 1, 2)
+        self._whole(value["version"], "/version", *language.VERSIONS)
         depth = value.get("depth")
         if "depth" in value:
-            self._whole(depth, "/depth", 1, 16)
+            self._whole(depth, "/depth", 1, language.MOST_DEPTH)
         return RuleBase(
             version=value["version"],
             depth=depth,
@@ -168,17 +125,17 @@ class _Reader:
         fields = []
         for field, place in self._list(value[1], path + "/1"):
             self._parts(field, place, 2)
-            fields.append((self._name(field[0], place + "/0"), self._one_of(field[1], place + "/1", KINDS)))
+            fields.append((self._name(field[0], place + "/0"), self._one_of(field[1], place + "/1", language.KINDS)))
         return Class(name, fields)
 
     def _rule(self, value: Any, path: str, version: int) -> Rule:
         self._parts(value, path, 6)
-        couplings = COUPLINGS if version == 2 else COUPLINGS[:4]
+        modes = language.modes_of(version)
         name = self._name(value[0], path + "/0")
         self._form(value[1], path + "/1", "event", 1)
-        ec = self._one_of(value[2], path + "/2", couplings)
+        ec = self._one_of(value[2], path + "/2", modes)
         queries = [self._query(one, place) for one, place in self._list(value[3], path + "/3")]
-        ca = self._one_of(value[4], path + "/4", couplings)
+        ca = self._one_of(value[4], path + "/4", modes)
         self._body(value[5], path + "/5", 1)
         return Rule(name, value[1], ec, queries, ca, value[5])
 
@@ -193,7 +150,7 @@ class _Reader:
         if self._one_of(value[0], path, ("tx", "clock")) == "tx":
             self._body(value[1], path + "/1", 1)
         else:
-            self._whole(value[1], path + "/1", 0, LARGEST_NUMBER)
+            self._whole(value[1], path + "/1", 0, language.GREATEST)
         return value
 
     def _body(self, value: Any, path: str, level: int) -> None:
@@ -202,15 +159,15 @@ class _Reader:
 
     def _form(self, value: Any, path: str, sort: str, level: int) -> None:
         """An event, an expression or a statement, and all its parts."""
-        if level > MOST_LEVELS:
+        if level > language.MOST_LEVELS:
             self._refuse(path)
         if sort == "expression" and not isinstance(value, list):
             self._literal(value, path)
             return
-        table = {"event": EVENTS, "expression": EXPRESSIONS, "statement": STATEMENTS}[sort]
+        table = TABLES[sort]
         if not isinstance(value, list) or not value or not isinstance(value[0], str) or value[0] not in table:
             self._refuse(path)
-        sorts = table[value[0]]
+        sorts = language.sorts(table[value[0]])
         self._parts(value, path, len(sorts) + 1)
         for position, (part, part_sort) in enumerate(zip(value[1:], sorts), 1):
             inner = level + 1 if part_sort in (sort, "body") else 1
@@ -233,14 +190,14 @@ class _Reader:
             for argument, place in self._list(value, path):
                 self._form(argument, place, "expression", 1)
         else:
-            least, largest = {"place": (0, 65535), "moment": (0, LARGEST_NUMBER), "period": (1, LARGEST_NUMBER)}[sort]
-            self._whole(value, path, least, largest)
+            self._whole(value, path, 1 if sort == language.PERIOD else 0,
+                        language.MOST_PLACE if sort == language.PLACE else language.GREATEST)
 
     def _literal(self, value: Any, path: str) -> None:
         if isinstance(value, str):
             self._text(value, path)
         elif not isinstance(value, bool):
-            self._whole(value, path, LEAST_NUMBER, LARGEST_NUMBER)
+            self._whole(value, path, language.LEAST, language.GREATEST)
 
     def _text(self, value: str, path: str) -> None:
         """A text that can be written at all: half of a pair of surrogates can't."""
@@ -253,7 +210,7 @@ class _Reader:
         return value
 
     def _name(self, value: Any, path: str) -> str:
-        if not isinstance(value, str) or not re.fullmatch(r"[A-Za-z][A-Za-z0-9_]{0,31}", value):
+        if not isinstance(value, str) or not language.is_name(value):
             self._refuse(path)
         return value
 
@@ -275,58 +232,14 @@ class _Reader:
         raise Refused(f"this is no script, at {path or '/'}: run ./hipac-tools check on it")
 
 
-def statements(body: list[Form]) -> Iterator[Form]:
-    """All statements of a body, those of inner bodies too, in written order."""
-    for statement in body:
-        yield statement
-        for part, sort in zip(statement[1:], STATEMENTS[statement[0]]):
-            if sort == "body":
-                yield from statements(part)
-
-
-def patterns(event: Form) -> Iterator[Form]:
-    """The simple events that an event is made of, from left to right."""
-    inner = [part for part, sort in zip(event[1:], EVENTS[event[0]]) if sort == "event"]
-    if not inner:
-        yield event
-    for part in inner:
-        yield from patterns(part)
-
-
-def has_one_part(event: Form) -> bool:
-    """Whether each occurrence of an event has one part alone: so where no `seq` and no `closure` is in it."""
-    if event[0] == "or":
-        return has_one_part(event[1]) and has_one_part(event[2])
-    return event[0] not in ("seq", "closure")
-
-
 def numbered_items(rulebase: RuleBase) -> Iterator[tuple[Form, int, list[int]]]:
     """Each item with the number of its first unit in the report, and with its due moments, each of which is a unit."""
+    events = [rule.event for rule in rulebase.rules]
     unit, clock = 1, 0
     for item in rulebase.items:
-        moments = due_moments(rulebase, clock, item[1]) if item[0] == "clock" else []
+        moments = language.due_moments(events, clock, item[1]) if item[0] == "clock" else []
         yield item, unit, moments
         if item[0] == "clock":
             unit, clock = unit + len(moments), item[1]
         else:
             unit += 1
-
-
-def due_moments(rulebase: RuleBase, former: int, now: int) -> list[int]:
-    """The moments that are due when the clock moves from `former` to `now`, and one above the most that may be."""
-    moments = set()
-    for rule in rulebase.rules:
-        for pattern in patterns(rule.event):
-            moments.update(moments_of(pattern, former, now))
-    return sorted(moments)[:MOST_MOMENTS + 1]
-
-
-def moments_of(pattern: Form, former: int, now: int) -> range:
-    """The moments above `former` and up to `now` that one pattern names."""
-    if pattern[0] == "at":
-        return range(pattern[1], pattern[1] + 1) if former < pattern[1] <= now else range(0)
-    if pattern[0] != "every":
-        return range(0)
-    first, period = pattern[1:]
-    turns_past = max(0, (former - first) // period + 1)
-    return range(first + turns_past * period, now + 1, period)[:MOST_MOMENTS + 1]

@@ -10,8 +10,7 @@ import json
 from dataclasses import dataclass, field
 from typing import Any, Callable, Dict, List, Optional, Tuple
 
-LEAST = -(2 ** 63)
-GREATEST = 2 ** 63 - 1
+from .language import GREATEST, LEAST
 
 
 class Fault(Exception):
@@ -57,10 +56,12 @@ class Primitive:
 
 @dataclass(frozen=True)
 class Occurrence:
-    """An event's occurrence. One of a rule that a statement `fire` asked for has no parts and the count 0."""
+    """An event's occurrence. One of a rule that a statement `fire` asked for has no parts and the count 0. `is_counted`
+    says that a closure is in it, so that the count tells more than how many parts there are."""
 
     parts: Tuple[Primitive, ...]
     count: int
+    is_counted: bool = False
 
 
 @dataclass
@@ -195,6 +196,8 @@ def _part(expression: List[Any], environment: Environment) -> Primitive:
     if environment.occurrence is None:
         raise Fault("A6", f"`{expression[0]}` stands where there is no occurrence")
     parts = environment.occurrence.parts
+    if not parts:
+        raise Fault("A6", f"`{expression[0]}` asks for part {expression[1]}, and a rule that `fire` runs has no event")
     if expression[1] >= len(parts):
         raise Fault("A6", f"the occurrence has no part {expression[1]}")
     return parts[expression[1]]

@@ -12,7 +12,8 @@ from pathlib import Path
 from typing import Any, Dict, List, Optional
 
 from . import graph, printing
-from .account import Account, NoAccount, REFUSED, STANDARD_INPUT, WRONG_WORDS, account_of, bytes_of
+from .account import Account, NoAccount, account_of
+from .command import DONE, REFUSED, STANDARD_INPUT, WRONG_WORDS, bytes_of, shown
 from .model import page_model
 
 USAGE = """usage: hipac-tools view SCRIPT.json [REPORT] [--out FILE.html]
@@ -22,7 +23,6 @@ that ./hipac wrote with --tree; where it isn't given the program is run. The pag
 For SCRIPT.json or REPORT `-` is standard input.
 The exit status is 0, 2 for a script or a report that can't be shown, 3 for wrong words, 4 where the program failed."""
 
-DONE = 0
 PAGE = Path(__file__).with_name("page")
 CODE = ("data.js", "tree.js", "panels.js", "search.js", "overview.js", "main.js")
 
@@ -73,7 +73,7 @@ def _words(arguments: List[str]) -> Optional[Words]:
 
 def page_of(words: Words) -> bytes:
     report_text = None if words.report is None else bytes_of(words.report).decode("utf-8", "replace")
-    name = "standard input" if words.script == STANDARD_INPUT else Path(words.script).name
+    name = Path(shown(words.script)).name
     return page_text(account_of(bytes_of(words.script), report_text), name).encode("utf-8")
 
 

@@ -1,4 +1,4 @@
-"""The word `why`: says in a terminal why a unit ended as it did, or why a rule fired in it or didn't."""
+"""The word `why`: says in a terminal why a unit ended as it did, or why a rule acted in it or didn't."""
 
 from __future__ import annotations
 
@@ -7,22 +7,27 @@ import textwrap
 from collections import Counter
 from typing import Any, Dict, Iterator, List, Optional, Tuple
 
-from . import reasons
-from .account import Account, NoAccount, REFUSED, WRONG_WORDS, account_of, bytes_of
+from . import fates, reasons
+from .account import Account, NoAccount, account_of
+from .command import DONE, REFUSED, WRONG_WORDS, bytes_of
 from .course import STEPS
-from .notes import Signal, ancestry, undone_by
+from .language import DETACHED
+from .near import nearest
+from .notes import NO_ABORT, Signal, ancestry, undone_by
 from .printing import event_text
 from .report import Act, Fire, Operation, Sub, Transaction, Unit, walk
+from .wording import listed, some_of, times
 
 USAGE = """usage: hipac-tools why SCRIPT.json UNIT [RULE]
 
 Says why the unit of that number ended as it did: what aborted, by which cause, and what led there. With a rule it says
-why the rule fired in that unit, or why it didn't. Units are numbered from 1, as in the report; `-` is standard input.
+what the rule did in that unit and why, or why it wasn't triggered. Units are numbered from 1, as in the report; `-` is
+standard input.
 The exit status is 0, 2 for a script that is refused, 3 for wrong words, 4 where the program failed."""
 
-DONE = 0
 WIDTH = 110
 MOST_LINES = 12
+STATUS_WORDS = {"absent": "wasn't installed", "enabled": "was enabled", "disabled": "was disabled"}
 
 
 class WrongWords(Exception):
@@ -56,7 +61,9 @@ def explanation(script_bytes: bytes, number: int, rule: Optional[str] = None, st
     if not 1 <= number <= len(account.report.units):
         raise WrongWords(f"there is no unit {number}; the last one is unit {len(account.report.units)}")
     if rule is not None and rule not in account.rules:
-        raise WrongWords(f"there is no rule {rule}; the rules are {', '.join(account.rules)}")
+        meant = nearest(rule, account.rules)
+        which = f"did you mean {meant}?" if meant else f"the rules are {', '.join(account.rules)}"
+        raise WrongWords(f"there is no rule {rule}; {which}")
     unit = account.report.units[number - 1]
     lines = Lines(width)
     if account.doubt is not None:
@@ -79,6 +86,10 @@ class Lines:
         lead = "  " * level
         self.lines += textwrap.wrap(words, self.width, initial_indent=lead, subsequent_indent=lead + "  ",
                                     break_long_words=False, break_on_hyphens=False)
+
+    def say_all(self, level: int, sentences: List[str]) -> None:
+        for sentence in sentences:
+            self.say(level, sentence)
 
     def say_some(self, level: int, sentences: List[str]) -> None:
         """The first of many sentences, and how many more there are."""
@@ -112,38 +123,71 @@ class UnitAnswer:
             self._transaction(transaction)
         for transaction in self.unit.transactions:
             for dropped in transaction.note.dropped:
-                if dropped.mode != "deferred" and dropped.mode != "immediate":
-                    self.lines.say(0, f"no {dropped.mode} {dropped.rule}")
-                    self.lines.say(1, f"Rule {dropped.rule} was {reasons.dropped_words(dropped)}.")
+                if dropped.mode in DETACHED and dropped.why != NO_ABORT:
+                    self.lines.say(0, f"{dropped.mode} {dropped.rule} dropped")
+                    self.lines.say_all(1, reasons.dropped_sentences(dropped, f"Rule {dropped.rule}"))
 
     def _transaction(self, transaction: Transaction) -> None:
         say = self.lines.say
         if transaction.rule is not None:
-            for sentence in detachment(transaction):
-                say(1, sentence)
-        if transaction.end.committed:
-            is_body = transaction.rule is None and self.unit.moment is None
-            say(1, "All of its own statements ran." if is_body else "It ran to its end.")
-        else:
-            for sentence in reasons.chain(transaction):
-                say(1, sentence)
+            self._task(transaction)
+        elif transaction.end.committed:
+            say(1, "All of its own statements ran." if self.unit.moment is None else "It ran to its end.")
+        if not transaction.end.committed:
+            self.lines.say_all(1, new_in_chain(transaction, transaction))
         self._inner(transaction)
-        firings = Counter(fired_line(node) for node in walk(transaction) if isinstance(node, (Fire, Act)))
-        if firings:
-            say(1, "Firings:")
-            self.lines.say_some(2, often(firings))
+        self._rules(transaction)
+
+    def _rules(self, transaction: Transaction) -> None:
+        """What became of the rules within a transaction. What was detached from it is told apart, save for exclusive
+        tasks that no abort released, of which there is nothing more to tell."""
+        tasks = Counter(fates.line_of(node) for node in walk(transaction)
+                        if isinstance(node, (Fire, Act)) and node is not own_task(transaction))
+        tasks.update(fates.dropped_line(one) for one in transaction.note.dropped
+                     if one.mode not in DETACHED or one.why == NO_ABORT)
+        if tasks:
+            self.lines.say(1, "Rules:")
+            self.lines.say_some(2, often(tasks))
+        is_alone = len(self.unit.transactions) == 1 and not transaction.note.dropped
+        if not tasks and is_alone and transaction.end.committed and self.account.doubt is None:
+            self.lines.say(1, "No rule was triggered.")
+
+    def _task(self, transaction: Transaction) -> None:
+        """What triggered a transaction of the cascade, and how its one task went. A veto is told as the abort."""
+        note, task = transaction.note, own_task(transaction)
+        self.lines.say(1, f"Rule {transaction.rule} was {reasons.trigger_words(note.trigger, note.occurrence)}.")
+        if isinstance(task, Fire) and task.condition != "satisfied":
+            self.lines.say(1, " ".join(reasons.condition_sentences(task)))
+        if task.end.cause != "A9":
+            self.lines.say(1, reasons.action_sentence(task, self.account.mode_of_action(task.rule)))
 
     def _inner(self, transaction: Transaction) -> None:
         """The parts that aborted by themselves while the transaction went on. A veto that aborts several nodes at once
         is told of the outermost."""
-        aborted = [node for node in walk(transaction)
-                   if isinstance(node, (Sub, Fire, Act)) and not node.end.committed and not is_part_of_veto(node)]
+        own = own_task(transaction)
+        aborted = [node for node in walk(transaction) if isinstance(node, (Sub, Fire, Act)) and not node.end.committed
+                   and not is_part_of_veto(node) and not (node is own and node.end.cause != "A9")]
         for node in aborted[:MOST_LINES]:
             self.lines.say(1, f"Within it {reasons.name_of(node)} {node.end}:")
-            for sentence in reasons.chain(node):
-                self.lines.say(2, sentence)
+            self.lines.say_all(2, new_in_chain(node, transaction))
         if len(aborted) > MOST_LINES:
             self.lines.say(1, f"and {len(aborted) - MOST_LINES} more parts aborted within it")
+
+
+def own_task(transaction: Transaction) -> Any:
+    """The task that a transaction of a cascade is for; none of a unit's own transaction."""
+    return None if transaction.rule is None else transaction.items[0]
+
+
+def new_in_chain(node: Any, transaction: Transaction) -> List[str]:
+    """What led to an abort, without what was said before of how the transaction of a cascade came to be."""
+    sentences, own = reasons.chain(node), own_task(transaction)
+    if own is not None:
+        for who in ("It", f"Rule {own.rule}"):
+            known = reasons.origins(own, who)
+            if sentences[-len(known):] == known:
+                return sentences[:-len(known)]
+    return sentences
 
 
 def is_part_of_veto(node: Any) -> bool:
@@ -154,20 +198,6 @@ def is_part_of_veto(node: Any) -> bool:
     return node.note.parent.end == node.end if stop is None else stop.firing is None
 
 
-def detachment(transaction: Transaction) -> List[str]:
-    """Why a transaction of a cascade was begun."""
-    trigger = transaction.note.trigger
-    if trigger is None:
-        return [f"What triggered rule {transaction.rule} {reasons.UNTOLD}."]
-    return [f"Rule {transaction.rule} was {reasons.trigger_words(trigger)}."]
-
-
-def fired_line(node: Any) -> str:
-    if isinstance(node, Act):
-        return f"{node.rule} {node.mode} action {node.end}"
-    return str(node)[len("fire "):]
-
-
 class RuleAnswer:
     """Why a rule fired in a unit, or why it didn't."""
 
@@ -175,24 +205,27 @@ class RuleAnswer:
         self.account = account
         self.unit = unit
         self.rule = rule
-        self.event = account.rules[rule][1]
+        self.event = account.rules[rule].event
         self.lines = lines
 
     def write(self) -> None:
-        firings = list(self._firings())
+        tasks = list(self._tasks())
         dropped = [one for transaction in self.unit.transactions for one in transaction.note.dropped
                    if one.rule == self.rule]
-        verdict = f"fired {times(len(firings))}" if firings else "didn't fire"
-        self.lines.say(0, f"rule {self.rule} {verdict} in unit {self.unit.number}")
-        for transaction, node in firings[:MOST_LINES]:
+        verdict = fates.verdict([node for _, node in tasks], dropped, f"in unit {self.unit.number}")
+        self.lines.say(0, f"rule {self.rule} {verdict}")
+        for transaction, node in tasks[:MOST_LINES]:
             self._firing(transaction, node)
-        if len(firings) > MOST_LINES:
-            self.lines.say(1, f"and {len(firings) - MOST_LINES} more")
-        self.lines.say_some(1, [f"It was {reasons.dropped_words(one)}." for one in dropped])
-        if not firings and not dropped:
+        if len(tasks) > MOST_LINES:
+            self.lines.say(1, f"and {len(tasks) - MOST_LINES} more")
+        for one in dropped[:MOST_LINES]:
+            self.lines.say_all(1, reasons.dropped_sentences(one))
+        if len(dropped) > MOST_LINES:
+            self.lines.say(1, f"and {len(dropped) - MOST_LINES} more were dropped")
+        if not tasks and not dropped:
             self._silence()
 
-    def _firings(self) -> Iterator[Tuple[Transaction, Any]]:
+    def _tasks(self) -> Iterator[Tuple[Transaction, Any]]:
         for transaction in self.unit.transactions:
             for node in walk(transaction):
                 if isinstance(node, (Fire, Act)) and node.rule == self.rule:
@@ -201,23 +234,15 @@ class RuleAnswer:
     def _firing(self, transaction: Transaction, node: Any) -> None:
         say = self.lines.say
         say(1, f"{node}, in {reasons.name_of(transaction)}")
-        for sentence in reasons.origins(node):
-            say(2, sentence)
         if isinstance(node, Fire):
-            say(2, f"Its condition was {condition_verdict(node)}: {'; '.join(reasons.condition_words(node))}.")
-        self._action(node)
+            self.lines.say_all(2, reasons.origins(node))
+            say(2, " ".join(reasons.condition_sentences(node)))
+        else:
+            self.lines.say_all(2, reasons.trigger_sentences(node, "It"))
+        say(2, reasons.action_sentence(node, self.account.mode_of_action(self.rule)))
         undone = reasons.undone_words(node)
         if undone and node.items:
-            say(2, f"What it did was {undone}.")
-
-    def _action(self, node: Any) -> None:
-        if isinstance(node, Fire) and not hasattr(node.action, "committed"):
-            words = {"none": "So it had no action.", "later": "Its action was a task of its own, to run later."}
-            self.lines.say(2, words[str(node.action)])
-        elif node.end.committed:
-            self.lines.say(2, "Its action committed.")
-        else:
-            self.lines.say(2, f"Its action {node.end}: {reasons.stop_words(node.end, node.note.stop)}.")
+            say(2, f"What it did was undone, as {undone}.")
 
     # Where it didn't fire
 
@@ -235,33 +260,31 @@ class RuleAnswer:
         mentioned = [signal for signal in signals if signal.watched.mentions]
         self.lines.say_some(1, [self._mention(signal) for signal in mentioned])
         if not mentioned:
-            self.lines.say(1, "It was enabled, but its event didn't occur, nor any part of it. What was signalled: "
-                              + counted(signals) + ".")
+            self.lines.say(1, f"Nothing of that happened. What did: {happened(signals)}.")
 
     def _never_enabled(self, signals: List[Signal]) -> None:
         watched = signals[0].watched
-        self.lines.say(1, f"It was {watched.status} all the time{self._since(watched.since)}.")
+        self.lines.say(1, f"It {STATUS_WORDS[watched.status]}{self._since(watched.since)}.")
         for operation in self._undone_operations():
             self.lines.say(1, f"The operation {operation.verb} {self.rule} in unit {self._unit_of(operation)}"
                               f"{reasons.at(operation.note.path)} doesn't count, as it was undone: "
-                              f"{reasons.name_of(undone_by(operation))} aborted.")
+                              f"{reasons.undone_words(operation)}.")
         mentioned = [signal for signal in signals if signal.watched.mentions]
-        words = "What its event mentions was signalled: " + counted(mentioned) if mentioned else \
-            "Nothing that its event mentions was signalled either"
-        self.lines.say(1, words + ".")
+        self.lines.say(1, f"What its event waits for did happen: {happened(mentioned)}." if mentioned else
+                          "Nothing that its event waits for happened either.")
 
     def _mention(self, signal: Signal) -> str:
         watched = signal.watched
         where = f"At {signal}{reasons.at(signal.path)}"
         if watched.status != "enabled":
-            return f"{where} it was {watched.status}{self._since(watched.since)}."
+            return f"{where} it {STATUS_WORDS[watched.status]}{self._since(watched.since)}."
         if self.rule in signal.triggered:
-            return f"{where} it was triggered, but {' and '.join(signal.triggered)} would have been too deep (A7)."
-        return f"{where} it was enabled, but its event didn't occur: {watched.lacking or 'no part of it fits'}."
+            return f"{where} it was triggered, but {listed(signal.triggered)} would have been too deep (A7)."
+        return f"{where} its event didn't occur, as {watched.lacking}."
 
     def _since(self, operation: Optional[Operation]) -> str:
         if operation is None:
-            return ", as no install of it had lasted"
+            return ""
         unit = self._unit_of(operation)
         return f", since {operation.verb} {self.rule} in unit {unit}{reasons.at(operation.note.path)}"
 
@@ -287,8 +310,8 @@ class RuleAnswer:
         for node in self._operations(self.unit.number - 1):
             if undone_by(node) is None:
                 status[self.rule] = after(node.verb, status.get(self.rule, "absent"))
-        self.lines.say(1, f"When the unit began it was {status.get(self.rule, 'absent')}.")
-        self.lines.say(1, f"Which signals the unit had, {reasons.UNTOLD}.")
+        self.lines.say(1, f"When the unit began it {STATUS_WORDS[status.get(self.rule, 'absent')]}.")
+        self.lines.say(1, f"What was signalled in the unit {reasons.UNTOLD}.")
 
 
 def after(verb: str, status: str) -> str:
@@ -298,19 +321,11 @@ def after(verb: str, status: str) -> str:
     return {"enable": "enabled", "disable": "disabled", "remove": "absent"}[verb]
 
 
-def condition_verdict(node: Fire) -> str:
-    return node.condition.replace("fault ", "ended by a fault, ")
-
-
-def counted(signals: List[Signal]) -> str:
+def happened(signals: List[Signal]) -> str:
     """What was signalled, each with how often."""
-    return reasons.listed(often(Counter(str(signal) for signal in signals)), MOST_LINES)
+    return some_of(often(Counter(str(signal) for signal in signals)), MOST_LINES)
 
 
 def often(counts: Dict[str, int]) -> List[str]:
     """Things with how often they were there, where that is more than once."""
-    return [thing + ("" if number == 1 else f" ({number} times)") for thing, number in counts.items()]
-
-
-def times(number: int) -> str:
-    return {1: "once", 2: "twice"}.get(number, f"{number} times")
+    return [thing + ("" if number == 1 else f" ({times(number)})") for thing, number in counts.items()]

@@ -16,12 +16,12 @@ from pathlib import Path
 
 from hipac_tools import report, view
 from hipac_tools.account import account_of
-from hipac_tools.course import Course
 
 from .browser import Browser
 from .large_script import UNITS, large_script
 from .made_scripts import TEXTS
 from .test_report import EXAMPLES
+from .trials import followed
 
 MOST_MILLISECONDS = 2_000
 MOST_ELEMENTS = 2_500
@@ -30,7 +30,7 @@ EVERYTHING_FOCUSABLE = "button, input, [tabindex='0'], a[href]"
 
 def page_of(script, folder, name):
     """Writes the page of a script into a folder, with the report that the course gives (test_course compares it)."""
-    one = account_of(json.dumps(script).encode(), report.write(Course(script).report()))
+    one = account_of(json.dumps(script).encode(), report.write(followed(script)))
     path = Path(folder, name + ".html")
     path.write_text(view.page_text(one, name + ".json"), encoding="utf-8")
     return path, one
@@ -86,7 +86,7 @@ class ExamplesTest(BrowserCase):
         self.browser.click(".row.top .kind", "unit 3")
         self.assertIn("aborted A9 solvent", self.selected())
         self.assertIn("Rule solvent vetoed", self.selected())
-        self.assertIn("It was triggered by update acct 1 (at /items/2/1/0)", self.panel("details"))
+        self.assertIn("It was triggered by update acct 1 (bal 70 -> -1) at /items/2/1/0", self.panel("details"))
         self.browser.key("ArrowRight")
         self.assertIn("bal=-1 limit=0 undone", self.selected())
         self.assertIn("undone", self.browser.evaluate("document.querySelector('.row.selected').className"))
@@ -173,7 +173,7 @@ class ExamplesTest(BrowserCase):
         rows = self.browser.evaluate("[...document.querySelectorAll('.row')].map((row) => row.innerText)")
         lines = [re.sub(r"\s+", " ", row) for row in rows]
         place = next(at for at, line in enumerate(lines) if line.startswith("dependent operator committed"))
-        self.assertIn("Triggered by signal burst [2], in the action of rule burst", lines[place])
+        self.assertIn("Triggered by signal burst [2] at /rules/3/5/0/2/0, in the action of rule burst", lines[place])
 
     def test_every_control_has_a_name_and_the_tree_says_what_it_is(self):
         self.page("workflow")

@@ -193,6 +193,29 @@ class AcceptedScripts(InDirectory):
         text = script(items='["tx", [["each", "x", "acct", true, [["emit", ["of", "x", "ball"]]]]]]')
         self.assertEqual(self.warnings(text), ["the class `acct` has no field `ball`: this always ends with A3"])
 
+    def hints(self, predicate: str) -> list[str]:
+        """The hints for a query and for an `each` with a predicate on the row `a`."""
+        query = f'["r", ["update", "acct"], "immediate", [["a", "acct", {predicate}]], "immediate", []]'
+        each = f'["s", ["update", "acct"], "immediate", [], "immediate", [["each", "a", "acct", {predicate}, []]]]'
+        status, lines = self.check(script(rules=f"{query}, {each}"))
+        self.assertEqual(status, 0)
+        return [line.split("hint: ", 1)[1] for line in lines if "hint: " in line]
+
+    def test_a_key_that_is_asked_for_too_late(self) -> None:
+        key, owes = '["=", ["id", 0], ["key", "a"]]', '["<", ["of", "a", "bal"], 0]'
+        hints = [f"{what} goes over all of `acct`: with this test of the key first it looks at one object"
+                 for what in ("the query `a`", "`each` `a`")]
+        self.assertEqual(self.hints(f'["and", {owes}, {key}]'), hints)
+        self.assertEqual(self.hints(f'["and", ["and", {owes}, {owes}], ["and", {key}, {key}]]'), hints)
+
+    def test_no_hint_where_the_whole_class_is_meant_or_one_object_is_looked_at(self) -> None:
+        key, owes = '["=", ["id", 0], ["key", "a"]]', '["<", ["of", "a", "bal"], 0]'
+        itself = '["=", ["key", "a"], ["+", ["of", "a", "bal"], 1]]'
+        for predicate in ("true", owes, key, f'["and", {key}, {owes}]', f'["or", {owes}, {key}]',
+                          f'["and", {owes}, {itself}]', f'["and", {owes}, ["not", {key}]]'):
+            with self.subTest(predicate):
+                self.assertEqual(self.hints(predicate), [])
+
     def test_a_look_at_an_occurrence_where_there_is_none(self) -> None:
         text = script(items='["tx", [["emit", ["count"]]]]')
         warning = "nothing has occurred in a transaction's own body: `count` always ends with A6 here"

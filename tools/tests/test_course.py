@@ -6,12 +6,12 @@ import unittest
 
 from hipac_tools import program, report
 from hipac_tools.account import DIFFERENT, TOO_LONG, account_of
-from hipac_tools.course import Course
 from hipac_tools.report import Fire, walk
 
 from .large_script import large_script
 from .made_scripts import made_script
 from .test_report import EXAMPLES
+from .trials import followed
 
 SEEDS = range(50)
 PROBED_SEEDS = range(200, 260)
@@ -29,17 +29,17 @@ class SameReportTest(unittest.TestCase):
         for path in EXAMPLES:
             with self.subTest(path.name):
                 script = json.loads(path.read_text(encoding="utf-8"))
-                self.assertEqual(report.write(Course(script).report()), reported(script))
+                self.assertEqual(report.write(followed(script)), reported(script))
 
     def test_made_scripts(self):
         for seed in SEEDS:
             with self.subTest(seed=seed):
                 script = made_script(seed)
-                self.assertEqual(report.write(Course(script).report()), reported(script))
+                self.assertEqual(report.write(followed(script)), reported(script))
 
     def test_the_beginning_of_the_large_script(self):
         script = large_script(45)
-        self.assertEqual(report.write(Course(script).report()), reported(script))
+        self.assertEqual(report.write(followed(script)), reported(script))
 
 
 class JudgedQueriesTest(unittest.TestCase):
@@ -54,7 +54,7 @@ class JudgedQueriesTest(unittest.TestCase):
             if not beside:
                 continue
             with self.subTest(seed=seed):
-                expected = noted(Course(script).report(), beside)
+                expected = noted(followed(script), beside)
                 self.assertEqual(found(report.read(reported(probe)), beside), expected)
                 judged += len(expected)
         self.assertGreater(judged, 20)

@@ -10,7 +10,7 @@ from contextlib import redirect_stderr, redirect_stdout
 from pathlib import Path
 from xml.etree import ElementTree
 
-from hipac_tools import graph, program, rulebase
+from hipac_tools import command, graph, program, rulebase
 from tests.making import COUPLINGS, EXAMPLES, RandomRuns, rule, script
 
 SIGNAL_S, SIGNAL_T = ["signal", "s"], ["signal", "t"]
@@ -31,7 +31,7 @@ def installed(*names: str) -> list:
 def report(text: str) -> str:
     """What the program writes for a script, with its trees."""
     ended = program.run(text.encode("utf-8"), ["--tree"])
-    if ended.status == program.CANNOT_RUN:
+    if ended.status == command.FAILED:
         raise unittest.SkipTest(ended.errors)
     assert ended.status == 0, ended
     return ended.output

@@ -9,7 +9,7 @@ import unittest
 from contextlib import redirect_stderr, redirect_stdout
 from unittest import mock
 
-from hipac_tools import printing, rulebase
+from hipac_tools import language, printing, rulebase
 from hipac_tools.printing import event_text, expression_text, rule_text, script_text, statement_lines
 from tests.making import EXAMPLES, RandomScripts, rule, script
 from tests.reading_back import read_back
@@ -200,13 +200,13 @@ class Items(unittest.TestCase):
             "the clock moves to 30: units 7 to 13 are its 7 due moments, 11 to 29"])
 
     def test_due_moments(self) -> None:
-        base = rulebase.read(script([rule("r", ["or", ["every", 7, 10 ** 12], ["at", 0]], [])], []))
-        self.assertEqual(rulebase.due_moments(base, 0, 6), [])
-        self.assertEqual(rulebase.due_moments(base, 0, 7), [7])
-        self.assertEqual(rulebase.due_moments(base, 7, 10 ** 13), [7 + turn * 10 ** 12 for turn in range(1, 10)])
-        every = rulebase.read(script([rule("r", ["every", 0, 1], [])], []))
-        self.assertEqual(rulebase.due_moments(every, 0, 2), [1, 2])
-        self.assertEqual(len(rulebase.due_moments(every, 0, 2 ** 62)), rulebase.MOST_MOMENTS + 1)
+        events = [["or", ["every", 7, 10 ** 12], ["at", 0]]]
+        self.assertEqual(language.due_moments(events, 0, 6), [])
+        self.assertEqual(language.due_moments(events, 0, 7), [7])
+        self.assertEqual(language.due_moments(events, 7, 10 ** 13), [7 + turn * 10 ** 12 for turn in range(1, 10)])
+        every = [["every", 0, 1]]
+        self.assertEqual(language.due_moments(every, 0, 2), [1, 2])
+        self.assertEqual(len(language.due_moments(every, 0, 2 ** 62)), language.MOST_MOMENTS + 1)
 
 
 class Wholes(unittest.TestCase):

@@ -4,7 +4,7 @@ from __future__ import annotations
 import json
 import unittest
 
-from hipac_tools import rulebase
+from hipac_tools import language, rulebase
 from tests.making import EXAMPLES, rule, script
 
 
@@ -58,12 +58,12 @@ class Reading(unittest.TestCase):
 
     def test_walks(self) -> None:
         body = [["if", True, [["abort"]], [["sub", [["veto"]], [["emit", 1]]]]], ["for", "x", [["emit", 2]]]]
-        self.assertEqual([statement[0] for statement in rulebase.statements(body)],
+        self.assertEqual([statement[0] for statement in language.statements(body)],
                          ["if", "abort", "sub", "veto", "emit", "for", "emit"])
         event = ["seq", ["or", ["commit"], ["at", 1]], ["closure", ["signal", "a"], ["signal", "b"]]]
-        self.assertEqual(list(rulebase.patterns(event)), [["commit"], ["at", 1], ["signal", "a"], ["signal", "b"]])
-        self.assertFalse(rulebase.has_one_part(event))
-        self.assertTrue(rulebase.has_one_part(event[1]))
+        self.assertEqual(list(language.patterns(event)), [["commit"], ["at", 1], ["signal", "a"], ["signal", "b"]])
+        self.assertFalse(language.has_one_part(event))
+        self.assertTrue(language.has_one_part(event[1]))
 
 
 def nested(words: list[str]) -> list:

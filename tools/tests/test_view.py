@@ -10,19 +10,21 @@ import unittest
 
 from hipac_tools import program, report, view
 from hipac_tools.account import account_of
-from hipac_tools.course import Course
 from hipac_tools.model import ACT, EMIT, END_PLACES, FIRE, NOWHERE, OPERATION, TRANSACTION, page_model
 from hipac_tools.report import walk
 
 from .made_scripts import TEXTS, made_script
 from .test_report import EXAMPLES
+from .trials import followed
 
 SEEDS = range(25)
+FACTS = {FIRE: 6, ACT: 5}
+"""Where a task's facts stand in its row."""
 
 
 def account(script):
     """An account whose report the course itself gives; that it is the program's is the matter of test_course."""
-    return account_of(json.dumps(script).encode(), report.write(Course(script).report()))
+    return account_of(json.dumps(script).encode(), report.write(followed(script)))
 
 
 def data_of(page):
@@ -89,6 +91,28 @@ class ModelTest(unittest.TestCase):
         page = page_model(account(json.loads(path.read_text(encoding="utf-8"))))
         fired = next(node for node in page.nodes if node[0] == FIRE and node[2] == "ceiling")
         self.assertEqual(page.nodes[fired[-1]][2:5], ["update", "acct 1", "bal=-30 limit=0"])
+
+
+    def test_a_firing_is_told_in_the_words_of_why(self):
+        low = [["i", "item", ["and", ["=", ["key", "i"], ["id", 0]], ["<", ["of", "i", "stock"], 3]]]]
+        script = {"version": 1, "classes": [["item", [["stock", "int"]]]], "rules": [
+            ["low", ["create", "item"], "deferred", low, "dependent", [["delete", "item", 9]]]],
+            "items": [["tx", [["install", "low"], ["create", "item", 1, [["stock", 4]]],
+                              ["create", "item", 2, [["stock", 2]]]]]]}
+        page = page_model(account(script))
+        facts = [{label: page.sentences[place] for label, place in node[FACTS[node[0]]]}
+                 for node in page.nodes if node[0] in (FIRE, ACT)]
+        later = " It is deferred, so it ran at the end of the transaction."
+        self.assertEqual(facts, [
+            {"Trigger": "Triggered by create item 1 (stock 4) at /items/0/1/1, in the unit's own body." + later,
+             "Condition": "Its condition wasn't satisfied. Query i found nothing, as i.stock < 3 isn't true of item 1 "
+                          "(i.stock is 4). So it did nothing."},
+            {"Trigger": "Triggered by create item 2 (stock 2) at /items/0/1/2, in the unit's own body." + later,
+             "Condition": "Its condition was satisfied. Query i found item 2.",
+             "Action": "Its action is dependent, so it was put off."},
+            {"Trigger": "Triggered by create item 2 (stock 2) at /items/0/1/2, in the unit's own body. Its action is "
+                        "dependent, so it ran in a transaction of its own.",
+             "Aborted": "`delete item 9`: there is no item 9 (at /rules/0/5/0)."}])
 
 
 class EscapingTest(unittest.TestCase):

@@ -52,22 +52,22 @@ class CausesTest(WhyCase):
         self.says(script(rules, body), 1, [f"unit 1 aborted {cause}", sentence])
 
     def test_a1(self):
-        self.one([ACCOUNT, ACCOUNT], "A1", "Create acct 1 met an object that is there already (at /items/0/1/1).")
+        self.one([ACCOUNT, ACCOUNT], "A1", "`create acct 1`: acct 1 is there already (at /items/0/1/1).")
 
     def test_a2(self):
         tell = simple("tell", ["signal", "go"])
-        self.one([["update", "acct", 9, []]], "A2", "Update acct 9 met no such object (at /items/0/1/0).")
-        self.one([["delete", "acct", 9]], "A2", "Delete acct 9 met no such object (at /items/0/1/0).")
-        self.one([["with", "a", "acct", 9, []]], "A2", "With acct 9 met no such object (at /items/0/1/0).")
-        self.one([["enable", "tell"]], "A2", "Enable tell met a rule that is absent (at /items/0/1/0).", [tell])
-        self.one([["fire", "tell"]], "A2", "Fire tell met a rule that is absent (at /items/0/1/0).", [tell])
+        self.one([["update", "acct", 9, []]], "A2", "`update acct 9`: there is no acct 9 (at /items/0/1/0).")
+        self.one([["delete", "acct", 9]], "A2", "`delete acct 9`: there is no acct 9 (at /items/0/1/0).")
+        self.one([["with", "a", "acct", 9, []]], "A2", "`with acct 9`: there is no acct 9 (at /items/0/1/0).")
+        self.one([["enable", "tell"]], "A2", "`enable tell`: rule tell isn't installed (at /items/0/1/0).", [tell])
+        self.one([["fire", "tell"]], "A2", "`fire tell`: rule tell isn't installed (at /items/0/1/0).", [tell])
 
     def test_a3(self):
         fields = [["bal", 1], ["open", True]]
-        self.one([["create", "acct", True, fields]], "A3", "Create acct: the key is true, which is no whole number "
+        self.one([["create", "acct", True, fields]], "A3", "`create acct`: the key is true, which is no whole number "
                                                            "(at /items/0/1/0).")
         self.one([ACCOUNT, ["update", "acct", 1, [["bal", "x"]]]], "A3",
-                 'Update acct 1: bal is to be of kind int and is "x" (at /items/0/1/1).')
+                 '`update acct 1`: the field bal is of kind int, and the value is "x" (at /items/0/1/1).')
         self.one([["emit", ["+", 1, "x"]]], "A3", '`+` asks for two whole numbers and met 1 and "x" (at /items/0/1/0).')
         self.one([ACCOUNT, ["with", "a", "acct", 1, [["emit", ["of", "a", "stock"]]]]], "A3",
                  "Acct 1 has no field stock (at /items/0/1/1/4/0).")
@@ -88,16 +88,20 @@ class CausesTest(WhyCase):
         self.says(script([asks], [["install", "asks"], GO]), 1, [
             "unit 1 committed", "All of its own statements ran.", "Within it the action of rule asks aborted A6:",
             "Part 0 is signal go [], which has no `new` (at /rules/0/5/0).",
-            "Rule asks was triggered by signal go [] (at /items/0/1/1), in the unit's own body.",
-            "Firings:", "asks immediate satisfied aborted A6"])
+            "Rule asks was triggered by signal go [] at /items/0/1/1, in the unit's own body.",
+            "Rules:", "asks failed (A6)"])
+        fired = simple("fired", ["signal", "go"], queries=[["a", "acct", ["=", ["key", "a"], ["id", 0]]]])
+        self.assertIn("Its condition ended with a fault (A6). Query a met a fault: `id` asks for part 0, and a rule "
+                      "that `fire` runs has no event.",
+                      self.answer(script([fired], install("fired") + [ACCOUNT, ["fire", "fired"]]), 1, "fired"))
 
     def test_a7(self):
         loop = simple("loop", ["signal", "go"], action=[GO])
         self.says(script([loop], [["install", "loop"], GO], depth=1), 1, [
             "unit 1 committed", "All of its own statements ran.", "Within it the action of rule loop aborted A7:",
             "Signal go [] would trigger loop at depth 2, and the limit is 1 (at /rules/0/5/0).",
-            "Rule loop was triggered by signal go [] (at /items/0/1/1), in the unit's own body.",
-            "Firings:", "loop immediate satisfied aborted A7"])
+            "Rule loop was triggered by signal go [] at /items/0/1/1, in the unit's own body.",
+            "Rules:", "loop failed (A7)"])
 
     def test_a8(self):
         self.one([["abort"]], "A8", "The statement `abort` (at /items/0/1/0).")
@@ -107,21 +111,19 @@ class CausesTest(WhyCase):
         shop = script([RESERVE, checked], install("reserve", "checked") + [ITEM], [ORDER])
         self.says(shop, 2, [
             "unit 2 aborted A9 checked", "Rule checked vetoed (at /rules/1/5/0).",
-            "It was triggered by update item 7 (at /rules/0/5/0), in the action of rule reserve; `ec` is deferred, "
-            "so it ran at "
-            "the end of the transaction.",
-            "Rule reserve was triggered by signal order [7] (at /items/1/1/0), in the unit's own body.",
-            "Firings:", "reserve immediate satisfied committed", "checked deferred satisfied aborted A9 checked"])
+            "It was triggered by update item 7 (stock 3 -> -1) at /rules/0/5/0, in the action of rule reserve.",
+            "It is deferred, so it ran at the end of the transaction.",
+            "Rule reserve was triggered by signal order [7] at /items/1/1/0, in the unit's own body.",
+            "Rules:", "reserve acted in vain", "checked (deferred) vetoed"])
 
     def test_a9_of_an_immediate_rule_aborts_what_it_was_triggered_in(self):
         shop = script([RESERVE, OVERSELL], install("reserve", "oversell") + [ITEM], [ORDER])
         self.says(shop, 2, [
             "unit 2 committed", "All of its own statements ran.",
             "Within it the action of rule reserve aborted A9 oversell:", "Rule oversell vetoed (at /rules/1/5/0).",
-            "It was triggered by update item 7 (at /rules/0/5/0), in the action of rule reserve.",
-            "Rule reserve was triggered by signal order [7] (at /items/1/1/0), in the unit's own body.",
-            "Firings:", "reserve immediate satisfied aborted A9 oversell", "oversell immediate satisfied aborted A9 "
-                                                                           "oversell"])
+            "It was triggered by update item 7 (stock 3 -> -1) at /rules/0/5/0, in the action of rule reserve.",
+            "Rule reserve was triggered by signal order [7] at /items/1/1/0, in the unit's own body.",
+            "Rules:", "reserve failed (A9 oversell)", "oversell vetoed"])
 
 
 class CascadeTest(WhyCase):
@@ -133,71 +135,143 @@ class CascadeTest(WhyCase):
         of = script(self.RULES, install("always", "kept", "undone"), [GO, ["abort"]], [GO])
         self.says(of, 2, [
             "unit 2 aborted A8", "The statement `abort` (at /items/1/1/1).",
-            "separate always aborted A9 always", "Rule always was triggered by signal go [] (at /items/1/1/0), in "
-                                                 "the unit's own body.",
+            "separate always aborted A9 always",
+            "Rule always was triggered by signal go [] at /items/1/1/0, in the unit's own body.",
             "Rule always vetoed (at /rules/0/5/0).",
-            "It was triggered by signal go [] (at /items/1/1/0), in the unit's own body; `ec` is separate, so it ran "
-            "in a "
-            "transaction of its own.",
-            "Firings:", "always separate satisfied aborted A9 always",
-            "exclusive undone committed", "Rule undone was triggered by signal go [] (at /items/1/1/0), in the "
-                                          "unit's own body.",
-            "It ran to its end.", "Firings:", "undone exclusive satisfied committed",
-            "no dependent kept",
-            "Rule kept was triggered by signal go [] (at /items/1/1/0), in the unit's own body (dependent), but its "
-            "condition never "
-            "ran: a transaction that it depends on aborted (unit 2: the statement `abort` (at /items/1/1/1))."])
-        self.assertEqual(self.answer(of, 3)[-2:], [
-            "no exclusive undone",
-            "Rule undone was triggered by signal go [] (at /items/2/1/0), in the unit's own body (exclusive), but "
-            "its condition "
-            "never ran: all the transactions round it committed."])
+            "exclusive undone committed",
+            "Rule undone was triggered by signal go [] at /items/1/1/0, in the unit's own body.",
+            "Its action ran and changed nothing.",
+            "dependent kept dropped",
+            "Rule kept was triggered by signal go [] at /items/1/1/0, in the unit's own body.",
+            "It was dropped before its condition was tested, as unit 2 aborted (A8)."])
+        self.assertEqual(self.answer(of, 3)[2:4], ["Rules:", "undone (exclusive) was dropped"])
+        self.says(of, 3, [
+            "rule undone was triggered once in unit 3, and was dropped",
+            "It was triggered by signal go [] at /items/2/1/0, in the unit's own body.",
+            "It is exclusive and was dropped, as no transaction round its trigger aborted."], "undone")
+
+    def test_a_transaction_of_its_own_that_did_nothing_or_failed(self):
+        low = [["i", "item", ["and", ["=", ["key", "i"], ["id", 0]], ["<", ["of", "i", "stock"], 3]]]]
+        rules = [simple("low", ["update", "item"], "dependent", low),
+                 simple("gone", ["update", "item"], "separate", action=[["delete", "item", 9]])]
+        of = script(rules, install("low", "gone") + [ITEM], [["update", "item", 7, [["stock", 4]]]])
+        trigger = "was triggered by update item 7 (stock 3 -> 4) at /items/1/1/0, in the unit's own body."
+        self.says(of, 2, [
+            "unit 2 committed", "All of its own statements ran.",
+            "dependent low committed", "Rule low " + trigger,
+            "Its condition wasn't satisfied. Query i found nothing, as i.stock < 3 isn't true of item 7 (i.stock is "
+            "4).",
+            "So it did nothing.",
+            "separate gone committed", "Rule gone " + trigger,
+            "Its action aborted A2. `delete item 9`: there is no item 9 (at /rules/1/5/0)."])
 
 
 class FiringTest(WhyCase):
     def test_a_firing_is_told_with_its_trigger_condition_and_end(self):
         shop = script([RESERVE, OVERSELL], install("reserve", "oversell") + [ITEM], [ORDER])
         self.says(shop, 2, [
-            "rule oversell fired once in unit 2",
+            "rule oversell was triggered once in unit 2, and vetoed",
             "fire oversell immediate satisfied aborted A9 oversell, in unit 2",
-            "It was triggered by update item 7 (at /rules/0/5/0), in the action of rule reserve.",
-            "Rule reserve was triggered by signal order [7] (at /items/1/1/0), in the unit's own body.",
-            "Its condition was satisfied: query low found 1 of the 1 object of item: 7.",
-            "Its action aborted A9 oversell: the statement `veto` (at /rules/1/5/0)."], "oversell")
+            "It was triggered by update item 7 (stock 3 -> -1) at /rules/0/5/0, in the action of rule reserve.",
+            "Rule reserve was triggered by signal order [7] at /items/1/1/0, in the unit's own body.",
+            "Its condition was satisfied. Query low went over 1 object of item and found item 7.",
+            "It vetoed (at /rules/1/5/0)."], "oversell")
 
-    def test_the_query_that_is_empty_is_named(self):
+    def condition(self, predicate, occurrence=ORDER, more=()):
+        """What is told of a condition that asks for an item once one is there."""
+        asks = simple("asks", ["signal", occurrence[1]], queries=[["i", "item", predicate], *more])
+        of = script([asks], install("asks") + [ITEM, occurrence])
+        return next(line for line in self.answer(of, 1, "asks") if line.startswith("Its condition"))
+
+    def test_of_one_object_it_is_told_which_test_it_failed(self):
+        key = ["=", ["key", "i"], ["arg", 0, 0]]
+        few = ["<", ["of", "i", "stock"], ["arg", 0, 0]]
+        many = ["or", ["<", 5, ["of", "i", "stock"]], ["=", ["of", "i", "stock"], ["-", ["arg", 0, 0], 1]]]
+        self.assertEqual(self.condition(key), "Its condition was satisfied. Query i found item 7.")
+        self.assertEqual(self.condition(key, ["signal", "order", [8]]),
+                         "Its condition wasn't satisfied. Query i found nothing, as there is no item 8.")
+        self.assertEqual(self.condition(["and", ["and", key, few], many]),
+                         "Its condition wasn't satisfied. Query i found nothing, as 5 < i.stock or i.stock = argument "
+                         "0 - 1 isn't true of item 7 (i.stock is 3, argument 0 is 7).")
+        self.assertEqual(self.condition(["and", key, False]),
+                         "Its condition wasn't satisfied. Query i found nothing, as false isn't true of item 7.")
+
+    def test_the_query_that_found_nothing_is_named(self):
         queries = [["a", "acct", True], ["i", "item", [">", ["of", "i", "stock"], 5]], ["b", "acct", True]]
         asks = simple("asks", ["signal", "go"], queries=queries)
         of = script([asks], install("asks") + [ACCOUNT, GO], [["create", "item", 1, [["stock", 3]]], GO])
-        self.assertIn("Its condition was unsatisfied: query a found 1 of the 1 object of acct: 1; query i is empty: "
-                      "there is no object "
-                      "of item.", self.answer(of, 1, "asks"))
-        self.assertIn("Its condition was unsatisfied: query a found 1 of the 1 object of acct: 1; query i is empty: "
-                      "none of the 1 object "
-                      "of item fits.", self.answer(of, 2, "asks"))
+        first = "Its condition wasn't satisfied. Query a went over 1 object of acct and found acct 1. "
+        self.assertIn(first + "Query i found nothing, as there is no object of item.", self.answer(of, 1, "asks"))
+        self.assertIn(first + "Query i went over 1 object of item and found none that fits.",
+                      self.answer(of, 2, "asks"))
 
     def test_the_query_that_met_a_fault_is_named(self):
         faulty = ["=", ["/", 1, ["-", ["of", "b", "bal"], 10]], 0]
         asks = simple("asks", ["signal", "go"], queries=[["a", "acct", True], ["b", "acct", faulty]])
-        self.assertIn("Its condition was ended by a fault, A5: query a found 1 of the 1 object of acct: 1; query b "
-                      "met a fault: 1 / 0 "
-                      "divides by zero.", self.answer(script([asks], install("asks") + [ACCOUNT, GO]), 1, "asks"))
+        self.assertIn("Its condition ended with a fault (A5). Query a went over 1 object of acct and found acct 1. "
+                      "Query b met a fault: 1 / 0 divides by zero.",
+                      self.answer(script([asks], install("asks") + [ACCOUNT, GO]), 1, "asks"))
+
+    def trigger(self, event, *statements):
+        """What is told of the trigger of a rule that the last of these statements triggers."""
+        told = simple("told", event)
+        of = script([told], install("told") + [ITEM], list(statements))
+        return next(line for line in self.answer(of, 2, "told") if line.startswith("It was"))
+
+    def test_the_values_at_the_trigger_are_told(self):
+        where = " at /items/1/1/0, in the unit's own body."
+        self.assertEqual(self.trigger(["create", "acct"], ACCOUNT),
+                         "It was triggered by create acct 1 (bal 10, open true)" + where)
+        self.assertEqual(self.trigger(["update", "item"], ["update", "item", 7, []]),
+                         "It was triggered by update item 7 (nothing changed)" + where)
+        self.assertEqual(self.trigger(["delete", "item"], ["delete", "item", 7]),
+                         "It was triggered by delete item 7 (stock 3)" + where)
 
     def test_the_parts_of_a_composite_event_are_told(self):
-        pair = simple("pair", ["seq", ["signal", "a"], ["signal", "b"]])
-        of = script([pair], install("pair") + [["signal", "a", [1]]], [["signal", "b", [2]]])
-        self.assertIn("It was triggered by signal b [2] (at /items/1/1/0), in the unit's own body, after signal a [1].",
-                      self.answer(of, 2, "pair"))
+        a, b, more = ["signal", "a", [1]], ["signal", "b", [2]], ["create", "item", 8, [["stock", 1]]]
+        self.assertEqual(self.trigger(["seq", ["signal", "a"], ["signal", "b"]], a, b),
+                         "It was triggered by signal b [2] at /items/1/1/1, in the unit's own body, after signal a "
+                         "[1].")
+        self.assertEqual(self.trigger(["closure", ["create", "item"], ["signal", "b"]], more, b),
+                         "It was triggered by signal b [2] at /items/1/1/1, in the unit's own body, after create "
+                         "item 8 (stock 1); the count is 2.")
 
     def test_what_a_statement_fires_is_told(self):
         of = script([simple("tell", ["signal", "go"])], install("tell") + [["fire", "tell"]])
-        self.assertIn("It was asked for by a statement `fire` (at /items/0/1/1), in the unit's own "
-                      "body.", self.answer(of, 1, "tell"))
+        self.assertEqual(self.answer(of, 1, "tell"), [
+            "rule tell was fired once in unit 1, and did nothing",
+            "fire tell immediate satisfied committed, in unit 1",
+            "It was fired by the statement `fire` at /items/0/1/1, in the unit's own body.",
+            "It has no condition.", "Its action ran and changed nothing."])
 
     def test_what_was_undone_is_told(self):
         of = script([simple("tell", ["signal", "go"], action=[["emit", 1]])], install("tell"), [GO, ["abort"]])
-        self.assertEqual(self.answer(of, 2, "tell")[-2:], ["Its action committed.", "What it did was undone: unit 2 "
-                                                                                    "aborted (A8)."])
+        answer = self.answer(of, 2, "tell")
+        self.assertEqual(answer[0], "rule tell was triggered once in unit 2, and acted in vain")
+        self.assertEqual(answer[-2:], ["Its action committed.", "What it did was undone, as unit 2 aborted (A8)."])
+
+    def test_an_action_that_is_put_off_counts_once(self):
+        late = simple("late", ["signal", "go"], ca="dependent", action=[["emit", 1]])
+        of = script([late], install("late"), [GO], [GO, ["abort"]], [GO, GO])
+        self.says(of, 2, [
+            "rule late was triggered once in unit 2, and acted",
+            "fire late immediate satisfied later, in unit 2",
+            "It was triggered by signal go [] at /items/1/1/0, in the unit's own body.",
+            "It has no condition.", "Its action is dependent, so it was put off.",
+            "act late dependent committed, in dependent late",
+            "It was triggered by signal go [] at /items/1/1/0, in the unit's own body.",
+            "Its action is dependent, so it ran in a transaction of its own.", "Its action committed."], "late")
+        answer = self.answer(of, 3, "late")
+        self.assertEqual(answer[0], "rule late was triggered once in unit 3, and was dropped")
+        self.assertEqual(answer[-1], "It was dropped before its action ran, as unit 3 aborted (A8).")
+        self.assertEqual(self.answer(of, 4, "late")[0], "rule late was triggered twice in unit 4, and acted each time")
+
+    def test_several_fates_are_counted(self):
+        test = ["if", ["<", ["arg", 0, 0], 5], [["emit", 1]], [["if", ["<", ["arg", 0, 0], 7], [["abort"]], []]]]
+        some = simple("some", ["signal", "order"], action=[test])
+        of = script([some], install("some"), [["signal", "order", [key]] for key in (1, 2, 6, 7, 8, 9)])
+        self.assertEqual(self.answer(of, 2, "some")[0], "rule some was triggered 6 times in unit 2: it acted twice, "
+                                                        "failed once and did nothing 3 times")
 
 
 class SilenceTest(WhyCase):
@@ -205,21 +279,26 @@ class SilenceTest(WhyCase):
 
     def test_never_installed(self):
         self.says(script([self.TELL], [GO]), 1, [
-            "rule tell didn't fire in unit 1", "Its event is: signal go.",
-            "It was absent all the time, as no install of it had lasted.",
-            "What its event mentions was signalled: signal go []."], "tell")
+            "rule tell wasn't triggered in unit 1", "Its event is: signal go.",
+            "It wasn't installed.",
+            "What its event waits for did happen: signal go []."], "tell")
 
     def test_an_install_that_was_undone_doesnt_count(self):
         of = script([self.TELL], install("tell") + [["abort"]], [["emit", 1]])
         self.says(of, 2, [
-            "rule tell didn't fire in unit 2", "Its event is: signal go.",
-            "It was absent all the time, as no install of it had lasted.",
-            "The operation install tell in unit 1 (at /items/0/1/0) doesn't count, as it was undone: unit 1 aborted.",
-            "Nothing that its event mentions was signalled either."], "tell")
+            "rule tell wasn't triggered in unit 2", "Its event is: signal go.",
+            "It wasn't installed.",
+            "The operation install tell in unit 1 (at /items/0/1/0) doesn't count, as it was undone: unit 1 aborted "
+            "(A8).",
+            "Nothing that its event waits for happened either."], "tell")
+
+    def test_removed_before(self):
+        of = script([self.TELL], install("tell"), [["remove", "tell"]], [GO])
+        self.assertIn("It wasn't installed, since remove tell in unit 2 (at /items/1/1/0).", self.answer(of, 3, "tell"))
 
     def test_disabled_before(self):
         of = script([self.TELL], install("tell"), [["disable", "tell"]], [GO])
-        self.assertIn("It was disabled all the time, since disable tell in unit 2 (at "
+        self.assertIn("It was disabled, since disable tell in unit 2 (at "
                       "/items/1/1/0).", self.answer(of, 3, "tell"))
 
     def test_disabled_within_the_unit(self):
@@ -231,32 +310,46 @@ class SilenceTest(WhyCase):
     def test_its_event_didnt_occur(self):
         of = script([self.TELL], install("tell"), [ACCOUNT, ["update", "acct", 1, []], ["update", "acct", 1, []]])
         self.says(of, 2, [
-            "rule tell didn't fire in unit 2", "Its event is: signal go.",
-            "It was enabled, but its event didn't occur, nor any part of it. What was signalled: create acct 1, "
-            "update acct 1 "
-            "(2 times), the commit event."], "tell")
+            "rule tell wasn't triggered in unit 2", "Its event is: signal go.",
+            "Nothing of that happened. What did: create acct 1, update acct 1 (twice), the commit event."], "tell")
+
+    def mentions(self, event, *signals):
+        """What is told of a rule that is never triggered, signal by signal."""
+        waits = simple("waits", event)
+        answer = self.answer(script([waits], install("waits"), [["signal", name, []] for name in signals]), 2, "waits")
+        self.assertEqual(answer[0], "rule waits wasn't triggered in unit 2")
+        return [line.split(" its event didn't occur, as ")[-1] for line in answer[2:]]
 
     def test_a_sequence_that_waits(self):
-        pair = simple("pair", ["seq", ["signal", "a"], ["signal", "b"]])
-        of = script([pair], install("pair"), [["signal", "b", []], ["signal", "a", []]])
+        pair = ["seq", ["signal", "a"], ["signal", "b"]]
+        of = script([simple("pair", pair)], install("pair"), [["signal", "b", []], ["signal", "a", []]])
         self.assertEqual(self.answer(of, 2, "pair")[2:], [
-            "At signal b [] (at /items/1/1/0) it was enabled, but its event didn't occur: the second event of its "
-            "`seq` occurred, but "
-            "no occurrence of the first is left that came before.",
-            "At signal a [] (at /items/1/1/1) it was enabled, but its event didn't occur: the first event of its "
-            "`seq` occurred, and "
-            "the second hasn't yet."])
+            "At signal b [] (at /items/1/1/0) its event didn't occur, as there was no signal a before it.",
+            "At signal a [] (at /items/1/1/1) its event didn't occur, as signal b has yet to follow."])
+        of = script([simple("pair", pair)], install("pair"), [["signal", "a", []], ["signal", "b", []]],
+                    [["signal", "b", []]])
+        self.assertEqual(self.answer(of, 3, "pair")[2:], [
+            "At signal b [] (at /items/2/1/0) its event didn't occur, as each signal a before it is taken by an "
+            "earlier signal b."])
 
     def test_a_closure_that_waits(self):
-        batch = simple("batch", ["closure", ["signal", "a"], ["signal", "b"]])
-        of = script([batch], install("batch"), [["signal", "b", []], ["signal", "a", []]])
-        self.assertEqual(self.answer(of, 2, "batch")[2:], [
-            "At signal b [] (at /items/1/1/0) it was enabled, but its event didn't occur: the end of its `closure` "
-            "occurred, but "
-            "nothing of what it gathers since the last end.",
-            "At signal a [] (at /items/1/1/1) it was enabled, but its event didn't occur: its `closure` gathered "
-            "this, and its end "
-            "hasn't occurred yet."])
+        batch = ["closure", ["signal", "a"], ["signal", "b"]]
+        self.assertEqual(self.mentions(batch, "b", "b", "a", "a"), [
+            "there was no signal a before it.", "there was no signal a since the last signal b.",
+            "signal b has yet to follow.", "signal b has yet to follow."])
+
+    def test_events_in_events_that_wait(self):
+        pair, batch = ["seq", ["signal", "a"], ["signal", "b"]], ["closure", ["signal", "a"], ["signal", "c"]]
+        self.assertEqual(self.mentions(["seq", pair, ["signal", "c"]], "c", "a", "b"), [
+            "there was no (signal a followed by signal b) before it.", "signal b has yet to follow.",
+            "signal c has yet to follow."])
+        self.assertEqual(self.mentions(["or", pair, batch], "c", "a", "a"), [
+            "there was no signal a before it.", "signal b has yet to follow and signal c has yet to follow.",
+            "signal b has yet to follow and signal c has yet to follow."])
+        self.assertEqual(self.mentions(["closure", ["every", 2, 2], ["signal", "b"]], "b"), [
+            'there was no moment of "every 2 moments from moment 2" before it.'])
+        self.assertEqual(self.mentions(["seq", ["signal", "a"], ["every", 2, 2]], "a"), [
+            'the next moment of "every 2 moments from moment 2" has yet to follow.'])
 
     def test_too_deep(self):
         rules = [simple("outer", ["signal", "out"], action=[GO]), self.TELL]
@@ -267,20 +360,18 @@ class SilenceTest(WhyCase):
     def test_an_elder_sibling_vetoed(self):
         rules = [simple("stop", ["signal", "go"], action=[["veto"]]), self.TELL]
         self.says(script(rules, install("stop", "tell"), [GO]), 2, [
-            "rule tell didn't fire in unit 2",
-            "It was triggered by signal go [] (at /items/1/1/0), in the unit's own body (immediate), but its "
-            "condition never ran: an "
-            "elder sibling vetoed, rule stop."], "tell")
+            "rule tell was triggered once in unit 2, and was dropped",
+            "It was triggered by signal go [] at /items/1/1/0, in the unit's own body.",
+            "It was dropped before its condition was tested, as rule stop vetoed first."], "tell")
 
     def test_a_deferred_task_that_its_transaction_took_along(self):
         late = simple("late", ["signal", "go"], "deferred")
         of = script([late], install("late"), [["sub", [GO, ["abort"]], []]])
         self.says(of, 2, [
-            "rule late didn't fire in unit 2",
-            "It was triggered by signal go [] (at /items/1/1/0/1/0), in a `sub` (deferred), but its condition never "
-            "ran: the "
-            "transaction that queued it aborted (the `sub` (at /items/1/1/0): the statement `abort` (at "
-            "/items/1/1/0/1/1))."], "late")
+            "rule late was triggered once in unit 2, and was dropped",
+            "It was triggered by signal go [] at /items/1/1/0/1/0, in a `sub`.",
+            "It was dropped before its condition was tested, as the `sub` at /items/1/1/0 aborted (A8)."], "late")
+        self.assertEqual(self.answer(of, 2)[-2:], ["Rules:", "late (deferred) was dropped"])
 
     def test_nothing_was_signalled(self):
         self.assertIn("Nothing was signalled in that unit.", self.answer(script([self.TELL], [["abort"]]), 1, "tell"))
@@ -294,8 +385,8 @@ class DoubtTest(WhyCase):
         self.assertEqual(self.answer(of, 2, steps=2)[1:], [
             "unit 2 aborted A8", "The statement `abort`; which statement can't be told from the report."])
         self.assertEqual(self.answer(of, 4, "tell", steps=2), [
-            doubt, "rule tell didn't fire in unit 4", "When the unit began it was disabled.",
-            "Which signals the unit had, can't be told from the report."])
+            doubt, "rule tell wasn't triggered in unit 4", "When the unit began it was disabled.",
+            "What was signalled in the unit can't be told from the report."])
         self.assertIn("What triggered rule tell can't be told from the report.", self.answer(of, 1, "tell", steps=2))
 
 
@@ -314,12 +405,14 @@ class CommandTest(unittest.TestCase):
                 json.dump(script([simple("tell", ["signal", "go"])], [["emit", "\u00e9"]]), file)
             with open(bad, "w", encoding="utf-8") as file:
                 file.write("{}")
-            self.assertEqual(self.run_words(good, "1"), (0, "unit 1 committed\n  All of its own statements ran.\n", ""))
+            self.assertEqual(self.run_words(good, "1"), (0, "unit 1 committed\n  All of its own statements ran.\n"
+                                                              "  No rule was triggered.\n", ""))
             self.assertEqual(self.run_words(bad, "1")[0], 2)
             self.assertIn("refused S2 /", self.run_words(bad, "1")[2])
             self.assertEqual(self.run_words(good, "2")[::2], (3, "why: there is no unit 2; the last one is unit 1\n"))
             self.assertEqual(self.run_words(good, "1", "no")[::2], (3, "why: there is no rule no; the rules are "
                                                                        "tell\n"))
+            self.assertEqual(self.run_words(good, "1", "tel")[2], "why: there is no rule tel; did you mean tell?\n")
             self.assertEqual(self.run_words(good)[0], 3)
             self.assertEqual(self.run_words(os.path.join(folder, "none.json"), "1")[0], 2)
             self.assertEqual(self.run_words("--help")[0], 0)

@@ -9,7 +9,9 @@ from concurrent.futures import ThreadPoolExecutor
 from pathlib import Path
 from typing import Callable
 
-from hipac_tools import program
+from hipac_tools import program, rulebase
+from hipac_tools.course import Course
+from hipac_tools.report import Report
 
 AT_ONCE = 4
 """So many runs of the program go on at a time."""
@@ -34,6 +36,11 @@ def refusals(texts: list[str]) -> list[str]:
 
     with ThreadPoolExecutor(AT_ONCE) as pool:
         return list(pool.map(refusal, texts))
+
+
+def followed(script: object) -> Report:
+    """The report that the tools' own course of a script gives."""
+    return Course(rulebase.read(json.dumps(script))).report()
 
 
 def run_word(main: Callable[[list[str]], int], *arguments: str) -> tuple[int, str, str]:

@@ -5,12 +5,12 @@ from __future__ import annotations
 from bisect import bisect_right, insort
 from dataclasses import dataclass, field
 
+from ..language import COMPOSITE, MOST_LEVELS, MOST_MOMENTS, OBJECT_OPERATIONS, moments_of
 from .faults import Place
 from .forms import EVENTS
 from .parts import form_at, known_name_at, name_at, number_from
 from .scope import Scope
 
-MOST_LEVELS = 16
 A_MOMENT = "a moment"
 
 
@@ -25,13 +25,12 @@ class Moments:
         if moment not in self.single[bisect_right(self.single, moment) - 1:][:1]:
             insort(self.single, moment)
 
-    def due(self, after: int, until: int, enough: int) -> set[int]:
-        """The moments after one time and up to another: all of them, or more than `enough`."""
+    def due(self, after: int, until: int) -> set[int]:
+        """The moments after one time and up to another: all of them, or more than may be due."""
         found = set(self.single[bisect_right(self.single, after):bisect_right(self.single, until)])
         for first, period in self.periodic:
-            begin = first if first > after else after + period - (after - first) % period
-            found.update(range(begin, min(until, begin + enough * period) + 1, period))
-            if len(found) > enough:
+            found.update(moments_of(["every", first, period], after, until))
+            if len(found) > MOST_MOMENTS:
                 break
         return found
 
@@ -42,7 +41,7 @@ def read_event(place: Place, scope: Scope, moments: Moments, level: int = 1) -> 
     if level > MOST_LEVELS:
         message = f"an event has at most {MOST_LEVELS} levels, and this is the first one at level {level}"
         raise place.over_limit("event", message)
-    if word in ("create", "update", "delete"):
+    if word in OBJECT_OPERATIONS:
         known_name_at(parts[0], "a class's name", "class", scope.classes)
     elif word == "signal":
         scope.gathered.awaited.setdefault(name_at(parts[0], "a signal's name"), parts[0])
@@ -51,6 +50,6 @@ def read_event(place: Place, scope: Scope, moments: Moments, level: int = 1) -> 
     elif word == "every":
         first = number_from(parts[0], 0, A_MOMENT)
         moments.periodic.add((first, number_from(parts[1], 1, "a period")))
-    else:
+    elif word in COMPOSITE:
         for part in parts:
             read_event(part, scope, moments, level + 1)

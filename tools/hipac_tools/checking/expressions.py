@@ -2,12 +2,12 @@
 
 from __future__ import annotations
 
+from ..language import MOST_LEVELS, OF_A_ROW, OF_THE_OCCURRENCE, is_key_asked
 from .faults import Place
-from .forms import EXPRESSIONS, OF_THE_OCCURRENCE, ONE_OPERAND, TWO_OPERANDS
-from .parts import check_whole, did_you_mean, form_at, index_at, is_number, kind_of, name_at, names_there
+from .forms import EXPRESSIONS
+from .parts import check_whole, did_you_mean, first_word, form_at, index_at, is_number, kind_of, name_at, names_there
 from .scope import Row, Scope
 
-MOST_LEVELS = 16
 MOST_TEXT_BYTES = 1_024
 
 PART, ARGUMENT = "the number of a part", "the number of an argument"
@@ -26,6 +26,28 @@ def read_expression(place: Place, scope: Scope, level: int = 1) -> None:
         check_text(place, value)
     else:
         read_form(place, scope, level)
+
+
+def read_predicate(place: Place, scope: Scope, name: str, what: str) -> None:
+    """Reads the predicate of the row of this name; `what` is the query or statement that it belongs to. Where it asks
+    for the row's key, but not first, all objects of the class are looked at for nothing."""
+    read_expression(place, scope)
+    first, *later = conjuncts(place)
+    if is_key_asked(name, first.node.value):
+        return
+    for test in later:
+        if is_key_asked(name, test.node.value):
+            of = scope.rows[name].class_read.name
+            message = f"{what} goes over all of `{of}`: with this test of the key first it looks at one object"
+            scope.gathered.hint(test, message)
+            return
+
+
+def conjuncts(place: Place) -> list[Place]:
+    """The tests that `and` joins, in the order in which they are made."""
+    if first_word(place.node) == "and":
+        return conjuncts(place.item(1)) + conjuncts(place.item(2))
+    return [place]
 
 
 def check_level(place: Place, level: int) -> None:
@@ -48,11 +70,11 @@ def read_form(place: Place, scope: Scope, level: int) -> None:
     check_level(place, level)
     if word in OF_THE_OCCURRENCE:
         read_of_occurrence(place, word, parts, scope)
-    elif word in TWO_OPERANDS or word in ONE_OPERAND:
+    elif word in OF_A_ROW:
+        read_of_row(word, parts, scope)
+    else:
         for part in parts:
             read_expression(part, scope, level + 1)
-    else:
-        read_of_row(word, parts, scope)
 
 
 def read_of_row(word: str, parts: list[Place], scope: Scope) -> None:

@@ -1,9 +1,11 @@
-"""The forms of the language as data: which words begin events, expressions, statements and items, and their parts."""
+"""How messages name the forms of the language, and the words that other languages have in their places."""
 
 from __future__ import annotations
 
 from dataclasses import dataclass
 from typing import Mapping
+
+from .. import language
 
 
 @dataclass(frozen=True)
@@ -38,12 +40,6 @@ def quoted(word: str) -> str:
     return f'"{word}"'
 
 
-def listed(words, last: str = "or") -> str:
-    """`a, b or c`."""
-    words = list(words)
-    return words[0] if len(words) == 1 else f"{', '.join(words[:-1])} {last} {words[-1]}"
-
-
 CLASS = Shape("a class", ("name", "fields"))
 FIELD = Shape("a field", ("name", "kind"))
 RULE = Shape("a rule", ("name", "event", "ec", "queries", "ca", "action"))
@@ -59,42 +55,27 @@ ROOT_MEMBERS = {
 }
 NEEDED_MEMBERS = ("version", "classes", "rules", "items")
 
-KINDS = ("int", "bool", "text")
 KIND_HABITS = {
     "integer": "int", "number": "int", "long": "int", "i64": "int", "int64": "int",
     "boolean": "bool", "string": "text", "str": "text",
 }
 
-MODES = ("immediate", "deferred", "separate", "dependent")
-SECOND_VERSION_MODE = "exclusive"
 MODE_HABITS = {
     "now": "immediate", "later": "deferred", "detached": "separate", "decoupled": "separate", "independent": "separate",
 }
 
 EVENTS = Grammar(
     "an event",
-    {
-        "create": ("class",), "update": ("class",), "delete": ("class",),
-        "signal": ("name",), "commit": (), "at": ("t",), "every": ("first", "period"),
-        "or": ("event", "event"), "seq": ("event", "event"), "closure": ("event", "event"),
-    },
+    language.EVENTS,
     {
         "insert": "create", "modify": "update", "change": "update", "remove": "delete", "then": "seq",
         "sequence": "seq", "any": "or", "time": "at",
     },
 )
 
-TWO_OPERANDS = ("+", "-", "*", "/", "%", "and", "or", "=", "!=", "<", "<=", ">", ">=")
-ONE_OPERAND = ("neg", "not")
-OF_THE_OCCURRENCE = ("new", "old", "id", "arg", "time", "count")
-
 EXPRESSIONS = Grammar(
     "an expression",
-    {
-        **{word: ("a", "b") for word in TWO_OPERANDS}, **{word: ("a",) for word in ONE_OPERAND},
-        "of": ("row", "field"), "key": ("row",), "new": ("i", "field"), "old": ("i", "field"), "id": ("i",),
-        "arg": ("i", "j"), "time": ("i",), "count": (),
-    },
+    language.EXPRESSIONS,
     {
         "==": "=", "eq": "=", "is": "=", "<>": "!=", "ne": "!=", "lt": "<", "le": "<=", "=<": "<=", "gt": ">",
         "ge": ">=", "=>": ">=", "&&": "and", "||": "or", "!": "not", "mod": "%", "rem": "%", "div": "/", "add": "+",
@@ -103,17 +84,9 @@ EXPRESSIONS = Grammar(
     },
 )
 
-RULE_OPERATIONS = ("install", "enable", "disable", "remove", "fire")
-
 STATEMENTS = Grammar(
     "a statement",
-    {
-        "create": ("class", "key", "pairs"), "update": ("class", "key", "pairs"), "delete": ("class", "key"),
-        "signal": ("name", "args"), "emit": ("expression",), "if": ("expression", "body", "body"),
-        "each": ("name", "class", "predicate", "body"), "for": ("query", "body"),
-        "with": ("name", "class", "key", "body"), "sub": ("body", "otherwise"), "abort": (), "veto": (),
-        **{word: ("rule",) for word in RULE_OPERATIONS},
-    },
+    language.STATEMENTS,
     {
         "insert": "create", "set": "update", "modify": "update", "print": "emit", "raise": "signal", "trigger": "fire",
         "foreach": "each", "when": "if", "try": "sub", "rollback": "abort", "uninstall": "remove", "let": "with",
@@ -122,7 +95,7 @@ STATEMENTS = Grammar(
 
 ITEMS = Grammar(
     "an item",
-    {"tx": ("body",), "clock": ("t",)},
+    language.ITEMS,
     {"transaction": "tx", "time": "clock", "wait": "clock", "run": "tx"},
 )
 

@@ -6,15 +6,13 @@ import re
 from dataclasses import dataclass
 from typing import Iterable, Mapping, Optional
 
+from ..language import GREATEST, LEAST, MOST_NAME_BYTES, MOST_PLACE, NAME_LETTERS, is_name
 from ..near import NO_HABITS, nearest
 from ..positions import Node, shortened
+from ..wording import listed
 from .faults import Place
-from .forms import GRAMMARS, Grammar, Shape, listed, quoted
+from .forms import GRAMMARS, Grammar, Shape, quoted
 
-LEAST, MOST = -(2 ** 63), 2 ** 63 - 1
-MOST_INDEX = 65_535
-MOST_NAME_BYTES = 32
-NAME = re.compile(r"[A-Za-z][A-Za-z0-9_]*")
 NAME_RULE = "a name is 1 to 32 bytes: an ASCII letter, then ASCII letters, digits or _"
 
 
@@ -113,7 +111,7 @@ def first_word(node: Node) -> Optional[str]:
 
 
 def words_of(grammar: Grammar) -> str:
-    return f"{grammar.what} begins with {listed(grammar.words)}"
+    return f"{grammar.what} begins with {listed(grammar.words, 'or')}"
 
 
 def not_a_list(node: Node, grammar: Grammar) -> str:
@@ -134,7 +132,7 @@ def what_instead(word: str, grammar: Grammar) -> list[str]:
     if meant:
         return [meant]
     others = [other.what for other in GRAMMARS if word in other.words]
-    other = [f"it begins {listed(others)}, and {grammar.what} is expected here"] if others else []
+    other = [f"it begins {listed(others, 'or')}, and {grammar.what} is expected here"] if others else []
     return other + [words_of(grammar)]
 
 
@@ -164,7 +162,7 @@ def name_at(place: Place, what: str) -> str:
     name = place.node.value
     if not isinstance(name, str):
         raise place.wrong_shape(f"{what} is a text, and this is {kind_of(place.node)}")
-    if NAME.fullmatch(name) is None or len(name) > MOST_NAME_BYTES:
+    if not is_name(name):
         raise place.wrong_shape(f"{what} {why_no_name(name)}", NAME_RULE)
     return name
 
@@ -175,7 +173,7 @@ def why_no_name(name: str) -> str:
     if re.match("[A-Za-z]", name) is None:
         return f"can't begin with {shown_letter(name[0])}"
     for letter in name:
-        if NAME.fullmatch(f"a{letter}") is None:
+        if NAME_LETTERS.fullmatch(f"a{letter}") is None:
             return f"can't have {shown_letter(letter)} in it"
     return f"has {len(name)} bytes, and {MOST_NAME_BYTES} are the most"
 
@@ -219,8 +217,8 @@ def check_whole(place: Place) -> int:
     value = place.node.value
     if isinstance(value, float):
         raise place.bad_number(*why_not_whole(value))
-    if not LEAST <= value <= MOST:
-        raise place.bad_number(f"the number doesn't fit 64 bits with sign: {LEAST} to {MOST}")
+    if not LEAST <= value <= GREATEST:
+        raise place.bad_number(f"the number doesn't fit 64 bits with sign: {LEAST} to {GREATEST}")
     return value
 
 
@@ -228,7 +226,7 @@ def why_not_whole(value: float) -> tuple[str, str]:
     if value == 0 and str(value) == "-0.0":
         return "-0 isn't taken for a whole number", "write 0"
     if value.is_integer():
-        hint = f"write {int(value)}" if LEAST <= value < -LEAST else f"numbers are {LEAST} to {MOST}"
+        hint = f"write {int(value)}" if LEAST <= value <= GREATEST else f"numbers are {LEAST} to {GREATEST}"
         return "a whole number is written without a point and an exponent", hint
     return "a number must be whole, and this has a fraction", ""
 
@@ -256,8 +254,8 @@ def number_from(place: Place, least: int, what: str) -> int:
 def index_at(place: Place, what: str) -> int:
     """The number of a part or an argument."""
     number = whole_number_at(place, what)
-    if not 0 <= number <= MOST_INDEX:
-        raise place.wrong_shape(f"{what} is 0 to {MOST_INDEX:,}, and this is {number}")
+    if not 0 <= number <= MOST_PLACE:
+        raise place.wrong_shape(f"{what} is 0 to {MOST_PLACE:,}, and this is {number}")
     return number
 
 
@@ -267,7 +265,7 @@ def index_at(place: Place, what: str) -> int:
 def word_at(place: Place, what: str, words: Iterable[str], habits: Mapping[str, str]) -> str:
     """One of a few words, as a kind or a mode."""
     word, words = place.node.value, list(words)
-    choice = f"{what} is {listed(map(quoted, words))}"
+    choice = f"{what} is {listed(map(quoted, words), 'or')}"
     if not isinstance(word, str):
         raise place.wrong_shape(f"{choice}, and this is {kind_of(place.node)}")
     if word not in words:

@@ -32,11 +32,13 @@ class Row:
 
 @dataclass(frozen=True)
 class Warned:
-    """Something that the program accepts and that can't be meant; `hint` may be empty."""
+    """Something that the program accepts and that can't be meant (a warning), or that could be better (a hint); `help`
+    may be empty."""
 
     place: Place
     message: str
-    hint: str = ""
+    help: str = ""
+    word: str = "warning"
 
 
 @dataclass
@@ -49,8 +51,11 @@ class Gathered:
     signalled: set[str] = field(default_factory=set)
     installed: set[str] = field(default_factory=set)
 
-    def warn(self, place: Place, message: str, hint: str = "") -> None:
-        self.warnings.append(Warned(place, message, hint))
+    def warn(self, place: Place, message: str, help: str = "") -> None:
+        self.warnings.append(Warned(place, message, help))
+
+    def hint(self, place: Place, message: str) -> None:
+        self.warnings.append(Warned(place, message, word="hint"))
 
 
 @dataclass(frozen=True)

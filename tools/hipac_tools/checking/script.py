@@ -7,13 +7,14 @@ from __future__ import annotations
 from dataclasses import dataclass, replace
 from typing import Optional
 
+from ..language import KINDS, MODES, MOST_DEPTH, MOST_MOMENTS, SECOND_VERSION_MODE, VERSIONS, modes_of
 from ..positions import Node, shortened
+from ..wording import listed
 from .events import Moments, read_event
-from .expressions import read_expression
+from .expressions import read_predicate
 from .faults import Place, Refused
 from .forms import (
-    CLASS, FIELD, ITEMS, KIND_HABITS, KINDS, MODE_HABITS, MODES, NEEDED_MEMBERS, QUERY, ROOT_MEMBERS, RULE,
-    SECOND_VERSION_MODE, listed,
+    CLASS, FIELD, ITEMS, KIND_HABITS, MODE_HABITS, NEEDED_MEMBERS, QUERY, ROOT_MEMBERS, RULE,
 )
 from .parts import (
     Limit, did_you_mean, first_word, form_at, kind_of, known_name_at, list_at, new_name_at, shape_at, short_list_at,
@@ -22,7 +23,6 @@ from .parts import (
 from .scope import Class, Gathered, Row, Scope, Warned
 from .statements import read_body
 
-MOST_DEPTH, MOST_MOMENTS = 16, 1_000
 CLASSES = Limit("a script", 64, "classes", "classes")
 FIELDS = Limit("a class", 32, "fields", "fields")
 RULES = Limit("a script", 256, "rules", "rules")
@@ -64,7 +64,7 @@ def read_script(root: Node) -> Script:
 
 def check_members(place: Place) -> None:
     """The members that must be there, perhaps `depth`, and no others. A member too many is shown itself."""
-    node, members = place.node, listed(NEEDED_MEMBERS, "and")
+    node, members = place.node, listed(NEEDED_MEMBERS)
     if not isinstance(node.value, dict):
         raise place.wrong_shape(f"a script is an object with the members {members}, and this is {kind_of(node)}")
     missing = [name for name in NEEDED_MEMBERS if name not in node.members]
@@ -73,18 +73,18 @@ def check_members(place: Place) -> None:
             raise extra_member(place, key, missing)
     if missing:
         first, others = missing[0], [f"`{name}`" for name in missing[1:]]
-        too = f", and so {'is' if len(others) == 1 else 'are'} {listed(others, 'and')}" if others else ""
+        too = f", and so {'is' if len(others) == 1 else 'are'} {listed(others)}" if others else ""
         raise place.wrong_shape(f"the member `{first}` is missing{too}", f'"{first}" is {ROOT_MEMBERS[first]}')
 
 
 def extra_member(place: Place, key: Node, missing: list[str]) -> Refused:
-    meant = did_you_mean(key.value, missing) or f"its members are {listed(ROOT_MEMBERS, 'and')}"
+    meant = did_you_mean(key.value, missing) or f"its members are {listed(ROOT_MEMBERS)}"
     return place.refused("S2 /", f"a script has no member `{shortened(key.value)}`", (meant,), at=key)
 
 
 def read_version(place: Place) -> int:
     version = whole_number_at(place, "the version")
-    if version not in (1, 2):
+    if version not in VERSIONS:
         raise place.refused("S6", f"version {version} isn't known: there are 1 and 2")
     return version
 
@@ -138,8 +138,8 @@ def read_heads(place: Place) -> dict[str, list[Place]]:
 
 def without_queries(node: Node) -> str:
     """What helps where a rule of five parts has its second mode in the place of the queries."""
-    modes = MODES + (SECOND_VERSION_MODE,)
-    forgotten = len(node.items) == len(RULE.parts) - 1 and node.items[2].value in modes and node.items[3].value in modes
+    is_one_less = len(node.items) == len(RULE.parts) - 1
+    forgotten = is_one_less and node.items[2].value in MODES and node.items[3].value in MODES
     return "the queries stand between the modes; where there are none, write []" if forgotten else ""
 
 
@@ -157,7 +157,7 @@ def read_mode(place: Place, version_place: Place, version: int) -> None:
     if place.node.value == SECOND_VERSION_MODE and version == 1:
         said = version_place.note("the script says version 1 here:")
         raise place.wrong_shape("the mode `exclusive` is of version 2", notes=(said,))
-    word_at(place, "a mode", MODES + ((SECOND_VERSION_MODE,) if version == 2 else ()), MODE_HABITS)
+    word_at(place, "a mode", modes_of(version), MODE_HABITS)
 
 
 def read_condition(place: Place, scope: Scope) -> Scope:
@@ -169,7 +169,7 @@ def read_condition(place: Place, scope: Scope) -> Scope:
         class_name = known_name_at(class_place, "a class's name", "class", scope.classes)
         scope = scope.with_row(Row(name, scope.classes[class_name], name_place, True))
         later = dict.fromkeys(names_of(query_places[position + 1:]), QUERY_COMES_LATER)
-        read_expression(predicate, replace(scope, not_yet=later))
+        read_predicate(predicate, replace(scope, not_yet=later), name, f"the query `{name}`")
     return scope
 
 
@@ -202,7 +202,7 @@ def read_move(place: Place, clock: int, moved: Optional[Place], moments: Moments
     if time < clock or time < 0:
         stands, notes = ("stands", (moved.note("it was moved there here:"),)) if moved else ("begins", ())
         raise place.wrong_shape(f"the clock {stands} at {clock} and doesn't go back to {time}", notes=notes)
-    due = len(moments.due(clock, time, MOST_MOMENTS))
+    due = len(moments.due(clock, time))
     if due > MOST_MOMENTS:
         message = f"this move of the clock from {clock} to {time} has more than {MOST_MOMENTS:,} due moments"
         hint = "the moments are those that `at` and `every` name in any rule of the script"

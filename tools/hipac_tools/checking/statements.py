@@ -5,16 +5,18 @@ from __future__ import annotations
 from dataclasses import replace
 from typing import Callable
 
-from .expressions import read_expression
+from ..language import MOST_LEVELS, RULE_OPERATIONS
+from ..values import kind_of
+from ..wording import listed
+from .expressions import read_expression, read_predicate
 from .faults import Place
-from .forms import PAIR, RULE_OPERATIONS, STATEMENTS, listed
+from .forms import PAIR, STATEMENTS
 from .parts import (
-    Limit, did_you_mean, first_word, form_at, is_number, known_name_at, list_at, name_at, names_there, new_name_at,
+    Limit, did_you_mean, first_word, form_at, known_name_at, list_at, name_at, names_there, new_name_at,
     shape_at, short_list_at,
 )
 from .scope import Class, Row, Scope
 
-MOST_LEVELS = 16
 ARGUMENTS = Limit("a signal", 32, "arguments", "args")
 
 
@@ -61,7 +63,7 @@ def read_create(parts: list[Place], scope: Scope, level: int) -> None:
     named = read_pairs(parts[2], made, scope)
     missing = [field for field in made.kinds if field not in named]
     if missing:
-        fields = listed([f"`{field}`" for field in missing], "and")
+        fields = listed([f"`{field}`" for field in missing])
         lacking = f"the field {fields} is missing" if len(missing) == 1 else f"the fields {fields} are missing"
         message = f"`create` names each field of `{made.name}`, and {lacking}"
         raise parts[2].bad_name(message, notes=made.declared())
@@ -104,9 +106,8 @@ def warn_of_kind(place: Place, field: str, kind: str, scope: Scope) -> None:
     value = place.node.value
     if isinstance(value, list):
         return
-    is_of = "int" if is_number(place.node) else "bool" if isinstance(value, bool) else "text"
-    if is_of != kind:
-        message = f"the field `{field}` is of kind {kind} and this is of kind {is_of}: it always ends with A3"
+    if kind_of(value) != kind:
+        message = f"the field `{field}` is of kind {kind} and this is of kind {kind_of(value)}: it always ends with A3"
         scope.gathered.warn(place, message)
 
 
@@ -147,7 +148,7 @@ def read_each(parts: list[Place], scope: Scope, level: int) -> None:
     """The predicate and the body know the variable."""
     name = new_row_at(parts[0], scope)
     inner = scope.with_row(Row(name, read_class(parts[1], scope), parts[0], False))
-    read_expression(parts[2], inner)
+    read_predicate(parts[2], inner, name, f"`each` `{name}`")
     read_body(parts[3], inner, level + 1)
 
 

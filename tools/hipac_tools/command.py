@@ -1,0 +1,24 @@
+"""What the words of the command line share: exit statuses, and the bytes of a file that is named there."""
+
+from __future__ import annotations
+
+import sys
+
+DONE, REFUSED, WRONG_WORDS, FAILED = 0, 2, 3, 4
+"""The program's statuses, which the words give too: all is well, a script that is no script, words that are wrong or a
+file that can't be read, a fault of the program."""
+
+STANDARD_INPUT = "-"
+
+
+def bytes_of(name: str) -> bytes:
+    """A file's bytes, or those of standard input."""
+    if name == STANDARD_INPUT:
+        return sys.stdin.buffer.read()
+    with open(name, "rb") as file:
+        return file.read()
+
+
+def shown(name: str) -> str:
+    """A file as messages name it."""
+    return "standard input" if name == STANDARD_INPUT else name

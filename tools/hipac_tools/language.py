@@ -1,0 +1,171 @@
+"""The language of scripts as data, said once for all tools: forms with their parts, modes and kinds, limits.
+
+A form is a list that begins with a word. `check` names the parts of a form in its messages; whoever walks over a script
+asks of what sort a part is: another form, a body, or something plain. Here too are the questions about an event or a
+predicate that more than one tool asks.
+"""
+
+from __future__ import annotations
+
+import re
+from typing import Any, Iterable, Iterator
+
+Form = Any
+"""An event, an expression or a statement, as JSON gives it."""
+
+# ---- forms: the words, and for each the names of its parts
+
+OBJECT_OPERATIONS = ("create", "update", "delete")
+STATUS_OPERATIONS = ("install", "enable", "disable", "remove")
+RULE_OPERATIONS = STATUS_OPERATIONS + ("fire",)
+TWO_OPERANDS = ("+", "-", "*", "/", "%", "and", "or", "=", "!=", "<", "<=", ">", ">=")
+ONE_OPERAND = ("neg", "not")
+COMPOSITE = ("or", "seq", "closure")
+
+EVENTS: dict[str, tuple[str, ...]] = {
+    **{word: ("class",) for word in OBJECT_OPERATIONS},
+    "signal": ("name",), "commit": (), "at": ("t",), "every": ("first", "period"),
+    **{word: ("event", "event") for word in COMPOSITE},
+}
+
+OF_THE_OCCURRENCE: dict[str, tuple[str, ...]] = {
+    "new": ("i", "field"), "old": ("i", "field"), "id": ("i",), "arg": ("i", "j"), "time": ("i",), "count": (),
+}
+OF_A_PART = tuple(word for word, parts in OF_THE_OCCURRENCE.items() if "i" in parts)
+OF_A_ROW: dict[str, tuple[str, ...]] = {"of": ("row", "field"), "key": ("row",)}
+EXPRESSIONS: dict[str, tuple[str, ...]] = {
+    **{word: ("a", "b") for word in TWO_OPERANDS}, **{word: ("a",) for word in ONE_OPERAND},
+    **OF_A_ROW, **OF_THE_OCCURRENCE,
+}
+
+STATEMENTS: dict[str, tuple[str, ...]] = {
+    "create": ("class", "key", "pairs"), "update": ("class", "key", "pairs"), "delete": ("class", "key"),
+    "signal": ("name", "args"), "emit": ("expression",), "if": ("expression", "body", "body"),
+    "each": ("name", "class", "predicate", "body"), "for": ("query", "body"),
+    "with": ("name", "class", "key", "body"), "sub": ("body", "otherwise"), "abort": (), "veto": (),
+    **{word: ("rule",) for word in RULE_OPERATIONS},
+}
+
+ITEMS: dict[str, tuple[str, ...]] = {"tx": ("body",), "clock": ("t",)}
+
+# ---- the sort of each part, by its name
+
+NAME, PLACE, MOMENT, PERIOD, EVENT, EXPRESSION, PAIRS, ARGUMENTS, BODY = (
+    "name", "place", "moment", "period", "event", "expression", "pairs", "arguments", "body")
+SORTS = {
+    **dict.fromkeys(("name", "class", "row", "field", "query", "rule"), NAME),
+    **dict.fromkeys(("i", "j"), PLACE), "t": MOMENT, "first": MOMENT, "period": PERIOD,
+    "event": EVENT, **dict.fromkeys(("a", "b", "expression", "predicate", "key"), EXPRESSION),
+    "pairs": PAIRS, "args": ARGUMENTS, "body": BODY, "otherwise": BODY,
+}
+
+# ---- modes, kinds and limits
+
+MODES = ("immediate", "deferred", "separate", "dependent", "exclusive")
+SECOND_VERSION_MODE = "exclusive"
+DETACHED = ("separate", "dependent", "exclusive")
+"""The modes whose tasks run in a top-level transaction of their own."""
+
+KINDS = ("int", "bool", "text")
+VERSIONS = (1, 2)
+DEFAULT_DEPTH, MOST_DEPTH = 8, 16
+MOST_LEVELS = 16
+"""So deep do events, expressions and statements nest."""
+MOST_MOMENTS = 1_000
+MOST_PLACE = 65_535
+NAME_LETTERS, MOST_NAME_BYTES = re.compile(r"[A-Za-z][A-Za-z0-9_]*"), 32
+LEAST, GREATEST = -(2 ** 63), 2 ** 63 - 1
+
+
+def modes_of(version: int) -> tuple[str, ...]:
+    return MODES if version == 2 else tuple(mode for mode in MODES if mode != SECOND_VERSION_MODE)
+
+
+def is_name(text: str) -> bool:
+    return NAME_LETTERS.fullmatch(text) is not None and len(text) <= MOST_NAME_BYTES
+
+
+def sorts(parts: Iterable[str]) -> list[str]:
+    """The sorts of a form's parts."""
+    return [SORTS[part] for part in parts]
+
+
+def statements(body: list[Form]) -> Iterator[Form]:
+    """All statements of a body, those of inner bodies too, in written order."""
+    for statement in body:
+        yield statement
+        for part, sort in zip(statement[1:], sorts(STATEMENTS[statement[0]])):
+            if sort == BODY:
+                yield from statements(part)
+
+
+# ---- events
+
+def patterns(event: Form) -> Iterator[Form]:
+    """The simple events that an event is made of, from left to right."""
+    if event[0] not in COMPOSITE:
+        yield event
+        return
+    for part in event[1:]:
+        yield from patterns(part)
+
+
+def has_one_part(event: Form) -> bool:
+    """Whether each occurrence of an event is one simple occurrence: so where no `seq` and no `closure` is in it. Such
+    an event needs nothing of the past."""
+    if event[0] == "or":
+        return has_one_part(event[1]) and has_one_part(event[2])
+    return event[0] not in COMPOSITE
+
+
+def moments_of(pattern: Form, former: int, now: int) -> range:
+    """The moments above `former` and up to `now` that a simple event names: all, or one more than may be due."""
+    if pattern[0] == "at":
+        return range(pattern[1], pattern[1] + 1) if former < pattern[1] <= now else range(0)
+    if pattern[0] != "every":
+        return range(0)
+    first, period = pattern[1:]
+    turns_past = max(0, (former - first) // period + 1)
+    return range(first + turns_past * period, now + 1, period)[:MOST_MOMENTS + 1]
+
+
+def due_moments(events: Iterable[Form], former: int, now: int) -> list[int]:
+    """The moments that are due when the clock moves from `former` to `now`: all, or one more than may be."""
+    moments = {moment for event in events for pattern in patterns(event) for moment in moments_of(pattern, former, now)}
+    return sorted(moments)[:MOST_MOMENTS + 1]
+
+
+# ---- predicates
+
+def asks_key(name: str, predicate: Form) -> bool:
+    """Whether a predicate begins by asking for the key of its row, so that one object alone is looked at."""
+    return is_key_asked(name, conjuncts(predicate)[0])
+
+
+def is_key_asked(name: str, test: Form) -> bool:
+    """Whether a test compares the key of its row with something that is known before the row is."""
+    key = ["key", name]
+    if not isinstance(test, list) or test[0] != "=" or key not in test[1:]:
+        return False
+    return not names_row(test[2] if test[1] == key else test[1], name)
+
+
+def conjuncts(predicate: Form) -> list[Form]:
+    """The tests that `and` joins, in the order in which they are made."""
+    if isinstance(predicate, list) and predicate[0] == "and":
+        return conjuncts(predicate[1]) + conjuncts(predicate[2])
+    return [predicate]
+
+
+def names_row(expression: Form, name: str) -> bool:
+    """Whether an expression asks for the row itself, which isn't known before the object is found."""
+    return any(leaf[0] in OF_A_ROW and leaf[1] == name for leaf in leaves(expression))
+
+
+def leaves(expression: Form) -> list[Form]:
+    """The forms in an expression that take a value from a row or an occurrence, from left to right."""
+    if not isinstance(expression, list):
+        return []
+    if expression[0] in OF_A_ROW or expression[0] in OF_THE_OCCURRENCE:
+        return [expression]
+    return [leaf for part in expression[1:] for leaf in leaves(part)]
