@@ -1,19 +1,19 @@
 #!/usr/bin/env python3
-"""Measures firings per second, and prints the table of bench/README.md.
+"""Measures what firings cost, and prints the tables of bench/README.md.
 
-    bench/bench.py PROGRAM [--times N] [--only LETTERS] [--keep FOLDER]
+    bench/bench.py PROGRAM [--times N] [--only LETTERS] [--tables NAMES] [--keep FOLDER]
 
-PROGRAM is crates/hipac/out/hipac, which `./hipac` builds. Each workload is a script of its own, made
-here; each is run N times (5), all commands in turn, and the shortest time counts. Workloads (c) and (d) are also run as
-triggers by sqlite3 over an in-memory database, in the same run.
+PROGRAM is the proved program, which `./build` makes. All commands of a workload run in turn, N times (9), so that the
+load of the machine falls on all of them. Where sqlite3 has something like rules it runs the same as triggers over an
+in-memory database, in the same run.
 
-The last columns say how many times as fast two and four workers are as one, and what the machine gave: how many processors'
-work copies of the run with 1 worker did at once, two of them and four. They do so by the shortest times, and by the middle ones:
-where a processor is fast while its core's other thread is idle, one copy alone is lucky in some run, and four at once hardly ever are.
+The table `firings` has the workloads of many firings: the middle time of each run, and firings a second. Its last
+columns say how many times as fast two and four workers are as one, and what the machine gave: how many processors' work
+copies of the run with 1 worker did at once. The tables of bench/costs.py have what one firing costs as something
+grows: the middle time of a script less that of the same script without its firings.
 """
 
 import argparse
-import json
 import os
 import statistics
 import subprocess
@@ -21,142 +21,12 @@ import sys
 import tempfile
 import time
 
+from costs import TABLES
+from workloads import WORKLOADS
+
 WORKERS = (1, 2, 4)
 COPIES = (2, 4)
-
-
-def script(classes, rules, items, depth=None):
-    whole = {"version": 1, "classes": classes, "rules": rules, "items": items}
-    if depth:
-        whole["depth"] = depth
-    return json.dumps(whole, separators=(",", ":"))
-
-
-ACCOUNT = ["acct", [["bal", "int"]]]
-
-
-def create(key, balance):
-    return ["create", "acct", key, [["bal", balance]]]
-
-
-def plus(key):
-    """Adds 1 to the balance of an account."""
-    update = ["update", "acct", key, [["bal", ["+", ["of", "x", "bal"], 1]]]]
-    return ["with", "x", "acct", key, [update]]
-
-
-def on_go(name, condition, action):
-    return [name, ["signal", "go"], "immediate", condition, "immediate", action]
-
-
-GO = ["signal", "go", []]
-
-
-def installs(rules):
-    return [["install", rule[0]] for rule in rules]
-
-
-def richest(objects):
-    """Whether an account is one of the last two: three operators."""
-    return [">", ["*", ["of", "rich", "bal"], 3], ["-", 3 * objects, 9]]
-
-
-def scored(objects):
-    """The same after four scores, which every account passes: 47 operators."""
-    whole = richest(objects)
-    for first in range(4):
-        score = ["of", "rich", "bal"]
-        for step in range(3):
-            score = ["%", ["+", ["*", score, 31], first + step], 1009]
-        whole = ["and", [">=", score, 0], whole]
-    return whole
-
-
-def wide_scans(predicate=richest, siblings=64, objects=400, rounds=60):
-    """Siblings that each scan a class of their own world and write one object of their own."""
-    classes = [ACCOUNT, ["seen", [["count", "int"]]]]
-    condition = [["rich", "acct", predicate(objects)]]
-    rules = []
-    for n in range(siblings):
-        note = ["with", "s", "seen", n, [["update", "seen", n, [["count", ["+", ["of", "s", "count"], 1]]]]]]
-        rules.append(on_go(f"r{n}", condition, [note]))
-    begin = installs(rules) + [create(k, k) for k in range(objects)]
-    begin += [["create", "seen", n, [["count", 0]]] for n in range(siblings)]
-    items = [["tx", begin]] + [["tx", [GO]] for _ in range(rounds)]
-    return script(classes, rules, items), siblings * rounds
-
-
-def wide_scores():
-    return wide_scans(scored, rounds=12)
-
-
-def wide_long_scans():
-    return wide_scans(objects=4000, rounds=24)
-
-
-def conflict(siblings=64, rounds=60):
-    """Siblings that all read and write one object."""
-    rules = [on_go(f"r{n}", [], [plus(1)]) for n in range(siblings)]
-    items = [["tx", installs(rules) + [create(1, 0)]]] + [["tx", [GO]] for _ in range(rounds)]
-    return script([ACCOUNT], rules, items), siblings * rounds
-
-
-def conflict_of_scans(siblings=64, objects=400, rounds=12):
-    """Siblings that each scan a class, and then all read and write one object of it."""
-    rules = [on_go(f"r{n}", [["rich", "acct", richest(objects)]], [plus(1)]) for n in range(siblings)]
-    begin = installs(rules) + [create(k, k) for k in range(objects)]
-    items = [["tx", begin]] + [["tx", [GO]] for _ in range(rounds)]
-    return script([ACCOUNT], rules, items), siblings * rounds
-
-
-def single_firings(updates=16000):
-    """A long list of updates, of which each triggers one rule that writes another object."""
-    rule = ["note", ["update", "acct"], "immediate", [], "immediate",
-            [["with", "s", "seen", 1, [["update", "seen", 1, [["sum", ["+", ["of", "s", "sum"], ["-", ["new", 0, "bal"], ["old", 0, "bal"]]]]]]]]]]
-    classes = [ACCOUNT, ["seen", [["sum", "int"]]]]
-    begin = installs([rule]) + [create(1, 0), ["create", "seen", 1, [["sum", 0]]]]
-    body = [["update", "acct", 1, [["bal", n]]] for n in range(updates)]
-    return script(classes, [rule], [["tx", begin], ["tx", body]]), updates
-
-
-def single_firings_sql(updates=16000):
-    lines = ["create table acct(id integer primary key, bal integer);",
-             "create table seen(id integer primary key, sum integer);",
-             "create trigger note after update on acct begin update seen set sum = sum + new.bal - old.bal where id = 1; end;",
-             "insert into acct values(1, 0);", "insert into seen values(1, 0);", "begin;"]
-    lines += [f"update acct set bal = {n} where id = 1;" for n in range(updates)]
-    lines += ["commit;", "select id, bal from acct;", "select id, sum from seen;"]
-    return "\n".join(lines) + "\n"
-
-
-def deep_chains(depth=15, chains=2000):
-    """Updates of which each sets off a chain of firings, one inside the other."""
-    rule = ["up", ["update", "acct"], "immediate", [], "immediate",
-            [["if", ["<", ["new", 0, "bal"], depth], [["update", "acct", 1, [["bal", ["+", ["new", 0, "bal"], 1]]]]], []]]]
-    body = [["update", "acct", 1, [["bal", 1]]] for _ in range(chains)]
-    items = [["tx", installs([rule]) + [create(1, 0)]], ["tx", body]]
-    return script([ACCOUNT], [rule], items, depth=16), depth * chains
-
-
-def deep_chains_sql(depth=15, chains=2000):
-    lines = ["pragma recursive_triggers = on;",
-             "create table acct(id integer primary key, bal integer);",
-             f"create trigger up after update on acct when new.bal < {depth} begin update acct set bal = new.bal + 1 where id = 1; end;",
-             "insert into acct values(1, 0);", "begin;"]
-    lines += ["update acct set bal = 1 where id = 1;" for _ in range(chains)]
-    lines += ["commit;", "select id, bal from acct;"]
-    return "\n".join(lines) + "\n"
-
-
-WORKLOADS = [
-    ("a", "64 disjoint siblings, each scanning 400 objects", wide_scans, None),
-    ("b", "64 siblings in full conflict", conflict, None),
-    ("c", "a long list of single firings", single_firings, single_firings_sql),
-    ("d", "chains of 15 firings, each inside the other", deep_chains, deep_chains_sql),
-    ("e", "(a) with 47 operators an object in place of 3", wide_scores, None),
-    ("f", "(b) where each scans 400 objects first", conflict_of_scans, None),
-    ("g", "(a) with 4,000 objects in place of 400", wide_long_scans, None),
-]
+SQLITE = ["sqlite3", "-batch", ":memory:"]
 
 
 def timed(command, text, copies=1):
@@ -170,70 +40,97 @@ def timed(command, text, copies=1):
         running = []
         for report in reports:
             with open(script, "rb") as given, open(report, "wb") as printed:
-                running.append(subprocess.Popen(command, stdin=given, stdout=printed))
+                running.append(subprocess.Popen(command, stdin=given, stdout=printed, stderr=subprocess.DEVNULL))
         statuses = [one.wait() for one in running]
         took = time.perf_counter() - begun
         with open(reports[0], "rb") as printed:
             out = printed.read()
-    if any(statuses):
+    # sqlite3 ends with 1 where a trigger has refused an order.
+    if any(statuses) and command is not SQLITE:
         sys.exit(f"{command}: statuses {statuses}: {out[:200]!r}")
     return took, out
 
 
-def measured(program, letter, text, sql, times):
-    """All times: with each number of workers, of two and four copies at once, and of sqlite3, a list for each."""
-    alone = [program, "--workers", "1"]
-    runs = [([program, "--workers", str(workers)], text, 1) for workers in WORKERS]
-    runs += [(alone, text, copies) for copies in COPIES]
-    runs += [(["sqlite3", "-batch", ":memory:"], sql, 1)] if sql else []
-    taken, outputs = [[] for _ in runs], set()
+def in_turn(runs, times):
+    """The times of each run (command, input, copies), all of them in turn, and what each printed."""
+    taken, outputs = [[] for _ in runs], [None] * len(runs)
     for _ in range(times):
         for number, (command, given, copies) in enumerate(runs):
-            took, out = timed(command, given, copies)
+            took, outputs[number] = timed(command, given, copies)
             taken[number].append(took)
-            if number < len(WORKERS):
-                outputs.add(out)
-    if len(outputs) != 1:
-        sys.exit(f"({letter}): the reports differ")
-    return taken[: len(WORKERS)], taken[len(WORKERS) : len(WORKERS) + len(COPIES)], taken[len(WORKERS) + len(COPIES) :]
+    return taken, outputs
 
 
-def shares(by_workers, at_once, typical):
-    """How many times as fast more workers are as one, and how many processors' work copies did at once."""
-    alone, *more = map(typical, by_workers)
-    faster = ", ".join(f"{alone / took:.1f}" for took in more)
-    given = ", ".join(f"{copies * alone / typical(times):.1f}" for copies, times in zip(COPIES, at_once))
-    return [faster, given]
+def keep(folder, name, text):
+    if folder:
+        os.makedirs(folder, exist_ok=True)
+        with open(os.path.join(folder, f"{name}.json"), "w") as file:
+            file.write(text)
+
+
+def heading(columns):
+    print("| " + " | ".join(columns) + " |")
+    print("|" + "---|" * len(columns))
+
+
+def print_firings(given):
+    heading(["Workload", "Firings", *(f"{w} worker{'s' if w > 1 else ''}" for w in WORKERS),
+             "sqlite3", "Times as fast", "Processors"])
+    for letter, title, make, make_sql in WORKLOADS:
+        if given.only and letter not in given.only:
+            continue
+        text, firings = make()
+        keep(given.keep, letter, text)
+        alone = [given.program, "--workers", "1"]
+        runs = [([given.program, "--workers", str(workers)], text, 1) for workers in WORKERS]
+        runs += [(alone, text, copies) for copies in COPIES]
+        runs += [(SQLITE, make_sql(), 1)] if make_sql else []
+        taken, outputs = in_turn(runs, given.times)
+        if len(set(outputs[: len(WORKERS)])) != 1:
+            sys.exit(f"({letter}): the reports differ")
+        one, two, four, *more = map(statistics.median, taken)
+        cells = [f"{took * 1000:.0f} ms, {firings / took:,.0f}/s" for took in (one, two, four)]
+        cells += [f"{more[2] * 1000:.0f} ms, {firings / more[2]:,.0f}/s" if make_sql else ""]
+        cells += [f"{one / two:.1f}, {one / four:.1f}"]
+        cells += [", ".join(f"{copies * one / took:.1f}" for copies, took in zip(COPIES, more))]
+        print(f"| ({letter}) {title} | {firings:,} | " + " | ".join(cells) + " |", flush=True)
+
+
+def print_costs(name, given):
+    """Microseconds of one worker, of the default number and of sqlite3, each less the run without firings."""
+    title, unit, cases = TABLES[name]
+    heading([f"{title[0].upper()}{title[1:]}", f"1 worker, us a{'n' if unit[0] in 'aeiou' else ''} {unit}",
+             "the default", "of 1 worker", "sqlite3", "of sqlite3"])
+    for make in cases:
+        label, case = make()
+        keep(given.keep, f"{name}-{label.replace(' ', '_').replace(',', '')}-{case.size}", case.whole)
+        runs = [(command, text, 1)
+                for command in ([given.program, "--workers", "1"], [given.program])
+                for text in (case.without, case.whole)]
+        runs += [(SQLITE, text, 1) for text in (case.sql_without, case.sql) if text]
+        taken, outputs = in_turn(runs, given.times)
+        if outputs[1] != outputs[3]:
+            sys.exit(f"{label}, {case.size}: the reports differ")
+        middle = list(map(statistics.median, taken))
+        alone, default, *sql = [(whole - less) / case.firings * 1e6 for less, whole in zip(middle[::2], middle[1::2])]
+        cells = [f"{alone:.1f}", f"{default:.1f}", f"{default / alone:.2f}"]
+        cells += [f"{sql[0]:.1f}", f"{default / sql[0]:.2f}"] if sql else ["", ""]
+        print(f"| {label}, {case.size:,} | " + " | ".join(cells) + " |", flush=True)
 
 
 def main():
     words = argparse.ArgumentParser(description=__doc__.splitlines()[0])
     words.add_argument("program")
-    words.add_argument("--times", type=int, default=5)
-    words.add_argument("--only", metavar="LETTERS", default="", help="runs these workloads alone, as in --only ab")
+    words.add_argument("--times", type=int, default=9)
+    words.add_argument("--only", metavar="LETTERS", default="", help="of the table `firings`, these workloads alone")
+    words.add_argument("--tables", metavar="NAMES", default="firings," + ",".join(TABLES),
+                       help="prints these tables alone: firings," + ",".join(TABLES))
     words.add_argument("--keep", metavar="FOLDER", help="also writes the scripts there")
     given = words.parse_args()
-    workers = [f"{w} worker{'s' if w > 1 else ''}" for w in WORKERS]
-    columns = ["Workload", "Firings", *workers, "sqlite3", "Times as fast", "Processors"]
-    columns += [f"{column} (middle)" for column in columns[-2:]]
-    print("| " + " | ".join(columns) + " |")
-    print("|" + "---|" * len(columns))
-    for letter, title, make, make_sql in WORKLOADS:
-        if given.only and letter not in given.only:
-            continue
-        text, firings = make()
-        if len(text) > 1 << 20:
-            sys.exit(f"({letter}) is {len(text)} bytes long")
-        if given.keep:
-            os.makedirs(given.keep, exist_ok=True)
-            with open(os.path.join(given.keep, f"{letter}.json"), "w") as file:
-                file.write(text)
-        sql = make_sql() if make_sql else None
-        by_workers, at_once, by_sqlite = measured(given.program, letter, text, sql, given.times)
-        cells = [f"{took * 1000:.0f} ms, {firings / took:,.0f}/s" for took in map(min, by_workers + by_sqlite)]
-        cells += [] if by_sqlite else [""]
-        cells += shares(by_workers, at_once, min) + shares(by_workers, at_once, statistics.median)
-        print(f"| ({letter}) {title} | {firings:,} | " + " | ".join(cells) + " |", flush=True)
+    for number, name in enumerate(given.tables.split(",")):
+        if number:
+            print()
+        print_firings(given) if name == "firings" else print_costs(name, given)
 
 
 if __name__ == "__main__":

@@ -7,8 +7,6 @@ mod front;
 mod holding;
 mod outcome;
 mod settling;
-#[cfg(test)]
-mod tests;
 
 pub use front::settle_front;
 pub use holding::{first_failed, holds};

@@ -24,6 +24,3 @@ pub use boards::Board;
 pub use cells::{Pass, Posted, meet};
 pub use dealer::{Drawn, Seat};
 pub use machine::{Event, Group};
-
-#[cfg(test)]
-mod tests;

@@ -18,6 +18,3 @@ pub use event::{EventExpr, is_pure, occurs_now};
 pub use hp_event::Pattern;
 pub use hp_value::{Occurrence, Prim};
 pub use knowledge::Knowledge;
-
-#[cfg(test)]
-mod tests;

@@ -7,6 +7,3 @@ mod pattern;
 
 pub use hp_value::{Occurrence, Prim};
 pub use pattern::Pattern;
-
-#[cfg(test)]
-mod tests;

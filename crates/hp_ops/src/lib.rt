@@ -7,8 +7,6 @@ mod rows;
 mod rules;
 mod signals;
 mod telling;
-#[cfg(test)]
-mod tests;
 
 pub use finding::{find_object, find_status};
 pub use objects::{create, delete, update};

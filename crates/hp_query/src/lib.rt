@@ -10,8 +10,6 @@ mod condition;
 mod look;
 mod plain;
 mod query;
-#[cfg(test)]
-mod tests;
 
 pub use condition::{Verdict, evaluate_condition};
 pub use look::Look;

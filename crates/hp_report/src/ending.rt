@@ -102,6 +102,3 @@ fn status_of(store: &Store, rule: RuleNo) -> Status
         Some(CellValue::Row(_) | CellValue::Detector(_)) | None => Status::Absent,
     }
 }
-
-#[cfg(test)]
-mod tests;

@@ -18,6 +18,3 @@ pub use input::{ReadFault, read_up_to};
 pub use output::{WriteFault, write_text};
 pub use report::{Report, Status, write_report};
 pub use watched::Watched;
-
-#[cfg(test)]
-mod tests;

@@ -3,8 +3,6 @@
 mod objects;
 mod rules;
 mod state;
-#[cfg(test)]
-mod tests;
 mod tree;
 mod units;
 mod words;

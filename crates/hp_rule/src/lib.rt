@@ -12,8 +12,6 @@ mod note;
 mod rule;
 mod stmt;
 mod task;
-#[cfg(test)]
-mod tests;
 mod unit;
 
 pub use body::Body;

@@ -30,8 +30,6 @@ mod shape;
 mod shown;
 mod statement;
 mod statement_form;
-#[cfg(test)]
-mod tests;
 mod version;
 
 pub use decoding::decode;

@@ -27,6 +27,3 @@ pub use receipt::Receipt;
 pub use refusal::Refusal;
 pub use session::Session;
 pub use unit::Unit;
-
-#[cfg(test)]
-mod tests;

@@ -15,6 +15,3 @@ pub use layer::Layer;
 pub use snapshot::Snapshot;
 pub use store::Store;
 pub use value::{CellValue, Status};
-
-#[cfg(test)]
-mod tests;

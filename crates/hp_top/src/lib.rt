@@ -8,8 +8,6 @@ mod closing;
 mod generations;
 mod items;
 mod rounds;
-#[cfg(test)]
-mod tests;
 mod top;
 mod unit;
 

@@ -9,8 +9,6 @@ mod objects;
 mod operation;
 mod replaying;
 mod report;
-#[cfg(test)]
-mod tests;
 
 pub use emitted::emits;
 pub use node::{ConditionEnd, Ending, Item, Node, What};

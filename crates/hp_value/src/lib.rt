@@ -14,8 +14,6 @@ mod occurrence;
 mod operator;
 mod row;
 mod rule_operation;
-#[cfg(test)]
-mod tests;
 mod value;
 
 pub use cell::Cell;

@@ -6,8 +6,6 @@
 
 mod look;
 mod reads;
-#[cfg(test)]
-mod tests;
 mod undo;
 mod view;
 

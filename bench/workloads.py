@@ -1,0 +1,104 @@
+"""Workloads of many firings: how many a second, and what more workers gain."""
+
+from scripts import ACCOUNT, GO, add, create, immediate, installs, lines, on_go, script
+
+
+def richest(objects):
+    """Whether an account is one of the last two: three operators."""
+    return [">", ["*", ["of", "rich", "bal"], 3], ["-", 3 * objects, 9]]
+
+
+def scored(objects):
+    """The same after four scores, which every account passes: 47 operators."""
+    whole = richest(objects)
+    for first in range(4):
+        score = ["of", "rich", "bal"]
+        for step in range(3):
+            score = ["%", ["+", ["*", score, 31], first + step], 1009]
+        whole = ["and", [">=", score, 0], whole]
+    return whole
+
+
+def wide_scans(predicate=richest, siblings=64, objects=400, rounds=60):
+    """Siblings that each scan a class of their own world and write one object of their own."""
+    classes = [ACCOUNT, ["seen", [["count", "int"]]]]
+    condition = [["rich", "acct", predicate(objects)]]
+    rules = [on_go(f"r{n}", condition, [add("seen", "count", n, 1)]) for n in range(siblings)]
+    begin = installs(rules) + [create(k, k) for k in range(objects)]
+    begin += [["create", "seen", n, [["count", 0]]] for n in range(siblings)]
+    items = [["tx", begin]] + [["tx", [GO]] for _ in range(rounds)]
+    return script(classes, rules, items), siblings * rounds
+
+
+def wide_scores():
+    return wide_scans(scored, rounds=12)
+
+
+def wide_long_scans():
+    return wide_scans(objects=4000, rounds=24)
+
+
+def conflict(siblings=64, rounds=60):
+    """Siblings that all read and write one object."""
+    rules = [on_go(f"r{n}", [], [add("acct", "bal", 1, 1)]) for n in range(siblings)]
+    items = [["tx", installs(rules) + [create(1, 0)]]] + [["tx", [GO]] for _ in range(rounds)]
+    return script([ACCOUNT], rules, items), siblings * rounds
+
+
+def conflict_of_scans(siblings=64, objects=400, rounds=12):
+    """Siblings that each scan a class, and then all read and write one object of it."""
+    condition = [["rich", "acct", richest(objects)]]
+    rules = [on_go(f"r{n}", condition, [add("acct", "bal", 1, 1)]) for n in range(siblings)]
+    begin = installs(rules) + [create(k, k) for k in range(objects)]
+    items = [["tx", begin]] + [["tx", [GO]] for _ in range(rounds)]
+    return script([ACCOUNT], rules, items), siblings * rounds
+
+
+def single_firings(updates=16000):
+    """A long list of updates, of which each triggers one rule that writes another object."""
+    change = ["-", ["new", 0, "bal"], ["old", 0, "bal"]]
+    rule = immediate("note", ["update", "acct"], [], [add("seen", "sum", 1, change)])
+    classes = [ACCOUNT, ["seen", [["sum", "int"]]]]
+    begin = installs([rule]) + [create(1, 0), ["create", "seen", 1, [["sum", 0]]]]
+    body = [["update", "acct", 1, [["bal", n]]] for n in range(updates)]
+    return script(classes, [rule], [["tx", begin], ["tx", body]]), updates
+
+
+def single_firings_sql(updates=16000):
+    begin = ["create table acct(id integer primary key, bal integer);",
+             "create table seen(id integer primary key, sum integer);",
+             "create trigger note after update on acct begin "
+             "update seen set sum = sum + new.bal - old.bal where id = 1; end;",
+             "insert into acct values(1, 0);", "insert into seen values(1, 0);", "begin;"]
+    body = [f"update acct set bal = {n} where id = 1;" for n in range(updates)]
+    return lines(begin, body, ["commit;", "select id, bal from acct;", "select id, sum from seen;"])
+
+
+def deep_chains(depth=15, chains=2000):
+    """Updates of which each sets off a chain of firings, one inside the other."""
+    next_up = ["update", "acct", 1, [["bal", ["+", ["new", 0, "bal"], 1]]]]
+    rule = immediate("up", ["update", "acct"], [], [["if", ["<", ["new", 0, "bal"], depth], [next_up], []]])
+    body = [["update", "acct", 1, [["bal", 1]]] for _ in range(chains)]
+    items = [["tx", installs([rule]) + [create(1, 0)]], ["tx", body]]
+    return script([ACCOUNT], [rule], items, depth=16), depth * chains
+
+
+def deep_chains_sql(depth=15, chains=2000):
+    begin = ["pragma recursive_triggers = on;",
+             "create table acct(id integer primary key, bal integer);",
+             f"create trigger up after update on acct when new.bal < {depth} begin "
+             "update acct set bal = new.bal + 1 where id = 1; end;",
+             "insert into acct values(1, 0);", "begin;"]
+    body = ["update acct set bal = 1 where id = 1;" for _ in range(chains)]
+    return lines(begin, body, ["commit;", "select id, bal from acct;"])
+
+
+WORKLOADS = [
+    ("a", "64 disjoint siblings, each scanning 400 objects", wide_scans, None),
+    ("b", "64 siblings in full conflict", conflict, None),
+    ("c", "a long list of single firings", single_firings, single_firings_sql),
+    ("d", "chains of 15 firings, each inside the other", deep_chains, deep_chains_sql),
+    ("e", "(a) with 47 operators an object in place of 3", wide_scores, None),
+    ("f", "(b) where each scans 400 objects first", conflict_of_scans, None),
+    ("g", "(a) with 4,000 objects in place of 400", wide_long_scans, None),
+]

@@ -1,0 +1,17 @@
+//! Tests of the engine: statements, signals, groups with their workers, top-level transactions and units.
+#![tactic(auto)]
+
+#[cfg(test)]
+mod firing;
+#[cfg(test)]
+mod fixtures;
+#[cfg(test)]
+mod groups;
+#[cfg(test)]
+mod seen;
+#[cfg(test)]
+mod tops;
+#[cfg(test)]
+mod units;
+#[cfg(test)]
+mod waves;

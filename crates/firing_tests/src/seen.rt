@@ -1,0 +1,132 @@
+//! What is seen of a course, and of the view after it.
+
+use hp_fire::{Course, End};
+use hp_rule::{Detached, Step, Task};
+use hp_store::CellValue;
+use hp_tree::{Ending, Item, What};
+use hp_value::{Cell, Key, RuleNo, Value};
+use hp_view::View;
+
+// The balance of an account, if the view shows it.
+pub fn shown(view: &View, key: Key) -> Option<i64> {
+    if let Some(CellValue::Row(row)) = view.peek(Cell::Object(0, key)) {
+        if let Ok(Value::Int(n)) = row.field("bal") {
+            return Some(*n);
+        }
+    }
+    None
+}
+
+// The balances of the accounts 1 to 5.
+pub type Balances = (
+    Option<i64>,
+    Option<i64>,
+    Option<i64>,
+    Option<i64>,
+    Option<i64>,
+);
+
+pub fn all_shown(view: &View) -> Balances {
+    (
+        shown(view, 1),
+        shown(view, 2),
+        shown(view, 3),
+        shown(view, 4),
+        shown(view, 5),
+    )
+}
+
+// The last three of some numbers, the last first.
+pub type Last = (Option<i64>, Option<i64>, Option<i64>);
+
+const NONE: Last = (None, None, None);
+
+// The whole numbers that a course emitted itself.
+fn emitted(items: &[Item]) -> Last {
+    let mut all = NONE;
+    for item in items {
+        if let Item::Emit(Value::Int(n)) = item {
+            all = (Some(*n), all.0, all.1);
+        }
+    }
+    all
+}
+
+// The numbers that the first firing emitted.
+fn emitted_inside(items: &[Item]) -> Last {
+    for item in items {
+        if let Item::Node(node) = item {
+            return emitted(&node.items);
+        }
+    }
+    NONE
+}
+
+// The node of the first firing, and how it ended.
+pub fn first_node(items: &[Item]) -> Option<(What, Ending)> {
+    for item in items {
+        if let Item::Node(node) = item {
+            return Some((node.what, node.end));
+        }
+    }
+    None
+}
+
+// The keys of the rows that an action is to run with; none where the task is no action.
+fn kept(task: &Task) -> Option<Last> {
+    let Step::Action(answers) = &task.step else {
+        return None;
+    };
+    let mut keys = NONE;
+    for answer in answers.iter() {
+        for row in &answer.rows {
+            keys = (Some(row.key), keys.0, keys.1);
+        }
+    }
+    Some(keys)
+}
+
+// A task's rule, its depth, and what it keeps.
+type Queued = (RuleNo, u8, Option<Last>);
+
+fn first_queued(tasks: &[Task]) -> Option<Queued> {
+    let task = tasks.first()?;
+    Some((task.rule, task.depth, kept(task)))
+}
+
+// The rule of the only detached task, and whether it is released.
+fn only_detached(tasks: &[Detached]) -> Option<(RuleNo, bool)> {
+    if tasks.len() != 1 {
+        return None;
+    }
+    let one = tasks.first()?;
+    Some((one.task.rule, one.released))
+}
+
+// What is seen of a course, and of the view after it.
+#[derive(Clone, Copy)]
+pub struct Seen {
+    pub end: End,
+    pub items: usize,
+    pub emitted: Last,
+    pub inside: Last,
+    pub node: Option<(What, Ending)>,
+    pub queued: usize,
+    pub first_queued: Option<Queued>,
+    pub detached: Option<(RuleNo, bool)>,
+    pub balances: Balances,
+}
+
+pub fn look(view: &View, course: &Course) -> Seen {
+    Seen {
+        end: course.end,
+        items: course.items.len(),
+        emitted: emitted(&course.items),
+        inside: emitted_inside(&course.items),
+        node: first_node(&course.items),
+        queued: course.queued.len(),
+        first_queued: first_queued(&course.queued),
+        detached: only_detached(&course.detached),
+        balances: all_shown(view),
+    }
+}

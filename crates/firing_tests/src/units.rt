@@ -1,0 +1,51 @@
+//! What a unit leaves in the store beside its changes.
+
+use crate::fixtures::{alone, bank, going, idles, library, on_rich, set};
+use hp_rule::{CheckError, Library, Stmt, Unit};
+use hp_store::Store;
+use hp_top::run_unit;
+use hp_value::{Coupling, Halt};
+use std::alloc::{AllocError, Global};
+use std::sync::Arc;
+use std::test::Fail;
+use std::thread::Threads;
+
+// A rule whose condition asks for the rich accounts, and one that asks for nothing.
+fn asking(alloc: Global) -> Result<Arc<Library>, CheckError> {
+    let first = on_rich(alloc, "first", Vec::new(alloc));
+    let lib = library(alloc, first, idles(alloc, "second", Coupling::Immediate))?;
+    Ok(Arc::new(alloc, lib)?)
+}
+
+// A store with the bank's accounts and rules.
+fn stocked(alloc: Global, lib: &Library) -> Result<Store, Halt> {
+    let (_, layer) = bank(alloc, lib)?.into_parts();
+    let mut store = Store::empty(alloc)?;
+    store.apply(alloc, layer)?;
+    Ok(store)
+}
+
+// Runs a transaction, and tells whether the store then has a list of the accounts.
+fn are_listed_after(
+    rt: &(impl Threads + Sync),
+    alloc: Global,
+    lib: &Arc<Library>,
+    store: &mut Store,
+    body: Result<Vec<Stmt>, AllocError>,
+) -> Result<bool, CheckError> {
+    let unit = Unit::Transaction(Library::body(lib, alloc, body?)?);
+    drop(run_unit(rt, alloc, lib, store, &unit, 1)?);
+    Ok(store.snapshot()?.kept_objects(0).is_some())
+}
+
+#[test]
+fn a_class_that_was_read_whole_is_listed_until_it_changes(rt: HostRuntime) -> Result<(), Fail> {
+    let alloc = rt.alloc();
+    let lib = asking(alloc)?;
+    let mut store = stocked(alloc, &lib)?;
+    let goes = going(alloc);
+    assert!(rt; are_listed_after(&rt, alloc, &lib, &mut store, goes)?);
+    let sets = alone(alloc, set(alloc, 1, 5)?);
+    assert!(rt; !are_listed_after(&rt, alloc, &lib, &mut store, sets)?);
+    Ok(())
+}

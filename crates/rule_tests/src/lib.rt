@@ -1,0 +1,9 @@
+//! Tests of checked libraries and of operations on a view, with answers worked out by hand.
+#![tactic(auto)]
+
+#[cfg(test)]
+mod fixtures;
+#[cfg(test)]
+mod libraries;
+#[cfg(test)]
+mod operations;

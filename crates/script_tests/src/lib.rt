@@ -1,0 +1,13 @@
+//! Tests of what a run reads and writes: scripts, devices, reports.
+#![tactic(auto)]
+
+#[cfg(test)]
+mod decoding;
+#[cfg(test)]
+mod devices;
+#[cfg(test)]
+mod endings;
+#[cfg(test)]
+mod fixtures;
+#[cfg(test)]
+mod texts;

@@ -1,0 +1,246 @@
+//! Occurrences of nested events against values worked out by hand from the rules.
+
+use hp_detect::{Detector, EventExpr, Knowledge, Occurrence, Pattern, Prim, detect, is_pure};
+use hp_value::Value;
+use std::alloc::{AllocError, Global};
+use std::process::Abort;
+use std::sync::Arc;
+use std::test::Fail;
+
+/// An event in postfix notation: a letter is a signal's name, `|` a disjunction, `;` a sequence, `*` a closure.
+fn event(alloc: Global, postfix: &str) -> Result<Arc<EventExpr>, AllocError> {
+    let mut stack = Vec::new(alloc);
+    for letter in postfix.chars() {
+        let made = if "|;*".contains(letter) {
+            let second = Box::new(alloc, stack.pop().unwrap_or(NO_EVENT))?;
+            let first = Box::new(alloc, stack.pop().unwrap_or(NO_EVENT))?;
+            composite(letter, first, second)
+        } else {
+            let mut name = String::new(alloc);
+            name.push(letter)?;
+            EventExpr::One(Pattern::Signal(name))
+        };
+        stack.push(made)?;
+    }
+    Ok(Arc::new(alloc, stack.pop().unwrap_or(NO_EVENT))?)
+}
+
+const NO_EVENT: EventExpr = EventExpr::One(Pattern::Commit);
+
+fn composite(letter: char, first: Box<EventExpr>, second: Box<EventExpr>) -> EventExpr {
+    match letter {
+        '|' => EventExpr::Or(first, second),
+        ';' => EventExpr::Seq(first, second),
+        _ => EventExpr::Closure(first, second),
+    }
+}
+
+/// A signal of that name with one argument.
+fn signal(alloc: Global, name: char, argument: i64) -> Result<Prim, AllocError> {
+    let mut text = String::new(alloc);
+    text.push(name)?;
+    Ok(Prim::Signal {
+        name: text,
+        args: vec![in alloc; Value::Int(argument)]?,
+    })
+}
+
+/// The signals of a text such as `a1 b2`: each a name and a digit.
+fn signals(alloc: Global, words: &str) -> Result<Vec<Prim>, AllocError> {
+    let mut all = Vec::new(alloc);
+    for word in words.split_whitespace() {
+        let mut letters = word.chars();
+        if let (Some(name), Some(digit)) = (letters.next(), letters.next()) {
+            let argument = digit.to_digit(10).unwrap_or(0);
+            all.push(signal(alloc, name, i64::from(argument))?)?;
+        }
+    }
+    Ok(all)
+}
+
+/// Puts the name and the argument of a signal to a text.
+fn put_part(text: &mut String, part: &Prim) -> Result<(), AllocError> {
+    if let Prim::Signal { name, args } = part {
+        text.push_str(name.as_str())?;
+        if let Some(Value::Int(argument)) = args.first() {
+            write!(text, "{argument}")?;
+        }
+    }
+    Ok(())
+}
+
+/// Puts an occurrence to a text, as `2:a1b2`: its count, and the name and the argument of each part.
+fn put_answer(text: &mut String, answer: &Option<Occurrence>) -> Result<(), AllocError> {
+    let Some(occurrence) = answer else {
+        return text.push('-');
+    };
+    let count = occurrence.count;
+    write!(text, "{count}:")?;
+    for part in &occurrence.parts {
+        put_part(text, part)?;
+    }
+    Ok(())
+}
+
+/// An answer's text.
+fn shown(alloc: Global, answer: &Option<Occurrence>) -> Result<String, AllocError> {
+    let mut text = String::new(alloc);
+    put_answer(&mut text, answer)?;
+    Ok(text)
+}
+
+/// Puts answers to an empty text.
+fn put_answers(text: &mut String, answers: &[Option<Occurrence>]) -> Result<(), AllocError> {
+    for answer in answers {
+        if !text.is_empty() {
+            text.push(' ')?;
+        }
+        put_answer(text, answer)?;
+    }
+    Ok(())
+}
+
+/// What the event answers along the signals.
+fn answers(alloc: Global, postfix: &str, words: &str) -> Result<String, AllocError> {
+    let expr = event(alloc, postfix)?;
+    let signals = signals(alloc, words)?;
+    let answers = detect(alloc, &expr, &signals)?;
+    let mut text = String::new(alloc);
+    put_answers(&mut text, &answers)?;
+    Ok(text)
+}
+
+#[test]
+fn occurrences_by_hand(rt: HostRuntime) -> Result<(), Fail> {
+    let cases = [
+        // A disjunction occurs once where both arms do, with the first one's parts.
+        ("aa|", "a1 b2 a3", "1:a1 - 1:a3"),
+        ("aab;|", "a1 b2 a3 b4 b5", "1:a1 2:a1b2 1:a3 2:a3b4 -"),
+        // A sequence takes the oldest that is not yet taken, and only what stands strictly before.
+        ("ab;", "b0 a1 a2 b3 b4 b5", "- - - 2:a1b3 2:a2b4 -"),
+        ("aa;", "a1 a2 a3", "- 2:a1a2 2:a2a3"),
+        ("abc;;", "b1 a2 b3 c4 c5", "- - - 3:a2b1c4 -"),
+        // A closure occurs once, at its end, and each end begins anew, also one at which it didn't occur.
+        ("at*", "a7 a8 t0 t0", "- - 2:a8t0 -"),
+        (
+            "at*",
+            "t0 a1 t2 t3 a4 a5 a6 t7",
+            "- - 1:a1t2 - - - - 3:a6t7",
+        ),
+        ("aa*", "a1 a2 a3", "- - -"),
+        // Its count is the sum of the counts of its bodies, without the end's.
+        ("ab;t*", "a1 b2 a3 b4 t5", "- - - - 4:a3b4t5"),
+        ("at*b;", "a1 a2 t0 b0", "- - - 3:a2t0b0"),
+        ("ab;ab*;", "a1 b2 a3 b4", "- - - 3:a1b2a3b4"),
+    ];
+    for (postfix, words, wanted) in cases {
+        let found = answers(rt.alloc(), postfix, words)?;
+        assert_eq!(rt; found.as_str(), wanted, "{postfix} along {words}");
+    }
+    Ok(())
+}
+
+/// A detector of the event after these signals.
+fn stepped(alloc: Global, expr: &Arc<EventExpr>, words: &str) -> Result<Detector, AllocError> {
+    let mut detector = Detector::fresh(alloc, expr)?;
+    for prim in &signals(alloc, words)? {
+        let _ = detector.step(alloc, prim)?;
+    }
+    Ok(detector)
+}
+
+#[test]
+fn detectors_know_what_matters(rt: HostRuntime) -> Result<(), Fail> {
+    let alloc = rt.alloc();
+    let cases = [
+        ("ab;", "a1 b2 a5", "a5", true),
+        ("ab;", "a1 b2 a5", "a4", false),
+        ("ab;", "a1 b2 a5", "a1 a5", false),
+        ("ab;", "a1 b2 b3", "", true),
+        ("at*", "a1 t2 a3", "t0 a3", true),
+        ("at*", "a1 t2 a3", "a1 a3", false),
+        ("ab|", "a1 b2 a3", "", true),
+    ];
+    for (postfix, words, others, wanted) in cases {
+        let expr = event(alloc, postfix)?;
+        let detector = stepped(alloc, &expr, words)?;
+        let same = detector == stepped(alloc, &expr, others)?;
+        assert_eq!(rt; same, wanted, "{postfix} along {words} and {others}");
+        assert!(rt; detector == detector.clone()?);
+    }
+    Ok(())
+}
+
+#[test]
+fn events_are_pure_and_mention(rt: HostRuntime) -> Result<(), Fail> {
+    let alloc = rt.alloc();
+    let pure = event(alloc, "ab|")?;
+    assert!(rt; is_pure(&pure));
+    assert!(rt; pure.mentions(&signal(alloc, 'b', 2)?));
+    assert!(rt; !pure.mentions(&signal(alloc, 'c', 3)?));
+    let sequence = event(alloc, "ab;")?;
+    assert!(rt; !is_pure(&sequence));
+    assert!(rt; *pure != *sequence);
+    Ok(())
+}
+
+/// Steps until no growth is refused, and tells whether each refusal left the detector as it was.
+fn steadily(
+    alloc: Global,
+    detector: &mut Detector,
+    prim: &Prim,
+) -> Result<(Option<Occurrence>, bool), AllocError> {
+    let before = detector.clone()?;
+    match detector.step(alloc, prim) {
+        Ok(answer) => Ok((answer, true)),
+        Err(AllocError) => {
+            let unchanged = *detector == before;
+            Ok((detector.step(alloc, prim)?, unchanged))
+        }
+    }
+}
+
+/// The last answer along signals, of which each refused one left the detector as it was.
+fn last_answer(
+    rt: &impl Abort,
+    alloc: Global,
+    detector: &mut Detector,
+    signals: &[Prim],
+) -> Result<Option<Occurrence>, AllocError> {
+    let mut last = None;
+    for prim in signals {
+        let (answer, unchanged) = steadily(alloc, detector, prim)?;
+        assert!(rt; unchanged);
+        last = answer;
+    }
+    Ok(last)
+}
+
+/// To be run with each allocation refused in turn, by `rt try --test --fail-alloc N`: a refused step changes nothing, and
+/// the next one answers as if there had been none.
+#[test]
+fn refused_steps_change_nothing(rt: HostRuntime) -> Result<(), Fail> {
+    let signals = signals(rt.alloc(), "a1 b2 a3 b4 t5 a6 c7")?;
+    let mut detector = stepped(rt.alloc(), &event(rt.alloc(), "ab;t*c;")?, "")?;
+    let last = last_answer(&rt, rt.alloc(), &mut detector, &signals)?;
+    assert_eq!(rt; shown(rt.alloc(), &last)?.as_str(), "5:a3b4t5c7");
+    Ok(())
+}
+
+/// What is known without the event goes on as a detector of the event does.
+#[test]
+fn knowledge_goes_on_by_itself(rt: HostRuntime) -> Result<(), Fail> {
+    let alloc = rt.alloc();
+    let expr = event(alloc, "ab;")?;
+    let mut known = Knowledge::fresh(alloc, &expr)?;
+    assert!(rt; known == known.clone()?);
+    let mut last = None;
+    for prim in &signals(alloc, "a1 a2 b3")? {
+        let (answer, next) = known.step(alloc, &expr, prim)?;
+        assert!(rt; known != next);
+        last = answer;
+        known = next;
+    }
+    assert_eq!(rt; shown(alloc, &last)?.as_str(), "2:a1b3");
+    Ok(())
+}

@@ -1,0 +1,15 @@
+//! Tests of values, patterns, detectors, queries and trees, with answers worked out by hand.
+#![tactic(auto)]
+
+#[cfg(test)]
+mod detectors;
+#[cfg(test)]
+mod expressions;
+#[cfg(test)]
+mod fixtures;
+#[cfg(test)]
+mod patterns;
+#[cfg(test)]
+mod queries;
+#[cfg(test)]
+mod trees;

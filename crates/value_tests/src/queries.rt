@@ -1,0 +1,348 @@
+//! Answers over a plain map, with values worked out by hand.
+
+use crate::fixtures::{account, row, text};
+use hp_query::{PlainObjects, Query, Verdict, answer, evaluate_condition, selected_rows};
+use hp_value::{
+    Answer, Arithmetic, Cause, ClassNo, Comparison, Env, Expr, Halt, Key, KeyedRow, Occurrence,
+    Value,
+};
+use std::alloc::{AllocError, Global};
+use std::process::Abort;
+use std::test::Fail;
+
+fn number(alloc: Global, z: i64) -> Result<Box<Expr>, AllocError> {
+    Ok(Box::new(alloc, Expr::literal(Value::Int(z)))?)
+}
+
+fn balance_of(alloc: Global, variable: &str) -> Result<Box<Expr>, AllocError> {
+    let field = Expr::FieldOf {
+        variable: text(alloc, variable)?,
+        field: text(alloc, "bal")?,
+    };
+    Ok(Box::new(alloc, field)?)
+}
+
+fn compared(
+    alloc: Global,
+    left: Box<Expr>,
+    how: Comparison,
+    right: Box<Expr>,
+) -> Result<Box<Expr>, AllocError> {
+    Ok(Box::new(alloc, Expr::Comparison(how, left, right))?)
+}
+
+// The row's balance is above a number.
+fn is_above(alloc: Global, variable: &str, z: i64) -> Result<Box<Expr>, AllocError> {
+    let balance = balance_of(alloc, variable)?;
+    let limit = number(alloc, z)?;
+    compared(alloc, balance, Comparison::Greater, limit)
+}
+
+fn query(
+    alloc: Global,
+    name: &str,
+    class: ClassNo,
+    predicate: Box<Expr>,
+) -> Result<Query, AllocError> {
+    Ok(Query {
+        name: text(alloc, name)?,
+        class,
+        predicate,
+    })
+}
+
+fn put(
+    alloc: Global,
+    objects: &mut PlainObjects,
+    class: ClassNo,
+    key: Key,
+    balance: i64,
+) -> Result<(), AllocError> {
+    objects.insert(class, key, account(alloc, balance)?)
+}
+
+// Class 0 with the keys -20, -3, 2, 10, and class 1 with the keys 2 and 5, between them in the map.
+fn accounts(alloc: Global) -> Result<PlainObjects, AllocError> {
+    let mut objects = PlainObjects::new(alloc);
+    put(alloc, &mut objects, 1, 5, 7)?;
+    put(alloc, &mut objects, 0, 10, 4)?;
+    put(alloc, &mut objects, 0, -3, 0)?;
+    put(alloc, &mut objects, 0, 2, 3)?;
+    put(alloc, &mut objects, 1, 2, 9)?;
+    put(alloc, &mut objects, 0, -20, 5)?;
+    Ok(objects)
+}
+
+fn assert_keys(rt: &impl Abort, rows: &[KeyedRow], wanted: &[Key]) {
+    assert_eq!(rt; rows.len(), wanted.len());
+    for (row, key) in rows.iter().zip(wanted) {
+        assert_eq!(rt; row.key, *key);
+    }
+}
+
+fn assert_fault(rt: &impl Abort, found: Result<Vec<KeyedRow>, Halt>, wanted: Cause) {
+    match found {
+        Err(halt) => assert_eq!(rt; halt, Halt::Cause(wanted)),
+        Ok(_) => panic!(rt; "an answer in place of {wanted:?}"),
+    }
+}
+
+#[test]
+fn rows_of_one_class_by_rising_keys(rt: HostRuntime) -> Result<(), Fail> {
+    let alloc = rt.alloc();
+    let mut objects = accounts(alloc)?;
+    let env = Env::new(None, &[]);
+
+    let positive = query(alloc, "x", 0, is_above(alloc, "x", 0)?)?;
+    let rows = answer(alloc, &positive, &env, &mut objects)?;
+    assert_keys(&rt, &rows, &[-20, 2, 10]);
+    for r in &rows {
+        assert!(rt; objects.get(0, r.key) == Some(&r.row));
+    }
+
+    let all = is_above(alloc, "y", -1)?;
+    let rows = selected_rows(alloc, "y", 0, &all, &env, &mut objects)?;
+    assert_keys(&rt, &rows, &[-20, -3, 2, 10]);
+    let rows = selected_rows(alloc, "y", 1, &all, &env, &mut objects)?;
+    assert_keys(&rt, &rows, &[2, 5]);
+    let rows = selected_rows(alloc, "y", 2, &all, &env, &mut objects)?;
+    assert_keys(&rt, &rows, &[]);
+    Ok(())
+}
+
+#[test]
+fn the_first_fault_in_key_order(rt: HostRuntime) -> Result<(), Fail> {
+    let alloc = rt.alloc();
+    let mut objects = accounts(alloc)?;
+    let env = Env::new(None, &[]);
+    let named = row(alloc, "bal", Value::Text(text(alloc, "much")?))?;
+    objects.insert(0, 2, named)?;
+
+    // 10 / bal = 2 is true at -20, divides by zero at -3, and meets a text at 2.
+    let quotient = Expr::Arithmetic(
+        Arithmetic::Quotient,
+        number(alloc, 10)?,
+        balance_of(alloc, "x")?,
+    );
+    let predicate = compared(
+        alloc,
+        Box::new(alloc, quotient)?,
+        Comparison::Equal,
+        number(alloc, 2)?,
+    )?;
+    let asked = query(alloc, "x", 0, predicate)?;
+    assert_fault(
+        &rt,
+        answer(alloc, &asked, &env, &mut objects),
+        Cause::DivideByZero,
+    );
+
+    assert!(rt; objects.remove(0, -3).is_some());
+    assert_fault(&rt, answer(alloc, &asked, &env, &mut objects), Cause::Kind);
+
+    assert!(rt; objects.remove(0, 2).is_some());
+    let rows = answer(alloc, &asked, &env, &mut objects)?;
+    assert_keys(&rt, &rows, &[-20, 10]);
+    Ok(())
+}
+
+#[test]
+fn a_predicate_without_truth_value(rt: HostRuntime) -> Result<(), Fail> {
+    let alloc = rt.alloc();
+    let mut objects = accounts(alloc)?;
+    let env = Env::new(None, &[]);
+    let asked = query(alloc, "x", 1, balance_of(alloc, "x")?)?;
+    assert_fault(&rt, answer(alloc, &asked, &env, &mut objects), Cause::Kind);
+    let nowhere = query(alloc, "x", 3, balance_of(alloc, "x")?)?;
+    let rows = answer(alloc, &nowhere, &env, &mut objects)?;
+    assert_keys(&rt, &rows, &[]);
+    Ok(())
+}
+
+fn key_of(alloc: Global, variable: &str) -> Result<Box<Expr>, AllocError> {
+    let variable = text(alloc, variable)?;
+    Ok(Box::new(alloc, Expr::KeyOf { variable })?)
+}
+
+fn both(alloc: Global, first: Box<Expr>, second: Box<Expr>) -> Result<Box<Expr>, AllocError> {
+    Ok(Box::new(alloc, Expr::And(first, second))?)
+}
+
+// The row's key is a value, written either way round.
+fn is_key(
+    alloc: Global,
+    variable: &str,
+    wanted: Box<Expr>,
+    turned: bool,
+) -> Result<Box<Expr>, AllocError> {
+    let key = key_of(alloc, variable)?;
+    if turned {
+        return compared(alloc, wanted, Comparison::Equal, key);
+    }
+    compared(alloc, key, Comparison::Equal, wanted)
+}
+
+fn of_key(
+    alloc: Global,
+    objects: &mut PlainObjects,
+    wanted: i64,
+    turned: bool,
+) -> Result<Vec<KeyedRow>, Halt> {
+    let key = is_key(alloc, "x", number(alloc, wanted)?, turned)?;
+    let predicate = both(alloc, key, is_above(alloc, "x", 0)?)?;
+    selected_rows(alloc, "x", 0, &predicate, &Env::new(None, &[]), objects)
+}
+
+// What follows the key is asked of its row alone: at 2 stands a text, of which nothing is above.
+#[test]
+fn one_key_is_asked_for(rt: HostRuntime) -> Result<(), Fail> {
+    let alloc = rt.alloc();
+    let mut objects = accounts(alloc)?;
+    let named = row(alloc, "bal", Value::Text(text(alloc, "much")?))?;
+    objects.insert(0, 2, named)?;
+    for turned in [false, true] {
+        assert_keys(&rt, &of_key(alloc, &mut objects, 10, turned)?, &[10]);
+        assert_keys(&rt, &of_key(alloc, &mut objects, -3, turned)?, &[]);
+        assert_keys(&rt, &of_key(alloc, &mut objects, 3, turned)?, &[]);
+        assert_fault(&rt, of_key(alloc, &mut objects, 2, turned), Cause::Kind);
+    }
+    Ok(())
+}
+
+// A fault of what the key is compared with is one of the first row, if there is a row.
+#[test]
+fn a_key_that_has_no_value(rt: HostRuntime) -> Result<(), Fail> {
+    let alloc = rt.alloc();
+    let mut objects = accounts(alloc)?;
+    let env = Env::new(None, &[]);
+    let unknown = Expr::KeyIn { part: 0 };
+    let predicate = is_key(alloc, "x", Box::new(alloc, unknown)?, false)?;
+    let found = selected_rows(alloc, "x", 0, &predicate, &env, &mut objects);
+    assert_fault(&rt, found, Cause::NoParameter);
+    let rows = selected_rows(alloc, "x", 2, &predicate, &env, &mut objects)?;
+    assert_keys(&rt, &rows, &[]);
+
+    // The row's own key is in no other row, so all are answers.
+    let own = is_key(alloc, "x", key_of(alloc, "x")?, false)?;
+    let rows = selected_rows(alloc, "x", 0, &own, &env, &mut objects)?;
+    assert_keys(&rt, &rows, &[-20, -3, 2, 10]);
+    Ok(())
+}
+
+fn verdict(
+    alloc: Global,
+    queries: &[Query],
+    objects: &mut PlainObjects,
+) -> Result<Verdict, AllocError> {
+    let occurrence = Occurrence {
+        parts: Vec::new(alloc),
+        count: 0,
+    };
+    evaluate_condition(alloc, queries, &occurrence, objects)
+}
+
+fn assert_answer(rt: &impl Abort, answer: Option<&Answer>, name: &str, wanted: &[Key]) {
+    match answer {
+        Some(answer) => {
+            assert_eq!(rt; answer.name.as_str(), name);
+            assert_keys(rt, &answer.rows, wanted);
+        }
+        None => panic!(rt; "no answer of {name}"),
+    }
+}
+
+// x: -20, 2, 10, whose first has balance 5; y: those of class 1 above it.
+fn two_queries(alloc: Global) -> Result<Vec<Query>, AllocError> {
+    let richer = compared(
+        alloc,
+        balance_of(alloc, "y")?,
+        Comparison::Greater,
+        balance_of(alloc, "x")?,
+    )?;
+    let mut queries = Vec::new(alloc);
+    queries.push(query(alloc, "x", 0, is_above(alloc, "x", 0)?)?)?;
+    queries.push(query(alloc, "y", 1, richer)?)?;
+    Ok(queries)
+}
+
+// Both queries have answers, with these keys.
+fn assert_kept(
+    rt: &impl Abort,
+    alloc: Global,
+    queries: &[Query],
+    objects: &mut PlainObjects,
+    xs: &[Key],
+    ys: &[Key],
+) -> Result<(), AllocError> {
+    match verdict(alloc, queries, objects)? {
+        Verdict::Satisfied(kept) => {
+            assert_eq!(rt; kept.len(), 2);
+            assert_answer(rt, kept.get(0), "x", xs);
+            assert_answer(rt, kept.get(1), "y", ys);
+        }
+        other => panic!(rt; "not satisfied: {other:?}"),
+    }
+    Ok(())
+}
+
+#[test]
+fn a_later_query_names_the_first_row(rt: HostRuntime) -> Result<(), Fail> {
+    let alloc = rt.alloc();
+    let queries = two_queries(alloc)?;
+    let mut objects = accounts(alloc)?;
+    assert_kept(&rt, alloc, &queries, &mut objects, &[-20, 2, 10], &[2, 5])?;
+    put(alloc, &mut objects, 0, -21, 8)?;
+    assert_kept(&rt, alloc, &queries, &mut objects, &[-21, -20, 2, 10], &[2])?;
+    Ok(())
+}
+
+#[test]
+fn an_empty_answer_and_a_fault(rt: HostRuntime) -> Result<(), Fail> {
+    let alloc = rt.alloc();
+    let mut objects = accounts(alloc)?;
+    assert!(rt; matches!(verdict(alloc, &[], &mut objects)?, Verdict::Satisfied(_)));
+
+    // The first empty answer ends it, before the fault of the second query.
+    let mut queries = Vec::new(alloc);
+    queries.push(query(alloc, "x", 0, is_above(alloc, "x", 100)?)?)?;
+    queries.push(query(alloc, "y", 1, balance_of(alloc, "y")?)?)?;
+    assert!(rt;
+        matches!(
+            verdict(alloc, &queries, &mut objects)?,
+            Verdict::Unsatisfied
+        )
+    );
+
+    put(alloc, &mut objects, 0, 0, 101)?;
+    assert!(rt;
+        matches!(
+            verdict(alloc, &queries, &mut objects)?,
+            Verdict::Faulty(Cause::Kind)
+        )
+    );
+    Ok(())
+}
+
+// Run with each allocation refused in turn: the call tells it, and the next call answers as ever.
+#[test]
+fn a_refused_allocation_is_told(rt: HostRuntime) {
+    let alloc = rt.alloc();
+    let env = Env::new(None, &[]);
+    let Ok(mut objects) = accounts(alloc) else {
+        return;
+    };
+    let Ok(predicate) = is_above(alloc, "x", 0) else {
+        return;
+    };
+    let mut refused = 0u8;
+    for _ in 0..2u8 {
+        match selected_rows(alloc, "x", 0, &predicate, &env, &mut objects) {
+            Ok(rows) => assert_keys(&rt, &rows, &[-20, 2, 10]),
+            Err(halt) => {
+                assert_eq!(rt; halt, Halt::Memory);
+                refused = refused.saturating_add(1);
+            }
+        }
+    }
+    assert!(rt; refused < 2);
+}

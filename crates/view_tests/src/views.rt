@@ -1,0 +1,304 @@
+//! Views over a small bank, with values worked out by hand.
+
+use crate::fixtures::{balance, balance_in, bank, shown};
+use hp_query::{Query, answer};
+use hp_store::{Layer, Snapshot};
+use hp_value::{Cell, Comparison, Env, Expr, Key, KeyedRow, Value};
+use hp_view::{Found, Reads, Seen, View};
+use std::alloc::{AllocError, Global};
+use std::process::Abort;
+use std::test::Fail;
+
+// What was read, in order: each cell of class 0 by its key, the keys of a class by their number.
+fn assert_reads(rt: &impl Abort, reads: &Reads, wanted: &[(Seen, Option<i64>, usize)]) {
+    assert_eq!(rt; reads.len(), wanted.len());
+    for ((seen, found), (place, value, keys)) in reads.iter().zip(wanted) {
+        assert_eq!(rt; *seen, *place);
+        assert_eq!(rt; balance_in(found.value()), *value);
+        assert_eq!(rt; found.keys().len(), *keys);
+        assert!(rt;
+            matches!(
+                (seen, found),
+                (Seen::Cell(_), Found::Value(_))
+                    | (Seen::Keys(_), Found::Keys(_) | Found::Objects(_))
+            )
+        );
+    }
+}
+
+fn three_writes(alloc: Global, view: &mut View) -> Result<(), AllocError> {
+    view.put(Cell::Object(0, 2), balance(alloc, 6)?)?;
+    view.cut(Cell::Object(0, 10))?;
+    view.put(Cell::Object(0, 1), balance(alloc, 7)?)
+}
+
+fn all_reads(alloc: Global, view: &mut View) -> Result<(), AllocError> {
+    view.read(Cell::Object(0, -3))?;
+    view.read(Cell::Object(0, 10))?;
+    view.read(Cell::Object(0, 11))?;
+    view.read(Cell::Object(0, -3))?;
+    drop(view.keys(alloc, 0)?);
+    drop(view.keys(alloc, 0)?);
+    Ok(())
+}
+
+// The cell that the view emptied is no read, and the keys are read as the snapshot has them.
+fn assert_all_reads(rt: &impl Abort, reads: &Reads) {
+    let wanted = [
+        (Seen::Cell(Cell::Object(0, -3)), Some(97), 0),
+        (Seen::Cell(Cell::Object(0, 11)), None, 0),
+        (Seen::Keys(0), None, 3),
+    ];
+    assert_reads(rt, reads, &wanted);
+}
+
+#[test]
+fn an_abort_takes_back_three_writes_and_no_read(rt: HostRuntime) -> Result<(), Fail> {
+    let alloc = rt.alloc();
+    let mut view = View::new(alloc, bank(alloc)?)?;
+    let mark = view.enter();
+    three_writes(alloc, &mut view)?;
+    all_reads(alloc, &mut view)?;
+    assert!(rt; view.has_keys(0, &[-3, 1, 2]));
+    view.abort(mark)?;
+    assert!(rt; view.has_keys(0, &[-3, 2, 10]));
+    assert_eq!(rt; shown(&view, 2), Some(102));
+    let (reads, layer) = view.into_parts();
+    assert_all_reads(&rt, &reads);
+    assert!(rt; !reads.is_empty() && layer.is_empty());
+    Ok(())
+}
+
+#[test]
+fn what_is_got_is_what_the_view_wrote_or_the_snapshot_holds(rt: HostRuntime) -> Result<(), Fail> {
+    let alloc = rt.alloc();
+    let mut view = View::new(alloc, bank(alloc)?)?;
+    three_writes(alloc, &mut view)?;
+    for (key, wanted) in [
+        (-3, Some(97)),
+        (1, Some(7)),
+        (2, Some(6)),
+        (10, None),
+        (11, None),
+    ] {
+        assert_eq!(rt; balance_in(view.get(Cell::Object(0, key))?), wanted);
+    }
+    Ok(())
+}
+
+#[test]
+fn a_commit_keeps_what_was_written(rt: HostRuntime) -> Result<(), Fail> {
+    let alloc = rt.alloc();
+    let mut view = View::new(alloc, bank(alloc)?)?;
+    let outer = view.enter();
+    let inner = view.enter();
+    view.put(Cell::Object(0, 2), balance(alloc, 6)?)?;
+    view.commit(inner);
+    assert_eq!(rt; shown(&view, 2), Some(6));
+    view.abort(outer)?;
+    assert_eq!(rt; shown(&view, 2), Some(102));
+    Ok(())
+}
+
+fn frozen_after_each_write(alloc: Global, view: &mut View) -> Result<Vec<Snapshot>, AllocError> {
+    let mut frozen = Vec::new(alloc);
+    for key in 20..40 {
+        view.put(Cell::Object(0, key), balance(alloc, key)?)?;
+        frozen.push(view.freeze(alloc)?)?;
+    }
+    Ok(frozen)
+}
+
+#[test]
+fn frozen_twenty_times_with_a_write_before_each(rt: HostRuntime) -> Result<(), Fail> {
+    let alloc = rt.alloc();
+    let mut view = View::new(alloc, bank(alloc)?)?;
+    let frozen = frozen_after_each_write(alloc, &mut view)?;
+    for (i, snapshot) in frozen.iter().enumerate() {
+        let keys = snapshot.keys(alloc, 0)?;
+        assert_eq!(rt; keys.len(), i.saturating_add(4));
+        assert!(rt; snapshot.layers() <= 8);
+        assert_eq!(rt; balance_in(snapshot.get(Cell::Object(0, 20))), Some(20));
+    }
+    assert_eq!(rt; view.keys(alloc, 0)?.len(), 23);
+    Ok(())
+}
+
+// A query for all rows of class 0.
+fn all_rows(alloc: Global) -> Result<Query, AllocError> {
+    Ok(Query {
+        name: String::from_str(alloc, "x")?,
+        class: 0,
+        predicate: Box::new(alloc, Expr::literal(Value::Bool(true)))?,
+    })
+}
+
+fn assert_rows(rt: &impl Abort, rows: &[KeyedRow], wanted: &[(Key, i64)]) {
+    assert_eq!(rt; rows.len(), wanted.len());
+    for (row, (key, value)) in rows.iter().zip(wanted) {
+        assert_eq!(rt; row.key, *key);
+        assert!(rt; matches!(row.row.field("bal"), Ok(Value::Int(n)) if n == value));
+    }
+}
+
+#[test]
+fn a_query_over_a_view(rt: HostRuntime) -> Result<(), Fail> {
+    let alloc = rt.alloc();
+    let mut view = View::new(alloc, bank(alloc)?)?;
+    view.put(Cell::Object(0, 2), balance(alloc, 6)?)?;
+    let rows = answer(alloc, &all_rows(alloc)?, &Env::new(None, &[]), &mut view)?;
+    assert_rows(&rt, &rows, &[(-3, 97), (2, 6), (10, 110)]);
+
+    // The row that the view wrote is no read.
+    let (reads, _) = view.into_parts();
+    let wanted = [
+        (Seen::Keys(0), None, 3),
+        (Seen::Cell(Cell::Object(0, -3)), Some(97), 0),
+        (Seen::Cell(Cell::Object(0, 10)), Some(110), 0),
+    ];
+    assert_reads(&rt, &reads, &wanted);
+    Ok(())
+}
+
+fn assert_all(rt: &impl Abort, alloc: Global, view: &mut View) -> Result<(), Fail> {
+    let rows = answer(alloc, &all_rows(alloc)?, &Env::new(None, &[]), view)?;
+    assert_rows(rt, &rows, &[(-3, 97), (2, 102), (10, 110)]);
+    Ok(())
+}
+
+// It is asked for twice, and what the view writes between is of another class.
+#[test]
+fn a_class_is_read_as_a_whole(rt: HostRuntime) -> Result<(), Fail> {
+    let alloc = rt.alloc();
+    let mut view = View::new(alloc, bank(alloc)?)?;
+    assert_all(&rt, alloc, &mut view)?;
+    view.put(Cell::Object(1, 2), balance(alloc, 6)?)?;
+    assert_all(&rt, alloc, &mut view)?;
+    let (reads, _) = view.into_parts();
+    assert_reads(&rt, &reads, &[(Seen::Keys(0), None, 3)]);
+    Ok(())
+}
+
+// A query for the row of class 0 with a key.
+fn of_key(alloc: Global, key: Key) -> Result<Query, AllocError> {
+    let variable = String::from_str(alloc, "x")?;
+    let own = Box::new(alloc, Expr::KeyOf { variable })?;
+    let wanted = Box::new(alloc, Expr::literal(Value::Int(key)))?;
+    let predicate = Expr::Comparison(Comparison::Equal, own, wanted);
+    Ok(Query {
+        name: String::from_str(alloc, "x")?,
+        class: 0,
+        predicate: Box::new(alloc, predicate)?,
+    })
+}
+
+fn look_at_two_keys(rt: &impl Abort, alloc: Global, view: &mut View) -> Result<(), Fail> {
+    let rows = answer(alloc, &of_key(alloc, 2)?, &Env::new(None, &[]), view)?;
+    assert_rows(rt, &rows, &[(2, 102)]);
+    let rows = answer(alloc, &of_key(alloc, 3)?, &Env::new(None, &[]), view)?;
+    assert_rows(rt, &rows, &[]);
+    Ok(())
+}
+
+#[test]
+fn a_query_for_one_key_reads_one_cell(rt: HostRuntime) -> Result<(), Fail> {
+    let mut view = View::new(rt.alloc(), bank(rt.alloc())?)?;
+    look_at_two_keys(&rt, rt.alloc(), &mut view)?;
+    let (reads, _) = view.into_parts();
+    let wanted = [
+        (Seen::Cell(Cell::Object(0, 2)), Some(102), 0),
+        (Seen::Cell(Cell::Object(0, 3)), None, 0),
+    ];
+    assert_reads(&rt, &reads, &wanted);
+    Ok(())
+}
+
+fn assert_whole(rt: &impl Abort, alloc: Global, view: &mut View) -> Result<(), Fail> {
+    let Some(all) = view.objects(alloc, 0)? else {
+        panic!(rt; "no list of the class");
+    };
+    assert!(rt; view.has_objects(0, &all));
+    view.put(Cell::Object(0, 2), balance(alloc, 6)?)?;
+    assert!(rt; !view.has_objects(0, &all));
+    assert!(rt; view.objects(alloc, 0)?.is_none());
+    view.put(Cell::Object(0, 2), balance(alloc, 102)?)?;
+    assert!(rt; view.has_objects(0, &all));
+    view.cut(Cell::Object(0, 2))?;
+    assert!(rt; !view.has_objects(0, &all));
+    Ok(())
+}
+
+#[test]
+fn the_objects_of_a_class_are_compared_row_by_row(rt: HostRuntime) -> Result<(), Fail> {
+    let mut view = View::new(rt.alloc(), bank(rt.alloc())?)?;
+    assert_whole(&rt, rt.alloc(), &mut view)
+}
+
+// A layer that writes two cells and empties one.
+fn upper(alloc: Global) -> Result<Layer, AllocError> {
+    let mut layer = Layer::new(alloc);
+    layer.insert(Cell::Object(0, 1), Some(balance(alloc, 8)?))?;
+    layer.insert(Cell::Object(0, 2), Some(balance(alloc, 9)?))?;
+    layer.insert(Cell::Object(0, 10), None)?;
+    Ok(layer)
+}
+
+#[test]
+fn a_layer_taken_in_is_taken_back(rt: HostRuntime) -> Result<(), Fail> {
+    let alloc = rt.alloc();
+    let mut view = View::new(alloc, bank(alloc)?)?;
+    view.put(Cell::Object(0, 2), balance(alloc, 6)?)?;
+    let mark = view.enter();
+    view.take_in(&upper(alloc)?)?;
+    assert!(rt; view.has_keys(0, &[-3, 1, 2]));
+    assert_eq!(rt; shown(&view, 2), Some(9));
+    view.abort(mark)?;
+    assert!(rt; view.has_keys(0, &[-3, 2, 10]));
+    assert_eq!(rt; shown(&view, 2), Some(6));
+    Ok(())
+}
+
+// The calls of a view, by a number.
+fn call(alloc: Global, view: &mut View, number: u8) -> Result<(), AllocError> {
+    match number {
+        0 => view.read(Cell::Object(0, 2))?,
+        1 => drop(view.keys(alloc, 0)?),
+        2 => view.put(Cell::Object(0, 2), balance(alloc, 6)?)?,
+        3 => drop(view.freeze(alloc)?),
+        4 => view.cut(Cell::Object(0, 10))?,
+        5 => view.take_in(&upper(alloc)?)?,
+        6 => view.read_objects(alloc, 0)?,
+        _ => drop(view.get(Cell::Object(0, -3))?.is_some()),
+    }
+    Ok(())
+}
+
+fn all_shown(view: &View) -> [Option<i64>; 4] {
+    [
+        shown(view, -3),
+        shown(view, 2),
+        shown(view, 10),
+        shown(view, 11),
+    ]
+}
+
+// Run with each allocation refused in turn: the call tells it, and the cells are as before.
+#[test]
+fn a_refused_allocation_is_told(rt: HostRuntime) {
+    let alloc = rt.alloc();
+    let Ok(base) = bank(alloc) else {
+        return;
+    };
+    let Ok(mut view) = View::new(alloc, base) else {
+        return;
+    };
+    let mut refused = 0u8;
+    for number in 0..8u8 {
+        let before = all_shown(&view);
+        if call(alloc, &mut view, number).is_err() {
+            refused = refused.saturating_add(1);
+            assert!(rt; all_shown(&view) == before);
+        }
+    }
+    assert!(rt; refused < 2);
+}

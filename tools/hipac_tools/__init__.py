@@ -1,0 +1,1 @@
+"""The tools of `./hipac-tools`, for those who write scripts for hipac."""

@@ -1,0 +1,65 @@
+"""The words of `./hipac-tools`: each is a module of this package with a function `main`, loaded only for its word."""
+
+from __future__ import annotations
+
+import importlib
+import os
+import sys
+from dataclasses import dataclass
+
+from .near import nearest
+
+WRONG_WORDS = 3
+
+
+@dataclass(frozen=True)
+class Word:
+    """A word of the command line: the module that answers it, and what it does in one line."""
+
+    module: str
+    says: str
+
+
+WORDS = {
+    "check": Word("check", "says where and why a script is refused"),
+    "print": Word("printing", "writes a script as a person would read it aloud"),
+    "graph": Word("graph", "draws which rules can trigger which"),
+    "view": Word("view", "shows what a script's transactions did"),
+    "why": Word("why", "says why a rule fired, or didn't"),
+}
+
+
+def usage() -> str:
+    lines = ["usage: hipac-tools WORD ..", ""]
+    lines += [f"  {name:<6} {word.says}" for name, word in WORDS.items()]
+    return "\n".join([*lines, "", "`hipac-tools WORD --help` says more of one; docs/TOOLS.md shows each by example."])
+
+
+def main(arguments: list[str]) -> int:
+    if not arguments or arguments[0] in ("--help", "-h", "help"):
+        print(usage())
+        return 0
+    name = arguments[0]
+    if name not in WORDS:
+        meant = nearest(name, WORDS)
+        question = f": did you mean `{meant}`?" if meant else ""
+        print(f"hipac-tools: there is no word `{name}`{question}\n\n{usage()}", file=sys.stderr)
+        return WRONG_WORDS
+    module = importlib.import_module(f"{__package__}.{WORDS[name].module}")
+    return module.main(arguments[1:])
+
+
+def run() -> int:
+    """Runs `main`; a reader that wants no more of the output, as `head`, is no fault."""
+    sys.stdout.reconfigure(errors="backslashreplace")
+    try:
+        status = main(sys.argv[1:])
+        sys.stdout.flush()
+        return status
+    except BrokenPipeError:
+        os.dup2(os.open(os.devnull, os.O_WRONLY), sys.stdout.fileno())
+        return 0
+
+
+if __name__ == "__main__":
+    sys.exit(run())

@@ -1,0 +1,163 @@
+"""`check SCRIPT.json ..`: says whether the program accepts a script, and where it doesn't, says where and why.
+
+The program decides. The tool reads the script a second time, in the program's order of checks, to find the place and
+the words for what the program refused; where its own reading comes to another end, it tells what the program said and
+no more.
+"""
+
+from __future__ import annotations
+
+import sys
+from dataclasses import dataclass
+from typing import Optional
+
+from . import program
+from .checking.excerpt import excerpt
+from .checking.faults import Fault, Note, Refused
+from .checking.script import Script, read_script
+from .positions import Node, NotJson, find, line_and_column, parse
+
+USAGE = """usage: hipac-tools check SCRIPT.json ..
+
+Says of each script whether the program accepts it. Of a refused one it says where and why. `-` is standard input.
+The exit status is the program's: 0 accepted, 2 refused, 3 the words are wrong, 4 the program failed."""
+
+MOST_BYTES = 1_048_576
+ACCEPTED, REFUSED, WRONG_WORDS, FAILED = 0, 2, 3, 4
+
+MEANINGS = {
+    "S1": "the script is no JSON text",
+    "S2": "this value has the wrong shape",
+    "S3": "this number is no whole number of 64 bits with sign",
+    "S4": "this name is unknown or doubled",
+    "S5": "the script passes a limit",
+    "S6": "this version isn't known",
+}
+
+
+@dataclass(frozen=True)
+class Read:
+    """What the tool's own reading comes to: the text and its values as far as they can be read, and the first fault."""
+
+    text: str
+    root: Optional[Node]
+    script: Optional[Script]
+    fault: Optional[Fault]
+
+
+def main(arguments: list[str]) -> int:
+    if arguments in (["--help"], ["-h"]):
+        print(USAGE)
+        return ACCEPTED
+    if not arguments or any(argument.startswith("-") and argument != "-" for argument in arguments):
+        print(USAGE, file=sys.stderr)
+        return WRONG_WORDS
+    return max(check(argument) for argument in arguments)
+
+
+def check(name: str) -> int:
+    """Checks one script, and gives the program's status."""
+    try:
+        script = bytes_of(name)
+    except OSError as fault:
+        print(f"{name}: {fault.strerror}", file=sys.stderr)
+        return WRONG_WORDS
+    shown = "standard input" if name == "-" else name
+    ended = program.run(script, [])
+    if ended.status == ACCEPTED:
+        print("\n".join(accepted(shown, read(script))))
+    elif ended.status == REFUSED and ended.output.startswith("refused "):
+        print("\n".join(refused(shown, ended.output[len("refused "):].strip(), read(script))))
+    else:
+        print(f"{shown}: the program ended with status {ended.status}\n{ended.errors}", end="", file=sys.stderr)
+        return ended.status if ended.status in (WRONG_WORDS, FAILED) else FAILED
+    return ended.status
+
+
+def bytes_of(name: str) -> bytes:
+    if name == "-":
+        return sys.stdin.buffer.read()
+    with open(name, "rb") as file:
+        return file.read()
+
+
+# ---- the tool's own reading
+
+
+def read(script: bytes) -> Read:
+    """Reads a script in the order of checks: its size, then its JSON, then what it says."""
+    text = script.decode("utf-8", "replace")
+    if len(script) > MOST_BYTES:
+        message = f"the script has {len(script):,} bytes, and {MOST_BYTES:,} are the most"
+        return Read("", None, None, Fault("S5 size", 0, 0, message))
+    try:
+        text = script.decode("utf-8")
+        root = parse(text)
+    except UnicodeDecodeError as fault:
+        offset = len(script[:fault.start].decode("utf-8"))
+        hints = ("a script is saved as UTF-8",)
+        return Read(text, None, None, Fault("S1", offset, offset + 1, "the bytes here are no UTF-8", hints))
+    except NotJson as fault:
+        return Read(text, None, None, json_fault(fault))
+    try:
+        return Read(text, root, read_script(root), None)
+    except Refused as refusal:
+        return Read(text, root, None, refusal.fault)
+
+
+def json_fault(fault: NotJson) -> Fault:
+    notes = () if fault.opened is None else (Note("it begins here:", fault.opened, fault.opened + 1),)
+    return Fault("S1", fault.start, fault.end, fault.message, (fault.hint,) if fault.hint else (), notes)
+
+
+# ---- what is told
+
+
+def accepted(name: str, own: Read) -> list[str]:
+    """The line for an accepted script, and what can't be meant in it."""
+    if own.script is None:
+        return [f"{name}: accepted"]
+    script = own.script
+    counts = ", ".join((counted(script.rules, "rule", "rules"), counted(script.classes, "class", "classes"),
+                        counted(script.items, "item", "items")))
+    lines = [f"{name}: accepted ({counts})"]
+    for warned in sorted(script.warnings, key=lambda warned: warned.place.node.start):
+        node, hints = warned.place.node, (warned.hint,) if warned.hint else ()
+        lines += told(name, own.text, "warning", Fault("", node.start, node.end, warned.message, hints))
+    return lines
+
+
+def counted(number: int, one: str, more: str) -> str:
+    return f"{number} {one if number == 1 else more}"
+
+
+def refused(name: str, refusal: str, own: Read) -> list[str]:
+    """Where and why a script is refused. The tool's own fault is told only where it is the program's refusal."""
+    fault = own.fault if own.fault is not None and own.fault.refusal == refusal else general_fault(refusal, own)
+    return told(name, own.text, f"refused {refusal}", fault)
+
+
+def general_fault(refusal: str, own: Read) -> Fault:
+    """What can be said of a refusal from its line alone."""
+    code, _, path = refusal.partition(" ")
+    message = MEANINGS.get(code, "the script is refused")
+    if own.root is None or not path.startswith("/"):
+        return Fault(refusal, 0, 0, message)
+    found = find(own.root, path)
+    hint = () if found.exact else (f"the value at {path} isn't there; this is the nearest one round it",)
+    return Fault(refusal, found.node.start, found.node.end, message, hint)
+
+
+def told(name: str, text: str, head: str, fault: Fault) -> list[str]:
+    """A fault as compilers tell it: its place and meaning, the line with a mark, what helps, and other places."""
+    line, column = line_and_column(text, fault.start)
+    places = [line] + [line_and_column(text, note.start)[0] for note in fault.notes]
+    gutter = max(len(str(place)) for place in places) + 2
+    lines = [f"{name}:{line}:{column}: {head}: {fault.message}"]
+    if text:
+        lines += excerpt(text, fault.start, fault.end, gutter)
+    lines += [f"  {hint}" for hint in fault.hints]
+    for note in fault.notes:
+        lines.append(f"  {note.text}")
+        lines += excerpt(text, note.start, note.end, gutter)
+    return lines

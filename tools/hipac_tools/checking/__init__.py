@@ -1,0 +1,1 @@
+"""What `check` stands on: a reading of scripts, in the order of the program's checks, that says why and where."""

@@ -1,0 +1,82 @@
+"""What the parts of a script may name, and what is gathered on the way."""
+
+from __future__ import annotations
+
+from dataclasses import dataclass, field, replace
+from typing import Mapping, Optional
+
+from .faults import Note, Place
+
+
+@dataclass(frozen=True)
+class Class:
+    """A class, with the place of its name and the kind of each field."""
+
+    name: str
+    place: Place
+    kinds: Mapping[str, str]
+
+    def declared(self) -> tuple[Note, ...]:
+        return (self.place.note("the class is here:"),)
+
+
+@dataclass(frozen=True)
+class Row:
+    """A name that stands for a row of a class: a query, or a variable of `each` or `with`."""
+
+    name: str
+    class_read: Class
+    place: Place
+    is_query: bool
+
+
+@dataclass(frozen=True)
+class Warned:
+    """Something that the program accepts and that can't be meant; `hint` may be empty."""
+
+    place: Place
+    message: str
+    hint: str = ""
+
+
+@dataclass
+class Gathered:
+    """What the advice at the end rests on."""
+
+    warnings: list[Warned] = field(default_factory=list)
+    awaited: dict[str, Place] = field(default_factory=dict)
+    """The signals that rules wait for, each with its first place."""
+    signalled: set[str] = field(default_factory=set)
+    installed: set[str] = field(default_factory=set)
+
+    def warn(self, place: Place, message: str, hint: str = "") -> None:
+        self.warnings.append(Warned(place, message, hint))
+
+
+@dataclass(frozen=True)
+class Scope:
+    """The names that are known at a place of the script."""
+
+    classes: Mapping[str, Class]
+    rules: Mapping[str, Place]
+    gathered: Gathered
+    rows: Mapping[str, Row] = field(default_factory=dict)
+    not_yet: Mapping[str, str] = field(default_factory=dict)
+    """Rows that aren't known at the place although they may seem to be, each with the reason."""
+    has_occurrence: bool = True
+    """Whether something occurred: not in a body of the script."""
+
+    def with_row(self, row: Row) -> Scope:
+        return replace(self, rows={**self.rows, row.name: row})
+
+    def row_places(self) -> Mapping[str, Place]:
+        return {name: row.place for name, row in self.rows.items()}
+
+    def queries(self) -> list[str]:
+        return [name for name, row in self.rows.items() if row.is_query]
+
+    def elsewhere(self, name: str) -> Optional[str]:
+        """What another thing of this name is, where a row is expected."""
+        if name in self.not_yet:
+            return self.not_yet[name]
+        return f"`{name}` is a class, and the name of a row is expected here" if name in self.classes else None

@@ -1,0 +1,189 @@
+"""The reading of bodies and statements. At one value its form comes first, then its level, and then its parts."""
+
+from __future__ import annotations
+
+from dataclasses import replace
+from typing import Callable
+
+from .expressions import read_expression
+from .faults import Place
+from .forms import PAIR, RULE_OPERATIONS, STATEMENTS, listed
+from .parts import (
+    Limit, did_you_mean, first_word, form_at, is_number, known_name_at, list_at, name_at, names_there, new_name_at,
+    shape_at, short_list_at,
+)
+from .scope import Class, Row, Scope
+
+MOST_LEVELS = 16
+ARGUMENTS = Limit("a signal", 32, "arguments", "args")
+
+
+def read_body(place: Place, scope: Scope, level: int = 1, what: str = "a body") -> None:
+    """Reads the statements of a body, which are so deep, 1 for an outermost body."""
+    statements = list_at(place, what, "statements")
+    if first_word(place.node) in STATEMENTS.words:
+        raise statements[0].wrong_shape("a body is a list of statements, and this is a statement's word",
+                                        "put the statement into a list of its own: [[word, ..]]")
+    for statement in statements:
+        read_statement(statement, scope, level)
+
+
+def read_statement(place: Place, scope: Scope, level: int) -> None:
+    word, parts = form_at(place, STATEMENTS)
+    if word == "veto" and not scope.has_occurrence:
+        hint = 'a transaction\'s own body ends itself with ["abort"]'
+        raise place.wrong_shape('["veto"] stands only in a rule\'s action', hint)
+    if level > MOST_LEVELS:
+        message = f"statements nest at most {MOST_LEVELS} levels, and this is the first one at level {level}"
+        raise place.over_limit("nesting", message)
+    if word in RULE_OPERATIONS:
+        read_rule_operation(word, parts, scope)
+    elif word in READERS:
+        READERS[word](parts, scope, level)
+
+
+# ---- operations on objects
+
+
+def read_class(place: Place, scope: Scope) -> Class:
+    return scope.classes[known_name_at(place, "a class's name", "class", scope.classes)]
+
+
+def read_key(place: Place, scope: Scope) -> None:
+    read_expression(place, scope)
+    if isinstance(place.node.value, (bool, str)):
+        scope.gathered.warn(place, "a key is a whole number: this always ends with A3")
+
+
+def read_create(parts: list[Place], scope: Scope, level: int) -> None:
+    made = read_class(parts[0], scope)
+    read_key(parts[1], scope)
+    named = read_pairs(parts[2], made, scope)
+    missing = [field for field in made.kinds if field not in named]
+    if missing:
+        fields = listed([f"`{field}`" for field in missing], "and")
+        lacking = f"the field {fields} is missing" if len(missing) == 1 else f"the fields {fields} are missing"
+        message = f"`create` names each field of `{made.name}`, and {lacking}"
+        raise parts[2].bad_name(message, notes=made.declared())
+
+
+def read_update(parts: list[Place], scope: Scope, level: int) -> None:
+    changed = read_class(parts[0], scope)
+    read_key(parts[1], scope)
+    read_pairs(parts[2], changed, scope)
+
+
+def read_delete(parts: list[Place], scope: Scope, level: int) -> None:
+    read_class(parts[0], scope)
+    read_key(parts[1], scope)
+
+
+def read_pairs(place: Place, changed: Class, scope: Scope) -> dict[str, Place]:
+    """The fields that the pairs name, each once and one of the class's."""
+    named: dict[str, Place] = {}
+    for pair in list_at(place, "the pairs", "pairs [field, expression]"):
+        field_place, value_place = shape_at(pair, PAIR)
+        field = new_name_at(field_place, "a field's name", "a pair for the field", named)
+        if field not in changed.kinds:
+            message = f"the class `{changed.name}` has no field `{field}`"
+            raise field_place.bad_name(message, which_field(field, changed), notes=changed.declared())
+        read_expression(value_place, scope)
+        warn_of_kind(value_place, field, changed.kinds[field], scope)
+        named[field] = field_place
+    return named
+
+
+def which_field(field: str, changed: Class) -> str:
+    """What may be meant by a field that the class doesn't have."""
+    known = list(changed.kinds)
+    return did_you_mean(field, known) or (names_there("field", known) if known else "it has no fields")
+
+
+def warn_of_kind(place: Place, field: str, kind: str, scope: Scope) -> None:
+    """A value that is written out has a kind; where that isn't the field's, the statement can't succeed."""
+    value = place.node.value
+    if isinstance(value, list):
+        return
+    is_of = "int" if is_number(place.node) else "bool" if isinstance(value, bool) else "text"
+    if is_of != kind:
+        message = f"the field `{field}` is of kind {kind} and this is of kind {is_of}: it always ends with A3"
+        scope.gathered.warn(place, message)
+
+
+# ---- signals, values, rules
+
+
+def read_signal(parts: list[Place], scope: Scope, level: int) -> None:
+    scope.gathered.signalled.add(name_at(parts[0], "a signal's name"))
+    for argument in short_list_at(parts[1], "the arguments", "expressions", ARGUMENTS):
+        read_expression(argument, scope)
+
+
+def read_emit(parts: list[Place], scope: Scope, level: int) -> None:
+    read_expression(parts[0], scope)
+
+
+def read_rule_operation(word: str, parts: list[Place], scope: Scope) -> None:
+    rule = known_name_at(parts[0], "a rule's name", "rule", scope.rules)
+    if word == "install":
+        scope.gathered.installed.add(rule)
+
+
+# ---- statements that hold statements
+
+
+def read_if(parts: list[Place], scope: Scope, level: int) -> None:
+    read_expression(parts[0], scope)
+    read_body(parts[1], scope, level + 1)
+    read_body(parts[2], scope, level + 1)
+
+
+def new_row_at(place: Place, scope: Scope) -> str:
+    hint = "a variable's name is new among the rows that are known"
+    return new_name_at(place, "a variable's name", "a row", scope.row_places(), hint)
+
+
+def read_each(parts: list[Place], scope: Scope, level: int) -> None:
+    """The predicate and the body know the variable."""
+    name = new_row_at(parts[0], scope)
+    inner = scope.with_row(Row(name, read_class(parts[1], scope), parts[0], False))
+    read_expression(parts[2], inner)
+    read_body(parts[3], inner, level + 1)
+
+
+def read_with(parts: list[Place], scope: Scope, level: int) -> None:
+    """The body knows the variable, and the key doesn't."""
+    name = new_row_at(parts[0], scope)
+    row = Row(name, read_class(parts[1], scope), parts[0], False)
+    hint = "it names the row that this key finds, and is known after it"
+    read_expression(parts[2], replace(scope, not_yet={name: hint}))
+    read_body(parts[3], scope.with_row(row), level + 1)
+
+
+def read_for(parts: list[Place], scope: Scope, level: int) -> None:
+    """Goes over the answer of one of the rule's queries."""
+    name, queries = name_at(parts[0], "a query's name"), scope.queries()
+    if name not in queries:
+        in_action = f"this rule has no query `{name}`"
+        message = in_action if scope.has_occurrence else "a transaction's own body has no queries"
+        raise parts[0].bad_name(message, for_what_else(name, queries, scope))
+    read_body(parts[1], scope, level + 1)
+
+
+def for_what_else(name: str, queries: list[str], scope: Scope) -> str:
+    if name in scope.rows:
+        return f"`{name}` is a variable, which is one row; `for` goes over a query's answer"
+    if not scope.has_occurrence:
+        return '`for` stands in a rule\'s action; here ["each", name, class, predicate, body] finds rows'
+    return did_you_mean(name, queries) or (names_there("query", queries) if queries else "its condition has no queries")
+
+
+def read_sub(parts: list[Place], scope: Scope, level: int) -> None:
+    read_body(parts[0], scope, level + 1)
+    read_body(parts[1], scope, level + 1, "`otherwise`")
+
+
+READERS: dict[str, Callable[[list[Place], Scope, int], None]] = {
+    "create": read_create, "update": read_update, "delete": read_delete, "signal": read_signal, "emit": read_emit,
+    "if": read_if, "each": read_each, "for": read_for, "with": read_with, "sub": read_sub,
+}

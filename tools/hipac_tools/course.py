@@ -1,0 +1,517 @@
+"""Follows a script's course and notes why everything in it happens.
+
+A report says what happened; it doesn't say which query was empty, which signal triggered a rule, or which statement
+aborted a transaction. So the script is run here a second time, slowly and with notes. The program's report stays the
+judge: `agrees` compares it with the one that this course gives, and nothing of a course that disagrees is told.
+"""
+
+from __future__ import annotations
+
+import sys
+from dataclasses import dataclass
+from typing import Any, Callable, Dict, List, Optional, Tuple
+
+from . import events
+from .notes import Dropped, Note, Query, Signal, Stop, Watched
+from .report import (Act, COMMITTED, Emit, End, FinalObject, Fire, Holder, Operation, Report, Sub, Transaction, Unit)
+from .values import Environment, Fault, Occurrence, Primitive, Row, evaluate, is_int, kind_of, truth, value_text
+
+STEPS = 3_000_000
+RECURSION = 10_000
+STATUS_AFTER = {"install": "enabled", "enable": "enabled", "disable": "disabled", "remove": "absent"}
+
+
+class TooLong(Exception):
+    """The script does more than is followed here."""
+
+
+class Aborting(Exception):
+    """On its way to the innermost transaction round it, which it aborts."""
+
+    def __init__(self, stop: Stop):
+        super().__init__(stop.words)
+        self.stop = stop
+
+
+class Vetoing(Exception):
+    """On its way out of the action that vetoes."""
+
+    def __init__(self, stop: Stop):
+        super().__init__(stop.words)
+        self.stop = stop
+
+
+@dataclass
+class Rule:
+    number: int
+    name: str
+    event: List[Any]
+    ec: str
+    queries: List[List[Any]]
+    ca: str
+    action: List[Any]
+
+    def __post_init__(self) -> None:
+        self.pure = events.is_pure(self.event)
+
+
+@dataclass
+class Task:
+    """A condition to test, or (with answers) an action to run."""
+
+    rule: Rule
+    mode: str
+    depth: int
+    trigger: Signal
+    occurrence: Occurrence
+    answers: Optional[Dict[str, List[Row]]] = None
+    released: bool = False
+
+
+@dataclass(frozen=True)
+class Mark:
+    """How far things had come where a transaction began."""
+
+    journal: int
+    queued: int
+    detached: int
+
+
+class Course:
+    """The state of a script on its way: objects, rules, their pasts, and what is to be done later."""
+
+    def __init__(self, script: Dict[str, Any], watch: Optional[str] = None, steps: int = STEPS):
+        self.script = script
+        self.watch = watch
+        self.steps = steps
+        self.limit = script.get("depth", 8)
+        self.kinds = {name: dict(fields) for name, fields in script["classes"]}
+        self.rules = [Rule(number, *parts) for number, parts in enumerate(script["rules"])]
+        self.by_name = {rule.name: rule for rule in self.rules}
+        self.listeners = _listeners(self.rules)
+        self.objects: Dict[str, Dict[int, Dict[str, Any]]] = {name: {} for name in self.kinds}
+        self.status: Dict[str, str] = {rule.name: "absent" for rule in self.rules}
+        self.since: Dict[str, Optional[Operation]] = {rule.name: None for rule in self.rules}
+        self.pasts: Dict[str, Any] = {}
+        self.journal: List[Tuple[Dict[Any, Any], Any, Any]] = []
+        self.queued: List[Task] = []
+        self.detached: List[Task] = []
+        self.here: Any = None
+        self.top: Any = None
+
+    # Units
+
+    def report(self) -> Report:
+        """Runs all items; raises TooLong where that takes more steps than are followed."""
+        sys.setrecursionlimit(max(sys.getrecursionlimit(), RECURSION))
+        result = Report()
+        clock = 0
+        for number, item in enumerate(self.script["items"]):
+            path = f"/items/{number}/1"
+            if item[0] == "tx":
+                self._unit(result, None, lambda: self._body(item[1], path, Environment(), 0))
+                continue
+            for moment in events.due_moments([rule.event for rule in self.rules], clock, item[1]):
+                self._unit(result, moment, lambda: self._signal(Primitive("time", moment=moment), path, 0))
+            clock = item[1]
+        for name in self.kinds:
+            for key in sorted(self.objects[name]):
+                result.objects.append(FinalObject(name, key, _texts(self.objects[name][key])))
+        result.rules = [(rule.name, self.status[rule.name]) for rule in self.rules]
+        return result
+
+    def _unit(self, result: Report, moment: Optional[int], body: Callable[[], None]) -> None:
+        self.detached = []
+        unit = Unit(len(result.units) + 1, moment, [self._transaction(Transaction(COMMITTED), None, body, 0)])
+        result.units.append(unit)
+        while self.detached:
+            generation = [task for task in self.detached if task.mode != "exclusive" or task.released]
+            for task in self.detached:
+                if task.mode == "exclusive" and not task.released:
+                    self._drop(task, unit.transactions[0], "all the transactions round it committed")
+            later: List[Task] = []
+            for task in generation:
+                self.detached = []
+                head = Transaction(COMMITTED, task.rule.name, task.mode)
+                done = self._transaction(head, task.trigger, lambda: self._task(task), task.depth)
+                unit.transactions.append(done)
+                later.extend(self.detached)
+            self.detached = later
+        for transaction in unit.transactions:
+            transaction.note.unit = unit.number
+
+    def _transaction(self, node: Transaction, trigger: Optional[Signal], body: Callable[[], None],
+                     depth: int) -> Transaction:
+        node.note = Note(None, trigger=trigger)
+        self.here = self.top = node
+        self.queued = []
+        self.journal.clear()
+        mark = self._mark()
+        try:
+            body()
+            self._signal(Primitive("commit"), "", depth)
+            while self.queued:
+                tasks, self.queued = self.queued, []
+                self._group(tasks)
+        except Aborting as aborting:
+            self._abort(node, mark, aborting.stop)
+        node.emits = _lasting_emits(node) if node.end.committed else []
+        return node
+
+    # Nested transactions
+
+    def _mark(self) -> Mark:
+        return Mark(len(self.journal), len(self.queued), len(self.detached))
+
+    def _abort(self, node: Any, mark: Mark, stop: Stop) -> None:
+        """Undoes all since the mark. Of the detached tasks it releases the exclusive and drops the dependent ones."""
+        while len(self.journal) > mark.journal:
+            container, name, old = self.journal.pop()
+            if old is _NONE:
+                container.pop(name, None)
+            else:
+                container[name] = old
+        for task in self.queued[mark.queued:]:
+            self._drop(task, node, "the transaction that queued it aborted")
+        del self.queued[mark.queued:]
+        made = self.detached[mark.detached:]
+        del self.detached[mark.detached:]
+        for task in made:
+            if task.mode == "exclusive":
+                task.released = True
+            if task.mode == "dependent":
+                self._drop(task, node, "a transaction that it depends on aborted")
+            else:
+                self.detached.append(task)
+        node.note.stop = stop
+        if isinstance(node, Fire):
+            node.action = stop.end
+        else:
+            node.end = stop.end
+
+    def _drop(self, task: Task, by: Any, why: str) -> None:
+        step = "condition" if task.answers is None else "action"
+        self.top.note.dropped.append(Dropped(task.rule.name, task.mode, step, task.trigger, by, why))
+
+    def _put(self, container: Dict[Any, Any], name: Any, value: Any) -> None:
+        self.journal.append((container, name, container.get(name, _NONE)))
+        if value is _NONE:
+            container.pop(name, None)
+        else:
+            container[name] = value
+
+    def _add(self, node: Any, path: str, **known: Any) -> Any:
+        node.note = Note(self.here, path, **known)
+        self.here.items.append(node)
+        return node
+
+    # Statements
+
+    def _body(self, body: List[Any], path: str, environment: Environment, depth: int) -> None:
+        for number, statement in enumerate(body):
+            here = f"{path}/{number}"
+            self._count_step()
+            try:
+                self._statement(statement, here, environment, depth)
+            except Fault as fault:
+                raise Aborting(Stop(End(fault.cause), fault.words, here))
+
+    def _statement(self, statement: List[Any], path: str, environment: Environment, depth: int) -> None:
+        _STATEMENTS[statement[0]](self, statement, path, environment, depth)
+
+    def _create(self, statement: List[Any], path: str, environment: Environment, depth: int) -> None:
+        name = statement[1]
+        key, fields = self._evaluated(statement, environment)
+        if key in self.objects[name]:
+            raise Fault("A1", f"create {name} {key} met an object that is there already")
+        row = {field: fields[field] for field in self.kinds[name]}
+        self._put(self.objects[name], key, row)
+        node = self._add(Operation("create", name, key, _texts(row)), path)
+        self._signal(Primitive("create", name, key, new=row), path, depth, node)
+
+    def _update(self, statement: List[Any], path: str, environment: Environment, depth: int) -> None:
+        name = statement[1]
+        key, fields = self._evaluated(statement, environment)
+        old = self._row("update", name, key)
+        row = dict(old, **fields)
+        self._put(self.objects[name], key, row)
+        node = self._add(Operation("update", name, key, _texts(row)), path)
+        self._signal(Primitive("update", name, key, old=old, new=row), path, depth, node)
+
+    def _delete(self, statement: List[Any], path: str, environment: Environment, depth: int) -> None:
+        name = statement[1]
+        key = self._key("delete", name, statement[2], environment)
+        old = self._row("delete", name, key)
+        self._put(self.objects[name], key, _NONE)
+        node = self._add(Operation("delete", name, key), path)
+        self._signal(Primitive("delete", name, key, old=old), path, depth, node)
+
+    def _evaluated(self, statement: List[Any], environment: Environment) -> Tuple[int, Dict[str, Any]]:
+        """A create's or update's key and fields: all are evaluated, and only then kinds are looked at."""
+        word, name = statement[:2]
+        key = evaluate(statement[2], environment)
+        fields = {pair[0]: evaluate(pair[1], environment) for pair in statement[3]}
+        self._fit_key(word, name, key)
+        for field, value in fields.items():
+            kind = self.kinds[name][field]
+            if kind_of(value) != kind:
+                words = f"{word} {name} {key}: {field} is to be of kind {kind} and is {value_text(value)}"
+                raise Fault("A3", words)
+        return key, fields
+
+    def _key(self, word: str, name: str, expression: Any, environment: Environment) -> int:
+        key = evaluate(expression, environment)
+        self._fit_key(word, name, key)
+        return key
+
+    def _fit_key(self, word: str, name: str, key: Any) -> None:
+        if not is_int(key):
+            raise Fault("A3", f"{word} {name}: the key is {value_text(key)}, which is no whole number")
+
+    def _row(self, word: str, name: str, key: int) -> Dict[str, Any]:
+        row = self.objects[name].get(key)
+        if row is None:
+            raise Fault("A2", f"{word} {name} {key} met no such object")
+        return row
+
+    def _say(self, statement: List[Any], path: str, environment: Environment, depth: int) -> None:
+        arguments = tuple(evaluate(argument, environment) for argument in statement[2])
+        self._signal(Primitive("signal", statement[1], arguments=arguments), path, depth)
+
+    def _emit(self, statement: List[Any], path: str, environment: Environment, depth: int) -> None:
+        self._add(Emit(value_text(evaluate(statement[1], environment))), path)
+
+    def _if(self, statement: List[Any], path: str, environment: Environment, depth: int) -> None:
+        arm = 2 if truth(statement[1], environment, "the test of `if`") else 3
+        self._body(statement[arm], f"{path}/{arm}", environment, depth)
+
+    def _each(self, statement: List[Any], path: str, environment: Environment, depth: int) -> None:
+        _, name, of, predicate, body = statement
+        rows = [row for row in self._rows(of)
+                if self._true_of(predicate, environment.naming(name, row), "the predicate of `each`")]
+        for row in rows:
+            self._body(body, path + "/4", environment.naming(name, row), depth)
+
+    def _for(self, statement: List[Any], path: str, environment: Environment, depth: int) -> None:
+        for row in environment.answers[statement[1]]:
+            self._body(statement[2], path + "/2", environment.naming(statement[1], row), depth)
+
+    def _with(self, statement: List[Any], path: str, environment: Environment, depth: int) -> None:
+        _, name, of, expression, body = statement
+        key = self._key("with", of, expression, environment)
+        row = Row(of, key, self._row("with", of, key))
+        self._body(body, path + "/4", environment.naming(name, row), depth)
+
+    def _sub(self, statement: List[Any], path: str, environment: Environment, depth: int) -> None:
+        node, parent, mark = self._add(Sub(COMMITTED), path), self.here, self._mark()
+        self.here = node
+        try:
+            self._body(statement[1], path + "/1", environment, depth)
+        except Aborting as aborting:
+            self._abort(node, mark, aborting.stop)
+        except Vetoing as vetoing:
+            self._abort(node, mark, vetoing.stop)
+            raise
+        finally:
+            self.here = parent
+        if not node.end.committed:
+            self._body(statement[2], path + "/2", environment, depth)
+
+    def _give_up(self, statement: List[Any], path: str, environment: Environment, depth: int) -> None:
+        raise Fault("A8", "the statement `abort`")
+
+    def _veto(self, statement: List[Any], path: str, environment: Environment, depth: int) -> None:
+        action = next(node for node in self._round_here() if isinstance(node, (Fire, Act)))
+        raise Vetoing(Stop(End("A9", action.rule), "its statement `veto`", path))
+
+    def _round_here(self) -> List[Any]:
+        nodes = [self.here]
+        while nodes[-1].note.parent is not None:
+            nodes.append(nodes[-1].note.parent)
+        return nodes
+
+    # Rules as state
+
+    def _set_rule(self, statement: List[Any], path: str, environment: Environment, depth: int) -> None:
+        verb, name = statement
+        before = self.status[name]
+        if verb in ("enable", "disable") and before == "absent":
+            raise Fault("A2", f"{verb} {name} met a rule that is absent")
+        node = self._add(Operation(verb, name), path)
+        if STATUS_AFTER[verb] == before or (verb == "install" and before == "disabled"):
+            return
+        self._put(self.status, name, STATUS_AFTER[verb])
+        self._put(self.since, name, node)
+        self._put(self.pasts, name, events.fresh(self.by_name[name].event))
+
+    def _fire(self, statement: List[Any], path: str, environment: Environment, depth: int) -> None:
+        name = statement[1]
+        if self.status[name] == "absent":
+            raise Fault("A2", f"fire {name} met a rule that is absent")
+        if depth + 1 > self.limit:
+            raise Fault("A7", f"fire {name} would be a firing at depth {depth + 1}, and the limit is {self.limit}")
+        rule = self.by_name[name]
+        signal = Signal(None, self.here, path, depth, triggered=[name])
+        self.top.note.signals.append(signal)
+        self._spread([Task(rule, rule.ec, depth + 1, signal, Occurrence((), 0))])
+
+    # Signals and firings
+
+    def _signal(self, primitive: Primitive, path: str, depth: int, operation: Optional[Operation] = None) -> None:
+        signal = Signal(primitive, self.here, path, depth, operation)
+        self.top.note.signals.append(signal)
+        listening = self._listening(primitive)
+        if self.watch is not None:
+            signal.watched = self._watched(self.by_name[self.watch], primitive, listening)
+        tasks = []
+        for rule in listening:
+            if self.status[rule.name] != "enabled":
+                continue
+            state, occurrence = events.step(rule.event, self.pasts[rule.name], primitive)
+            if not rule.pure:
+                self._put(self.pasts, rule.name, state)
+            if occurrence is not None:
+                tasks.append(Task(rule, rule.ec, depth + 1, signal, occurrence))
+        signal.triggered = [task.rule.name for task in tasks]
+        if tasks and depth + 1 > self.limit:
+            names = " and ".join(signal.triggered)
+            words = f"{primitive} would trigger {names} at depth {depth + 1}, and the limit is {self.limit}"
+            raise Aborting(Stop(End("A7"), words, path))
+        self._spread(tasks)
+
+    def _watched(self, rule: Rule, primitive: Primitive, listening: List[Rule]) -> Watched:
+        watched = Watched(self.status[rule.name], self.since[rule.name], rule in listening)
+        if watched.mentions and watched.status == "enabled":
+            watched.lacking = events.lacking(rule.event, self.pasts[rule.name], primitive)
+        return watched
+
+    def _listening(self, primitive: Primitive) -> List[Rule]:
+        heard = self.listeners.get((primitive.kind, primitive.name), [])
+        if primitive.kind != "time":
+            return heard
+        return [rule for rule in heard
+                if any(events.matches(pattern, primitive) for pattern in events.patterns(rule.event))]
+
+    def _spread(self, tasks: List[Task]) -> None:
+        """Queues the deferred tasks, detaches the separate ones, then runs the immediate ones."""
+        for task in tasks:
+            self._set_aside(task)
+        self._group([task for task in tasks if task.mode == "immediate"])
+
+    def _set_aside(self, task: Task) -> None:
+        if task.mode == "deferred":
+            self.queued.append(task)
+        elif task.mode != "immediate":
+            self.detached.append(task)
+
+    def _group(self, tasks: List[Task]) -> None:
+        for place, task in enumerate(tasks):
+            try:
+                self._task(task)
+            except Aborting as aborting:
+                for younger in tasks[place + 1:]:
+                    self._drop(younger, aborting.stop.firing, "an elder sibling vetoed")
+                raise
+
+    def _task(self, task: Task) -> None:
+        """Runs one firing; where its action vetoes, the transaction round the firing aborts."""
+        self._count_step()
+        if task.answers is not None:
+            node = self._add(Act(task.rule.name, task.mode, COMMITTED), "", trigger=task.trigger,
+                             occurrence=task.occurrence)
+            self._action(node, task, task.answers)
+            return
+        node = self._add(Fire(task.rule.name, task.mode, "satisfied", "none"), "", trigger=task.trigger,
+                         occurrence=task.occurrence)
+        answers = self._condition(node, task)
+        if answers is None:
+            return
+        if task.rule.ca == "immediate":
+            node.action = COMMITTED
+            self._action(node, task, answers)
+        else:
+            node.action = "later"
+            self._set_aside(Task(task.rule, task.rule.ca, task.depth, task.trigger, task.occurrence, answers))
+
+    def _condition(self, node: Fire, task: Task) -> Optional[Dict[str, List[Row]]]:
+        environment = Environment(task.occurrence)
+        for name, of, predicate in task.rule.queries:
+            rows = self._rows(of)
+            query = Query(name, of, len(rows))
+            node.note.queries.append(query)
+            try:
+                answer = [row for row in rows
+                          if self._true_of(predicate, environment.naming(name, row), "the predicate")]
+            except Fault as fault:
+                node.condition, query.fault = "fault " + fault.cause, fault.words
+                return None
+            query.keys = [row.key for row in answer]
+            if not answer:
+                node.condition = "unsatisfied"
+                return None
+            environment.rows[name] = answer[0]
+            environment.answers[name] = answer
+        return environment.answers
+
+    def _action(self, node: Any, task: Task, answers: Dict[str, List[Row]]) -> None:
+        rows = {name: answer[0] for name, answer in answers.items()}
+        environment = Environment(task.occurrence, rows, answers)
+        parent, mark, self.here = self.here, self._mark(), node
+        try:
+            self._body(task.rule.action, f"/rules/{task.rule.number}/5", environment, task.depth)
+        except Aborting as aborting:
+            self._abort(node, mark, aborting.stop)
+        except Vetoing as vetoing:
+            self._abort(node, mark, vetoing.stop)
+            raise Aborting(Stop(vetoing.stop.end, f"vetoed by {task.rule.name}", vetoing.stop.path, node))
+        finally:
+            self.here = parent
+
+    def _rows(self, name: str) -> List[Row]:
+        objects = self.objects[name]
+        return [Row(name, key, objects[key]) for key in sorted(objects)]
+
+    def _true_of(self, predicate: Any, environment: Environment, what: str) -> bool:
+        self._count_step()
+        return truth(predicate, environment, what)
+
+    def _count_step(self) -> None:
+        self.steps -= 1
+        if self.steps < 0:
+            raise TooLong("the script does more than is followed here")
+
+
+_NONE = object()
+
+_STATEMENTS: Dict[str, Callable[..., None]] = {
+    "create": Course._create, "update": Course._update, "delete": Course._delete, "signal": Course._say,
+    "emit": Course._emit, "if": Course._if, "each": Course._each, "for": Course._for, "with": Course._with,
+    "sub": Course._sub, "abort": Course._give_up, "veto": Course._veto, "fire": Course._fire,
+    "install": Course._set_rule, "enable": Course._set_rule, "disable": Course._set_rule, "remove": Course._set_rule,
+}
+
+
+def _listeners(rules: List[Rule]) -> Dict[Tuple[str, str], List[Rule]]:
+    """The rules, in rule order, by the kinds of primitives that their events mention."""
+    found: Dict[Tuple[str, str], List[Rule]] = {}
+    for rule in rules:
+        for pattern in events.patterns(rule.event):
+            word = "time" if pattern[0] in ("at", "every") else pattern[0]
+            heard = found.setdefault((word, pattern[1] if word not in ("time", "commit") else ""), [])
+            if rule not in heard:
+                heard.append(rule)
+    return found
+
+
+def _texts(row: Dict[str, Any]) -> Tuple[Tuple[str, str], ...]:
+    return tuple((name, value_text(value)) for name, value in row.items())
+
+
+def _lasting_emits(node: Holder) -> List[str]:
+    values: List[str] = []
+    for item in node.items:
+        if isinstance(item, Emit):
+            values.append(item.value)
+        elif not isinstance(item, Operation) and item.end.committed:
+            values.extend(_lasting_emits(item))
+    return values

@@ -1,0 +1,110 @@
+"""What looks like an oversight in a script: rules that can't fire, events that don't happen, queries that go far."""
+from __future__ import annotations
+
+from typing import Iterator
+
+from . import rulebase as scripts
+from .influence import Deeds, Reach
+from .printing import event_text
+from .rulebase import Form, RuleBase
+
+FAILING = (("enable", "enabled"), ("disable", "disabled"), ("fire", "fired"))
+"""The rule operations that fail where the rule is absent."""
+
+
+def warnings(rulebase: RuleBase, sources: dict[str, Deeds], reach: Reach) -> list[str]:
+    """All warnings, in the order of rules and names."""
+    return _not_firing(rulebase, sources, reach) + _not_happening(rulebase, reach) + _not_heard(rulebase, sources)
+
+
+def _not_firing(rulebase: RuleBase, sources: dict[str, Deeds], reach: Reach) -> list[str]:
+    """The rules that can't fire, and why."""
+    found = []
+    for rule in rulebase.rules:
+        by_word: dict[str, list[str]] = {}
+        for source, deeds in sources.items():
+            for word, name in sorted(deeds.operations):
+                if name == rule.name:
+                    by_word.setdefault(word, []).append(source)
+        if "install" not in by_word:
+            found.append(f"rule {rule.name} is never installed, so it never fires")
+            found += [f"rule {rule.name} is {done} by {_listed(by_word[word])}, which ends with A2 as it is absent"
+                      for word, done in FAILING if word in by_word]
+        elif rule.name not in reach.installed:
+            found.append(f"rule {rule.name} never fires: it is installed only by rules that never fire, "
+                         f"{_listed(by_word['install'])}")
+        elif rule.name not in reach.firing:
+            found.append(f"rule {rule.name} never fires: it is installed, and its event never occurs")
+    return found
+
+
+def _not_happening(rulebase: RuleBase, reach: Reach) -> list[str]:
+    """The simple events that rules wait for and that nothing makes."""
+    waiting: dict[str, list[str]] = {}
+    for rule in rulebase.rules:
+        for pattern in {tuple(one): None for one in scripts.patterns(rule.event)}:
+            if pattern not in reach.events:
+                waiting.setdefault(event_text(list(pattern)), []).append(rule.name)
+    return [f"{event} never happens, and {_listed(names)} {'waits' if len(names) == 1 else 'wait'} for it"
+            for event, names in waiting.items()]
+
+
+def _not_heard(rulebase: RuleBase, sources: dict[str, Deeds]) -> list[str]:
+    """The signals that are in no rule's event."""
+    heard = {tuple(one) for rule in rulebase.rules for one in scripts.patterns(rule.event)}
+    raised: dict[str, list[str]] = {}
+    for source, deeds in sources.items():
+        for word, *names in sorted(deeds.events - heard):
+            if word == "signal":
+                raised.setdefault(names[0], []).append(source)
+    return [f"signal {name} is heard by no rule, and raised by {_listed(by)}" for name, by in raised.items()]
+
+
+def _listed(names: list[str]) -> str:
+    return names[0] if len(names) == 1 else f"{', '.join(names[:-1])} and {names[-1]}"
+
+
+def scans(rulebase: RuleBase) -> list[str]:
+    """The queries and the statements `each` that go over all objects of a class."""
+    return list(_scans(rulebase))
+
+
+def _scans(rulebase: RuleBase) -> Iterator[str]:
+    for rule in rulebase.rules:
+        for query in rule.queries:
+            if not asks_key(query.name, query.predicate):
+                yield f"rule {rule.name}, query {query.name}: all of {query.class_name}"
+        for found in _scanning_each(rule.action):
+            yield f"rule {rule.name}, {found}"
+    for item, unit, _ in scripts.numbered_items(rulebase):
+        if item[0] == "tx":
+            for found in _scanning_each(item[1]):
+                yield f"unit {unit}, {found}"
+
+
+def _scanning_each(body: list[Form]) -> Iterator[str]:
+    for statement in scripts.statements(body):
+        if statement[0] == "each" and not asks_key(statement[1], statement[3]):
+            yield f"for each {statement[1]}: all of {statement[2]}"
+
+
+def asks_key(name: str, predicate: Form) -> bool:
+    """Whether a predicate begins by asking for the key of its row, so that one object alone is looked at."""
+    if not isinstance(predicate, list):
+        return False
+    if predicate[0] == "and":
+        return asks_key(name, predicate[1])
+    if predicate[0] != "=":
+        return False
+    key = ["key", name]
+    other = predicate[2] if predicate[1] == key else predicate[1]
+    return key in predicate[1:] and not _names_row(other, name)
+
+
+def _names_row(expression: Form, name: str) -> bool:
+    """Whether an expression asks for the row itself, which isn't known before the object is found."""
+    if not isinstance(expression, list):
+        return False
+    if expression[0] in ("of", "key"):
+        return expression[1] == name
+    return any(_names_row(part, name) for part in expression[1:])

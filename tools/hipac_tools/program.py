@@ -1,0 +1,36 @@
+"""Runs the proved program. It alone decides whether a script is accepted; the tools say more about what it decided."""
+
+from __future__ import annotations
+
+import os
+import subprocess
+from dataclasses import dataclass
+from pathlib import Path
+
+REPOSITORY = Path(__file__).resolve().parents[2]
+
+CANNOT_RUN = 4
+"""The status where the program can't be started: that of the program's own faults."""
+
+
+@dataclass(frozen=True)
+class Ended:
+    """How a run of the program ended: its status, and what it wrote to standard output and standard error."""
+
+    status: int
+    output: str
+    errors: str
+
+
+def program_path() -> str:
+    """The program: $HIPAC where that is set, else `./hipac` at the repository's root."""
+    return os.environ.get("HIPAC") or str(REPOSITORY / "hipac")
+
+
+def run(script_bytes: bytes, words: list[str]) -> Ended:
+    """Runs the program with these words of the command line and the script on its standard input."""
+    try:
+        ended = subprocess.run([program_path(), *words], input=script_bytes, capture_output=True, check=False)
+    except OSError as fault:
+        return Ended(CANNOT_RUN, "", f"the program can't be run: {fault}\n")
+    return Ended(ended.returncode, ended.stdout.decode("utf-8", "replace"), ended.stderr.decode("utf-8", "replace"))

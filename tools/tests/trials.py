@@ -1,0 +1,44 @@
+"""What several tests use: the accepted scripts, and a word of the tool run in this process."""
+
+from __future__ import annotations
+
+import contextlib
+import io
+import json
+from concurrent.futures import ThreadPoolExecutor
+from pathlib import Path
+from typing import Callable
+
+from hipac_tools import program
+
+AT_ONCE = 4
+"""So many runs of the program go on at a time."""
+
+TESTS = Path(__file__).resolve().parent
+REPOSITORY = TESTS.parents[1]
+
+
+def accepted_scripts() -> dict[str, object]:
+    """Each accepted script by the name of its file: those of examples/ and those kept for the tests."""
+    files = sorted((REPOSITORY / "examples").glob("*.json")) + sorted((TESTS / "accepted").glob("*.json"))
+    return {file.name: json.loads(file.read_text(encoding="utf-8")) for file in files}
+
+
+def refusals(texts: list[str]) -> list[str]:
+    """What the program says of each script: its refusal, or nothing where it is accepted."""
+    def refusal(text: str) -> str:
+        ended = program.run(text.encode("utf-8"), [])
+        if ended.status not in (0, 2):
+            raise AssertionError(f"status {ended.status} {ended.errors} for {text}")
+        return ended.output.strip()[len("refused "):] if ended.status == 2 else ""
+
+    with ThreadPoolExecutor(AT_ONCE) as pool:
+        return list(pool.map(refusal, texts))
+
+
+def run_word(main: Callable[[list[str]], int], *arguments: str) -> tuple[int, str, str]:
+    """The status of a word, and what it wrote to standard output and standard error."""
+    output, errors = io.StringIO(), io.StringIO()
+    with contextlib.redirect_stdout(output), contextlib.redirect_stderr(errors):
+        status = main(list(arguments))
+    return status, output.getvalue(), errors.getvalue()

@@ -1,0 +1,187 @@
+#!/usr/bin/env python3
+"""Makes a program without proofs and with all checks at run time, and keeps it for tools/start.
+
+    tools/unproved.py NAME
+
+`rt try` makes such a program and runs it, but keeps no file. So it is given a row of empty inputs to run one after the other
+(`--cases`), and while it runs them its program gets a second name here. What is kept is a folder .built/NAME-unproved-KEY with the
+program and, a word a line, the toolchain's own loader, by which rt starts it. KEY is the checksum of the sources.
+"""
+
+import fcntl
+import os
+import re
+import shutil
+import signal
+import subprocess
+import sys
+import tempfile
+import time
+
+sys.dont_write_bytecode = True
+
+import running  # noqa: E402 (it leaves no file beside it)
+
+TOP = os.path.dirname(os.path.dirname(os.path.abspath(__file__)))
+BUILT = os.path.join(TOP, ".built")
+
+# So many empty inputs: each is one more chance to take the program, and the first does in all likelihood.
+CASES = 20
+
+# Seconds that a program may take to make, and then to run on an empty input.
+MAKE_LIMIT = 1800
+RUN_LIMIT = 60
+
+# So many programs of one name stay: of these sources, and of those that stood here before.
+KEPT = 2
+
+ADVICE = "./build makes the proved program instead, in longer time; `rt try`, in the folder of the crate, makes and runs an unproved one"
+
+
+class NotMade(Exception):
+    """Why no program was made."""
+
+
+def key_of(name):
+    """The checksum of the sources of a program."""
+    words = [os.path.join(TOP, "tools", "key"), TOP, name, "src"]
+    return subprocess.run(words, stdin=subprocess.DEVNULL, stdout=subprocess.PIPE, text=True, check=True).stdout.strip()
+
+
+def loader():
+    """The toolchain's own loader and C library, by which rt starts a program that it tries."""
+    said = subprocess.run(["rt", "doc"], stdin=subprocess.DEVNULL, stdout=subprocess.PIPE, text=True, check=True).stdout
+    library = os.path.join(os.path.dirname(said.strip()), "toolchain", "lib")
+    return [os.path.join(library, "ld-linux-x86-64.so.2"), "--inhibit-cache", "--library-path", library]
+
+
+def take(room, program):
+    """Gives the program that rt runs in this folder a second name, once a run has begun: then it is whole."""
+    for folder, _, names in os.walk(room):
+        if "program" in names and "stdout" in names:
+            try:
+                os.link(os.path.join(folder, "program"), program)
+                return True
+            except OSError:
+                # That run has ended meanwhile.
+                continue
+    return False
+
+
+def end_of_case(said):
+    """The status with which the first input's run ended, once rt has told it; another end is an error."""
+    with open(said, encoding="utf-8", errors="replace") as file:
+        text = file.read()
+    line = re.search(r"^case=.*\n", text, re.MULTILINE)
+    status = re.search(r" run=ended status=(\d+) ", line[0]) if line else None
+    if line and not status:
+        raise NotMade(f"the program doesn't run on an empty input:\n{text[-2000:]}")
+    return int(status[1]) if status else None
+
+
+def made_by_try(name, room, words=()):
+    """Makes a program by `rt try` with these words more, and gives its path, in this folder."""
+    program, cases, said = (os.path.join(room, it) for it in ("program", "cases", "said"))
+    os.mkdir(cases)
+    for number in range(CASES):
+        open(os.path.join(cases, f"empty-{number:02}"), "wb").close()
+    command = ["rt", "try", "--cases", cases, "--steps", "1", *words]
+    how = {"cwd": os.path.join(TOP, "crates", name), "env": {**os.environ, "TMPDIR": room}, "stderr": subprocess.STDOUT}
+    deadline, is_taken, status = time.monotonic() + MAKE_LIMIT, False, None
+    with open(said, "wb") as out:
+        trying = running.start(command, stdout=out, **how)
+        try:
+            while trying.poll() is None and time.monotonic() < deadline and not (is_taken and status is not None):
+                is_taken = is_taken or take(room, program)
+                status = end_of_case(said)
+                time.sleep(0.005)
+        finally:
+            running.stop(trying)
+    if not is_taken:
+        with open(said, encoding="utf-8", errors="replace") as file:
+            text = file.read()[-2000:].rstrip("\n")
+        raise NotMade(f"rt try ended with status {trying.returncode}, and left no program to take. It said:\n{text}\n{ADVICE}")
+    if status is None or runs(program) != status:
+        raise NotMade(f"the program that was taken from rt try doesn't run as it did there. {ADVICE}")
+    return program
+
+
+def runs(program):
+    """The status with which a program ends that is given nothing to read."""
+    how = {"stdin": subprocess.DEVNULL, "stdout": subprocess.DEVNULL, "stderr": subprocess.DEVNULL, "env": {}}
+    return subprocess.run([*loader(), program], timeout=RUN_LIMIT, check=False, **how).returncode
+
+
+def is_kept(folder):
+    """Whether a whole program lies in this folder, whose loader is still there."""
+    try:
+        with open(os.path.join(folder, "loader"), encoding="utf-8") as file:
+            return os.access(file.readline().rstrip("\n"), os.X_OK) and os.access(os.path.join(folder, "program"), os.X_OK)
+    except OSError:
+        return False
+
+
+def keep(name):
+    """Makes the program of the sources as they stand, and keeps it. A source that changes meanwhile has it made anew."""
+    while True:
+        key = key_of(name)
+        kept = os.path.join(BUILT, f"{name}-unproved-{key}")
+        if is_kept(kept):
+            return
+        room = tempfile.mkdtemp(prefix=f"making-{name}-", dir=BUILT)
+        try:
+            program = made_by_try(name, room)
+            made = os.path.join(room, "made")
+            os.mkdir(made)
+            os.rename(program, os.path.join(made, "program"))
+            os.chmod(os.path.join(made, "program"), 0o755)
+            with open(os.path.join(made, "loader"), "w", encoding="utf-8") as file:
+                file.write("\n".join(loader()) + "\n")
+            if key_of(name) == key:
+                shutil.rmtree(kept, ignore_errors=True)
+                os.rename(made, kept)
+        finally:
+            shutil.rmtree(room, ignore_errors=True)
+
+
+def clear(name):
+    """Removes what was left by launches that were killed, and the programs of sources that stood here long ago."""
+    old = []
+    for each in os.listdir(BUILT):
+        path = os.path.join(BUILT, each)
+        if each.startswith(f"making-{name}-"):
+            shutil.rmtree(path, ignore_errors=True)
+        elif re.fullmatch(re.escape(name) + "-unproved-[0-9a-f]{16}", each):
+            old.append((os.stat(path).st_mtime, path))
+    for _, path in sorted(old)[:-KEPT]:
+        shutil.rmtree(path, ignore_errors=True)
+
+
+def main(name):
+    signal.signal(signal.SIGTERM, lambda number, _: sys.exit(128 + number))
+    if is_kept(os.path.join(BUILT, f"{name}-unproved-{key_of(name)}")):
+        return
+    os.makedirs(BUILT, exist_ok=True)
+    with open(os.path.join(BUILT, f"{name}-unproved.lock"), "w", encoding="utf-8") as lock:
+        try:
+            fcntl.flock(lock, fcntl.LOCK_EX | fcntl.LOCK_NB)
+            print(f"{name}: making the program without proofs, with all checks at run time: about a minute", file=sys.stderr, flush=True)
+        except BlockingIOError:
+            print(f"{name}: another launch makes the program: waiting for it", file=sys.stderr, flush=True)
+            fcntl.flock(lock, fcntl.LOCK_EX)
+        clear(name)
+        keep(name)
+        clear(name)
+
+
+if __name__ == "__main__":
+    if len(sys.argv) != 2:
+        sys.exit(__doc__)
+    if not shutil.which("rt"):
+        sys.exit(f"{sys.argv[1]}: there is no rt on the path: the Rattle toolchain is needed to make the program")
+    try:
+        main(sys.argv[1])
+    except (NotMade, OSError, subprocess.SubprocessError) as error:
+        sys.exit(f"{sys.argv[1]}: no program was made: {error}")
+    except KeyboardInterrupt:
+        sys.exit(f"{sys.argv[1]}: interrupted")
