@@ -331,10 +331,9 @@ fn classes_and_fields_have_their_limits(rt: HostRuntime) -> Result<(), Fail> {
 
 fn asking(alloc: Global) -> Result<Rule, AllocError> {
     let mut asks = rule(alloc, "new", EventExpr::One(Pattern::Commit))?;
-    asks.condition.push(query(alloc, "a", "a")?)?;
-    asks.condition.push(query(alloc, "b", "a")?)?;
-    asks.condition.push(query(alloc, "c", "d")?)?;
-    asks.condition.push(query(alloc, "d", "d")?)?;
+    for (name, row) in [("a", "a"), ("b", "a"), ("c", "d"), ("d", "d")] {
+        asks.condition.push(query(alloc, name, row)?)?;
+    }
     Ok(asks)
 }
 

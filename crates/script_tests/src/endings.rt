@@ -2,10 +2,12 @@
 
 use crate::fixtures::library;
 use hp_report::{Status, final_state};
+use hp_rule::Library;
 use hp_store::{CellValue, Layer, Store};
 use hp_tree::{Ending, Item, Operation, TopReport, UnitReport};
 use hp_value::{Cause, Cell, Key, Row};
 use std::alloc::Global;
+use std::process::Abort;
 use std::sync::Arc;
 use std::test::Fail;
 
@@ -25,26 +27,48 @@ fn creates(alloc: Global, key: Key, end: Ending) -> Result<TopReport, Fail> {
     })
 }
 
-#[test]
-fn statuses_of_the_store_and_objects_of_what_committed(rt: HostRuntime) -> Result<(), Fail> {
-    let alloc = rt.alloc();
+// A store in which the first rule is disabled, the second absent, and the third enabled.
+fn store(alloc: Global) -> Result<Store, Fail> {
     let mut layer = Layer::new(alloc);
-    let disabled = CellValue::Status(hp_store::Status::Disabled);
-    let enabled = CellValue::Status(hp_store::Status::Enabled);
-    let _ = layer.insert(Cell::Rule(0), Some(disabled))?;
-    let _ = layer.insert(Cell::Rule(2), Some(enabled))?;
+    for (rule, status) in [
+        (0, hp_store::Status::Disabled),
+        (2, hp_store::Status::Enabled),
+    ] {
+        let _ = layer.insert(Cell::Rule(rule), Some(CellValue::Status(status)))?;
+    }
     let mut store = Store::empty(alloc)?;
     store.apply(alloc, Arc::new(alloc, layer)?)?;
+    Ok(store)
+}
+
+// A unit whose own transaction committed, and one after it aborted.
+fn units(alloc: Global) -> Result<Vec<UnitReport>, Fail> {
     let mut tops = Vec::new(alloc);
     tops.push(creates(alloc, 7, Ending::Committed)?)?;
     tops.push(creates(alloc, 8, Ending::Aborted(Cause::Asked))?)?;
-    let mut units = Vec::new(alloc);
-    units.push(UnitReport { moment: None, tops })?;
-    let library = library(alloc, Vec::new(alloc), &["first", "second", "third"])?;
-    let (objects, statuses) = final_state(alloc, &library, &store, &units)?;
+    Ok(vec![in alloc; UnitReport { moment: None, tops }]?)
+}
+
+fn check_final(
+    rt: &impl Abort,
+    alloc: Global,
+    library: &Library,
+    store: &Store,
+    units: &[UnitReport],
+) -> Result<(), Fail> {
+    let (objects, statuses) = final_state(alloc, library, store, units)?;
     assert_eq!(rt; objects.len(), 1);
     assert!(rt; objects.get(0, 7).is_some());
     let wanted = [Status::Disabled, Status::Absent, Status::Enabled];
     assert_eq!(rt; statuses.as_slice(), wanted.as_slice());
     Ok(())
+}
+
+#[test]
+fn statuses_of_the_store_and_objects_of_what_committed(rt: HostRuntime) -> Result<(), Fail> {
+    let alloc = rt.alloc();
+    let library = library(alloc, Vec::new(alloc), &["first", "second", "third"])?;
+    let store = store(alloc)?;
+    let units = units(alloc)?;
+    check_final(&rt, alloc, &library, &store, &units)
 }

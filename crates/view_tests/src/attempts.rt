@@ -2,8 +2,7 @@
 //!
 //! A function that owns views or attempts has few `?`, and hands them on by reference: with many its proof takes minutes.
 
-use crate::fixtures;
-use crate::fixtures::{balance, shown};
+use crate::fixtures::{balance, bank, shown};
 use hp_attempt::{Attempt, Outcome, Settled, first_failed, holds, settle, settle_front};
 use hp_rule::{Step, Task};
 use hp_value::{Cell, Coupling, Key, Occurrence, RuleNo};
@@ -13,10 +12,6 @@ use std::collections::VecDeque;
 use std::process::Abort;
 use std::sync::Arc;
 use std::test::Fail;
-
-fn bank(alloc: Global) -> Result<View, AllocError> {
-    View::new(alloc, fixtures::bank(alloc)?)
-}
 
 fn set(alloc: Global, view: &mut View, key: Key, value: i64) -> Result<(), AllocError> {
     view.put(Cell::Object(0, key), balance(alloc, value)?)
@@ -171,25 +166,23 @@ fn take_in(rt: &impl Abort, alloc: Global, view: &mut View) -> Result<(), Fail> 
     Ok(())
 }
 
-fn changed_bank(alloc: Global) -> Result<View, AllocError> {
-    let mut view = bank(alloc)?;
-    set(alloc, &mut view, 2, 1)?;
-    Ok(view)
+// What the attempt read is read: it fails where that has changed.
+fn assert_read(rt: &impl Abort, alloc: Global, reads: &Reads) -> Result<(), Fail> {
+    let mut changed = bank(alloc)?;
+    set(alloc, &mut changed, 2, 1)?;
+    let failed = first_failed(reads, &changed);
+    assert!(rt; matches!(failed, Some(Seen::Cell(Cell::Object(0, 2)))));
+    assert_eq!(rt; reads.len(), 1);
+    Ok(())
 }
 
 #[test]
 fn an_attempt_that_holds_is_taken_in(rt: HostRuntime) -> Result<(), Fail> {
     let mut view = bank(rt.alloc())?;
     take_in(&rt, rt.alloc(), &mut view)?;
-    let other = changed_bank(rt.alloc())?;
-
-    // What it read is read.
     let (reads, layer) = view.into_parts();
-    assert_eq!(rt; reads.len(), 1);
     assert_eq!(rt; layer.len(), 1);
-    let failed = first_failed(&reads, &other);
-    assert!(rt; matches!(failed, Some(Seen::Cell(Cell::Object(0, 2)))));
-    Ok(())
+    assert_read(&rt, rt.alloc(), &reads)
 }
 
 fn try_for_others(rt: &impl Abort, alloc: Global, view: &mut View) -> Result<(), Fail> {

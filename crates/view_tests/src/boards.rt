@@ -1,8 +1,11 @@
-ghost use Rattle.std.specs.Prelude.{IfOk};
+//! A board drawn from and posted on by hand and by threads, and a group stepped to its end.
+
+ghost use Rattle.std.specs.Prelude.{◌<◌, IfOk, length};
 ghost use Rattle.hp_board.specs.Deal.{IsSeatOf};
 
 use hp_board::{Board, Event, Group, Posted, Seat, meet};
 use std::alloc::{AllocError, Global};
+use std::process::Abort;
 use std::sync::Arc;
 use std::test::Fail;
 use std::thread;
@@ -35,6 +38,19 @@ fn drain(
     Ok((numbers, seat))
 }
 
+type Drained = Result<(Vec<usize>, Seat), AllocError>;
+
+// The numbers of all parts, in order.
+fn in_order(alloc: Global, parts: Vec<Drained>) -> Result<Vec<usize>, AllocError> {
+    let mut seen = Vec::with_capacity(alloc, 1000)?;
+    for part in parts {
+        let (mut numbers, _seat) = part?;
+        seen.append(&mut numbers)?;
+    }
+    seen.sort()?;
+    Ok(seen)
+}
+
 // Eight threads draw from a board of 1,000: the numbers are 0 to 999, each once.
 #[test]
 fn numbers_once(rt: HostRuntime) -> Result<(), Fail> {
@@ -44,16 +60,11 @@ fn numbers_once(rt: HostRuntime) -> Result<(), Fail> {
     let drawn = thread::map_vec(
         &rt,
         seats,
-        &|seat| -> Result<(Vec<usize>, Seat), AllocError>
+        &|seat| -> Drained
             requires { IsSeatOf shared.now.deal seat }
         { drain(shared, alloc, 1000, seat) },
     )?;
-    let mut seen = Vec::with_capacity(alloc, 1000)?;
-    for part in drawn {
-        let (mut numbers, _seat) = part?;
-        seen.append(&mut numbers)?;
-    }
-    seen.sort()?;
+    let seen = in_order(alloc, drawn)?;
     assert_eq!(rt; seen.len(), 1000);
     for (next, number) in seen.iter().enumerate() {
         assert_eq!(rt; *number, next);
@@ -78,10 +89,9 @@ fn a_board_of_none(rt: HostRuntime) -> Result<(), Fail> {
 }
 
 // One pass posts, and another, which knew nothing, finds it.
-#[test]
-fn a_posted_layer_is_found(rt: HostRuntime) -> Result<(), Fail> {
-    let alloc = rt.alloc();
-    let (board, _seats) = Board::<Layer>::new(alloc, 2, 1)?;
+fn post_and_look(rt: &impl Abort, alloc: Global, board: &Board<Layer>) -> Result<(), Fail>
+    requires { 1 < length board.now.cells }
+{
     let poster = board.pass(alloc)?;
     let looker = board.pass(alloc)?;
     let (found, looker) = board.look(0, looker);
@@ -97,11 +107,16 @@ fn a_posted_layer_is_found(rt: HostRuntime) -> Result<(), Fail> {
     Ok(())
 }
 
-// A second post gives both arguments back, and the cell keeps what it has.
 #[test]
-fn a_set_cell_gives_both_back(rt: HostRuntime) -> Result<(), Fail> {
-    let alloc = rt.alloc();
-    let (board, _seats) = Board::<Layer>::new(alloc, 1, 1)?;
+fn a_posted_layer_is_found(rt: HostRuntime) -> Result<(), Fail> {
+    let (board, _seats) = Board::<Layer>::new(rt.alloc(), 2, 1)?;
+    post_and_look(&rt, rt.alloc(), &board)
+}
+
+// A second post gives both arguments back, and the cell keeps what it has.
+fn post_twice(rt: &impl Abort, alloc: Global, board: &Board<Layer>) -> Result<(), Fail>
+    requires { 0 < length board.now.cells }
+{
     let pass = board.pass(alloc)?;
     let Ok(pass) = board.post(0, posted(alloc, 7)?, pass) else {
         return Err(Fail::from("the cell was set"));
@@ -115,6 +130,12 @@ fn a_set_cell_gives_both_back(rt: HostRuntime) -> Result<(), Fail> {
             Ok(())
         }
     }
+}
+
+#[test]
+fn a_set_cell_gives_both_back(rt: HostRuntime) -> Result<(), Fail> {
+    let (board, _seats) = Board::<Layer>::new(rt.alloc(), 1, 1)?;
+    post_twice(&rt, rt.alloc(), &board)
 }
 
 // A group of one task, drawn, looked at, posted and accepted.

@@ -32,9 +32,13 @@ fn accounts(alloc: Global) -> Result<Arc<Layer>, AllocError> {
     Ok(Arc::new(alloc, layer)?)
 }
 
-pub fn bank(alloc: Global) -> Result<Snapshot, AllocError> {
+fn snapshot(alloc: Global) -> Result<Snapshot, AllocError> {
     let accounts = accounts(alloc)?;
     Snapshot::empty(alloc)?.with_layer(alloc, accounts)
+}
+
+pub fn bank(alloc: Global) -> Result<View, AllocError> {
+    View::new(alloc, snapshot(alloc)?)
 }
 
 // The balance in a cell, if it has one.

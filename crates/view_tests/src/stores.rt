@@ -83,14 +83,25 @@ fn lists(alloc: Global, snapshot: &Snapshot, keys: &[Key]) -> Result<bool, Alloc
     Ok(objects.is_some_and(|objects| objects.keys() == keys))
 }
 
+/// Whether it does so with a layer over it.
+fn lists_under(
+    alloc: Global,
+    snapshot: &Snapshot,
+    layer: Arc<Layer>,
+    keys: &[Key],
+) -> Result<bool, AllocError> {
+    let next = snapshot.with_layer(alloc, layer)?;
+    lists(alloc, &next, keys)
+}
+
 fn keep_a_list(rt: &impl Abort, alloc: Global, snapshot: &mut Snapshot) -> Result<(), Fail> {
     assert!(rt; lists(alloc, snapshot, &[-2, 3, 5])?);
     snapshot.keep_objects(alloc, CLASS)?;
     assert!(rt; lists(alloc, snapshot, &[-2, 3, 5])?);
-    let other = snapshot.with_layer(alloc, status_layer(alloc, Status::Enabled)?)?;
-    assert!(rt; lists(alloc, &other, &[-2, 3, 5])?);
-    let changed = snapshot.with_layer(alloc, layer(alloc, &[4], &[3])?)?;
-    assert!(rt; lists(alloc, &changed, &[-2, 4, 5])?);
+    let other = status_layer(alloc, Status::Enabled)?;
+    assert!(rt; lists_under(alloc, snapshot, other, &[-2, 3, 5])?);
+    let changed = layer(alloc, &[4], &[3])?;
+    assert!(rt; lists_under(alloc, snapshot, changed, &[-2, 4, 5])?);
     Ok(())
 }
 

@@ -52,28 +52,29 @@ fn assert_all_reads(rt: &impl Abort, reads: &Reads) {
     assert_reads(rt, reads, &wanted);
 }
 
-#[test]
-fn an_abort_takes_back_three_writes_and_no_read(rt: HostRuntime) -> Result<(), Fail> {
-    let alloc = rt.alloc();
-    let mut view = View::new(alloc, bank(alloc)?)?;
+fn write_and_abort(rt: &impl Abort, alloc: Global, view: &mut View) -> Result<(), AllocError> {
     let mark = view.enter();
-    three_writes(alloc, &mut view)?;
-    all_reads(alloc, &mut view)?;
+    three_writes(alloc, view)?;
+    all_reads(alloc, view)?;
     assert!(rt; view.has_keys(0, &[-3, 1, 2]));
     view.abort(mark)?;
     assert!(rt; view.has_keys(0, &[-3, 2, 10]));
-    assert_eq!(rt; shown(&view, 2), Some(102));
+    assert_eq!(rt; shown(view, 2), Some(102));
+    Ok(())
+}
+
+#[test]
+fn an_abort_takes_back_three_writes_and_no_read(rt: HostRuntime) -> Result<(), Fail> {
+    let mut view = bank(rt.alloc())?;
+    write_and_abort(&rt, rt.alloc(), &mut view)?;
     let (reads, layer) = view.into_parts();
     assert_all_reads(&rt, &reads);
     assert!(rt; !reads.is_empty() && layer.is_empty());
     Ok(())
 }
 
-#[test]
-fn what_is_got_is_what_the_view_wrote_or_the_snapshot_holds(rt: HostRuntime) -> Result<(), Fail> {
-    let alloc = rt.alloc();
-    let mut view = View::new(alloc, bank(alloc)?)?;
-    three_writes(alloc, &mut view)?;
+fn write_and_get(rt: &impl Abort, alloc: Global, view: &mut View) -> Result<(), AllocError> {
+    three_writes(alloc, view)?;
     for (key, wanted) in [
         (-3, Some(97)),
         (1, Some(7)),
@@ -87,16 +88,27 @@ fn what_is_got_is_what_the_view_wrote_or_the_snapshot_holds(rt: HostRuntime) -> 
 }
 
 #[test]
-fn a_commit_keeps_what_was_written(rt: HostRuntime) -> Result<(), Fail> {
-    let alloc = rt.alloc();
-    let mut view = View::new(alloc, bank(alloc)?)?;
+fn what_is_got_is_what_the_view_wrote_or_the_snapshot_holds(rt: HostRuntime) -> Result<(), Fail> {
+    let mut view = bank(rt.alloc())?;
+    write_and_get(&rt, rt.alloc(), &mut view)?;
+    Ok(())
+}
+
+fn commit_and_abort(rt: &impl Abort, alloc: Global, view: &mut View) -> Result<(), AllocError> {
     let outer = view.enter();
     let inner = view.enter();
     view.put(Cell::Object(0, 2), balance(alloc, 6)?)?;
     view.commit(inner);
-    assert_eq!(rt; shown(&view, 2), Some(6));
+    assert_eq!(rt; shown(view, 2), Some(6));
     view.abort(outer)?;
-    assert_eq!(rt; shown(&view, 2), Some(102));
+    assert_eq!(rt; shown(view, 2), Some(102));
+    Ok(())
+}
+
+#[test]
+fn a_commit_keeps_what_was_written(rt: HostRuntime) -> Result<(), Fail> {
+    let mut view = bank(rt.alloc())?;
+    commit_and_abort(&rt, rt.alloc(), &mut view)?;
     Ok(())
 }
 
@@ -109,18 +121,21 @@ fn frozen_after_each_write(alloc: Global, view: &mut View) -> Result<Vec<Snapsho
     Ok(frozen)
 }
 
-#[test]
-fn frozen_twenty_times_with_a_write_before_each(rt: HostRuntime) -> Result<(), Fail> {
-    let alloc = rt.alloc();
-    let mut view = View::new(alloc, bank(alloc)?)?;
-    let frozen = frozen_after_each_write(alloc, &mut view)?;
+fn assert_frozen(rt: &impl Abort, alloc: Global, frozen: &[Snapshot]) -> Result<(), AllocError> {
     for (i, snapshot) in frozen.iter().enumerate() {
-        let keys = snapshot.keys(alloc, 0)?;
-        assert_eq!(rt; keys.len(), i.saturating_add(4));
+        assert_eq!(rt; snapshot.keys(alloc, 0)?.len(), i.saturating_add(4));
         assert!(rt; snapshot.layers() <= 8);
         assert_eq!(rt; balance_in(snapshot.get(Cell::Object(0, 20))), Some(20));
     }
-    assert_eq!(rt; view.keys(alloc, 0)?.len(), 23);
+    Ok(())
+}
+
+#[test]
+fn frozen_twenty_times_with_a_write_before_each(rt: HostRuntime) -> Result<(), Fail> {
+    let mut view = bank(rt.alloc())?;
+    let frozen = frozen_after_each_write(rt.alloc(), &mut view)?;
+    assert_frozen(&rt, rt.alloc(), &frozen)?;
+    assert_eq!(rt; view.keys(rt.alloc(), 0)?.len(), 23);
     Ok(())
 }
 
@@ -141,15 +156,28 @@ fn assert_rows(rt: &impl Abort, rows: &[KeyedRow], wanted: &[(Key, i64)]) {
     }
 }
 
+// The rows of all objects, whose balances are these.
+fn assert_all(
+    rt: &impl Abort,
+    alloc: Global,
+    view: &mut View,
+    wanted: &[(Key, i64)],
+) -> Result<(), Fail> {
+    let rows = answer(alloc, &all_rows(alloc)?, &Env::new(None, &[]), view)?;
+    assert_rows(rt, &rows, wanted);
+    Ok(())
+}
+
+fn write(alloc: Global, view: &mut View, cell: Cell) -> Result<(), AllocError> {
+    view.put(cell, balance(alloc, 6)?)
+}
+
+// The row that the view wrote is no read.
 #[test]
 fn a_query_over_a_view(rt: HostRuntime) -> Result<(), Fail> {
-    let alloc = rt.alloc();
-    let mut view = View::new(alloc, bank(alloc)?)?;
-    view.put(Cell::Object(0, 2), balance(alloc, 6)?)?;
-    let rows = answer(alloc, &all_rows(alloc)?, &Env::new(None, &[]), &mut view)?;
-    assert_rows(&rt, &rows, &[(-3, 97), (2, 6), (10, 110)]);
-
-    // The row that the view wrote is no read.
+    let mut view = bank(rt.alloc())?;
+    write(rt.alloc(), &mut view, Cell::Object(0, 2))?;
+    assert_all(&rt, rt.alloc(), &mut view, &[(-3, 97), (2, 6), (10, 110)])?;
     let (reads, _) = view.into_parts();
     let wanted = [
         (Seen::Keys(0), None, 3),
@@ -160,20 +188,18 @@ fn a_query_over_a_view(rt: HostRuntime) -> Result<(), Fail> {
     Ok(())
 }
 
-fn assert_all(rt: &impl Abort, alloc: Global, view: &mut View) -> Result<(), Fail> {
-    let rows = answer(alloc, &all_rows(alloc)?, &Env::new(None, &[]), view)?;
-    assert_rows(rt, &rows, &[(-3, 97), (2, 102), (10, 110)]);
-    Ok(())
+fn ask_twice(rt: &impl Abort, alloc: Global, view: &mut View) -> Result<(), Fail> {
+    let all = [(-3, 97), (2, 102), (10, 110)];
+    assert_all(rt, alloc, view, &all)?;
+    write(alloc, view, Cell::Object(1, 2))?;
+    assert_all(rt, alloc, view, &all)
 }
 
 // It is asked for twice, and what the view writes between is of another class.
 #[test]
 fn a_class_is_read_as_a_whole(rt: HostRuntime) -> Result<(), Fail> {
-    let alloc = rt.alloc();
-    let mut view = View::new(alloc, bank(alloc)?)?;
-    assert_all(&rt, alloc, &mut view)?;
-    view.put(Cell::Object(1, 2), balance(alloc, 6)?)?;
-    assert_all(&rt, alloc, &mut view)?;
+    let mut view = bank(rt.alloc())?;
+    ask_twice(&rt, rt.alloc(), &mut view)?;
     let (reads, _) = view.into_parts();
     assert_reads(&rt, &reads, &[(Seen::Keys(0), None, 3)]);
     Ok(())
@@ -202,7 +228,7 @@ fn look_at_two_keys(rt: &impl Abort, alloc: Global, view: &mut View) -> Result<(
 
 #[test]
 fn a_query_for_one_key_reads_one_cell(rt: HostRuntime) -> Result<(), Fail> {
-    let mut view = View::new(rt.alloc(), bank(rt.alloc())?)?;
+    let mut view = bank(rt.alloc())?;
     look_at_two_keys(&rt, rt.alloc(), &mut view)?;
     let (reads, _) = view.into_parts();
     let wanted = [
@@ -230,7 +256,7 @@ fn assert_whole(rt: &impl Abort, alloc: Global, view: &mut View) -> Result<(), F
 
 #[test]
 fn the_objects_of_a_class_are_compared_row_by_row(rt: HostRuntime) -> Result<(), Fail> {
-    let mut view = View::new(rt.alloc(), bank(rt.alloc())?)?;
+    let mut view = bank(rt.alloc())?;
     assert_whole(&rt, rt.alloc(), &mut view)
 }
 
@@ -243,18 +269,23 @@ fn upper(alloc: Global) -> Result<Layer, AllocError> {
     Ok(layer)
 }
 
-#[test]
-fn a_layer_taken_in_is_taken_back(rt: HostRuntime) -> Result<(), Fail> {
-    let alloc = rt.alloc();
-    let mut view = View::new(alloc, bank(alloc)?)?;
-    view.put(Cell::Object(0, 2), balance(alloc, 6)?)?;
+fn take_in_and_abort(rt: &impl Abort, view: &mut View, upper: &Layer) -> Result<(), AllocError> {
     let mark = view.enter();
-    view.take_in(&upper(alloc)?)?;
+    view.take_in(upper)?;
     assert!(rt; view.has_keys(0, &[-3, 1, 2]));
-    assert_eq!(rt; shown(&view, 2), Some(9));
+    assert_eq!(rt; shown(view, 2), Some(9));
     view.abort(mark)?;
     assert!(rt; view.has_keys(0, &[-3, 2, 10]));
-    assert_eq!(rt; shown(&view, 2), Some(6));
+    assert_eq!(rt; shown(view, 2), Some(6));
+    Ok(())
+}
+
+#[test]
+fn a_layer_taken_in_is_taken_back(rt: HostRuntime) -> Result<(), Fail> {
+    let mut view = bank(rt.alloc())?;
+    write(rt.alloc(), &mut view, Cell::Object(0, 2))?;
+    let upper = upper(rt.alloc())?;
+    take_in_and_abort(&rt, &mut view, &upper)?;
     Ok(())
 }
 
@@ -286,10 +317,7 @@ fn all_shown(view: &View) -> [Option<i64>; 4] {
 #[test]
 fn a_refused_allocation_is_told(rt: HostRuntime) {
     let alloc = rt.alloc();
-    let Ok(base) = bank(alloc) else {
-        return;
-    };
-    let Ok(mut view) = View::new(alloc, base) else {
+    let Ok(mut view) = bank(alloc) else {
         return;
     };
     let mut refused = 0u8;
