@@ -6,20 +6,20 @@ use Rattle.hp_model.specs.Rules.{Library}
 use Rattle.hp_model.specs.Tree.{Task}
 use Rattle.hp_view.specs.Seeing.{Seeing}
 use Rattle.hp_attempt.specs.Fronts.{AreSound}
-use Rattle.hp_fire.specs.declared.progress.Progress.{Progress}
+use Rattle.hp_fire.specs.declared.speculate.progress.Progress.{Progress}
 use Rattle.hp_fire.specs.Groups.{IsSoFar, IsRetried, IsAhead, Comes}
 
 -- attempts alone change
-ahead_put : (p q : Progress) → q ≡ record p { attempts = q.attempts } → IsAhead p q
+ahead_put : (p q : Progress) → q ≡ record p { pending = q.pending } → IsAhead p q
 ahead_put p q e =
-    let same : length q.outcomes.items ≡ length p.outcomes.items = ap (λ (x : Progress). length x.outcomes.items) e in
-    let accepted : q.accepted ≡ p.accepted = ap (λ (x : Progress). x.accepted) e in record {
+    let same : length q.settled.outcomes.items ≡ length p.settled.outcomes.items = ap (λ (x : Progress). length x.settled.outcomes.items) e in
+    let accepted : q.counts.accepted ≡ p.counts.accepted = ap (λ (x : Progress). x.counts.accepted) e in record {
       longer = omega (arith, same);
-      waves = ap (λ (x : Progress). x.waves) e;
-      retried = ap (λ (x : Progress). x.retried) e;
+      waves = ap (λ (x : Progress). x.counts.waves) e;
+      retried = ap (λ (x : Progress). x.counts.retried) e;
       accepted = omega (arith, same, accepted);
       reran = λ less is. absurd (omega (arith, same, less));
-      none = λ long was. ap (λ (x : Progress). x.end) e ∙ was;
+      none = λ long was. ap (λ (x : Progress). x.settled.end) e ∙ was;
     }
 
 -- the tasks of one step, and then those of another
@@ -29,18 +29,18 @@ ahead_then p q r a b = record {
   waves = b.waves ∙ a.waves;
   retried = b.retried ∙ a.retried;
   accepted = omega (arith, a.accepted, b.accepted);
-  reran = λ less is. by less is (cases_lt (length p.outcomes.items) (length q.outcomes.items));
+  reran = λ less is. by less is (cases_lt (length p.settled.outcomes.items) (length q.settled.outcomes.items));
   none = λ e was.
-      let first : length q.outcomes.items ≡ length p.outcomes.items = omega (arith, a.longer, b.longer, e) in
+      let first : length q.settled.outcomes.items ≡ length p.settled.outcomes.items = omega (arith, a.longer, b.longer, e) in
       b.none (omega (arith, first, e)) (a.none first was);
 }
   where
-    by : length p.outcomes.items < length r.outcomes.items → IsRetried p (length p.outcomes.items) → (length p.outcomes.items < length q.outcomes.items) ⊎ (length q.outcomes.items ≤ length p.outcomes.items)
-        → r.accepted + length p.outcomes.items < p.accepted + length r.outcomes.items
+    by : length p.settled.outcomes.items < length r.settled.outcomes.items → IsRetried p.counts (length p.settled.outcomes.items) → (length p.settled.outcomes.items < length q.settled.outcomes.items) ⊎ (length q.settled.outcomes.items ≤ length p.settled.outcomes.items)
+        → r.counts.accepted + length p.settled.outcomes.items < p.counts.accepted + length r.settled.outcomes.items
     by less is (inl early) = let one = a.reran early is in omega (arith, one, b.accepted)
     by less is (inr late) =
-        let first : length p.outcomes.items ≡ length q.outcomes.items = omega (arith, a.longer, late) in
-        let still : IsRetried q (length q.outcomes.items) = subst (IsRetried q) first (subst (λ rs. slice_index_or rs.items (length p.outcomes.items) true ≡ true) (sym a.retried) is) in
+        let first : length p.settled.outcomes.items ≡ length q.settled.outcomes.items = omega (arith, a.longer, late) in
+        let still : IsRetried q.counts (length q.settled.outcomes.items) = subst (IsRetried q.counts) first (subst (λ rs. slice_index_or rs.items (length p.settled.outcomes.items) true ≡ true) (sym a.retried) is) in
         let one = b.reran (omega (arith, first, less)) still in
         omega (arith, one, a.accepted)
 
@@ -49,21 +49,21 @@ module _ {library : Library} {stops : Bool} {tasks : List Task} where
   comes_then p q r a b = record { ahead = ahead_then p q r a.ahead b.ahead; sound = b.sound; so_far = λ first s. b.so_far first (a.so_far first s) }
 
   -- attempts are put into places
-  pub comes_put : (v : Seeing) (p q : Progress) → q ≡ record p { attempts = q.attempts } → AreSound library q.attempts.items → Comes library stops tasks v p v q
+  pub comes_put : (v : Seeing) (p q : Progress) → q ≡ record p { pending = q.pending } → AreSound library q.pending.attempts.items → Comes library stops tasks v p v q
   comes_put v p q e sound = record {
     ahead = ahead_put p q e;
     sound = sound;
-    so_far = λ first s. subst (λ (x : Progress). IsSoFar library stops tasks first v x.outcomes.items x.end) (sym e) s;
+    so_far = λ first s. subst (λ (x : Progress). IsSoFar library stops tasks first v x.settled.outcomes.items x.settled.end) (sym e) s;
   }
 
   -- it stays where it is
-  pub comes_same : (v : Seeing) (p : Progress) → AreSound library p.attempts.items → Comes library stops tasks v p v p
+  pub comes_same : (v : Seeing) (p : Progress) → AreSound library p.pending.attempts.items → Comes library stops tasks v p v p
   comes_same v p sound = comes_put v p p refl sound
 
   -- the longest front of them is taken in
-  pub comes_settled : {v w : Seeing} (p q : Progress) (taken : ℕ) → length q.outcomes.items ≡ length p.outcomes.items + taken → (taken ≡ 0 → p.end ≡ None → q.end ≡ None) → (q.waves ≡ p.waves) × (q.retried ≡ p.retried)
-      → q.accepted ≤ p.accepted + taken → (0 < taken → IsRetried p (length p.outcomes.items) → q.accepted < p.accepted + taken) → AreSound library q.attempts.items
-      → ((first : Seeing) → IsSoFar library stops tasks first v p.outcomes.items p.end → IsSoFar library stops tasks first w q.outcomes.items q.end) → Comes library stops tasks v p w q
+  pub comes_settled : {v w : Seeing} (p q : Progress) (taken : ℕ) → length q.settled.outcomes.items ≡ length p.settled.outcomes.items + taken → (taken ≡ 0 → p.settled.end ≡ None → q.settled.end ≡ None) → (q.counts.waves ≡ p.counts.waves) × (q.counts.retried ≡ p.counts.retried)
+      → q.counts.accepted ≤ p.counts.accepted + taken → (0 < taken → IsRetried p.counts (length p.settled.outcomes.items) → q.counts.accepted < p.counts.accepted + taken) → AreSound library q.pending.attempts.items
+      → ((first : Seeing) → IsSoFar library stops tasks first v p.settled.outcomes.items p.settled.end → IsSoFar library stops tasks first w q.settled.outcomes.items q.settled.end) → Comes library stops tasks v p w q
   comes_settled p q taken longer none same accepted reran sound so_far = record {
     ahead = record {
       longer = omega (arith, longer);

@@ -2,7 +2,7 @@
 use Rattle.std.proofs.Common.{arith, ◌⊎◌, inl, inr, ◌≡◌, refl, sym, ap, ◌∙◌, subst, ℕ, zero, suc, ◌-◌, ◌<◌, ◌≤◌, Bool, true, false, List, [], ◌∷◌, ◌++◌, length, take, drop, map, Option, Some, None, IfSome, slice_set, slice_get, length-append}
 use Rattle.std.proofs.lemmas.Bool.{cases_lt}
 use Rattle.std.specs.Prelude.{All}
-use Rattle.std.proofs.lemmas.List.Elements.{All-append, All-cons, All-nil, All-tail}
+use Rattle.std.proofs.lemmas.List.Elements.{All-append, All-cons, All-nil}
 use Rattle.std.proofs.Math.ListN.{drop_of_length-le}
 use Rattle.std.proofs.lemmas.List.{map-append, drop-drop}
 use Rattle.hp_model.specs.Rules.{Library}
@@ -19,7 +19,7 @@ use Rattle.hp_attempt.specs.Fronts.{AreSound, last_end, stopped_by, FrontIs}
 use Rattle.hp_attempt.specs.Mapped.{firing, attempt}
 use Rattle.hp_attempt.proofs.Joining.{front_completes, front_stops}
 use Rattle.hp_fire.specs.Runs.{RunsFiring, RunsGroup}
-use Rattle.hp_fire.specs.declared.progress.Tried.{Tried}
+use Rattle.hp_fire.specs.declared.speculate.pending.Tried.{Tried}
 use Rattle.hp_fire.specs.Groups.{IsSoFar, AreSoundTries}
 use Rattle.hp_fire.proofs.Steps.{grows}
 
@@ -66,13 +66,6 @@ sound_set library (Some b ∷ xs) (suc i) o s h = (s.0, sound_set library xs i o
 
 pub tries_more : (library : Library) (xs : List Tried) (t : Tried) → AreSoundTries library xs → IsSound library (attempt t.attempt) → AreSoundTries library (xs ++ t ∷ [])
 tries_more library xs t all is = let P = λ (u : Tried). IsSound library (attempt u.attempt) in All-append P xs (t ∷ []) all (All-cons P t [] is (All-nil P))
-
--- the first of what a worker brings goes to its place
-pub first_placed : (library : Library) (xs : List (Option Attempt)) (ts : List Tried) (t : Tried) (rest : List Tried) → ts ≡ t ∷ rest → AreSound library xs → AreSoundTries library ts → AreSound library (slice_set xs t.number (Some t.attempt)) × AreSoundTries library rest
-first_placed library xs ts t rest split sound all =
-    let P = λ (u : Tried). IsSound library (attempt u.attempt) in
-    let more = subst (All P) split all in
-    (sound_set library xs t.number (Some t.attempt) sound (more 0 t (omega arith)), All-tail P t rest more)
 
 -- ---- how far the group has come
 

@@ -2,6 +2,7 @@ mod Attempting
 mod Coming
 mod Decisions
 mod Helping
+mod Lining
 pub mod Sending
 mod Making
 mod Immediate

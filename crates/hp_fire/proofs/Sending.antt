@@ -38,14 +38,17 @@ use denote.RattleType.{RattleType}
 use Rattle.hp_board.proofs.boards.Board.TheSendSync as board
 use Rattle.hp_board.specs.contracts.boards.Board as Board
 use Rattle.std.specs.contracts.sync.Arc as Arc
-use Rattle.hp_fire.specs.contracts.context.Site as Site
-use Rattle.hp_fire.specs.contracts.wave.Wave as Wave
-use Rattle.hp_fire.specs.contracts.progress.Tried as Tried
-use Rattle.hp_fire.specs.contracts.progress.Progress as Progress
-use Rattle.hp_fire.specs.contracts.line.Sent as Sent
+use Rattle.hp_fire.specs.contracts.engine.Engine as Engine
+use Rattle.hp_fire.specs.contracts.speculate.trial.Trial as Trial
+use Rattle.hp_fire.specs.contracts.speculate.past.Past as Past
+use Rattle.hp_fire.specs.contracts.speculate.past.Effort as Effort
+use Rattle.hp_fire.specs.contracts.speculate.wave.Wave as Wave
+use Rattle.hp_fire.specs.contracts.speculate.pending.Tried as Tried
+use Rattle.hp_fire.specs.contracts.speculate.progress.Progress as Progress
+use Rattle.hp_fire.specs.contracts.speculate.line.Sent as Sent
 use Rattle.hp_board.proofs.dealer.Seat.TheSendSync as seat
 use Rattle.rtrb.proofs.producer.Producer.TheSendSync as sender
-use Rattle.hp_fire.specs.contracts.wave.Job as Job
+use Rattle.hp_fire.specs.contracts.speculate.wave.Job as Job
 use Rattle.hp_value.proofs.env.Answer.TheSendSync as answer
 use Rattle.hp_rule.specs.contracts.task.Task as Task
 use Rattle.std.specs.contracts.alloc.Global as Heap
@@ -212,8 +215,21 @@ layer_row_send = search layer_parts depth 12
 layer_row_sync : IsSync Layer.the_row
 layer_row_sync = search layer_parts depth 12
 
-pub site_sync : (κ : NamedLft) (R G : RattleType) → IsSync R → IsSync G → IsSync (Site.the_row κ R G)
-site_sync κ R G r g = declared_sync (Site.the_type κ R G) (search (r, g, sendable) depth 12, (search (r, g, sendable) depth 12, (as_row_sync (shr_ref_field κ Library.the_row tt) (shr_sync κ.mir κ.lft Library.the_row library_row), (search sendable depth 12, (search sendable depth 12, tt)))))
+pub trial_sync : (κ : NamedLft) (R G T : RattleType) → IsSync R → IsSync G → IsSync T → IsSync (Trial.the_row κ R G T)
+trial_sync κ R G T r g t =
+    declared_sync (Trial.the_type κ R G T)
+    (search (r, g, t, sendable) depth 12, (search (heap.sync, sendable) depth 12, (as_row_sync (shr_ref_field κ Library.the_row tt) (shr_sync κ.mir κ.lft Library.the_row library_row), (search (r, g, t, sendable) depth 12, (search (r, g, t, sendable) depth 12, (search sendable depth 12, tt))))))
+
+past_row : IsSync Past.the_row
+past_row = search (heap.crosses, sendable) depth 12
+
+effort_row : IsSync Effort.the_row
+effort_row = search (heap.crosses, sendable) depth 12
+
+pub engine_sync : (κ : NamedLft) (R : RattleType) → IsSync R → IsSync (Engine.the_row κ R)
+engine_sync κ R r =
+    declared_sync (Engine.the_type κ R)
+    (search (r, sendable) depth 12, (search (heap.sync, sendable) depth 12, (as_row_sync (shr_ref_field κ Library.the_row tt) (shr_sync κ.mir κ.lft Library.the_row library_row), (search sendable depth 12, (as_row_sync (shr_ref_field κ Past.the_row tt) (shr_sync κ.mir κ.lft Past.the_row past_row), (as_row_sync (shr_ref_field κ Effort.the_row tt) (shr_sync κ.mir κ.lft Effort.the_row effort_row), tt))))))
 
 wave_board : IsSync (Board.the_row (Arc.the_row Layer.the_row Heap.the_row ghosts))
 wave_board = board.the_sync (Arc.the_row Layer.the_row Heap.the_row ghosts) (heap.Arc-send Layer.the_row layer_row_send layer_row_sync) (heap.Arc-sync Layer.the_row layer_row_send layer_row_sync)

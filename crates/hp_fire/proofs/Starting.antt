@@ -1,7 +1,7 @@
 -- Signals and the tasks that they start.
 use Rattle.std.proofs.Common.{arith, ◌≡◌, refl, sym, ap, subst, ℕ, suc, ◌+◌, ◌*◌, ◌<◌, ◌≤◌, List, [], ◌∷◌, Bool, true, false, map, length}
-use Rattle.std.specs.Prelude.{◌++◌, Option, Some, None, is_some, filter, if◌then◌else◌}
-use Prim.Native.Nat.{max}
+use Rattle.std.proofs.lemmas.List.Elements.{All-cons, All-nil}
+use Rattle.std.specs.Prelude.{All, ◌++◌, Option, Some, None, is_some, filter, if◌then◌else◌}
 use Rattle.std.proofs.Common.{mul-le-mul_right, suc-mul}
 use Rattle.hp_model.specs.Occurrences.{Primitive}
 use Rattle.hp_model.specs.Rules.{Library, is_immediate}
@@ -18,7 +18,7 @@ use Rattle.hp_ops.specs.Triggers.{IsTriggered}
 use Rattle.hp_view.specs.Seeing.{Seeing, GoesOn}
 use Rattle.hp_view.proofs.Views.{GoesOn-same, GoesOn-then}
 use Rattle.hp_fire.specs.Runs.{Runs, RunsFiring, RunsGroup, AreReady}
-use Rattle.hp_fire.specs.Weights.{deepest, levels, left, group_levels}
+use Rattle.hp_fire.specs.Weights.{deepest, levels, left}
 use Rattle.hp_fire.proofs.Immediate.{AllImmediate, all_fire, none_is_deferred, none_is_detached}
 use Rattle.hp_fire.proofs.Steps.{GroupLoop, grows, runs_answer, goes_unvetoed, group_starts, group_goes, group_stops, group_ends}
 
@@ -80,17 +80,6 @@ start_alone {library} {depth} {v} {w} {f} tasks t ready is at_once r =
     group : SiblingsAnswer
     group = record { firings = f ∷ []; vetoed_by = f.vetoed_by }
 
--- no more firings can nest in a group of a depth than at that depth
-pub levels_at : (lib : RustLibrary) (d : ℕ) (ts : List RustTask) → AreAt d (map task ts) → group_levels lib ts ≤ levels lib d
-levels_at lib d [] at = omega arith
-levels_at lib d (t ∷ ts) at =
-    let here : levels lib t.depth ≡ levels lib d = ap (levels lib) at.0 in
-    let rest = levels_at lib d ts at.1 in
-    subst (λ n. max n (group_levels lib ts) ≤ levels lib d) (sym here) (least (levels lib d) (group_levels lib ts) rest)
-  where
-    least : (m n : ℕ) → n ≤ m → max m n ≤ m
-    least m n h = omega (arith, h)
-
 -- a group has less left than the signal that starts it
 pub group_falls : (firings below deepest : ℕ) → suc below ≤ firings → 16 * (below * (deepest + 2) + deepest) + 13 < 16 * (firings * (deepest + 2) + 0) + 1
 group_falls firings below deepest less =
@@ -109,17 +98,24 @@ alone_measure lib depth tasks t ready is =
     let falls = group_falls (levels lib depth) (levels lib t.depth) (deepest lib) less in
     omega (arith, falls)
 
--- the immediate tasks of those that may start
-pub group_measure : (lib : RustLibrary) (depth : ℕ) (tasks now : List RustTask) → AreReady (library lib) depth (map task tasks) → (tasks ≡ [] → ⊥)
-    → map task now ≡ filter (λ (u : Task). is_immediate u.place) (map task tasks)
-    → 16 * left lib (group_levels lib now) (deepest lib) + 13 < 16 * left lib (levels lib depth) 0 + 1
-group_measure lib depth [] now ready some is = absurd (some refl)
-group_measure lib depth (t ∷ ts) now ready some is =
-    let at : AreAt (suc depth) (map task now) = subst (AreAt (suc depth)) (sym is) (at_filter (suc depth) (λ (u : Task). is_immediate u.place) (map task (t ∷ ts)) ready.at) in
-    let fewer = levels_at lib (suc depth) now at in
+-- the tasks of a signal have less left than the signal
+pub group_measure : (lib : RustLibrary) (depth : ℕ) (tasks : List RustTask) → AreReady (library lib) depth (map task tasks) → (tasks ≡ [] → ⊥)
+    → 16 * left lib (levels lib (depth + 1)) (deepest lib) + 13 < 16 * left lib (levels lib depth) 0 + 1
+group_measure lib depth [] ready some = absurd (some refl)
+group_measure lib depth (t ∷ ts) ready some =
     let low : depth < lib.depth_limit = ready.within (task t) (map task ts) refl in
-    let less : suc (group_levels lib now) ≤ levels lib depth = omega (arith, fewer, low) in
-    group_falls (levels lib depth) (group_levels lib now) (deepest lib) less
+    let less : suc (levels lib (depth + 1)) ≤ levels lib depth = omega (arith, low) in
+    group_falls (levels lib depth) (levels lib (depth + 1)) (deepest lib) less
+
+-- the immediate ones are as deep as all of them
+all_at : (depth : ℕ) (ts : List RustTask) → AreAt (suc depth) (map task ts) → All (λ (t : RustTask). t.depth ≡ depth + 1) ts
+all_at depth [] at = All-nil (λ (t : RustTask). t.depth ≡ depth + 1)
+all_at depth (t ∷ ts) at =
+    let here : t.depth ≡ depth + 1 = omega (arith, at.0) in
+    All-cons (λ (u : RustTask). u.depth ≡ depth + 1) t ts here (all_at depth ts at.1)
+
+pub tasks_at : {l : Library} (depth : ℕ) (tasks now : List RustTask) → AreReady l depth (map task tasks) → map task now ≡ filter (λ (u : Task). is_immediate u.place) (map task tasks) → All (λ (t : RustTask). t.depth ≡ depth + 1) now
+tasks_at depth tasks now ready is = all_at depth now (subst (AreAt (suc depth)) (sym is) (at_filter (suc depth) (λ (u : Task). is_immediate u.place) (map task tasks) ready.at))
 
 pub none_long : {X : Type 0} (xs : List X) → length xs ≡ 0 → xs ≡ []
 none_long [] e = refl

@@ -1,5 +1,5 @@
 -- How far a group of firings has come that workers help with.
-use Rattle.std.specs.Prelude.{◌≡◌, ℕ, ◌+◌, ◌<◌, ◌≤◌, Bool, true, List, Option, Some, None, All, map, drop, length}
+use Rattle.std.specs.Prelude.{◌≡◌, ℕ, ◌+◌, ◌<◌, ◌≤◌, Bool, true, List, Option, Some, None, All, IfSome, map, drop, length}
 use Rattle.std.specs.List.{slice_index_or}
 use Rattle.hp_model.specs.Rules.{Library}
 use Rattle.hp_model.specs.Tree.{Task}
@@ -11,14 +11,17 @@ use Rattle.hp_view.specs.Seeing.{Seeing, GoesOn, written}
 use Rattle.hp_attempt.specs.declared.outcome.Outcome.{Outcome}
 use Rattle.hp_attempt.specs.Mapped.{firing, attempt}
 use Rattle.hp_attempt.specs.Fronts.{AreSound}
-use Rattle.hp_fire.specs.declared.progress.Tried.{Tried}
-use Rattle.hp_fire.specs.declared.progress.Progress.{Progress}
-use Rattle.hp_fire.specs.declared.wave.Wave.{Wave}
-use Rattle.hp_fire.specs.declared.wave.Job.{Job}
-use Rattle.hp_fire.specs.declared.line.Sent.{Sent}
-use Rattle.hp_fire.specs.declared.line.Soundness.{Soundness}
+use Rattle.hp_fire.specs.declared.speculate.pending.Tried.{Tried}
+use Rattle.hp_fire.specs.declared.speculate.counts.Counts.{Counts}
+use Rattle.hp_fire.specs.declared.speculate.worker.Worker.{Worker}
+use Rattle.hp_fire.specs.declared.speculate.progress.Progress.{Progress}
+use Rattle.hp_fire.specs.declared.speculate.wave.Wave.{Wave}
+use Rattle.hp_fire.specs.declared.speculate.wave.Job.{Job}
+use Rattle.hp_fire.specs.declared.speculate.line.Sent.{Sent}
+use Rattle.hp_fire.specs.declared.speculate.line.Soundness.{Soundness}
 use Rattle.hp_fire.specs.Lines.{IsOf}
 use Rattle.hp_board.specs.Deal.{Deal, IsSeatOf}
+use Rattle.hp_board.specs.Passes.{IsPassOf}
 use Rattle.rtrb.specs.Ring.{sent, received}
 use Rattle.rtrb.specs.declared.consumer.Consumer.{Consumer}
 use Rattle.std.specs.Global.{Global}
@@ -37,12 +40,12 @@ abbrev pub AreSoundTries : Library → List Tried → Type 0
 AreSoundTries library tries = All (λ t. IsSound library (attempt t.attempt)) tries
 
 -- the task of this number was tried anew after the first wave
-abbrev pub IsRetried : Progress → ℕ → Type 0
-IsRetried p number = slice_index_or p.retried.items number true ≡ true
+abbrev pub IsRetried : Counts → ℕ → Type 0
+IsRetried c number = slice_index_or c.retried.items number true ≡ true
 
 -- no more is accepted than is settled, and each wave but the first has led to a rerun
 abbrev pub IsCounted : Progress → Type 0
-IsCounted p = (p.accepted ≤ length p.outcomes.items) × (p.waves + p.accepted ≤ length p.outcomes.items + 1)
+IsCounted p = (p.counts.accepted ≤ length p.settled.outcomes.items) × (p.counts.waves + p.counts.accepted ≤ length p.settled.outcomes.items + 1)
 
 -- what a worker is given: a seat at the wave's board, and an end of a line for the library's attempts
 abbrev pub IsJob : Library → Deal → Job → Type 0
@@ -54,19 +57,23 @@ AreOf library receivers = All (λ r. IsOf library (received r)) receivers
 
 -- Tasks were settled from attempts: no more were accepted than were settled, and fewer where the first of them was tried anew
 pub record IsAhead (old new : Progress) : Type 0 where
-  pub longer : length old.outcomes.items ≤ length new.outcomes.items
-  pub waves : new.waves ≡ old.waves
-  pub retried : new.retried ≡ old.retried
-  pub accepted : new.accepted + length old.outcomes.items ≤ old.accepted + length new.outcomes.items
-  pub reran : length old.outcomes.items < length new.outcomes.items → IsRetried old (length old.outcomes.items) → new.accepted + length old.outcomes.items < old.accepted + length new.outcomes.items
-  pub none : length new.outcomes.items ≡ length old.outcomes.items → old.end ≡ None → new.end ≡ None
+  pub longer : length old.settled.outcomes.items ≤ length new.settled.outcomes.items
+  pub waves : new.counts.waves ≡ old.counts.waves
+  pub retried : new.counts.retried ≡ old.counts.retried
+  pub accepted : new.counts.accepted + length old.settled.outcomes.items ≤ old.counts.accepted + length new.settled.outcomes.items
+  pub reran : length old.settled.outcomes.items < length new.settled.outcomes.items → IsRetried old.counts (length old.settled.outcomes.items) → new.counts.accepted + length old.settled.outcomes.items < old.counts.accepted + length new.settled.outcomes.items
+  pub none : length new.settled.outcomes.items ≡ length old.settled.outcomes.items → old.settled.end ≡ None → new.settled.end ≡ None
 
 -- the group has come further with the view, and the attempts that are there are sound
 pub record Comes (library : Library) (stops : Bool) (tasks : List Task) (view : Seeing) (p : Progress) (view' : Seeing) (p' : Progress) : Type 0 where
   pub ahead : IsAhead p p'
-  pub sound : AreSound library p'.attempts.items
-  pub so_far : (first : Seeing) → IsSoFar library stops tasks first view p.outcomes.items p.end → IsSoFar library stops tasks first view' p'.outcomes.items p'.end
+  pub sound : AreSound library p'.pending.attempts.items
+  pub so_far : (first : Seeing) → IsSoFar library stops tasks first view p.settled.outcomes.items p.settled.end → IsSoFar library stops tasks first view' p'.settled.outcomes.items p'.settled.end
 
 -- the board has a number for each task that isn't settled
 abbrev pub IsWave : Wave → Type 0
 IsWave w = w.done + length w.board.cells ≡ length w.tasks.now
+
+-- a worker has its seat and its pass at the wave's board, except while the board has them
+abbrev pub IsWorker : Worker → Type 0
+IsWorker w = IfSome w.seat (IsSeatOf w.wave.now.board.deal) × IfSome w.pass (IsPassOf w.wave.now.board.cells)

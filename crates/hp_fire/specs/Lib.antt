@@ -1,3 +1,4 @@
+pub mod Counted
 pub mod Decides
 pub mod Groups
 pub mod Joined

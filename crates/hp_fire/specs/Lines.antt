@@ -4,8 +4,8 @@ use Rattle.hp_model.specs.Rules.{Library}
 use Rattle.hp_model.specs.Soundness.{IsSound}
 use Rattle.hp_rule.specs.Mapped.{library}
 use Rattle.hp_attempt.specs.Mapped.{attempt}
-use Rattle.hp_fire.specs.declared.line.Sent.{Sent}
-use Rattle.hp_fire.specs.declared.line.Sent.TheVariants.{Library as OfLibrary, Tried as OfTried}
+use Rattle.hp_fire.specs.declared.speculate.line.Sent.{Sent}
+use Rattle.hp_fire.specs.declared.speculate.line.Sent.TheVariants.{Library as OfLibrary, Tried as OfTried}
 
 -- this library was sent
 abbrev pub Names : Library → Sent → Type 0

@@ -1,5 +1,6 @@
 //! The calls for the layers above.
 
+ghost use Rattle.std.specs.Thread.{IsSync};
 ghost use Rattle.std.specs.Prelude.{◌≡◌, ◌+◌, ◌<◌, ◌≤◌, IfOk, map, length};
 ghost use Rattle.hp_model.specs.Cells.{Holds};
 ghost use Rattle.hp_model.specs.Firing as model;
@@ -13,12 +14,11 @@ ghost use Rattle.hp_attempt.specs.Mapped.{attempt as attempt_of, firing as firin
 ghost use Rattle.hp_fire.specs.Mapped.{course, group as group_of};
 ghost use Rattle.hp_fire.specs.Runs.{Runs, RunsFiring, RunsGroup};
 
-use crate::context::{Context, Site};
+use crate::context::Context;
 use crate::course::{Course, GroupOutcome};
-use crate::gate::{Gate, NoGate};
-use crate::running::{attempted, firing, group, signal};
+use crate::engine::Engine;
 use crate::settling::settled;
-use crate::statement::statements;
+use crate::speculate::{Effort, Gate, Group, NoGate, Past};
 use hp_attempt::{Attempt, Outcome};
 use hp_rule::{Library, Stmt, Task};
 use hp_store::Snapshot;
@@ -26,6 +26,103 @@ use hp_value::Prim;
 use hp_view::View;
 use std::alloc::{AllocError, Global};
 use std::thread::Threads;
+
+impl<R: Threads + Sync> Engine<'_, R> {
+    /// Runs the body of a script in a transaction of a depth: its statements in order, up to the first that isn't done.
+    ///
+    /// While a group of firings inside has workers, this thread sleeps. An error means that memory ran out; the view may then
+    /// hold a part of the effects.
+    pub fn run_body(&self, view: &mut View, body: &[Stmt], depth: u8) -> Result<Course, AllocError>
+        ensures { IfOk result (λ c. Runs (library self.now.lib.now) (model.run_body (body_in body.now) (level_at (library self.now.lib.now) depth) no_context) view.old view.new (course c)) }
+    {
+        let context = Context::of_script(depth);
+        let course = self.statements(view, body, &context)?;
+        Ok(course)
+    }
+
+    /// Signals an occurrence in a transaction of a depth: the rules that it triggers are placed, and the immediate ones fire as
+    /// siblings.
+    ///
+    /// While a group of firings has workers, this thread sleeps. An error means that memory ran out; the view may then hold a
+    /// part of the effects.
+    pub fn run_signal(&self, view: &mut View, prim: &Prim, depth: u8) -> Result<Course, AllocError>
+        ensures { IfOk result (λ c. Runs (library self.now.lib.now) (signal_in (level_at (library self.now.lib.now) depth) (primitive prim.now)) view.old view.new (course c)) }
+    {
+        let result = self.signal(view, prim, depth);
+        let course = settled(self.alloc, result)?;
+        Ok(course)
+    }
+
+    /// Fires a task on the view, as a subtransaction.
+    ///
+    /// While a group of firings inside has workers, this thread sleeps. An error means that memory ran out; the view may then
+    /// hold a part of the effects.
+    pub fn run_firing(&self, view: &mut View, task: &Task) -> Result<Outcome, AllocError>
+        ensures { IfOk result (λ o. RunsFiring (library self.now.lib.now) (λ S. fire_task (library self.now.lib.now) S (task_of task.now)) view.old view.new (firing_of o)) }
+    {
+        let outcome = self.firing(view, task)?;
+        Ok(outcome)
+    }
+
+    /// Fires the tasks of a group on the view, as siblings. Where `stop_at_veto` is set, nothing fires after a vetoed one.
+    ///
+    /// Workers are started only where they are worth it. While there are any, this thread sleeps. An error means that memory ran
+    /// out; the view may then hold a part of the effects.
+    pub fn run_siblings(
+        &self,
+        view: &mut View,
+        tasks: &[Task],
+        stop_at_veto: bool,
+    ) -> Result<GroupOutcome, AllocError>
+        ensures { IfOk result (λ g. RunsGroup (library self.now.lib.now) (siblings (fire_task (library self.now.lib.now)) stop_at_veto (map task_of tasks.now)) view.old view.new (group_of g)) }
+    {
+        let outcome = self.run_with(view, tasks, stop_at_veto, &NoGate, false)?;
+        Ok(outcome)
+    }
+
+    /// The same with a gate, which is told of the tasks that workers try. An eager group starts workers in any case, for as many
+    /// tasks and threads as there are.
+    fn run_with<G: Gate + Sync>(
+        &self,
+        view: &mut View,
+        tasks: &[Task],
+        stop_at_veto: bool,
+        gate: &G,
+        eager: bool,
+    ) -> Result<GroupOutcome, AllocError>
+        ensures runs { IfOk result (λ g. RunsGroup (library self.now.lib.now) (siblings (fire_task (library self.now.lib.now)) stop_at_veto (map task_of tasks.now)) view.old view.new (group_of g)) }
+        ensures counted { IfOk result (λ g. g.accepted + g.reran ≡ length g.outcomes.items) }
+        ensures waves { IfOk result (λ g. g.waves ≤ g.reran + 1) }
+        ensures alone { self.now.width < 2 → IfOk result (λ g. g.waves ≡ 0) }
+    {
+        let fire = |view: &mut View, task: &Task| -> Result<Outcome, AllocError>
+            ensures { IfOk result (λ o. RunsFiring (library self.entry.now.lib.now) (λ S. fire_task (library self.entry.now.lib.now) S (task_of task.now)) view.old view.new (firing_of o)) }
+        { self.firing(view, task) };
+        let attempt = |snapshot: Snapshot, task: &Task, effort: &Effort, width: usize| -> Result<
+            Attempt,
+            AllocError,
+        >
+            requires { IsSync R.row }
+            ensures { IfOk result (λ a. IsSound (library self.entry.now.lib.now) (attempt_of a)) }
+        { self.inside(effort, width).attempted(snapshot, task) };
+        let group = Group {
+            rt: self.rt,
+            alloc: self.alloc,
+            lib: self.lib,
+            tasks,
+            stop_at_veto,
+            width: self.width,
+            eager,
+            gate,
+            fire: &fire,
+            attempt: &attempt,
+            effort: self.effort,
+            past: self.past,
+        };
+        let outcome = group.run(view)?;
+        Ok(outcome)
+    }
+}
 
 /// Runs the body of a script in a transaction of a depth: its statements in order, up to the first that isn't done.
 ///
@@ -42,15 +139,8 @@ pub fn run_body<R: Threads + Sync>(
 ) -> Result<Course, AllocError>
     ensures { IfOk result (λ c. Runs (library lib.now) (model.run_body (body_in body.now) (level_at (library lib.now) depth) no_context) view.old view.new (course c)) }
 {
-    let site = Site {
-        rt,
-        gate: &NoGate,
-        lib,
-        width,
-        told: false,
-    };
-    let context = Context::of_script(depth);
-    let course = statements(&site, alloc, view, body, &context)?;
+    let past = Past::new(alloc, lib, width);
+    let course = Engine::new(rt, alloc, lib, width, &past).run_body(view, body, depth)?;
     Ok(course)
 }
 
@@ -70,15 +160,8 @@ pub fn run_signal<R: Threads + Sync>(
 ) -> Result<Course, AllocError>
     ensures { IfOk result (λ c. Runs (library lib.now) (signal_in (level_at (library lib.now) depth) (primitive prim.now)) view.old view.new (course c)) }
 {
-    let site = Site {
-        rt,
-        gate: &NoGate,
-        lib,
-        width,
-        told: false,
-    };
-    let result = signal(&site, alloc, view, prim, depth);
-    let course = settled(alloc, result)?;
+    let past = Past::new(alloc, lib, width);
+    let course = Engine::new(rt, alloc, lib, width, &past).run_signal(view, prim, depth)?;
     Ok(course)
 }
 
@@ -96,14 +179,8 @@ pub fn run_firing<R: Threads + Sync>(
 ) -> Result<Outcome, AllocError>
     ensures { IfOk result (λ o. RunsFiring (library lib.now) (λ S. fire_task (library lib.now) S (task_of task.now)) view.old view.new (firing_of o)) }
 {
-    let site = Site {
-        rt,
-        gate: &NoGate,
-        lib,
-        width,
-        told: false,
-    };
-    let outcome = firing(&site, alloc, view, task)?;
+    let past = Past::new(alloc, lib, width);
+    let outcome = Engine::new(rt, alloc, lib, width, &past).run_firing(view, task)?;
     Ok(outcome)
 }
 
@@ -132,14 +209,9 @@ pub fn run_group<R: Threads + Sync, G: Gate + Sync>(
     ensures waves { IfOk result (λ g. g.waves ≤ g.reran + 1) }
     ensures alone { width < 2 → IfOk result (λ g. g.waves ≡ 0) }
 {
-    let site = Site {
-        rt,
-        gate,
-        lib,
-        width,
-        told: true,
-    };
-    let outcome = group(&site, alloc, view, tasks, stop_at_veto)?;
+    let past = Past::new(alloc, lib, width);
+    let engine = Engine::new(rt, alloc, lib, width, &past);
+    let outcome = engine.run_with(view, tasks, stop_at_veto, gate, true)?;
     Ok(outcome)
 }
 
@@ -157,13 +229,7 @@ pub fn run_task<R: Threads + Sync>(
     ensures sound { IfOk result (λ a. IsSound (library lib.now) (attempt_of a)) }
     ensures so_it_was { IfOk result (λ a. Holds (cells_in snapshot) a.reads) }
 {
-    let site = Site {
-        rt,
-        gate: &NoGate,
-        lib,
-        width,
-        told: false,
-    };
-    let attempt = attempted(&site, alloc, snapshot, task)?;
+    let past = Past::new(alloc, lib, width);
+    let attempt = Engine::new(rt, alloc, lib, width, &past).attempted(snapshot, task)?;
     Ok(attempt)
 }

@@ -7,23 +7,8 @@ ghost use Rattle.hp_value.specs.Mapped.{keyed_row, answers};
 ghost use Rattle.hp_rule.specs.Mapped.{task as task_of};
 ghost use Rattle.hp_fire.specs.Mapped as mapped;
 
-use hp_rule::{Library, Task};
+use hp_rule::Task;
 use hp_value::{Answer, Env, Key, KeyedRow, Row, RuleNo};
-
-/// Where firings take place, and who helps.
-#[derive_where(Clone, Copy)]
-pub(crate) struct Site<'a, R, G> {
-    /// What starts threads.
-    pub(crate) rt: &'a R,
-    /// What is told of a group's tasks.
-    pub(crate) gate: &'a G,
-    /// The library.
-    pub(crate) lib: &'a Library,
-    /// How many threads a group may use.
-    pub(crate) width: usize,
-    /// Whether the gate is told of a group's tasks. Of groups inside a task it isn't.
-    pub(crate) told: bool,
-}
 
 /// What a statement runs in, beside the view.
 #[derive(Clone, Copy)]

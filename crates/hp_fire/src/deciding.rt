@@ -16,7 +16,9 @@ ghost use denote.Param.Weighed.{most};
 ghost use Rattle.hp_rule.specs.declared.stmt.Stmt.{size-Stmt};
 ghost use Rattle.hp_fire.specs.Weights.{deepest};
 
+use crate::counting::Counting;
 use crate::placing::place_tasks;
+use crate::speculate::Effort;
 use hp_attempt::Outcome;
 use hp_query::{Query, Verdict, evaluate_condition};
 use hp_rule::{Library, Step, Stmt, Task};
@@ -43,6 +45,7 @@ pub(crate) enum Decision {
 pub(crate) fn decide(
     alloc: Global,
     lib: &Library,
+    effort: &Effort,
     view: &mut View,
     task: &Task,
 ) -> Result<Decision, AllocError>
@@ -50,7 +53,7 @@ pub(crate) fn decide(
 {
     match &task.step {
         Step::Condition => {
-            let decision = decide_condition(alloc, lib, view, task)?;
+            let decision = decide_condition(alloc, lib, effort, view, task)?;
             Ok(decision)
         }
         Step::Action(answers) => {
@@ -70,6 +73,7 @@ pub(crate) fn decide(
 fn decide_condition(
     alloc: Global,
     lib: &Library,
+    effort: &Effort,
     view: &mut View,
     task: &Task,
 ) -> Result<Decision, AllocError>
@@ -77,7 +81,10 @@ fn decide_condition(
     ensures { IfOk result (λ d. Decides (library lib.now) (task_of task.now) view.old view.new d) }
 {
     let queries = condition_of(lib, task.rule);
-    match evaluate_condition(alloc, queries, &task.occurrence, view)? {
+    let mut look = Counting::new(view);
+    let verdict = evaluate_condition(alloc, queries, &task.occurrence, &mut look)?;
+    look.tell(queries, effort);
+    match verdict {
         Verdict::Satisfied(answers) => {
             let decision = follow(alloc, lib, task, answers)?;
             Ok(decision)

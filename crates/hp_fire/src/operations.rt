@@ -17,7 +17,9 @@ ghost use Rattle.hp_fire.specs.Runs.{Steps, Looks, Makes};
 ghost use Rattle.hp_fire.specs.Signals.{signal_of};
 
 use crate::context::Context;
+use crate::counting::Counting;
 use crate::course::Course;
+use crate::speculate::Effort;
 use hp_ops::{create, delete, find_object, given_values, new_object, set_rule, update};
 use hp_query::selected_rows;
 use hp_rule::{Assignment, Library, RuleOperation};
@@ -138,19 +140,39 @@ pub(crate) fn rule_changed(
     Ok(course)
 }
 
+/// What a statement `each` asks for.
+#[derive(Clone, Copy)]
+pub(crate) struct Asked<'a> {
+    /// The name of the row that is tested.
+    pub(crate) variable: &'a str,
+    /// The class whose objects are asked for.
+    pub(crate) class: ClassNo,
+    /// What is tested of each row.
+    pub(crate) predicate: &'a Expr,
+}
+
 /// The rows of a statement `each`, found whole.
 pub(crate) fn selected(
     alloc: Global,
     lib: &Library,
+    effort: &Effort,
     view: &mut View,
     context: &Context<'_>,
-    variable: &str,
-    class: ClassNo,
-    predicate: &Expr,
+    asked: Asked<'_>,
 ) -> Result<Vec<KeyedRow>, Halt>
-    ensures { Looks keyed_rows (library lib.now) (λ S. conditions.answer (context_in context.now).environment variable.now class (expression predicate.now) S.objects) view.old view.new result }
+    ensures { Looks keyed_rows (library lib.now) (λ S. conditions.answer (context_in context.now).environment asked.entry.variable.now asked.entry.class (expression asked.entry.predicate.now) S.objects) view.old view.new result }
 {
-    selected_rows(alloc, variable, class, predicate, &context.env, view)
+    let mut look = Counting::new(view);
+    let rows = selected_rows(
+        alloc,
+        asked.variable,
+        asked.class,
+        asked.predicate,
+        &context.env,
+        &mut look,
+    );
+    look.tell_of(asked.predicate, effort);
+    rows
 }
 
 /// The object of a statement `with`, as it now is. `Missing` means that it isn't there.

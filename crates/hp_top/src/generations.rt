@@ -9,13 +9,60 @@ ghost use Rattle.hp_top.specs.Mapped.{generation_of};
 ghost use Rattle.hp_top.specs.Runs.{RunsGeneration, RunsCascade};
 
 use crate::rounds::most_rounds;
-use crate::top::run_detached;
+use crate::runner::Runner;
+use hp_fire::Past;
 use hp_rule::{Detached, Library, Task};
 use hp_tree::TopReport;
 use hp_value::Coupling;
 use hp_view::View;
 use std::alloc::{AllocError, Global};
 use std::thread::Threads;
+
+impl<R: Threads + Sync> Runner<'_, R> {
+    /// Runs the cascade of detached tasks on the view: each as a top-level transaction of its own, in order, and then those
+    /// that they detached and that are due, generation by generation. It gives what is reported of each.
+    ///
+    /// HiPAC: separate firings run in transactions of their own. An error means that memory ran out; the view may then hold a
+    /// part of the effects.
+    pub(crate) fn cascade(
+        &self,
+        view: &mut View,
+        tasks: Vec<Task>,
+    ) -> Result<Vec<TopReport>, AllocError>
+        ensures { IfOk result (λ reports. RunsCascade (library self.now.engine.lib.now) (map task_of tasks.items) view.old view.new (map top_report reports.items)) }
+    {
+        let most = most_rounds(self.engine.lib);
+        let mut reports = Vec::new(self.alloc());
+        let mut next = tasks;
+        for _ in 0..most {
+            if next.is_empty() {
+                return Ok(reports);
+            }
+            let mut generation = self.run_generation(view, &next)?;
+            reports.append(&mut generation.tops)?;
+            next = due(self.alloc(), generation.detached)?;
+        }
+        Ok(reports)
+    }
+
+    /// Runs tasks as a generation: each as a top-level transaction, in order.
+    fn run_generation(&self, view: &mut View, tasks: &[Task]) -> Result<Generation, AllocError>
+        ensures { IfOk result (λ g. RunsGeneration (library self.now.engine.lib.now) (map task_of tasks.now) view.old view.new (generation_of g)) }
+    {
+        let mut tops = Vec::new(self.alloc());
+        let mut detached = Vec::new(self.alloc());
+        for task in tasks {
+            let mut top = self.run_detached(view, task)?;
+            detached.append(&mut top.detached)?;
+            tops.push(TopReport {
+                task: Some((task.rule, task.place)),
+                end: top.end,
+                tree: top.tree,
+            })?;
+        }
+        Ok(Generation { tops, detached })
+    }
+}
 
 /// What a generation gives, beside what it writes.
 #[derive(Debug, Drop)]
@@ -41,43 +88,9 @@ pub fn cascade<R: Threads + Sync>(
 ) -> Result<Vec<TopReport>, AllocError>
     ensures { IfOk result (λ reports. RunsCascade (library lib.now) (map task_of tasks.items) view.old view.new (map top_report reports.items)) }
 {
-    let most = most_rounds(lib);
-    let mut reports = Vec::new(alloc);
-    let mut next = tasks;
-    for _ in 0..most {
-        if next.is_empty() {
-            return Ok(reports);
-        }
-        let mut generation = run_generation(rt, alloc, lib, view, &next, width)?;
-        reports.append(&mut generation.tops)?;
-        next = due(alloc, generation.detached)?;
-    }
+    let past = Past::new(alloc, lib, width);
+    let reports = Runner::new(rt, alloc, lib, width, &past).cascade(view, tasks)?;
     Ok(reports)
-}
-
-/// Runs tasks as a generation: each as a top-level transaction, in order.
-fn run_generation<R: Threads + Sync>(
-    rt: &R,
-    alloc: Global,
-    lib: &Library,
-    view: &mut View,
-    tasks: &[Task],
-    width: usize,
-) -> Result<Generation, AllocError>
-    ensures { IfOk result (λ g. RunsGeneration (library lib.now) (map task_of tasks.now) view.old view.new (generation_of g)) }
-{
-    let mut tops = Vec::new(alloc);
-    let mut detached = Vec::new(alloc);
-    for task in tasks {
-        let mut top = run_detached(rt, alloc, lib, view, task, width)?;
-        detached.append(&mut top.detached)?;
-        tops.push(TopReport {
-            task: Some((task.rule, task.place)),
-            end: top.end,
-            tree: top.tree,
-        })?;
-    }
-    Ok(Generation { tops, detached })
 }
 
 /// The detached tasks that are to run, in order: an exclusive one only where it was released.

@@ -8,12 +8,60 @@ ghost use Rattle.hp_store.specs.Stack.{cells_in};
 ghost use Rattle.hp_tree.specs.Mapped.{unit_report};
 ghost use Rattle.hp_top.specs.Units.{RanUnits, RanNext, AreReplayed, IsOpening, IsUnitOf};
 
-use crate::unit::run_unit;
+use crate::runner::Runner;
+use hp_fire::Past;
 use hp_rule::{Library, Unit};
 use hp_store::Store;
 use hp_tree::UnitReport;
 use std::alloc::{AllocError, Global};
 use std::thread::Threads;
+
+impl<R: Threads + Sync> Runner<'_, R> {
+    /// Runs units on the committed store, one after the other, each on what the former left, up to the first for which memory runs
+    /// out.
+    ///
+    /// What ran before that is reported, and the store is as the last unit left it that is reported.
+    pub(crate) fn run_items(&self, store: &mut Store, items: &[Unit]) -> Items
+        ensures ran { RanUnits (library self.now.engine.lib.now) (map unit_of items.now) (cells_in store.old) (cells_in store.new) (map unit_report result.reports.items) }
+        ensures replayed { AreReplayed (library self.now.engine.lib.now) (map unit_of items.now) (cells_in store.old) (map unit_report result.reports.items) }
+        ensures fit { AllByRecursion (λ u. IsUnitOf (library self.now.engine.lib.now) u) (map unit_of items.now) → HasFitState (library self.now.engine.lib.now) (cells_in store.old) → HasFitState (library self.now.engine.lib.now) (cells_in store.new) }
+        ensures all { result.stopped ≡ None → length result.reports.items ≡ length items.now }
+        ensures cut { IsSome result.stopped → length result.reports.items < length items.now }
+    {
+        let mut reports = Vec::new(self.alloc());
+        for unit in items {
+            if let Err(error) = self.run_next(store, unit, &mut reports) {
+                return Items {
+                    reports,
+                    stopped: Some(error),
+                };
+            }
+        }
+        Items {
+            reports,
+            stopped: None,
+        }
+    }
+
+    /// Runs one more unit, for whose report there is room before it runs.
+    ///
+    /// An error means that memory ran out; the store and the reports are then as before.
+    fn run_next(
+        &self,
+        store: &mut Store,
+        unit: &Unit,
+        reports: &mut Vec<UnitReport>,
+    ) -> Result<(), AllocError>
+        ensures ok { OnOk result (RanNext (library self.now.engine.lib.now) (unit_of unit.now) (cells_in store.old) (cells_in store.new) (map unit_report reports.old.items) (map unit_report reports.new.items)) }
+        ensures err { OnErr result (store.new ≡ store.old) }
+        ensures none { OnErr result (reports.new.items ≡ reports.old.items) }
+    {
+        reports.reserve(1)?;
+        let report = self.run_unit(store, unit)?;
+        reports.push_reserved(report);
+        Ok(())
+    }
+}
 
 /// What units gave that ran one after the other.
 #[derive(Debug, Drop)]
@@ -52,39 +100,6 @@ pub fn run_items<R: Threads + Sync>(
     ensures all { result.stopped ≡ None → length result.reports.items ≡ length items.now }
     ensures cut { IsSome result.stopped → length result.reports.items < length items.now }
 {
-    let mut reports = Vec::new(alloc);
-    for unit in items {
-        if let Err(error) = run_next(rt, alloc, lib, store, unit, width, &mut reports) {
-            return Items {
-                reports,
-                stopped: Some(error),
-            };
-        }
-    }
-    Items {
-        reports,
-        stopped: None,
-    }
-}
-
-/// Runs one more unit, for whose report there is room before it runs.
-///
-/// An error means that memory ran out; the store and the reports are then as before.
-fn run_next<R: Threads + Sync>(
-    rt: &R,
-    alloc: Global,
-    lib: &Library,
-    store: &mut Store,
-    unit: &Unit,
-    width: usize,
-    reports: &mut Vec<UnitReport>,
-) -> Result<(), AllocError>
-    ensures ok { OnOk result (RanNext (library lib.now) (unit_of unit.now) (cells_in store.old) (cells_in store.new) (map unit_report reports.old.items) (map unit_report reports.new.items)) }
-    ensures err { OnErr result (store.new ≡ store.old) }
-    ensures none { OnErr result (reports.new.items ≡ reports.old.items) }
-{
-    reports.reserve(1)?;
-    let report = run_unit(rt, alloc, lib, store, unit, width)?;
-    reports.push_reserved(report);
-    Ok(())
+    let past = Past::new(alloc, lib, width);
+    Runner::new(rt, alloc, lib, width, &past).run_items(store, items)
 }

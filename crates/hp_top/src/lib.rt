@@ -8,6 +8,7 @@ mod closing;
 mod generations;
 mod items;
 mod rounds;
+mod runner;
 mod top;
 mod unit;
 

@@ -11,77 +11,79 @@ ghost use Rattle.hp_rule.specs.Mapped.{library};
 ghost use Rattle.hp_fire.specs.Mapped.{course as course_of};
 ghost use Rattle.hp_top.specs.Runs.{Continues, IsRound};
 
-use hp_fire::{Course, End, NoGate, group_course, run_group, run_signal};
+use crate::runner::Runner;
+use hp_fire::{Course, End, group_course};
 use hp_rule::Library;
 use hp_value::Prim;
 use hp_view::View;
-use std::alloc::{AllocError, Global};
+use std::alloc::AllocError;
 use std::thread::Threads;
 
-/// Goes on from the course of a top-level transaction's work to its end: the commit event at the transaction's depth, and
-/// the rounds of deferred tasks.
-///
-/// HiPAC: deferred tasks run after the last operation, before the commit. An error means that memory ran out.
-pub(crate) fn complete<R: Threads + Sync>(
-    rt: &R,
-    alloc: Global,
-    lib: &Library,
-    view: &mut View,
-    begun: Course,
-    depth: u8,
-    width: usize,
-) -> Result<Course, AllocError>
-    ensures { IfOk result (λ c. Continues (library lib.now) (top_course (library lib.now) depth) view.old view.new (course_of begun) (course_of c)) }
-{
-    let course = signal_commit(rt, alloc, lib, view, begun, depth, width)?;
-    let all = run_rounds(rt, alloc, lib, view, course, width)?;
-    Ok(all)
-}
-
-/// Signals the commit event where the course so far is done.
-fn signal_commit<R: Threads + Sync>(
-    rt: &R,
-    alloc: Global,
-    lib: &Library,
-    view: &mut View,
-    mut begun: Course,
-    depth: u8,
-    width: usize,
-) -> Result<Course, AllocError>
-    ensures { IfOk result (λ c. Continues (library lib.now) (λ work S. then_do (work S) (signal_in (level_at (library lib.now) depth) commit_reached)) view.old view.new (course_of begun) (course_of c)) }
-{
-    match begun.end {
-        End::Done => {
-            let commit = run_signal(rt, alloc, lib, view, &Prim::Commit, depth, width)?;
-            begun.join(commit)?;
-            Ok(begun)
-        }
-        End::Abort(_) => Ok(begun),
-        End::Veto(_) => Ok(begun),
+impl<R: Threads + Sync> Runner<'_, R> {
+    /// Goes on from the course of a top-level transaction's work to its end: the commit event at the transaction's depth, and
+    /// the rounds of deferred tasks.
+    ///
+    /// HiPAC: deferred tasks run after the last operation, before the commit. An error means that memory ran out.
+    pub(crate) fn complete(
+        &self,
+        view: &mut View,
+        begun: Course,
+        depth: u8,
+    ) -> Result<Course, AllocError>
+        ensures { IfOk result (λ c. Continues (library self.now.engine.lib.now) (top_course (library self.now.engine.lib.now) depth) view.old view.new (course_of begun) (course_of c)) }
+    {
+        let course = self.signal_commit(view, begun, depth)?;
+        let all = self.run_rounds(view, course)?;
+        Ok(all)
     }
-}
 
-/// Runs the queued tasks in rounds, each of which runs what the one before queued, while the course is done and tasks are
-/// queued.
-fn run_rounds<R: Threads + Sync>(
-    rt: &R,
-    alloc: Global,
-    lib: &Library,
-    view: &mut View,
-    begun: Course,
-    width: usize,
-) -> Result<Course, AllocError>
-    ensures { IfOk result (λ c. Continues (library lib.now) (λ work S. model.rounds (model.most_rounds (library lib.now)) (fire_task (library lib.now)) (work S)) view.old view.new (course_of begun) (course_of c)) }
-{
-    let most = most_rounds(lib);
-    let mut course = begun;
-    for _ in 0..most {
-        if is_settled(&course) {
-            return Ok(course);
+    /// Signals the commit event where the course so far is done.
+    fn signal_commit(
+        &self,
+        view: &mut View,
+        mut begun: Course,
+        depth: u8,
+    ) -> Result<Course, AllocError>
+        ensures { IfOk result (λ c. Continues (library self.now.engine.lib.now) (λ work S. then_do (work S) (signal_in (level_at (library self.now.engine.lib.now) depth) commit_reached)) view.old view.new (course_of begun) (course_of c)) }
+    {
+        match begun.end {
+            End::Done => {
+                let commit = self.engine.run_signal(view, &Prim::Commit, depth)?;
+                begun.join(commit)?;
+                Ok(begun)
+            }
+            End::Abort(_) => Ok(begun),
+            End::Veto(_) => Ok(begun),
         }
-        course = run_round(rt, alloc, lib, view, course, width)?;
     }
-    Ok(course)
+
+    /// Runs the queued tasks in rounds, each of which runs what the one before queued, while the course is done and tasks are
+    /// queued.
+    fn run_rounds(&self, view: &mut View, begun: Course) -> Result<Course, AllocError>
+        ensures { IfOk result (λ c. Continues (library self.now.engine.lib.now) (λ work S. model.rounds (model.most_rounds (library self.now.engine.lib.now)) (fire_task (library self.now.engine.lib.now)) (work S)) view.old view.new (course_of begun) (course_of c)) }
+    {
+        let most = most_rounds(self.engine.lib);
+        let mut course = begun;
+        for _ in 0..most {
+            if is_settled(&course) {
+                return Ok(course);
+            }
+            course = self.run_round(view, course)?;
+        }
+        Ok(course)
+    }
+
+    /// Runs a round: the queued tasks fire as siblings, and a veto aborts the transaction.
+    fn run_round(&self, view: &mut View, mut course: Course) -> Result<Course, AllocError>
+        requires { answers.is_settled (course_of course).end (course_of course).queued ≡ false }
+        ensures { IfOk result (λ c. IsRound (library self.now.engine.lib.now) view.old view.new (course_of course) (course_of c)) }
+    {
+        let group = self.engine.run_siblings(view, &course.queued, true)?;
+        let next = group_course(self.alloc(), group)?;
+        course.queued = Vec::new(self.alloc());
+        course.join(next)?;
+        Ok(course)
+    }
 }
 
 /// How many rounds, or generations, there are at most: each task is deeper than the one that made it, or is the action of
@@ -100,23 +102,4 @@ fn is_settled(course: &Course) -> bool
         End::Done => course.queued.is_empty(),
         End::Abort(_) | End::Veto(_) => true,
     }
-}
-
-/// Runs a round: the queued tasks fire as siblings, and a veto aborts the transaction.
-fn run_round<R: Threads + Sync>(
-    rt: &R,
-    alloc: Global,
-    lib: &Library,
-    view: &mut View,
-    mut course: Course,
-    width: usize,
-) -> Result<Course, AllocError>
-    requires { answers.is_settled (course_of course).end (course_of course).queued ≡ false }
-    ensures { IfOk result (λ c. IsRound (library lib.now) view.old view.new (course_of course) (course_of c)) }
-{
-    let group = run_group(rt, alloc, lib, view, &course.queued, true, width, &NoGate)?;
-    let next = group_course(alloc, group)?;
-    course.queued = Vec::new(alloc);
-    course.join(next)?;
-    Ok(course)
 }

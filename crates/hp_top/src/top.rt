@@ -10,15 +10,70 @@ ghost use Rattle.hp_top.specs.Mapped.{top_of};
 ghost use Rattle.hp_top.specs.Runs.{RunsTop, Finishes};
 
 use crate::closing::close;
-use crate::rounds::complete;
+use crate::runner::Runner;
 use hp_attempt::Outcome;
-use hp_fire::{Course, End, run_body, run_firing, run_signal};
+use hp_fire::{Course, End, Past};
 use hp_rule::{Detached, Library, Task, Unit};
 use hp_tree::{Ending, Item};
 use hp_value::Prim;
 use hp_view::{Mark, View};
 use std::alloc::{AllocError, Global};
 use std::thread::Threads;
+
+impl<R: Threads + Sync> Runner<'_, R> {
+    /// Runs a unit's own transaction on the view: the script's body, or the signal of the moment, then the commit event and
+    /// the deferred rounds.
+    ///
+    /// Groups of firings inside get so much width. An error means that memory ran out; the view may then hold a part of the
+    /// effects.
+    pub(crate) fn run_top(&self, view: &mut View, unit: &Unit) -> Result<Top, AllocError>
+        ensures { IfOk result (λ t. RunsTop (library self.now.engine.lib.now) (top (library self.now.engine.lib.now) 0 (unit_work (library self.now.engine.lib.now) (unit_of unit.now))) view.old view.new (top_of t)) }
+    {
+        let mark = view.enter();
+        match unit {
+            Unit::Transaction(body) => {
+                let course = self.engine.run_body(view, body.statements(), 0)?;
+                let top = self.finish(view, mark, course, 0)?;
+                Ok(top)
+            }
+            Unit::Moment(time) => {
+                let course = self.engine.run_signal(view, &Prim::Time(*time), 0)?;
+                let top = self.finish(view, mark, course, 0)?;
+                Ok(top)
+            }
+        }
+    }
+
+    /// Runs a detached task on the view as a top-level transaction of its own.
+    ///
+    /// A veto of the task aborts the transaction. An error means that memory ran out; the view may then hold a part of the
+    /// effects.
+    pub(crate) fn run_detached(&self, view: &mut View, task: &Task) -> Result<Top, AllocError>
+        ensures { IfOk result (λ t. RunsTop (library self.now.engine.lib.now) (top (library self.now.engine.lib.now) (task_of task.now).depth (task_work (library self.now.engine.lib.now) (task_of task.now))) view.old view.new (top_of t)) }
+    {
+        let mark = view.enter();
+        let outcome = self.engine.run_firing(view, task)?;
+        let course = firing_course(outcome);
+        let top = self.finish(view, mark, course, task.depth)?;
+        Ok(top)
+    }
+
+    /// Goes on from a transaction's work to its end, and ends it.
+    fn finish(
+        &self,
+        view: &mut View,
+        mark: Mark,
+        course: Course,
+        depth: u8,
+    ) -> Result<Top, AllocError>
+        requires { mark ≤ length view.old.undo }
+        ensures { IfOk result (λ t. Finishes (library self.now.engine.lib.now) depth mark view.old view.new (course_of course) (top_of t)) }
+    {
+        let all = self.complete(view, course, depth)?;
+        let top = close(self.alloc(), view, mark, all)?;
+        Ok(top)
+    }
+}
 
 /// What a top-level transaction gives, beside what it writes.
 #[derive(Debug, Drop)]
@@ -46,19 +101,9 @@ pub fn run_top<R: Threads + Sync>(
 ) -> Result<Top, AllocError>
     ensures { IfOk result (λ t. RunsTop (library lib.now) (top (library lib.now) 0 (unit_work (library lib.now) (unit_of unit.now))) view.old view.new (top_of t)) }
 {
-    let mark = view.enter();
-    match unit {
-        Unit::Transaction(body) => {
-            let course = run_body(rt, alloc, lib, view, body.statements(), 0, width)?;
-            let top = finish(rt, alloc, lib, view, mark, course, 0, width)?;
-            Ok(top)
-        }
-        Unit::Moment(time) => {
-            let course = run_signal(rt, alloc, lib, view, &Prim::Time(*time), 0, width)?;
-            let top = finish(rt, alloc, lib, view, mark, course, 0, width)?;
-            Ok(top)
-        }
-    }
+    let past = Past::new(alloc, lib, width);
+    let top = Runner::new(rt, alloc, lib, width, &past).run_top(view, unit)?;
+    Ok(top)
 }
 
 /// Runs a detached task on the view as a top-level transaction of its own.
@@ -75,10 +120,8 @@ pub fn run_detached<R: Threads + Sync>(
 ) -> Result<Top, AllocError>
     ensures { IfOk result (λ t. RunsTop (library lib.now) (top (library lib.now) (task_of task.now).depth (task_work (library lib.now) (task_of task.now))) view.old view.new (top_of t)) }
 {
-    let mark = view.enter();
-    let outcome = run_firing(rt, alloc, lib, view, task, width)?;
-    let course = firing_course(outcome);
-    let top = finish(rt, alloc, lib, view, mark, course, task.depth, width)?;
+    let past = Past::new(alloc, lib, width);
+    let top = Runner::new(rt, alloc, lib, width, &past).run_detached(view, task)?;
     Ok(top)
 }
 
@@ -96,23 +139,4 @@ fn firing_course(outcome: Outcome) -> Course
         detached: outcome.detached,
         items: outcome.tree,
     }
-}
-
-/// Goes on from a transaction's work to its end, and ends it.
-fn finish<R: Threads + Sync>(
-    rt: &R,
-    alloc: Global,
-    lib: &Library,
-    view: &mut View,
-    mark: Mark,
-    course: Course,
-    depth: u8,
-    width: usize,
-) -> Result<Top, AllocError>
-    requires { mark ≤ length view.old.undo }
-    ensures { IfOk result (λ t. Finishes (library lib.now) depth mark view.old view.new (course_of course) (top_of t)) }
-{
-    let all = complete(rt, alloc, lib, view, course, depth, width)?;
-    let top = close(alloc, view, mark, all)?;
-    Ok(top)
 }

@@ -12,8 +12,9 @@ ghost use Rattle.hp_view.specs.Mapped.{read};
 ghost use Rattle.hp_top.specs.Runs.{RunsUnit};
 ghost use Rattle.hp_top.specs.Units.{IsSoundUnit, RanUnit, IsReplayed, IsLawful, IsUnitOf};
 
-use crate::generations::{cascade, due};
-use crate::top::run_top;
+use crate::generations::due;
+use crate::runner::Runner;
+use hp_fire::Past;
 use hp_rule::{Library, Unit};
 use hp_store::{Layer, Snapshot, Store};
 use hp_tree::{TopReport, UnitReport};
@@ -21,6 +22,71 @@ use hp_view::{Found, Reads, Seen, View};
 use std::alloc::{AllocError, Global};
 use std::sync::Arc;
 use std::thread::Threads;
+
+impl<R: Threads + Sync> Runner<'_, R> {
+    /// Runs a unit on the view: its own transaction, and the cascade of what that detaches. It gives what is reported of it.
+    ///
+    /// Groups of firings inside get so much width. An error means that memory ran out; the view may then hold a part of the
+    /// effects.
+    pub(crate) fn run_unit_on(&self, view: &mut View, unit: &Unit) -> Result<UnitReport, AllocError>
+        ensures { IfOk result (λ r. RunsUnit (library self.now.engine.lib.now) (unit_of unit.now) view.old view.new (unit_report r)) }
+    {
+        let top = self.run_top(view, unit)?;
+        let tasks = due(self.alloc(), top.detached)?;
+        let mut tops = Vec::new(self.alloc());
+        tops.push(TopReport {
+            task: None,
+            end: top.end,
+            tree: top.tree,
+        })?;
+        let mut later = self.cascade(view, tasks)?;
+        tops.append(&mut later)?;
+        Ok(UnitReport {
+            moment: moment_of(unit),
+            tops,
+        })
+    }
+
+    /// Tries a unit on a snapshot, which is dropped.
+    ///
+    /// An error means that memory ran out.
+    pub(crate) fn attempt_unit(
+        &self,
+        snapshot: Snapshot,
+        unit: &Unit,
+    ) -> Result<UnitAttempt, AllocError>
+        ensures sound { IfOk result (λ a. IsSoundUnit (library self.now.engine.lib.now) (unit_of unit.now) a.reads (changes a.layer.value) (unit_report a.report)) }
+        ensures so_it_was { IfOk result (λ a. Holds (cells_in snapshot) a.reads) }
+    {
+        let mut view = View::new(self.alloc(), snapshot)?;
+        let report = self.run_unit_on(&mut view, unit)?;
+        let (reads, layer) = view.into_parts();
+        Ok(UnitAttempt {
+            reads,
+            layer,
+            report,
+        })
+    }
+
+    /// Runs a unit on the committed store, and gives what is reported of it.
+    ///
+    /// The changes go into the store in place where nobody else holds a snapshot of it, and cost no more than what they change. A
+    /// class that the unit read as a whole needn't be listed anew for the units after it, until one of its objects changes.
+    /// An error means that memory ran out; the store is then as before.
+    pub(crate) fn run_unit(&self, store: &mut Store, unit: &Unit) -> Result<UnitReport, AllocError>
+        ensures ran { IfOk result (λ r. RanUnit (library self.now.engine.lib.now) (unit_of unit.now) (cells_in store.old) (cells_in store.new) (unit_report r)) }
+        ensures replayed { IfOk result (λ r. IsReplayed (library self.now.engine.lib.now) (unit_of unit.now) (cells_in store.old) (unit_report r)) }
+        ensures lawful { IfOk result (λ r. IsLawful (library self.now.engine.lib.now) (unit_of unit.now) (cells_in store.old) (unit_report r)) }
+        ensures fit { IfOk result (λ r. IsUnitOf (library self.now.engine.lib.now) (unit_of unit.now) → HasFitState (library self.now.engine.lib.now) (cells_in store.old) → HasFitState (library self.now.engine.lib.now) (cells_in store.new)) }
+        ensures err { OnErr result (store.new ≡ store.old) }
+    {
+        let snapshot = store.snapshot()?;
+        let attempt = self.attempt_unit(snapshot, unit)?;
+        keep_lists(store, &attempt.reads)?;
+        store.apply(self.alloc(), attempt.layer)?;
+        Ok(attempt.report)
+    }
+}
 
 /// Runs a unit on the view: its own transaction, and the cascade of what that detaches. It gives what is reported of it.
 ///
@@ -36,20 +102,9 @@ pub fn run_unit_on<R: Threads + Sync>(
 ) -> Result<UnitReport, AllocError>
     ensures { IfOk result (λ r. RunsUnit (library lib.now) (unit_of unit.now) view.old view.new (unit_report r)) }
 {
-    let top = run_top(rt, alloc, lib, view, unit, width)?;
-    let tasks = due(alloc, top.detached)?;
-    let mut tops = Vec::new(alloc);
-    tops.push(TopReport {
-        task: None,
-        end: top.end,
-        tree: top.tree,
-    })?;
-    let mut later = cascade(rt, alloc, lib, view, tasks, width)?;
-    tops.append(&mut later)?;
-    Ok(UnitReport {
-        moment: moment_of(unit),
-        tops,
-    })
+    let past = Past::new(alloc, lib, width);
+    let report = Runner::new(rt, alloc, lib, width, &past).run_unit_on(view, unit)?;
+    Ok(report)
 }
 
 /// The moment of a unit, if it is one.
@@ -87,14 +142,9 @@ pub fn attempt_unit<R: Threads + Sync>(
     ensures sound { IfOk result (λ a. IsSoundUnit (library lib.now) (unit_of unit.now) a.reads (changes a.layer.value) (unit_report a.report)) }
     ensures so_it_was { IfOk result (λ a. Holds (cells_in snapshot) a.reads) }
 {
-    let mut view = View::new(alloc, snapshot)?;
-    let report = run_unit_on(rt, alloc, lib, &mut view, unit, width)?;
-    let (reads, layer) = view.into_parts();
-    Ok(UnitAttempt {
-        reads,
-        layer,
-        report,
-    })
+    let past = Past::new(alloc, lib, width);
+    let attempt = Runner::new(rt, alloc, lib, width, &past).attempt_unit(snapshot, unit)?;
+    Ok(attempt)
 }
 
 /// Runs a unit on the committed store, and gives what is reported of it.
@@ -116,11 +166,9 @@ pub fn run_unit<R: Threads + Sync>(
     ensures fit { IfOk result (λ r. IsUnitOf (library lib.now) (unit_of unit.now) → HasFitState (library lib.now) (cells_in store.old) → HasFitState (library lib.now) (cells_in store.new)) }
     ensures err { OnErr result (store.new ≡ store.old) }
 {
-    let snapshot = store.snapshot()?;
-    let attempt = attempt_unit(rt, alloc, lib, snapshot, unit, width)?;
-    keep_lists(store, &attempt.reads)?;
-    store.apply(alloc, attempt.layer)?;
-    Ok(attempt.report)
+    let past = Past::new(alloc, lib, width);
+    let report = Runner::new(rt, alloc, lib, width, &past).run_unit(store, unit)?;
+    Ok(report)
 }
 
 // Keeps the lists of the classes that were read as a whole.

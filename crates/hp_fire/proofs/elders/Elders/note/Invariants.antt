@@ -1,5 +1,0 @@
-use Rattle.hp_board.specs.Passes.{IsPassOf}
-use Rattle.hp_fire.proofs.elders.Elders.note.Given as goal
-
-abbrev pub invariant-loop-elder : goal.invariant-loop-elder
-invariant-loop-elder l = IsPassOf l.wave.board.cells l.pass

@@ -1,0 +1,339 @@
+use Rattle.std.proofs.Common.{rules, arith, ◌≡◌, refl, ap, sym, ◌∙◌, subst, ◌≤◌, [], ◌∷◌, None, drop, map, length, true, false}
+use Rattle.std.proofs.Common.{SFits, w64, of_z, to_z, Ok}
+use Rattle.std.proofs.lemmas.Int.{to_z-of_z}
+use Rattle.std.proofs.lemmas.Result.{err_from_is_err_and}
+use Rattle.std.proofs.Math.ListN.{drop_of_length-le}
+use Rattle.std.proofs.lemmas.List.{map-append}
+use Rattle.hp_model.specs.Values.{requested}
+use Rattle.hp_model.specs.Occurrences.{signalled}
+use Rattle.hp_model.specs.Conditions.{answer}
+use Rattle.std.specs.Prelude.{filter}
+use Rattle.hp_model.specs.Tree.{Task}
+use Rattle.hp_model.specs.Transactions.{abort_by, deferred_of, detached_of, done, for_each, unreleased}
+use Rattle.hp_model.specs.Soundness.{Answer}
+use Rattle.hp_model.specs.Answers.{is_done, followed}
+use Rattle.hp_model.specs.Rules as R
+use Rattle.hp_model.specs.Rules.{Body, is_immediate, rule_at}
+use Rattle.hp_model.specs.Firing.{Context, level_at, run_body, with_row, action_course, signal_in, values_of, boolean_value, choose, named_object, start, siblings, fire_task}
+use Rattle.hp_value.specs.Mapped.{keyed_row, answers, expression, primitive, rule_operation}
+use Rattle.hp_query.specs.Mapped.{keyed_rows}
+use Rattle.hp_rule.specs.declared.stmt.Stmt.TheViews.{the_lemmas}
+use Rattle.hp_rule.specs.Mapped.{library, statement, body_in, task, assignment}
+use Rattle.hp_rule.proofs.Bodies.{row_body_lem}
+use Rattle.hp_attempt.specs.Mapped.{firing}
+use Rattle.hp_ops.proofs.Worlds.{split_at}
+use Rattle.hp_tree.specs.Mapped.{items_in}
+use Rattle.hp_fire.specs.Mapped.{context, course, group}
+use Rattle.hp_fire.specs.Runs.{Runs, RunsGroup, Made, Makes, SubRuns}
+use Rattle.hp_fire.proofs.Making.{steps_halt}
+use Rattle.hp_fire.proofs.Stating.{with_is, steps_at, runs_at, signal_halt, signal_steps, found_halt, fire_halt, fire_runs}
+use Rattle.hp_fire.proofs.Steps.{runs_answer, runs_ends, runs_value, found_value, runs_signal, sub_over, sub_then, body_each, loop_starts, loop_next, loop_stops, loop_ends}
+use Rattle.hp_fire.proofs.Starting.{signal_runs, start_none, start_alone, alone_measure, start_runs, group_measure, none_long, map_none, tasks_at}
+use Rattle.hp_model.specs.Cells.{Holds}
+use Rattle.hp_store.specs.Changes.{changes}
+use Rattle.hp_store.specs.Stack.{Stack, cells_in}
+use Rattle.hp_fire.proofs.Attempting.{attempt_sound}
+use denote.Param.{param}
+use denote.Param.Send.{IsSync, param_sync, sendable}
+use denote.Ref.{NamedLft}
+use Rattle.std.proofs.Crossing as heap
+use Rattle.hp_fire.specs.contracts.engine.Engine as EngineRow
+use Rattle.hp_fire.proofs.Sending.{engine_sync}
+use Rattle.hp_fire.proofs.engine.+fire.Goals as goal
+
+-- ---- statements, one after another
+
+pub Engine::statements-loop-stmt-init : goal.Engine::statements-loop-stmt-init
+Engine::statements-loop-stmt-init g t c = loop_starts c.args.body.now c.args.view.now _ c.ended-so_far.ensures (body_each _ _ c.args.body.now)
+
+pub Engine::statements-loop-stmt-preserved : goal.Engine::statements-loop-stmt-preserved
+Engine::statements-loop-stmt-preserved g t c =
+    let goes : is_done (course c.join.new.self).end ≡ true = search rules in
+    loop_next c.stmt-item.result _ (split_at c.args.body.now c.loop-stmt.stmt-index c.stmt-item.result c.loop-stmt-test.true c.stmt-item.is) c.in_ok-join.ensures goes c.loop-stmt.invariant
+    (c.in_ok-more.ensures (library c.args.self.now.lib.now) _ c.loop-stmt.view c.statement-result.new.view c.statement-result.ensures)
+
+pub Engine::statements-returns-then-not-is_done : goal.Engine::statements-returns-then-not-is_done
+Engine::statements-returns-then-not-is_done g t c =
+    let stops : is_done (course c.join.new.self).end ≡ false = search rules in
+    loop_stops c.stmt-item.result _ (split_at c.args.body.now c.loop-stmt.stmt-index c.stmt-item.result c.loop-stmt-test.true c.stmt-item.is) c.in_ok-join.ensures stops c.loop-stmt.invariant
+    (c.in_ok-more.ensures (library c.args.self.now.lib.now) _ c.loop-stmt.view c.statement-result.new.view c.statement-result.ensures)
+
+pub Engine::statements-returns : goal.Engine::statements-returns
+Engine::statements-returns g t c = loop_ends (drop_of_length-le c.args.body.now c.loop-stmt-test.false) c.loop-stmt.invariant
+
+-- ---- rows, one after another
+
+pub Engine::each_row-loop-row-init : goal.Engine::each_row-loop-row-init
+Engine::each_row-loop-row-init g t c = loop_starts (map keyed_row c.args.rows.now) c.args.view.now _ c.ended-so_far.ensures (λ S. refl)
+
+pub Engine::each_row-loop-row-preserved : goal.Engine::each_row-loop-row-preserved
+Engine::each_row-loop-row-preserved g t c =
+    let fits : SFits w64 c.row-item.result.key = search rules in
+    let back : to_z w64 (of_z w64 c.row-item.result.key) ≡ c.row-item.result.key = to_z-of_z w64 c.row-item.result.key fits in
+    let goes : is_done (course c.join.new.self).end ≡ true = search rules in
+    loop_next (keyed_row c.row-item.result) _ (ap (map keyed_row) (split_at c.args.rows.now c.loop-row.row-index c.row-item.result c.loop-row-test.true c.row-item.is)) c.in_ok-join.ensures goes c.loop-row.invariant
+    (subst (λ (x : Context). Runs (library c.args.self.now.lib.now) (run_body (body_in c.args.body.now) (level_at (library c.args.self.now.lib.now) c.args.context.now.depth) x) c.loop-row.view c.statements.new.view (course c.in_ok-more.more))
+    (c.bound-inner.ensures.context ∙ ap (λ k. with_row c.args.variable.now (record { key = k; row = c.row-item.result.row }) (context c.args.context.now)) back)
+    (subst (λ d. Runs (library c.args.self.now.lib.now) (run_body (body_in c.args.body.now) (level_at (library c.args.self.now.lib.now) d) (context c.bound-inner.result)) c.loop-row.view c.statements.new.view (course c.in_ok-more.more)) c.bound-inner.ensures.depth
+    c.in_ok-more.ensures))
+
+pub Engine::each_row-returns-then-not-is_done : goal.Engine::each_row-returns-then-not-is_done
+Engine::each_row-returns-then-not-is_done g t c =
+    let fits : SFits w64 c.row-item.result.key = search rules in
+    let back : to_z w64 (of_z w64 c.row-item.result.key) ≡ c.row-item.result.key = to_z-of_z w64 c.row-item.result.key fits in
+    let stops : is_done (course c.join.new.self).end ≡ false = search rules in
+    loop_stops (keyed_row c.row-item.result) _ (ap (map keyed_row) (split_at c.args.rows.now c.loop-row.row-index c.row-item.result c.loop-row-test.true c.row-item.is)) c.in_ok-join.ensures stops c.loop-row.invariant
+    (subst (λ (x : Context). Runs (library c.args.self.now.lib.now) (run_body (body_in c.args.body.now) (level_at (library c.args.self.now.lib.now) c.args.context.now.depth) x) c.loop-row.view c.statements.new.view (course c.in_ok-more.more))
+    (c.bound-inner.ensures.context ∙ ap (λ k. with_row c.args.variable.now (record { key = k; row = c.row-item.result.row }) (context c.args.context.now)) back)
+    (subst (λ d. Runs (library c.args.self.now.lib.now) (run_body (body_in c.args.body.now) (level_at (library c.args.self.now.lib.now) d) (context c.bound-inner.result)) c.loop-row.view c.statements.new.view (course c.in_ok-more.more)) c.bound-inner.ensures.depth
+    c.in_ok-more.ensures))
+
+pub Engine::each_row-returns : goal.Engine::each_row-returns
+Engine::each_row-returns g t c = loop_ends (ap (map keyed_row) (drop_of_length-le c.args.rows.now c.loop-row-test.false)) c.loop-row.invariant
+
+-- ---- attempts
+
+pub Engine::attempted-returns-clause-sound : goal.Engine::attempted-returns-clause-sound
+Engine::attempted-returns-clause-sound g t c =
+    attempt_sound (library c.args.self.now.lib.now) (task c.args.task.now) c.in_ok-view.view c.firing.new.view (firing c.in_ok-outcome.outcome) c.in_ok-view.ensures.writes c.in_ok-outcome.ensures
+    _ _ _ c.in_ok-copy.ensures.cases c.into_parts-reads.ensures.reads (ap changes c.into_parts-reads.ensures.layer)
+
+pub Engine::attempted-returns-clause-so_it_was : goal.Engine::attempted-returns-clause-so_it_was
+Engine::attempted-returns-clause-so_it_was g t c =
+    subst (λ (s : Stack). Holds (cells_in s) c.into_parts-reads.result.0) (c.in_ok-outcome.ensures.goes_on.base ∙ c.in_ok-view.ensures.base) c.into_parts-reads.ensures.so_it_was
+
+-- ---- operations and actions
+
+pub Engine::operated-returns : goal.Engine::operated-returns
+Engine::operated-returns g t c = λ work before made.
+    let lib = library c.args.self.now.lib.now in
+    let is : c.args.made ≡ Ok c.in_ok-prim.prim = search rules in
+    let is_made : Made lib (level_at lib c.args.depth) work before c.args.view.now (primitive c.in_ok-prim.prim) = subst (Makes primitive lib (level_at lib c.args.depth) work before c.args.view.now) is made in
+    runs_answer (c.in_ok-join.ensures ∙ ap (λ (a : Answer). followed a (course c.in_ok-more.more)) c.in_ok-course.ensures)
+    (runs_signal is_made (c.in_ok-more.ensures lib _ c.args.view.now c.signal-result.new.view c.signal-result.ensures))
+
+pub Engine::action-returns : goal.Engine::action-returns
+Engine::action-returns g t c =
+    let lib = library c.args.self.now.lib.now in
+    let here : Runs (library c.args.self.now.lib.now) (action_course (level_at (library c.args.self.now.lib.now) c.args.task.now.depth) (task c.args.task.now) (answers c.args.answers.now)) c.args.view.now c.statements.new.view (course c.in_ok-course.course) =
+    subst (λ (x : Context). Runs (library c.args.self.now.lib.now) (run_body (rule_at (library c.args.self.now.lib.now) c.args.task.now.rule).action (level_at (library c.args.self.now.lib.now) c.args.task.now.depth) x) c.args.view.now c.statements.new.view (course c.in_ok-course.course)) c.of_action-context.ensures.context
+    (subst (λ d. Runs (library c.args.self.now.lib.now) (run_body (rule_at (library c.args.self.now.lib.now) c.args.task.now.rule).action (level_at (library c.args.self.now.lib.now) d) (context c.of_action-context.result)) c.args.view.now c.statements.new.view (course c.in_ok-course.course)) c.of_action-context.ensures.depth
+    (subst (λ (b : Body). Runs (library c.args.self.now.lib.now) (run_body b (level_at (library c.args.self.now.lib.now) c.of_action-context.result.depth) (context c.of_action-context.result)) c.args.view.now c.statements.new.view (course c.in_ok-course.course)) c.action_of.ensures.action
+    c.in_ok-course.ensures)) in
+    c.in_ok-outcome.ensures lib (level_at lib c.args.task.now.depth) (task c.args.task.now) (answers c.args.answers.now) c.args.view.now here (sym c.enter-mark.ensures)
+
+-- ---- signals
+
+pub Engine::signal-returns : goal.Engine::signal-returns
+Engine::signal-returns g t c = signal_runs c.in_ok-tasks.ensures.triggers c.in_ok-tasks.ensures.goes_on c.in_ok-course.ensures
+
+pub Engine::start-returns-then-is_empty : goal.Engine::start-returns-then-is_empty
+Engine::start-returns-then-is_empty g t c =
+    let long : length c.args.tasks.items ≡ c.args.tasks.len = search rules in
+    let zero : c.args.tasks.len ≡ 0 = search rules in
+    let none : c.args.tasks.items ≡ [] = none_long c.args.tasks.items (long ∙ zero) in
+    start_none (library c.args.self.now.lib.now) c.args.depth (ap (map task) none) c.args.view.now _ c.ended.ensures
+
+pub Engine::start-firing-requires : goal.Engine::start-firing-requires
+Engine::start-firing-requires g t c = λ κs lives.
+    (omega (arith, alone_measure c.args.self.now.lib.now c.args.depth c.args.tasks.items c.in-Ok.task c.requires (ap (map task) c.in-Ok.ensures.one.0), c.decreases), (lives, search rules))
+
+pub Engine::start-returns-in-Ok : goal.Engine::start-returns-in-Ok
+Engine::start-returns-in-Ok g t c =
+    runs_answer c.firing_course.ensures
+    (start_alone (map task c.args.tasks.items) (task c.in-Ok.task) c.requires (ap (map task) c.in-Ok.ensures.one.0) c.in-Ok.ensures.one.1 c.in_ok-outcome-in-Ok.ensures)
+
+pub Engine::start-group-requires : goal.Engine::start-group-requires
+Engine::start-group-requires g t c = λ κs lives.
+    let long : length c.args.tasks.items ≡ c.args.tasks.len = search rules in
+    let some : c.args.tasks.items ≡ [] → ⊥ = λ e. let zero : c.args.tasks.len ≡ 0 = sym long ∙ ap length e in search rules in
+    let now : map task c.deref.result.now ≡ filter (λ (u : Task). is_immediate u.place) (map task c.args.tasks.items) = ap (map task) c.deref.ensures.value ∙ c.in_ok-immediate.ensures.immediate ∙ ap (λ ts. filter (λ (u : Task). is_immediate u.place) (map task ts)) c.in-Err.ensures.others in
+    let falls = group_measure c.args.self.now.lib.now c.args.depth c.args.tasks.items c.requires some in
+    let at = tasks_at c.args.depth c.args.tasks.items c.deref.result.now c.requires now in
+    (omega (arith, falls, c.decreases), (lives, search (at, rules)))
+
+pub Engine::start-returns : goal.Engine::start-returns
+Engine::start-returns g t c =
+    let long : length c.args.tasks.items ≡ c.args.tasks.len = search rules in
+    let some : c.args.tasks.items ≡ [] → ⊥ = λ e. let zero : c.args.tasks.len ≡ 0 = sym long ∙ ap length e in search rules in
+    let same = c.in-Err.ensures.others in
+    let now : map task c.deref.result.now ≡ filter (λ (u : Task). is_immediate u.place) (map task c.args.tasks.items) = ap (map task) c.deref.ensures.value ∙ c.in_ok-immediate.ensures.immediate ∙ ap (λ ts. filter (λ (u : Task). is_immediate u.place) (map task ts)) same in
+    let queued = c.in_ok-immediate.ensures.queued ∙ ap (λ ts. deferred_of (map task ts)) same in
+    let apart = c.in_ok-immediate.ensures.detached ∙ ap (λ ts. map unreleased (detached_of (map task ts))) same in
+    runs_answer
+    (c.in_ok-join.ensures ∙ (λ i. followed (record { end = done; queued = queued i; detached = apart i; items = ap items_in c.new.ensures.items i }) (c.in_ok-group_course.ensures i)))
+    (start_runs (map task c.args.tasks.items) c.requires (λ e. some (map_none task c.args.tasks.items e))
+    (subst (λ ts. RunsGroup (library c.args.self.now.lib.now) (siblings (fire_task (library c.args.self.now.lib.now)) true ts) c.args.view.now c.group.new.view (group c.in_ok-group.group)) now c.in_ok-group.ensures))
+
+pub Engine::group-run-requires-sync-T : goal.Engine::group-run-requires-sync-T
+Engine::group-run-requires-sync-T g t c = λ κs lives.
+    let r : IsSync g.row.R = search rules in
+    let engine : (κ : NamedLft) → IsSync (EngineRow.the_row κ (param 0 g.row.R)) = λ κ. engine_sync κ (param 0 g.row.R) (param_sync 0 g.row.R r) in
+    search (engine, heap.crosses, sendable) depth 30 fits 20000
+
+-- ---- the statements
+
+pub Engine::statement-returns-in-Create : goal.Engine::statement-returns-in-Create
+Engine::statement-returns-in-Create g t c =
+    let is : R.create c.in-Create.class (expression c.deref.result.now) (map assignment c.deref-in-Create.result.now) ≡ statement c.args.stmt.now = search (rules, the_lemmas) in
+    steps_at (library c.args.self.now.lib.now) (level_at (library c.args.self.now.lib.now) c.args.context.now.depth) (context c.args.context.now) c.args.view.now c.operated.new.view c.operated.result is (c.operated.ensures _ c.args.view.now c.created-made.ensures)
+
+pub Engine::statement-returns-in-Update : goal.Engine::statement-returns-in-Update
+Engine::statement-returns-in-Update g t c =
+    let is : R.update c.in-Update.class (expression c.deref-in-Update.result.now) (map assignment c.deref-in-Update-2.result.now) ≡ statement c.args.stmt.now = search (rules, the_lemmas) in
+    steps_at (library c.args.self.now.lib.now) (level_at (library c.args.self.now.lib.now) c.args.context.now.depth) (context c.args.context.now) c.args.view.now c.operated-in-Update.new.view c.operated-in-Update.result is (c.operated-in-Update.ensures _ c.args.view.now c.updated-made.ensures)
+
+pub Engine::statement-returns-in-Delete : goal.Engine::statement-returns-in-Delete
+Engine::statement-returns-in-Delete g t c =
+    let is : R.delete c.in-Delete.class (expression c.deref-in-Delete.result.now) ≡ statement c.args.stmt.now = search (rules, the_lemmas) in
+    steps_at (library c.args.self.now.lib.now) (level_at (library c.args.self.now.lib.now) c.args.context.now.depth) (context c.args.context.now) c.args.view.now c.operated-in-Delete.new.view c.operated-in-Delete.result is (c.operated-in-Delete.ensures _ c.args.view.now c.deleted-made.ensures)
+
+pub Engine::statement-returns-in-Signal : goal.Engine::statement-returns-in-Signal
+Engine::statement-returns-in-Signal g t c =
+    let is : R.signal c.deref-in-Signal.result.now (map expression c.deref-in-Signal-2.result.now) ≡ statement c.args.stmt.now = search (rules, the_lemmas) in
+    steps_at (library c.args.self.now.lib.now) (level_at (library c.args.self.now.lib.now) c.args.context.now.depth) (context c.args.context.now) c.args.view.now c.give_signal.new.view c.give_signal.result is c.give_signal.ensures
+
+pub Engine::statement-returns-in-Emit : goal.Engine::statement-returns-in-Emit
+Engine::statement-returns-in-Emit g t c =
+    let is : R.emit (expression c.deref-in-Emit.result.now) ≡ statement c.args.stmt.now = search (rules, the_lemmas) in
+    steps_at (library c.args.self.now.lib.now) (level_at (library c.args.self.now.lib.now) c.args.context.now.depth) (context c.args.context.now) c.args.view.now c.args.view.now c.emitted.result is (c.emitted.ensures c.args.view.now (library c.args.self.now.lib.now) (level_at (library c.args.self.now.lib.now) c.args.context.now.depth))
+
+pub Engine::statement-returns-in-If : goal.Engine::statement-returns-in-If
+Engine::statement-returns-in-If g t c =
+    let is : R.when (expression c.deref-in-If.result.now) (body_in c.deref-in-If-2.result.now) (body_in c.deref-in-If-3.result.now) ≡ statement c.args.stmt.now = search (rules, the_lemmas, row_body_lem) in
+    steps_at (library c.args.self.now.lib.now) (level_at (library c.args.self.now.lib.now) c.args.context.now.depth) (context c.args.context.now) c.args.view.now c.run_branch.new.view c.run_branch.result is c.run_branch.ensures
+
+pub Engine::statement-returns-in-Each : goal.Engine::statement-returns-in-Each
+Engine::statement-returns-in-Each g t c =
+    let is : R.each c.deref-in-Each.result.now c.in-Each.class (expression c.deref-in-Each-2.result.now) (body_in c.deref-in-Each-3.result.now) ≡ statement c.args.stmt.now = search (rules, the_lemmas, row_body_lem) in
+    steps_at (library c.args.self.now.lib.now) (level_at (library c.args.self.now.lib.now) c.args.context.now.depth) (context c.args.context.now) c.args.view.now c.each_found.new.view c.each_found.result is c.each_found.ensures
+
+pub Engine::statement-returns-in-For : goal.Engine::statement-returns-in-For
+Engine::statement-returns-in-For g t c =
+    let is : R.for_answer c.deref-in-For.result.now (body_in c.deref-in-For-2.result.now) ≡ statement c.args.stmt.now = search (rules, the_lemmas, row_body_lem) in
+    steps_at (library c.args.self.now.lib.now) (level_at (library c.args.self.now.lib.now) c.args.context.now.depth) (context c.args.context.now) c.args.view.now c.each_kept.new.view c.each_kept.result is c.each_kept.ensures
+
+pub Engine::statement-returns-in-With : goal.Engine::statement-returns-in-With
+Engine::statement-returns-in-With g t c =
+    let is : R.with_object c.deref-in-With.result.now c.in-With.class (expression c.deref-in-With-2.result.now) (body_in c.deref-in-With-3.result.now) ≡ statement c.args.stmt.now =
+    (λ i. R.with_object (c.deref-in-With.ensures i) c.in-With.class (expression (c.deref-in-With-2.ensures i)) (body_in (c.deref-in-With-3.ensures.value i)))
+    ∙ with_is c.args.stmt.now c.in-With.variable c.in-With.class c.in-With.key c.in-With.body c.in-With.is in
+    steps_at (library c.args.self.now.lib.now) (level_at (library c.args.self.now.lib.now) c.args.context.now.depth) (context c.args.context.now) c.args.view.now c.with_object.new.view c.with_object.result is c.with_object.ensures
+
+pub Engine::statement-returns-in-Sub : goal.Engine::statement-returns-in-Sub
+Engine::statement-returns-in-Sub g t c =
+    let is : R.subtransaction (body_in c.deref-in-Sub.result.now) (body_in c.deref-in-Sub-2.result.now) ≡ statement c.args.stmt.now = search (rules, the_lemmas, row_body_lem) in
+    steps_at (library c.args.self.now.lib.now) (level_at (library c.args.self.now.lib.now) c.args.context.now.depth) (context c.args.context.now) c.args.view.now c.sub_or_otherwise.new.view c.sub_or_otherwise.result is c.sub_or_otherwise.ensures
+
+pub Engine::statement-returns-in-Abort : goal.Engine::statement-returns-in-Abort
+Engine::statement-returns-in-Abort g t c =
+    let is : R.abort ≡ statement c.args.stmt.now = search (rules, the_lemmas) in
+    runs_at (level_at (library c.args.self.now.lib.now) c.args.context.now.depth) (context c.args.context.now) is (runs_answer c.ended.ensures (runs_ends (abort_by requested) c.args.view.now))
+
+pub Engine::statement-returns-in-Veto : goal.Engine::statement-returns-in-Veto
+Engine::statement-returns-in-Veto g t c =
+    let is : R.veto ≡ statement c.args.stmt.now = search (rules, the_lemmas) in
+    runs_at (level_at (library c.args.self.now.lib.now) c.args.context.now.depth) (context c.args.context.now) is (c.vetoed.ensures (library c.args.self.now.lib.now) c.args.view.now)
+
+pub Engine::statement-returns-in-OnRule : goal.Engine::statement-returns-in-OnRule
+Engine::statement-returns-in-OnRule g t c =
+    let is : R.on_rule (rule_operation c.in-OnRule.operation) c.in-OnRule.rule ≡ statement c.args.stmt.now = search (rules, the_lemmas) in
+    steps_at (library c.args.self.now.lib.now) (level_at (library c.args.self.now.lib.now) c.args.context.now.depth) (context c.args.context.now) c.args.view.now c.rule_changed.new.view c.rule_changed.result is (c.rule_changed.ensures (level_at (library c.args.self.now.lib.now) c.args.context.now.depth) (context c.args.context.now))
+
+pub Engine::statement-returns-in-Fire : goal.Engine::statement-returns-in-Fire
+Engine::statement-returns-in-Fire g t c =
+    let is : R.fire c.in-Fire.rule ≡ statement c.args.stmt.now = search (rules, the_lemmas) in
+    steps_at (library c.args.self.now.lib.now) (level_at (library c.args.self.now.lib.now) c.args.context.now.depth) (context c.args.context.now) c.args.view.now c.fire_rule.new.view c.fire_rule.result is c.fire_rule.ensures
+
+-- ---- the functions of the statements
+
+pub Engine::give_signal-returns-in_err-prim : goal.Engine::give_signal-returns-in_err-prim
+Engine::give_signal-returns-in_err-prim g t c =
+    let p = err_from_is_err_and c.from_residual.result c.from_residual.ensures.1 in
+    rw (p.1, p.2)
+    (signal_halt c.args.name.now (λ vs. signal_in (level_at (library c.args.self.now.lib.now) c.args.context.now.depth) (signalled c.args.name.now vs)) (values_of (context c.args.context.now).environment (map expression c.args.arguments.now))
+    c.in_err-prim.field-0.0 (library c.args.self.now.lib.now) c.args.view.now primitive c.in_err-prim.ensures)
+
+pub Engine::give_signal-returns : goal.Engine::give_signal-returns
+Engine::give_signal-returns g t c =
+    signal_steps c.args.name.now (signal_in (level_at (library c.args.self.now.lib.now) c.args.context.now.depth)) (values_of (context c.args.context.now).environment (map expression c.args.arguments.now)) (primitive c.in_ok-prim.prim)
+    (library c.args.self.now.lib.now) c.args.view.now c.signal.new.view c.signal.result c.in_ok-prim.ensures c.signal.ensures
+
+pub Engine::run_branch-returns-in_err-is_true : goal.Engine::run_branch-returns-in_err-is_true
+Engine::run_branch-returns-in_err-is_true g t c =
+    let p = err_from_is_err_and c.from_residual.result c.from_residual.ensures.1 in
+    rw (p.1, p.2)
+    (steps_halt (λ b. b) (λ S b. choose b (run_body (body_in c.args.then_body.now) (level_at (library c.args.self.now.lib.now) c.args.context.now.depth) (context c.args.context.now)) (run_body (body_in c.args.else_body.now) (level_at (library c.args.self.now.lib.now) c.args.context.now.depth) (context c.args.context.now)))
+    (boolean_value (context c.args.context.now).environment (expression c.args.condition.now)) c.in_err-is_true.field-0.0 (library c.args.self.now.lib.now) c.args.view.now c.in_err-is_true.ensures)
+
+pub Engine::run_branch-returns-in_ok-course : goal.Engine::run_branch-returns-in_ok-course
+Engine::run_branch-returns-in_ok-course g t c =
+    runs_value (λ b. choose b (run_body (body_in c.args.then_body.now) (level_at (library c.args.self.now.lib.now) c.args.context.now.depth) (context c.args.context.now)) (run_body (body_in c.args.else_body.now) (level_at (library c.args.self.now.lib.now) c.args.context.now.depth) (context c.args.context.now)))
+    (boolean_value (context c.args.context.now).environment (expression c.args.condition.now)) true (ap Ok (sym c.if-branch.true) ∙ c.in_ok-is_true.ensures) c.in_ok-course.ensures
+
+pub Engine::run_branch-returns-in_ok-course-2 : goal.Engine::run_branch-returns-in_ok-course-2
+Engine::run_branch-returns-in_ok-course-2 g t c =
+    runs_value (λ b. choose b (run_body (body_in c.args.then_body.now) (level_at (library c.args.self.now.lib.now) c.args.context.now.depth) (context c.args.context.now)) (run_body (body_in c.args.else_body.now) (level_at (library c.args.self.now.lib.now) c.args.context.now.depth) (context c.args.context.now)))
+    (boolean_value (context c.args.context.now).environment (expression c.args.condition.now)) false (ap Ok (sym c.if-branch.false) ∙ c.in_ok-is_true.ensures) c.in_ok-course-2.ensures
+
+pub Engine::each_found-returns-in_err-rows : goal.Engine::each_found-returns-in_err-rows
+Engine::each_found-returns-in_err-rows g t c =
+    let p = err_from_is_err_and c.from_residual.result c.from_residual.ensures.1 in
+    rw (p.1, p.2)
+    (found_halt keyed_rows (λ rows. for_each rows (λ r. run_body (body_in c.args.body.now) (level_at (library c.args.self.now.lib.now) c.args.context.now.depth) (with_row c.args.variable.now r (context c.args.context.now))))
+    (λ S. answer (context c.args.context.now).environment c.args.variable.now c.args.class (expression c.args.predicate.now) S.objects) c.in_err-rows.field-0.0
+    (library c.args.self.now.lib.now) c.args.view.now c.selected.new.view c.in_err-rows.ensures)
+
+pub Engine::each_found-returns : goal.Engine::each_found-returns
+Engine::each_found-returns g t c =
+    found_value (λ rs. for_each rs (λ r. run_body (body_in c.args.body.now) (level_at (library c.args.self.now.lib.now) c.args.context.now.depth) (with_row c.args.variable.now r (context c.args.context.now)))) c.in_ok-rows.ensures
+    (subst (λ rs. Runs (library c.args.self.now.lib.now) (for_each (map keyed_row rs) (λ r. run_body (body_in c.args.body.now) (level_at (library c.args.self.now.lib.now) c.args.context.now.depth) (with_row c.args.variable.now r (context c.args.context.now)))) c.selected.new.view c.each_row.new.view (course c.in_ok-course.course)) c.deref.ensures.value
+    c.in_ok-course.ensures)
+
+pub Engine::each_kept-returns : goal.Engine::each_kept-returns
+Engine::each_kept-returns g t c =
+    subst (λ rs. Runs (library c.args.self.now.lib.now) (for_each rs (λ r. run_body (body_in c.args.body.now) (level_at (library c.args.self.now.lib.now) c.args.context.now.depth) (with_row c.args.query.now r (context c.args.context.now)))) c.args.view.now c.each_row.new.view (course c.in_ok-course.course))
+    c.kept-rows.ensures c.in_ok-course.ensures
+
+pub Engine::with_object-returns-in_err-row : goal.Engine::with_object-returns-in_err-row
+Engine::with_object-returns-in_err-row g t c =
+    let p = err_from_is_err_and c.from_residual.result c.from_residual.ensures.1 in
+    rw (p.1, p.2)
+    (found_halt keyed_row (λ r. run_body (body_in c.args.body.now) (level_at (library c.args.self.now.lib.now) c.args.context.now.depth) (with_row c.args.variable.now r (context c.args.context.now)))
+    (λ S. named_object S.objects (context c.args.context.now).environment c.args.class (expression c.args.key.now)) c.in_err-row.field-0.0
+    (library c.args.self.now.lib.now) c.args.view.now c.named_object.new.view c.in_err-row.ensures)
+
+pub Engine::with_object-returns : goal.Engine::with_object-returns
+Engine::with_object-returns g t c =
+    let x = c.args.variable.now in
+    let fits : SFits w64 c.in_ok-row.row.key = search rules in
+    let back : to_z w64 (of_z w64 c.in_ok-row.row.key) ≡ c.in_ok-row.row.key = to_z-of_z w64 c.in_ok-row.row.key fits in
+    found_value (λ r. run_body (body_in c.args.body.now) (level_at (library c.args.self.now.lib.now) c.args.context.now.depth) (with_row x r (context c.args.context.now))) c.in_ok-row.ensures
+    (subst (λ (y : Context). Runs (library c.args.self.now.lib.now) (run_body (body_in c.args.body.now) (level_at (library c.args.self.now.lib.now) c.args.context.now.depth) y) c.named_object.new.view c.statements.new.view (course c.in_ok-course.course))
+    (c.bound-inner.ensures.context ∙ ap (λ k. with_row x (record { key = k; row = c.in_ok-row.row.row }) (context c.args.context.now)) back)
+    (subst (λ d. Runs (library c.args.self.now.lib.now) (run_body (body_in c.args.body.now) (level_at (library c.args.self.now.lib.now) d) (context c.bound-inner.result)) c.named_object.new.view c.statements.new.view (course c.in_ok-course.course)) c.bound-inner.ensures.depth
+    c.in_ok-course.ensures))
+
+pub Engine::sub_or_otherwise-returns-then-not-aborted : goal.Engine::sub_or_otherwise-returns-then-not-aborted
+Engine::sub_or_otherwise-returns-then-not-aborted g t c =
+    sub_over (run_body (body_in c.args.otherwise.now) (level_at (library c.args.self.now.lib.now) c.args.context.now.depth) (context c.args.context.now))
+    (subst (λ b. SubRuns (library c.args.self.now.lib.now) (run_body (body_in c.args.body.now) (level_at (library c.args.self.now.lib.now) c.args.context.now.depth) (context c.args.context.now)) c.args.view.now c.sub.new.view (course c.in_ok-course.course) b) c.if-not-aborted.true
+    c.in_ok-course.ensures)
+
+pub Engine::sub_or_otherwise-returns : goal.Engine::sub_or_otherwise-returns
+Engine::sub_or_otherwise-returns g t c =
+    runs_answer c.in_ok-join.ensures
+    (sub_then (subst (λ b. SubRuns (library c.args.self.now.lib.now) (run_body (body_in c.args.body.now) (level_at (library c.args.self.now.lib.now) c.args.context.now.depth) (context c.args.context.now)) c.args.view.now c.sub.new.view (course c.in_ok-course.course) b) c.if-not-aborted.false
+    c.in_ok-course.ensures) c.in_ok-more.ensures)
+
+pub Engine::fire_rule-returns-in_err-task : goal.Engine::fire_rule-returns-in_err-task
+Engine::fire_rule-returns-in_err-task g t c =
+    let p = err_from_is_err_and c.from_residual.result c.from_residual.ensures.1 in
+    rw (p.1, p.2)
+    (fire_halt (library c.args.self.now.lib.now) (context c.args.context.now) c.args.context.now.depth c.args.rule c.in_err-task.field-0.0 c.args.view.now c.fire.new.view c.fire.ensures.only c.in_err-task.ensures.fires)
+
+pub Engine::fire_rule-returns : goal.Engine::fire_rule-returns
+Engine::fire_rule-returns g t c =
+    fire_runs (context c.args.context.now) c.fire.ensures.only c.in_ok-task.ensures.fires
+    (subst (λ ts. Runs (library c.args.self.now.lib.now) (start (level_at (library c.args.self.now.lib.now) c.args.context.now.depth).below (map task ts)) c.fire.new.view c.start.new.view (course c.in_ok-course.course)) c.in_ok-tasks.ensures
+    c.in_ok-course.ensures)

@@ -1,0 +1,85 @@
+use denote.Param.Weighed.{most}
+use Rattle.std.proofs.Common.{◌+◌, ◌-◌, ◌*◌, max, drop, length, map}
+use Rattle.hp_model.specs.Transactions.{for_each}
+use Rattle.hp_model.specs.Firing.{level_at, run_statement, run_body, with_row}
+use Rattle.hp_value.specs.Mapped.{keyed_row}
+use Rattle.hp_rule.specs.declared.stmt.Stmt.{size-Stmt}
+use Rattle.hp_rule.specs.Mapped.{library, statement, body_in}
+use Rattle.hp_fire.specs.Mapped.{context, course}
+use Rattle.hp_fire.specs.Weights.{deepest, levels, left}
+use Rattle.hp_fire.proofs.Steps.{Loop}
+use Rattle.hp_fire.proofs.engine.+fire.Given as goal
+
+-- ---- what each call has less of
+
+abbrev pub decreases-Engine::statement : goal.decreases-Engine::statement
+decreases-Engine::statement g l = 16 * left l.self.now.lib.now (levels l.self.now.lib.now l.context.now.depth) (goal.size-Engine::statement g l)
+
+abbrev pub decreases-Engine::statements : goal.decreases-Engine::statements
+decreases-Engine::statements g l = 16 * left l.self.now.lib.now (levels l.self.now.lib.now l.context.now.depth) (goal.size-Engine::statements g l) + 1
+
+abbrev pub decreases-Engine::each_row : goal.decreases-Engine::each_row
+decreases-Engine::each_row g l = 16 * left l.self.now.lib.now (levels l.self.now.lib.now l.context.now.depth) (goal.size-Engine::each_row g l) + 2
+
+abbrev pub decreases-Engine::sub : goal.decreases-Engine::sub
+decreases-Engine::sub g l = 16 * left l.self.now.lib.now (levels l.self.now.lib.now l.context.now.depth) (goal.size-Engine::sub g l) + 2
+
+abbrev pub decreases-Engine::give_signal : goal.decreases-Engine::give_signal
+decreases-Engine::give_signal g l = 16 * left l.self.now.lib.now (levels l.self.now.lib.now l.context.now.depth) 0 + 3
+
+abbrev pub decreases-Engine::run_branch : goal.decreases-Engine::run_branch
+decreases-Engine::run_branch g l = 16 * left l.self.now.lib.now (levels l.self.now.lib.now l.context.now.depth) (max (most size-Stmt l.then_body.now) (most size-Stmt l.else_body.now)) + 2
+
+abbrev pub decreases-Engine::each_found : goal.decreases-Engine::each_found
+decreases-Engine::each_found g l = 16 * left l.self.now.lib.now (levels l.self.now.lib.now l.context.now.depth) (most size-Stmt l.body.now) + 3
+
+abbrev pub decreases-Engine::each_kept : goal.decreases-Engine::each_kept
+decreases-Engine::each_kept g l = 16 * left l.self.now.lib.now (levels l.self.now.lib.now l.context.now.depth) (goal.size-Engine::each_kept g l) + 3
+
+abbrev pub decreases-Engine::with_object : goal.decreases-Engine::with_object
+decreases-Engine::with_object g l = 16 * left l.self.now.lib.now (levels l.self.now.lib.now l.context.now.depth) (most size-Stmt l.body.now) + 2
+
+abbrev pub decreases-Engine::sub_or_otherwise : goal.decreases-Engine::sub_or_otherwise
+decreases-Engine::sub_or_otherwise g l = 16 * left l.self.now.lib.now (levels l.self.now.lib.now l.context.now.depth) (max (most size-Stmt l.body.now) (most size-Stmt l.otherwise.now)) + 3
+
+abbrev pub decreases-Engine::fire_rule : goal.decreases-Engine::fire_rule
+decreases-Engine::fire_rule g l = 16 * left l.self.now.lib.now (levels l.self.now.lib.now l.context.now.depth) 0 + 2
+
+abbrev pub decreases-Engine::operated : goal.decreases-Engine::operated
+decreases-Engine::operated g l = 16 * left l.self.now.lib.now (levels l.self.now.lib.now l.depth) 0 + 3
+
+abbrev pub decreases-Engine::signal : goal.decreases-Engine::signal
+decreases-Engine::signal g l = 16 * left l.self.now.lib.now (levels l.self.now.lib.now l.depth) 0 + 2
+
+abbrev pub decreases-Engine::start : goal.decreases-Engine::start
+decreases-Engine::start g l = 16 * left l.self.now.lib.now (levels l.self.now.lib.now l.depth) 0 + 1
+
+abbrev pub decreases-Engine::group : goal.decreases-Engine::group
+decreases-Engine::group g l = 16 * left l.self.now.lib.now (levels l.self.now.lib.now (l.depth + 1)) (deepest l.self.now.lib.now) + 13
+
+abbrev pub decreases-Engine::group-fire : goal.decreases-Engine::group-fire
+decreases-Engine::group-fire g l = 16 * left l.self.now.lib.now (levels l.self.now.lib.now (l.depth + 1)) (deepest l.self.now.lib.now) + 12
+
+abbrev pub decreases-Engine::group-attempt : goal.decreases-Engine::group-attempt
+decreases-Engine::group-attempt g l = 16 * left l.self.now.lib.now (levels l.self.now.lib.now (l.depth + 1)) (deepest l.self.now.lib.now) + 12
+
+abbrev pub decreases-Engine::attempted : goal.decreases-Engine::attempted
+decreases-Engine::attempted g l = 16 * left l.self.now.lib.now (levels l.self.now.lib.now l.task.now.depth) (deepest l.self.now.lib.now) + 4
+
+abbrev pub decreases-Engine::firing : goal.decreases-Engine::firing
+decreases-Engine::firing g l = 16 * left l.self.now.lib.now (levels l.self.now.lib.now l.task.now.depth) (deepest l.self.now.lib.now) + 3
+
+abbrev pub decreases-Engine::action : goal.decreases-Engine::action
+decreases-Engine::action g l = 16 * left l.self.now.lib.now (levels l.self.now.lib.now l.task.now.depth) (deepest l.self.now.lib.now) + 2
+
+-- ---- loops
+
+abbrev pub invariant-Engine::statements-loop-stmt : goal.invariant-Engine::statements-loop-stmt
+invariant-Engine::statements-loop-stmt g l =
+    Loop (library l.self.lib.now) (λ s. run_statement (statement s) (level_at (library l.self.lib.now) l.context.depth) (context l.context))
+    (run_body (body_in l.body) (level_at (library l.self.lib.now) l.context.depth) (context l.context)) (drop l.stmt-index l.body) l.fn.view l.view (course l.so_far)
+
+abbrev pub invariant-Engine::each_row-loop-row : goal.invariant-Engine::each_row-loop-row
+invariant-Engine::each_row-loop-row g l =
+    Loop (library l.self.lib.now) (λ r. run_body (body_in l.body) (level_at (library l.self.lib.now) l.context.depth) (with_row l.variable r (context l.context)))
+    (for_each (map keyed_row l.rows) (λ r. run_body (body_in l.body) (level_at (library l.self.lib.now) l.context.depth) (with_row l.variable r (context l.context)))) (map keyed_row (drop l.row-index l.rows)) l.fn.view l.view (course l.so_far)

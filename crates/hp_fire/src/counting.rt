@@ -1,0 +1,99 @@
+//! Queries over a view, whose rows are counted.
+
+ghost use Rattle.std.specs.Prelude.{◌≡◌};
+ghost use Rattle.hp_view.specs.Seeing.{OnlyReads};
+
+use crate::speculate::{Effort, ROW};
+use hp_query::{Look, Query};
+use hp_value::{ClassNo, Expr, Key, ObjectList, Row};
+use hp_view::View;
+use std::alloc::{AllocError, Global};
+use std::sync::Arc;
+
+/// A view that counts the rows that a query is given.
+#[derive(Drop)]
+pub(crate) struct Counting<'a> {
+    /// The view.
+    pub(crate) view: &'a mut View,
+    rows: u64,
+}
+
+impl<'a> Counting<'a> {
+    /// A view of which no row was looked at.
+    pub(crate) fn new(view: &'a mut View) -> Counting<'a>
+        ensures same { result.view.ghost_name ≡ view.entry.ghost_name }
+        ensures now { result.view.now ≡ view.old }
+    {
+        Counting { view, rows: 0 }
+    }
+
+    /// Counts the rows that these queries were given, by the operators of their predicates.
+    pub(crate) fn tell(&self, queries: &[Query], effort: &Effort) {
+        let mut longest = 0u64;
+        for query in queries {
+            longest = longest.max(operators(&query.predicate));
+        }
+        effort.add(self.rows.saturating_mul(longest.saturating_add(ROW)));
+    }
+
+    /// The same of one predicate.
+    pub(crate) fn tell_of(&self, predicate: &Expr, effort: &Effort) {
+        let operators = operators(predicate);
+        effort.add(self.rows.saturating_mul(operators.saturating_add(ROW)));
+    }
+
+    fn count(&mut self, rows: usize)
+        ensures same { self.new.view.ghost_name ≡ self.old.view.ghost_name }
+        ensures now { self.new.view.now ≡ self.old.view.now }
+    {
+        self.rows = self.rows.saturating_add(rows as u64);
+    }
+}
+
+// How many operators there are in an expression.
+fn operators(expr: &Expr) -> u64 {
+    match expr {
+        Expr::Arithmetic(_, a, b) | Expr::Comparison(_, a, b) | Expr::And(a, b) | Expr::Or(a, b) =>
+            { operators(a).saturating_add(operators(b)).saturating_add(1) }
+        Expr::Negated(a) | Expr::Not(a) => operators(a).saturating_add(1),
+        _ => 0,
+    }
+}
+
+impl Look for Counting<'_> {
+    ghost use Rattle.hp_fire.specs.Counted.{AllowsCounted, OnlyCounts, counts_same, counts_then, counts_narrow};
+
+    ghost allows = { AllowsCounted };
+
+    ghost goes_on = { OnlyCounts };
+
+    ghost goes_on_same = { counts_same };
+
+    ghost goes_on_then = { counts_then };
+
+    ghost narrows = { counts_narrow };
+
+    fn row(&mut self, alloc: Global, class: ClassNo, key: Key) -> Result<Option<Row>, AllocError> {
+        self.count(1);
+        let row = Look::row(self.view, alloc, class, key)?;
+        Ok(row)
+    }
+
+    fn keys(&mut self, alloc: Global, class: ClassNo) -> Result<Vec<Key>, AllocError> {
+        let keys = Look::keys(self.view, alloc, class)?;
+        self.count(keys.len());
+        Ok(keys)
+    }
+
+    fn objects(
+        &mut self,
+        alloc: Global,
+        class: ClassNo,
+    ) -> Result<Option<Arc<ObjectList>>, AllocError> {
+        let objects = Look::objects(self.view, alloc, class)?;
+        if let Some(objects) = &objects {
+            self.count(objects.rows().len());
+        }
+        Ok(objects)
+    }
+}

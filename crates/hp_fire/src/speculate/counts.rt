@@ -1,0 +1,116 @@
+//! The counts of a group that workers help with.
+
+ghost use Rattle.std.specs.Prelude.{◌≡◌, ◌+◌, ◌^◌, ◌<◌, ◌≤◌, true, IfOk};
+ghost use Rattle.std.specs.List.{slice_index_or};
+ghost use Rattle.hp_fire.specs.Groups.{IsRetried};
+
+use hp_attempt::Attempt;
+use std::alloc::{AllocError, Global};
+use std::collections::VecDeque;
+
+/// How the tasks of a group came to be settled.
+#[derive(Debug, Drop)]
+pub(crate) struct Counts {
+    /// For each task of the group, whether it was tried anew after the first wave.
+    pub(crate) retried: Vec<bool>,
+    /// How many tasks were settled from their attempts of the first wave.
+    pub(crate) accepted: usize,
+    /// In how many waves workers ran.
+    pub(crate) waves: usize,
+    /// How many tasks these waves were to try, a task counted for each of them.
+    pub(crate) tried: usize,
+    /// How many tasks were settled from attempts.
+    pub(crate) kept: usize,
+}
+
+impl Counts {
+    /// The counts of a group of so many tasks, before its first wave.
+    ///
+    /// An error means that memory ran out.
+    pub(crate) fn new(alloc: Global, tasks: usize) -> Result<Counts, AllocError>
+        ensures { IfOk result (λ c. (c.accepted ≡ 0) × (c.waves ≡ 0)) }
+    {
+        let mut retried = Vec::with_capacity(alloc, tasks)?;
+        for _ in 0..tasks {
+            retried.push(false)?;
+        }
+        Ok(Counts {
+            retried,
+            accepted: 0,
+            waves: 0,
+            tried: 0,
+            kept: 0,
+        })
+    }
+
+    /// A wave begins, for the tasks after so many. Those without an attempt are tried, and the first of them in any case.
+    pub(crate) fn begin_wave(&mut self, done: usize, attempts: &VecDeque<Option<Attempt>>)
+        requires { self.old.waves + 1 < 2 ^ 64 }
+        ensures same { self.new ≡ record self.old { retried = self.new.retried; waves = self.old.waves + 1; tried = self.new.tried } }
+        ensures retried { 0 < self.old.waves → IsRetried self.new done }
+    {
+        if self.waves > 0 {
+            self.mark_retried(done, attempts);
+        }
+        self.waves += 1;
+        self.tried = self.tried.saturating_add(attempts.len());
+    }
+
+    // Marks the tasks that this wave tries anew. The first one left is among them.
+    fn mark_retried(&mut self, done: usize, attempts: &VecDeque<Option<Attempt>>)
+        ensures same { self.new ≡ record self.old { retried = self.new.retried } }
+        ensures retried { IsRetried self.new done }
+    {
+        for place in 0..attempts.len() {
+            if attempts[place].is_none() {
+                mark(&mut self.retried, done.saturating_add(place));
+            }
+        }
+        mark(&mut self.retried, done);
+    }
+
+    /// So many tasks after the first ones were settled from attempts.
+    pub(crate) fn add_kept(&mut self, done: usize, taken: usize)
+        requires { (done + taken < 2 ^ 64) × (self.old.accepted ≤ done) }
+        ensures same { (self.new.waves ≡ self.old.waves) × (self.new.retried ≡ self.old.retried) }
+        ensures accepted { self.new.accepted ≤ self.old.accepted + taken }
+        ensures retried { 0 < taken → IsRetried self.old done → self.new.accepted < self.old.accepted + taken }
+    {
+        self.accepted += of_first_wave(&self.retried, done, taken);
+        self.kept = self.kept.saturating_add(taken);
+    }
+}
+
+// A task was tried anew.
+fn mark(retried: &mut Vec<bool>, number: usize)
+    ensures { slice_index_or retried.new.items number true ≡ true }
+{
+    if let Some(place) = retried.get_mut(number) {
+        *place = true;
+    }
+}
+
+// How many of so many tasks from a number on have their attempts from the first wave.
+fn of_first_wave(retried: &[bool], from: usize, count: usize) -> usize
+    requires { from + count < 2 ^ 64 }
+    ensures most { result ≤ count }
+    ensures retried { 0 < count → slice_index_or retried.now from true ≡ true → result < count }
+{
+    let mut first = 0usize;
+    for number in 0..count {
+        if !was_retried(retried, from + number) {
+            first += 1;
+        }
+    }
+    first
+}
+
+// Whether a task was tried anew.
+fn was_retried(retried: &[bool], number: usize) -> bool
+    ensures { result ≡ slice_index_or retried.now number true }
+{
+    match retried.get(number) {
+        Some(retried) => *retried,
+        None => true,
+    }
+}

@@ -1,0 +1,233 @@
+//! How far a group has come that workers help with.
+
+ghost use Rattle.std.specs.Prelude.{◌≡◌, ◌+◌, ◌-◌, ◌^◌, ◌<◌, ◌≤◌, [], ◌∷◌, ◌++◌, None, IfOk, OnOk, All, length, drop, map};
+ghost use Rattle.hp_model.specs.Rules.{Library as ModelLibrary};
+ghost use Rattle.hp_rule.specs.Mapped.{task as task_of};
+ghost use Rattle.hp_view.specs.Seeing.{Seeing};
+ghost use Rattle.hp_attempt.specs.Fronts.{AreSound, stopped_by};
+ghost use Rattle.hp_fire.specs.Groups.{IsSoFar, AreSoundTries, AreOf, Comes, IsRetried};
+
+use crate::course::GroupOutcome;
+use crate::speculate::counts::Counts;
+use crate::speculate::line::Receiver;
+use crate::speculate::pending::Pending;
+use crate::speculate::policy::{POLLS, do_waves_pay};
+use crate::speculate::settled::Settled;
+use crate::speculate::wave::Wave;
+use hp_attempt::{Outcome, settle_front};
+use hp_rule::Task;
+use hp_view::View;
+use std::alloc::{AllocError, Global};
+use std::collections::VecDeque;
+use std::hint::spin_loop;
+use std::mem;
+
+/// How far a group has come that workers help with.
+#[derive(Debug, Drop)]
+pub(crate) struct Progress {
+    /// What is settled.
+    pub(crate) settled: Settled,
+    /// The attempts at what is left.
+    pub(crate) pending: Pending,
+    /// How the settled tasks came to be settled.
+    pub(crate) counts: Counts,
+}
+
+impl Progress {
+    /// A group of so many tasks, the first of which are settled, and none of which was tried by a worker.
+    ///
+    /// An error means that memory ran out.
+    pub(crate) fn after(
+        alloc: Global,
+        settled: Settled,
+        tasks: usize,
+    ) -> Result<Progress, AllocError>
+        ensures begins { IfOk result (λ p. (p.settled ≡ settled) × (p.counts.accepted ≡ 0) × (p.counts.waves ≡ 0)) }
+        ensures sound { IfOk result (λ p. (library : ModelLibrary) → AreSound library p.pending.attempts.items) }
+    {
+        Ok(Progress {
+            pending: Pending::new(alloc, tasks, settled.outcomes.len())?,
+            counts: Counts::new(alloc, tasks)?,
+            settled,
+        })
+    }
+
+    /// Whether workers are to try the tasks that are left: there are several workers, and several tasks without an
+    /// attempt that may stand for them in the view's cells, and the waves before this one were worth their work.
+    pub(crate) fn is_wave_due(&self, view: &View, width: usize) -> bool {
+        width >= 2
+            && do_waves_pay(self.counts.tried, self.counts.kept)
+            && self.pending.lacks_several(view)
+    }
+
+    /// A wave begins, which tries the tasks without an attempt, and the first of those that are left.
+    pub(crate) fn begin_wave(&mut self)
+        requires { self.old.counts.waves + 1 < 2 ^ 64 }
+        ensures same { self.new ≡ record self.old { counts = self.new.counts } }
+        ensures counts { self.new.counts ≡ record self.old.counts { retried = self.new.counts.retried; waves = self.old.counts.waves + 1; tried = self.new.counts.tried } }
+        ensures retried { 0 < self.old.counts.waves → IsRetried self.new.counts (length self.old.settled.outcomes.items) }
+    {
+        let done = self.settled.outcomes.len();
+        self.counts.begin_wave(done, &self.pending.attempts);
+    }
+
+    /// Takes in the longest front of the attempts, and tells how many they were.
+    ///
+    /// An error means that memory ran out.
+    pub(crate) fn settle(
+        &mut self,
+        alloc: Global,
+        view: &mut View,
+        tasks: &[Task],
+        stop_at_veto: bool,
+    ) -> Result<usize, AllocError>
+        requires { self.old.counts.accepted ≤ length self.old.settled.outcomes.items }
+        ensures taken { IfOk result (λ taken. length self.new.settled.outcomes.items ≡ length self.old.settled.outcomes.items + taken) }
+        ensures none { IfOk result (λ taken. taken ≡ 0 → self.old.settled.end ≡ None → self.new.settled.end ≡ None) }
+        ensures same { OnOk result ((self.new.counts.waves ≡ self.old.counts.waves) × (self.new.counts.retried ≡ self.old.counts.retried)) }
+        ensures accepted { IfOk result (λ taken. self.new.counts.accepted ≤ self.old.counts.accepted + taken) }
+        ensures retried { IfOk result (λ taken. 0 < taken → IsRetried self.old.counts (length self.old.settled.outcomes.items) → self.new.counts.accepted < self.old.counts.accepted + taken) }
+        ensures sound { OnOk result ((library : ModelLibrary) → AreSound library self.old.pending.attempts.items → AreSound library self.new.pending.attempts.items) }
+        ensures so_far { OnOk result ((library : ModelLibrary) (first : Seeing) → AreSound library self.old.pending.attempts.items
+            → IsSoFar library stop_at_veto (map task_of tasks.now) first view.old self.old.settled.outcomes.items self.old.settled.end
+            → IsSoFar library stop_at_veto (map task_of tasks.now) first view.new self.new.settled.outcomes.items self.new.settled.end) }
+    {
+        if self.settled.end.is_some() {
+            return Ok(0);
+        }
+        let done = self.settled.outcomes.len();
+        let attempts = mem::replace(&mut self.pending.attempts, VecDeque::new(alloc));
+        let left = left_of(tasks, done);
+        let (front, rest) = settle_front(alloc, view, left, attempts, stop_at_veto)?;
+        let taken = front.len();
+        self.pending.attempts = rest;
+        self.settled.add_front(front, stop_at_veto)?;
+        self.counts.add_kept(done, taken);
+        Ok(taken)
+    }
+
+    /// Adds the firing of the first task that is left, which the owner ran.
+    ///
+    /// An error means that memory ran out.
+    pub(crate) fn add(&mut self, outcome: Outcome, stop_at_veto: bool) -> Result<(), AllocError>
+        ensures outcomes { OnOk result (self.new.settled.outcomes.items ≡ self.old.settled.outcomes.items ++ outcome ∷ []) }
+        ensures end { OnOk result (self.new.settled.end ≡ stopped_by stop_at_veto (outcome ∷ [])) }
+        ensures counts { self.new.counts ≡ self.old.counts }
+        ensures sound { OnOk result ((library : ModelLibrary) → AreSound library self.old.pending.attempts.items → AreSound library self.new.pending.attempts.items) }
+    {
+        self.pending.drop_first();
+        self.settled.add(outcome, stop_at_veto)?;
+        Ok(())
+    }
+
+    /// What the group gives.
+    pub(crate) fn into_outcome(self) -> GroupOutcome
+        requires { self.counts.accepted ≤ length self.settled.outcomes.items }
+        ensures { result ≡ record { outcomes = self.settled.outcomes; end = self.settled.end; accepted = self.counts.accepted; reran = length self.settled.outcomes.items - self.counts.accepted; waves = self.counts.waves } }
+    {
+        let Progress {
+            settled: Settled { outcomes, end },
+            pending: _,
+            counts,
+        } = self;
+        let reran = outcomes.len() - counts.accepted;
+        GroupOutcome {
+            outcomes,
+            end,
+            accepted: counts.accepted,
+            reran,
+            waves: counts.waves,
+        }
+    }
+}
+
+impl Progress {
+    ghost use Rattle.std.specs.Prelude.{◌≡◌, ◌≤◌, OnOk, length, map};
+    ghost use Rattle.hp_model.specs.Rules.{Library as ModelLibrary};
+    ghost use Rattle.hp_rule.specs.Mapped.{task as task_of};
+    ghost use Rattle.hp_attempt.specs.Fronts.{AreSound};
+    ghost use Rattle.hp_fire.specs.Groups.{AreOf, Comes};
+
+    /// Takes stock in the course of a wave, where that is cheap.
+    ///
+    /// An error means that memory ran out.
+    pub(crate) fn keep_up(
+        &mut self,
+        alloc: Global,
+        wave: &Wave<'_>,
+        view: &mut View,
+        receivers: &mut Vec<Receiver<'_>>,
+    ) -> Result<(), AllocError>
+        requires { self.old.counts.accepted ≤ length self.old.settled.outcomes.items }
+        ensures lines { (library : ModelLibrary) → AreOf library receivers.old.items → AreOf library receivers.new.items }
+        ensures comes { OnOk result ((library : ModelLibrary) → AreOf library receivers.old.items → AreSound library self.old.pending.attempts.items
+            → Comes library wave.now.stop_at_veto (map task_of wave.now.tasks.now) view.old self.old view.new self.new) }
+    {
+        if !wave.early {
+            return Ok(());
+        }
+        self.take_stock(alloc, wave, view, receivers)?;
+        Ok(())
+    }
+
+    /// Takes stock at the end of a wave's tasks, so long as the attempt at the next of them is still to come from a worker. It
+    /// isn't awaited for longer than a short task takes.
+    ///
+    /// An error means that memory ran out.
+    pub(crate) fn see_out(
+        &mut self,
+        alloc: Global,
+        wave: &Wave<'_>,
+        view: &mut View,
+        receivers: &mut Vec<Receiver<'_>>,
+    ) -> Result<(), AllocError>
+        requires { self.old.counts.accepted ≤ length self.old.settled.outcomes.items }
+        ensures lines { (library : ModelLibrary) → AreOf library receivers.old.items → AreOf library receivers.new.items }
+        ensures comes { OnOk result ((library : ModelLibrary) → AreOf library receivers.old.items → AreSound library self.old.pending.attempts.items
+            → Comes library wave.now.stop_at_veto (map task_of wave.now.tasks.now) view.old self.old view.new self.new) }
+    {
+        for _ in 0..POLLS {
+            if !self.lacks_next(wave) {
+                break;
+            }
+            self.take_stock(alloc, wave, view, receivers)?;
+            spin_loop();
+        }
+        Ok(())
+    }
+
+    // Whether attempts are taken in early, and the one at the next task that is left isn't there.
+    fn lacks_next(&self, wave: &Wave<'_>) -> bool {
+        let is_missing = matches!(self.pending.attempts.front(), Some(None));
+        wave.early && is_missing && self.settled.goes_on(wave.tasks.len())
+    }
+
+    /// Puts what the workers of a wave have sent into the places of their tasks, and then takes in the longest front of the
+    /// attempts.
+    ///
+    /// An error means that memory ran out.
+    pub(crate) fn take_stock(
+        &mut self,
+        alloc: Global,
+        wave: &Wave<'_>,
+        view: &mut View,
+        receivers: &mut Vec<Receiver<'_>>,
+    ) -> Result<(), AllocError>
+        requires { self.old.counts.accepted ≤ length self.old.settled.outcomes.items }
+        ensures counted { OnOk result (self.new.counts.accepted ≤ length self.new.settled.outcomes.items) }
+        ensures lines { (library : ModelLibrary) → AreOf library receivers.old.items → AreOf library receivers.new.items }
+        ensures comes { OnOk result ((library : ModelLibrary) → AreOf library receivers.old.items → AreSound library self.old.pending.attempts.items
+            → Comes library wave.now.stop_at_veto (map task_of wave.now.tasks.now) view.old self.old view.new self.new) }
+    {
+        self.pending.receive_all(receivers);
+        self.settle(alloc, view, wave.tasks, wave.stop_at_veto)?;
+        Ok(())
+    }
+}
+
+// The tasks after so many.
+fn left_of(tasks: &[Task], done: usize) -> &[Task]
+    ensures { result.now ≡ drop done tasks.now }
+{
+    &tasks[done.min(tasks.len())..]
+}

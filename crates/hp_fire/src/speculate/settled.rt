@@ -1,0 +1,76 @@
+//! What of a group is settled.
+
+ghost use Rattle.std.specs.Prelude.{◌≡◌, ◌<◌, ◌↔◌, [], ◌∷◌, ◌++◌, None, IsTrue, IfOk, OnOk, length};
+ghost use Rattle.hp_attempt.specs.Fronts.{stopped_by};
+
+use hp_attempt::Outcome;
+use hp_value::RuleNo;
+use std::alloc::{AllocError, Global};
+
+/// What the first tasks of a group gave, which are settled.
+#[derive(Debug, Drop)]
+pub(crate) struct Settled {
+    /// What each of them gave, in order.
+    pub(crate) outcomes: Vec<Outcome>,
+    /// The rule whose veto stopped the group; none where no veto did.
+    pub(crate) end: Option<RuleNo>,
+}
+
+impl Settled {
+    /// Nothing is settled, of so many tasks.
+    ///
+    /// An error means that memory ran out.
+    pub(crate) fn new(alloc: Global, tasks: usize) -> Result<Settled, AllocError>
+        ensures { IfOk result (λ s. (s.outcomes.items ≡ []) × (s.end ≡ None)) }
+    {
+        Ok(Settled {
+            outcomes: Vec::with_capacity(alloc, tasks)?,
+            end: None,
+        })
+    }
+
+    /// Whether a task is left to settle, of so many.
+    pub(crate) fn goes_on(&self, tasks: usize) -> bool
+        ensures { IsTrue result ↔ ((self.now.end ≡ None) × (length self.now.outcomes.items < tasks)) }
+    {
+        self.end.is_none() && self.outcomes.len() < tasks
+    }
+
+    /// Adds the firing of the first task that is left, which the owner ran.
+    ///
+    /// An error means that memory ran out.
+    pub(crate) fn add(&mut self, outcome: Outcome, stop_at_veto: bool) -> Result<(), AllocError>
+        ensures outcomes { OnOk result (self.new.outcomes.items ≡ self.old.outcomes.items ++ outcome ∷ []) }
+        ensures end { OnOk result (self.new.end ≡ stopped_by stop_at_veto (outcome ∷ [])) }
+    {
+        self.end = if stop_at_veto { outcome.end } else { None };
+        self.outcomes.push(outcome)?;
+        Ok(())
+    }
+
+    /// Adds the firings of the first tasks that are left, whose attempts were taken in.
+    ///
+    /// An error means that memory ran out.
+    pub(crate) fn add_front(
+        &mut self,
+        mut front: Vec<Outcome>,
+        stop_at_veto: bool,
+    ) -> Result<(), AllocError>
+        ensures outcomes { OnOk result (self.new.outcomes.items ≡ self.old.outcomes.items ++ front.items) }
+        ensures end { OnOk result (self.new.end ≡ stopped_by stop_at_veto front.items) }
+    {
+        self.end = veto_of(&front, stop_at_veto);
+        self.outcomes.append(&mut front)?;
+        Ok(())
+    }
+}
+
+// The veto at which the firings stopped, where they stop at one.
+fn veto_of(front: &[Outcome], stop_at_veto: bool) -> Option<RuleNo>
+    ensures { result ≡ stopped_by stop_at_veto front.now }
+{
+    if !stop_at_veto {
+        return None;
+    }
+    front.last()?.end
+}

@@ -1,0 +1,85 @@
+//! What a wave begins with.
+
+ghost use Rattle.std.specs.Prelude.{◌≡◌, ◌+◌, ◌^◌, ◌<◌, All, IfOk, length};
+ghost use Rattle.hp_rule.specs.Mapped.{library};
+ghost use Rattle.hp_board.specs.Deal.{IsSeatOf};
+ghost use Rattle.hp_fire.specs.Groups.{IsWave, IsJob, AreOf};
+
+use crate::speculate::line::Receiver;
+use crate::speculate::listing::list_classes;
+use crate::speculate::pending::Pending;
+use crate::speculate::policy::COPIES;
+use crate::speculate::wave::{Job, Wave, jobs_for, kept_layers};
+use hp_board::{Board, Seat};
+use hp_rule::{Library, Task};
+use hp_view::View;
+use std::alloc::{AllocError, Global};
+
+/// What a wave is prepared from.
+#[derive(Clone, Copy)]
+pub(crate) struct Plan<'a> {
+    /// The library.
+    pub(crate) lib: &'a Library,
+    /// The tasks of the group.
+    pub(crate) tasks: &'a [Task],
+    /// How many of them are settled.
+    pub(crate) done: usize,
+    /// Whether a veto stops the group.
+    pub(crate) stop_at_veto: bool,
+    /// How many threads it may use.
+    pub(crate) width: usize,
+}
+
+/// What a wave begins with.
+#[derive(Drop)]
+pub(crate) struct Start<'a> {
+    /// What all share.
+    pub(crate) wave: Wave<'a>,
+    /// Where the owner's part draws numbers.
+    pub(crate) seat: Seat,
+    /// What each worker is given.
+    pub(crate) jobs: Vec<Job<'a>>,
+    /// The owner's ends of the lines.
+    pub(crate) receivers: Vec<Receiver<'a>>,
+}
+
+/// Prepares a wave over the tasks that are left: for as many workers as there are threads for, the owner's part counted.
+///
+/// An error means that memory ran out.
+pub(crate) fn prepare<'a>(
+    plan: Plan<'a>,
+    alloc: Global,
+    view: &View,
+    pending: &Pending,
+) -> Result<Start<'a>, AllocError>
+    requires { plan.done < length plan.tasks.now }
+    ensures wave { IfOk result (λ s. IsWave s.wave × (s.wave.tasks.now ≡ plan.entry.tasks.now) × (s.wave.stop_at_veto ≡ plan.entry.stop_at_veto)) }
+    ensures seat { IfOk result (λ s. IsSeatOf s.wave.board.deal s.seat) }
+    ensures jobs { IfOk result (λ s. All (IsJob (library plan.entry.lib.now) s.wave.board.deal) s.jobs.items) }
+    ensures lines { IfOk result (λ s. AreOf (library plan.entry.lib.now) s.receivers.items) }
+{
+    let left = plan.tasks.len() - plan.done;
+    let mut snapshot = view.freeze(alloc)?;
+    list_classes(alloc, plan.lib, &plan.tasks[plan.done..], &mut snapshot)?;
+    let workers = plan.width.clamp(1, 64).min(left);
+    let (board, mut seats) = Board::new(alloc, left, workers)?;
+    let Some(seat) = seats.pop() else {
+        unreachable!();
+    };
+    let wave = Wave {
+        tasks: plan.tasks,
+        done: plan.done,
+        stop_at_veto: plan.stop_at_veto,
+        kept: kept_layers(alloc, &pending.attempts)?,
+        snapshot,
+        board,
+        early: view.written() <= left.saturating_mul(COPIES),
+    };
+    let (jobs, receivers) = jobs_for(alloc, plan.lib, &wave, seats)?;
+    Ok(Start {
+        wave,
+        seat,
+        jobs,
+        receivers,
+    })
+}

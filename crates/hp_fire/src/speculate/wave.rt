@@ -1,0 +1,141 @@
+//! Waves: workers and the owner of a group try the tasks that are left, all at once.
+
+ghost use Rattle.std.specs.Prelude.{◌≡◌, ◌<◌, Ok, All, IfOk, IfSome, length};
+ghost use Rattle.rtrb.specs.Ring.{sent};
+ghost use Rattle.hp_model.specs.Rules.{Library as ModelLibrary};
+ghost use Rattle.hp_model.specs.Soundness.{IsSound};
+ghost use Rattle.hp_rule.specs.Mapped.{library};
+ghost use Rattle.hp_board.specs.Deal.{IsSeatOf};
+ghost use Rattle.hp_board.specs.Passes.{IsPassOf};
+ghost use Rattle.hp_attempt.specs.Mapped.{attempt as attempt_of};
+ghost use Rattle.hp_fire.specs.Lines.{IsOf};
+ghost use Rattle.hp_fire.specs.Groups.{AreSoundTries, IsJob, AreOf};
+
+use crate::speculate::line::{Receiver, Sender, line, send};
+use crate::speculate::pending::Tried;
+use hp_attempt::Attempt;
+use hp_board::{Board, Pass, Posted, Seat};
+use hp_rule::{Library, Task};
+use hp_store::{Layer, Snapshot};
+use std::alloc::{AllocError, Global};
+use std::collections::VecDeque;
+use std::sync::Arc;
+
+/// What the workers of a wave and the owner of the group share.
+#[derive(Drop)]
+pub(crate) struct Wave<'a> {
+    /// The tasks of the group.
+    pub(crate) tasks: &'a [Task],
+    /// How many of them were settled before. The numbers of the wave count the others, from 0 on.
+    pub(crate) done: usize,
+    /// Whether a veto stops the group.
+    pub(crate) stop_at_veto: bool,
+    /// What the attempts that are kept wrote: a place for each of the others, or no place where no attempt is kept.
+    pub(crate) kept: Vec<Option<Arc<Layer>>>,
+    /// What the tasks start from.
+    pub(crate) snapshot: Snapshot,
+    /// Where they draw numbers and post layers.
+    pub(crate) board: Board<Arc<Layer>>,
+    /// Whether the owner takes in attempts while others are tried. Its view's writes are then copied, which the snapshot shares.
+    pub(crate) early: bool,
+}
+
+/// What one worker is given.
+#[derive(Drop)]
+pub(crate) struct Job<'a> {
+    /// Where it draws numbers.
+    pub(crate) seat: Seat,
+    /// Where it sends what it has tried.
+    pub(crate) sender: Sender<'a>,
+}
+
+/// A job for each seat, and the owner's ends of the lines.
+///
+/// An error means that memory ran out.
+pub(crate) fn jobs_for<'a>(
+    alloc: Global,
+    lib: &'a Library,
+    wave: &Wave<'_>,
+    seats: Vec<Seat>,
+) -> Result<(Vec<Job<'a>>, Vec<Receiver<'a>>), AllocError>
+    requires { All (IsSeatOf wave.now.board.deal) seats.items }
+    ensures jobs { IfOk result (λ r. All (IsJob (library lib.entry.now) wave.now.board.deal) r.0.items) }
+    ensures receivers { IfOk result (λ r. AreOf (library lib.entry.now) r.1.items) }
+{
+    let mut jobs = Vec::new(alloc);
+    let mut receivers = Vec::new(alloc);
+    for seat in seats {
+        let (sender, receiver) = line(alloc, lib)?;
+        jobs.push(Job { seat, sender })?;
+        receivers.push(receiver)?;
+    }
+    Ok((jobs, receivers))
+}
+
+/// What the attempts wrote that are kept, where there are any.
+///
+/// An error means that memory ran out.
+pub(crate) fn kept_layers(
+    alloc: Global,
+    attempts: &VecDeque<Option<Attempt>>,
+) -> Result<Vec<Option<Arc<Layer>>>, AllocError> {
+    let mut layers = Vec::new(alloc);
+    if !attempts.iter().any(|place| place.is_some()) {
+        return Ok(layers);
+    }
+    for place in attempts {
+        layers.push(layer_of(place)?)?;
+    }
+    Ok(layers)
+}
+
+fn layer_of(place: &Option<Attempt>) -> Result<Option<Arc<Layer>>, AllocError> {
+    match place {
+        Some(attempt) => Ok(Some(Arc::try_clone(&attempt.layer)?)),
+        None => Ok(None),
+    }
+}
+
+/// What the attempt wrote that is kept of a task, if there is one.
+pub(crate) fn kept_layer<'a>(wave: &'a Wave<'_>, number: usize) -> Option<&'a Arc<Layer>> {
+    wave.kept.get(number)?.as_ref()
+}
+
+/// Posts what a task wrote, and says whether it did.
+pub(crate) fn post_layer(
+    alloc: Global,
+    wave: &Wave<'_>,
+    number: usize,
+    layer: &Arc<Layer>,
+    pass: Pass<Arc<Layer>>,
+) -> (bool, Pass<Arc<Layer>>)
+    requires number { number < length wave.now.board.cells }
+    requires pass { IsPassOf wave.now.board.cells pass }
+    ensures { IsPassOf wave.now.board.cells result.1 }
+{
+    let Ok(posted) = boxed(alloc, layer) else {
+        return (false, pass);
+    };
+    match wave.board.post(number, posted, pass) {
+        Ok(pass) => (true, pass),
+        Err((_, pass)) => (false, pass),
+    }
+}
+
+fn boxed(alloc: Global, layer: &Arc<Layer>) -> Result<Posted<Arc<Layer>>, AllocError> {
+    Posted::new(alloc, Arc::try_clone(layer)?)
+}
+
+/// Hands an attempt to the owner: it is sent, or, where the line has no room, kept until the worker ends.
+pub(crate) fn hand_over(sender: &mut Sender<'_>, found: &mut Vec<Tried>, tried: Tried)
+    requires { (l : ModelLibrary) → IsOf l (sent sender.old) → IsSound l (attempt_of tried.attempt) }
+    ensures line { (l : ModelLibrary) → IsOf l (sent sender.old) → IsOf l (sent sender.new) }
+    ensures found { (l : ModelLibrary) → IsOf l (sent sender.old) → AreSoundTries l found.old.items → AreSoundTries l found.new.items }
+{
+    let Some(back) = send(sender, tried) else {
+        return;
+    };
+    if found.reserve(1).is_ok() {
+        found.push_reserved(back);
+    }
+}

@@ -1,0 +1,114 @@
+//! Workers of a wave.
+
+ghost use Rattle.std.specs.Prelude.{◌≡◌, ◌<◌, IfOk, IfSome, length};
+ghost use Rattle.hp_board.specs.Deal.{IsSeatOf};
+ghost use Rattle.hp_fire.specs.Groups.{IsWorker};
+
+use crate::speculate::predecessors::Predecessors;
+use crate::speculate::wave::{Wave, post_layer};
+use hp_attempt::Attempt;
+use hp_board::{Pass, Seat};
+use hp_store::{Layer, Snapshot};
+use std::alloc::{AllocError, Global};
+use std::sync::Arc;
+
+/// A worker of a wave, or the owner's part of it: where it draws numbers, what it knows of the board, and what it has seen of
+/// its tasks' predecessors.
+#[derive(Drop)]
+pub(crate) struct Worker<'a> {
+    /// What all workers share.
+    pub(crate) wave: &'a Wave<'a>,
+    alloc: Global,
+    // The board takes the seat and the pass, and gives them back.
+    seat: Option<Seat>,
+    pass: Option<Pass<Arc<Layer>>>,
+    predecessors: Predecessors,
+}
+
+impl<'a> Worker<'a> {
+    /// A worker that has tried nothing.
+    ///
+    /// An error means that memory ran out.
+    pub(crate) fn new(
+        alloc: Global,
+        wave: &'a Wave<'a>,
+        seat: Seat,
+    ) -> Result<Worker<'a>, AllocError>
+        requires { IsSeatOf wave.now.board.deal seat }
+        ensures worker { IfOk result IsWorker }
+        ensures wave { IfOk result (λ w. w.wave ≡ wave.entry) }
+    {
+        Ok(Worker {
+            wave,
+            alloc,
+            seat: Some(seat),
+            pass: Some(wave.board.pass(alloc)?),
+            predecessors: Predecessors::new(alloc)?,
+        })
+    }
+
+    /// Draws the number of a task that no other worker draws; none where all were drawn.
+    pub(crate) fn draw(&mut self) -> Option<usize>
+        requires { IsWorker self.old }
+        ensures worker { IsWorker self.new }
+        ensures wave { self.new.wave ≡ self.old.wave }
+        ensures number { IfSome result (λ n. n < length self.old.wave.now.board.cells) }
+    {
+        let seat = self.seat.take()?;
+        let (drawn, seat) = self.wave.board.draw(seat);
+        self.seat = Some(seat);
+        drawn
+    }
+
+    /// Whether the worker's last attempts were in conflict with their predecessors, so that more are likely to be in vain.
+    pub(crate) fn is_in_conflict(&self) -> bool {
+        self.predecessors.are_in_conflict()
+    }
+
+    /// What a task starts from: the wave's snapshot, and over it in order what predecessors of the task have posted so far.
+    ///
+    /// An error means that memory ran out.
+    pub(crate) fn start_of(&mut self, number: usize) -> Result<Snapshot, AllocError>
+        requires worker { IsWorker self.old }
+        requires number { number < length self.old.wave.now.board.cells }
+        ensures worker { IsWorker self.new }
+        ensures wave { self.new.wave ≡ self.old.wave }
+    {
+        let Some(pass) = self.pass.take() else {
+            return Err(AllocError);
+        };
+        let (start, pass) = self
+            .predecessors
+            .start_of(self.alloc, self.wave, number, pass);
+        self.pass = Some(pass);
+        start
+    }
+
+    /// Posts what a task wrote, and says whether it did.
+    pub(crate) fn post(&mut self, number: usize, layer: &Arc<Layer>) -> bool
+        requires worker { IsWorker self.old }
+        requires number { number < length self.old.wave.now.board.cells }
+        ensures worker { IsWorker self.new }
+        ensures wave { self.new.wave ≡ self.old.wave }
+    {
+        let Some(pass) = self.pass.take() else {
+            return false;
+        };
+        let (is_posted, pass) = post_layer(self.alloc, self.wave, number, layer, pass);
+        self.pass = Some(pass);
+        is_posted
+    }
+
+    /// Notes whether the attempt at a task is in conflict with a slow predecessor, or one after that.
+    pub(crate) fn note(&mut self, number: usize, attempt: &Attempt)
+        requires worker { IsWorker self.old }
+        requires number { number < length self.old.wave.now.board.cells }
+        ensures worker { IsWorker self.new }
+        ensures wave { self.new.wave ≡ self.old.wave }
+    {
+        if let Some(pass) = self.pass.take() {
+            let pass = self.predecessors.note(self.wave, number, attempt, pass);
+            self.pass = Some(pass);
+        }
+    }
+}
