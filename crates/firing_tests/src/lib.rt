@@ -15,3 +15,5 @@ mod tops;
 mod units;
 #[cfg(test)]
 mod waves;
+#[cfg(test)]
+mod worth;
