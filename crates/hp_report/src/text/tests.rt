@@ -195,7 +195,7 @@ fn shows_the_depth_limit(rt: HostRuntime) -> Result<(), Fail> {
     units.push(depth_limit(alloc, &classes)?)?;
     let objects = objects(alloc, &classes, &[(1, 3)])?;
     let mut out = String::new(alloc);
-    put_units(alloc, &mut out, &names, true, &units)?;
+    put_units(alloc, &mut out, &names, true, 1, &units)?;
     put_final(alloc, &mut out, &names, &objects, &[Status::Enabled])?;
     assert_eq!(rt; out.as_str(), DEPTH_LIMIT);
     Ok(())
@@ -234,7 +234,7 @@ fn shows_a_cascade(rt: HostRuntime) -> Result<(), Fail> {
     units.push(kept_answers(alloc, &classes)?)?;
     let objects = objects(alloc, &classes, &[(1, 7)])?;
     let mut out = String::new(alloc);
-    put_units(alloc, &mut out, &names, true, &units)?;
+    put_units(alloc, &mut out, &names, true, 1, &units)?;
     let statuses = [Status::Enabled, Status::Enabled];
     put_final(alloc, &mut out, &names, &objects, &statuses)?;
     assert_eq!(rt; out.as_str(), KEPT_ANSWERS);
@@ -312,12 +312,12 @@ fn shows_other_lines(rt: HostRuntime) -> Result<(), Fail> {
         &[(10, 4), (2, 3), (-3, i64::MIN), (-20, 1)],
     )?;
     let mut out = String::new(alloc);
-    put_units(alloc, &mut out, &names, true, &units)?;
+    put_units(alloc, &mut out, &names, true, 1, &units)?;
     let statuses = [Status::Disabled, Status::Absent];
     put_final(alloc, &mut out, &names, &objects, &statuses)?;
     assert_eq!(rt; out.as_str(), OTHER_LINES);
     let mut out = String::new(alloc);
-    put_units(alloc, &mut out, &names, false, &units)?;
+    put_units(alloc, &mut out, &names, false, 1, &units)?;
     assert_eq!(rt;
         out.as_str(),
         "unit 1 time 9223372036854775807 aborted A9 down\n"
