@@ -1,5 +1,5 @@
 -- How a run ends.
-use Rattle.std.specs.Prelude.{List, ℕ, Bool}
+use Rattle.std.specs.Prelude.{List, ℕ, Bool, Result, Ok, Err}
 use Rattle.hp_report.specs.declared.output.WriteFault.{WriteFault}
 use Rattle.hp_report.specs.declared.output.WriteFault.TheVariants as writing
 use Rattle.hp_lines.specs.Lines.{lines_of}
@@ -21,3 +21,9 @@ status_at closed = Refused
 -- an input ends as such, unless its first line is refused
 abbrev pub status_of : (with_tree : Bool) → List ℕ → Status
 status_of with_tree input = status_at (stage_after with_tree unopened (lines_of input))
+
+-- a program's exit status
+abbrev pub code_of : Result Status Fault → ℕ
+code_of (Ok Ended) = 0
+code_of (Ok Refused) = 2
+code_of (Err f) = 4

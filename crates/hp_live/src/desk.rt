@@ -51,9 +51,18 @@ fn open<T: Threads + Sync>(
     ensures { IfOk result (λ opened. Answers opened.0 opened.1 (L.answer options.tree L.unopened line.now)) }
 {
     match decode(alloc, line) {
-        Ok(Script { library, items, clock }) => {
+        Ok(
+            Script {
+                library,
+                items,
+                clock,
+            },
+        ) => {
             let mut base = RuleBase::new(alloc, library)?;
-            let schedule = Schedule { units: items, clock };
+            let schedule = Schedule {
+                units: items,
+                clock,
+            };
             let text = base.run(rt, alloc, schedule, options)?;
             Ok((text, Stage::Up(base)))
         }

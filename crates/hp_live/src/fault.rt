@@ -1,7 +1,7 @@
 //! How a run ends.
 
 ghost use Rattle.std.specs.Prelude.{◌≡◌};
-ghost use Rattle.hp_live.specs.Ends.{write_fault};
+ghost use Rattle.hp_live.specs.Ends.{code_of, write_fault};
 ghost use Rattle.hp_live.specs.declared.fault.Fault.TheVariants.{NoMemory};
 
 use hp_report::WriteFault;
@@ -55,5 +55,16 @@ impl From<WriteFault> for Fault {
             WriteFault::Write => Fault::Write,
             WriteFault::NoMemory => Fault::NoMemory,
         }
+    }
+}
+
+/// The status with which a program ends: 0 at the end of the input, 2 where the script was refused, 4 after a fault.
+pub fn exit_code(ended: &Result<Status, Fault>) -> u8
+    ensures { result ≡ code_of ended.now }
+{
+    match ended {
+        Ok(Status::Ended) => 0,
+        Ok(Status::Refused) => 2,
+        Err(_) => 4,
     }
 }

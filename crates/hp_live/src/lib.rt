@@ -12,6 +12,6 @@ mod serving;
 mod tests;
 
 pub use desk::Desk;
-pub use fault::{Fault, Status};
+pub use fault::{Fault, Status, exit_code};
 pub use options::Options;
 pub use serving::serve;

@@ -77,7 +77,10 @@ fn served<R: AllocGlobal + Threads + Sync>(
     input.push_str(lines)?;
     let mut reader = Watched::new(device(alloc, input.as_bytes(), step, fails_at));
     let mut writer = Watched::new(device(alloc, b"", 4096, 0));
-    let options = Options { workers: 1, tree: false };
+    let options = Options {
+        workers: 1,
+        tree: false,
+    };
     let ended = serve(rt, alloc, &mut reader, &mut writer, options);
     Ok((writer.into_inner().output, ended))
 }
