@@ -1,8 +1,8 @@
 -- What was said of bytes that came in pieces.
-use Rattle.std.proofs.Common.{◌≡◌, ℕ, suc, ◌+◌, ◌<◌, List, [], ◌∷◌, ◌++◌, length, take, drop, slice_index_or, Option, Some, None, IfSome, Bool, false, refl, sym, ap, subst, ◌∙◌, append_assoc, append-nil, arith}
+use Rattle.std.proofs.Common.{◌≡◌, ℕ, suc, drop-cons, ◌+◌, ◌<◌, List, [], ◌∷◌, ◌++◌, length, take, drop, slice_index_or, Option, Some, None, IfSome, Bool, false, refl, sym, ap, subst, ◌∙◌, append_assoc, append-nil, arith}
 use Rattle.std.specs.Io.KnownBytes.{Appends, Consumes, IsAtEnd}
 use Rattle.std.proofs.Math.Seq.{take-suc}
-use Rattle.std.proofs.lemmas.List.{take-append-drop, drop-cons}
+use Rattle.std.proofs.lemmas.List.{take-append-drop}
 use Rattle.std.proofs.KnownBytes.{Appends-nil, Appends-trans, Consumes-nil, Consumes-trans}
 use Rattle.hp_report.specs.Device.{Begins}
 use Rattle.hp_lines.specs.Lines.{lines_of}
@@ -13,6 +13,8 @@ use Rattle.hp_lines.proofs.Kept.{begins_whole, begins_more, begins_on}
 use Rattle.hp_live.specs.Kept.{IsDesk}
 use Rattle.hp_live.specs.Ends.{status_at, status_of}
 use Rattle.hp_live.specs.declared.desk.Desk.{Desk}
+use Rattle.hp_live.specs.declared.fault.Status.{Status}
+use Rattle.hp_live.specs.declared.fault.Status.TheVariants.{Refused}
 
 -- ---- a piece
 
@@ -124,3 +126,28 @@ said_closed (Some input) (Some r) old new with_tree bytes taken out shut =
     sym (append-nil (said d bytes)) ∙ ap (λ (l : List ℕ). said d bytes ++ l) (sym (closed_says (after d bytes) r shut)) ∙ sym (in_all-append d bytes r) ∙ ap (in_all d) (sym taken)
     ∙ in_all_of with_tree input in
     subst (Appends old new) all out
+
+closed_of : (s : L.Stage) → status_at s ≡ Refused → s ≡ closed
+closed_of L.unopened e = cc
+closed_of (L.up base) e = cc
+closed_of L.closed e = refl
+
+-- a run that ends with the refusal of the script
+pub closed_by : (d : L.Desk) (status : Status) → status ≡ Refused → status ≡ status_at d.stage → d.stage ≡ closed
+closed_by d status is told = closed_of d.stage (sym told ∙ is)
+
+pub status_closed : (left rest : Option (List ℕ)) (with_tree : Bool) (bytes : List ℕ) → Consumes left rest bytes → (after (new_desk with_tree) bytes).stage ≡ closed
+    → IfSome left (λ input. Refused ≡ status_of with_tree input)
+status_closed None rest with_tree bytes taken shut = tt
+status_closed (Some input) None with_tree bytes taken shut = absurd taken
+status_closed (Some input) (Some r) with_tree bytes taken shut =
+    let d = new_desk with_tree in
+    ap status_at (sym (closed_stays (after d bytes) r shut) ∙ sym (stage-append d bytes r) ∙ ap (stage_in_all d) (sym taken) ∙ stage_of with_tree input)
+
+pub status_end : (left rest : Option (List ℕ)) (with_tree : Bool) (bytes : List ℕ) (status : Status) → Consumes left rest bytes → IsAtEnd rest → status ≡ status_at (stage_in_all (new_desk with_tree) bytes)
+    → IfSome left (λ input. status ≡ status_of with_tree input)
+status_end None rest with_tree bytes status taken ended told = tt
+status_end (Some input) None with_tree bytes status taken ended told = absurd taken
+status_end (Some input) (Some r) with_tree bytes status taken ended told =
+    let whole : bytes ≡ input = sym (append-nil bytes) ∙ ap (λ (l : List ℕ). bytes ++ l) (sym ended) ∙ sym taken in
+    told ∙ ap status_at (stage_of with_tree bytes) ∙ ap (status_of with_tree) whole

@@ -1,5 +1,5 @@
 -- What the program keeps of a rule base, and what it stands for.
-use Rattle.std.specs.Prelude.{◌≡◌, ⊤, ⊥, ℕ, List, ◌++◌, Option, string_bytes, Bool, false}
+use Rattle.std.specs.Prelude.{◌≡◌, ⊤, ℕ, List, ◌++◌, Option, string_bytes, Bool, false}
 use Rattle.std.specs.declared.string.String.{String}
 use Rattle.std.specs.declared.alloc.Global.{Global}
 use Rattle.std.specs.Io.KnownBytes.{Appends, Consumes}

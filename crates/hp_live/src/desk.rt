@@ -1,8 +1,11 @@
 //! Lines, one after the other.
 
-ghost use Rattle.std.specs.Prelude.{◌≡◌, ◌≢◌, ◌↔◌, ◌++◌, List, ℕ, IfOk, OnOk, string_bytes, true, false};
+ghost use Rattle.std.specs.Prelude.{◌≡◌, ◌≢◌, ◌↔◌, ◌++◌, List, ℕ, IfOk, OnOk, Ok, string_bytes, true, false};
 ghost use Rattle.std.specs.Io.KnownBytes.{Appends};
 ghost use Rattle.hp_report.specs.Device.{Begins};
+ghost use Rattle.hp_script.specs.Mapped.{timed_script};
+ghost use Rattle.hp_script.specs.Timed.{timed_script_of};
+ghost use Rattle.hp_lines.specs.Lines.{begun};
 ghost use Rattle.hp_lines.specs.Live as L;
 ghost use Rattle.hp_live.specs.Ends.{status_at};
 ghost use Rattle.hp_live.specs.Kept.{StandsFor, IsStage, IsDesk, Answers};
@@ -39,7 +42,28 @@ pub struct Desk {
     pub(crate) line: Vec<u8>,
 }
 
-/// Opens a rule base by a script, and runs its items: the answer, and how matters stand after it.
+/// Runs the items of a script on a new rule base: the answer, and how matters stand after it.
+///
+/// An error means that memory ran out.
+fn open_by<T: Threads + Sync>(
+    rt: &T,
+    alloc: Global,
+    script: Script,
+    options: Options,
+) -> Result<(String, Stage), AllocError>
+    ensures { IfOk result (λ opened. (line : List ℕ) → timed_script_of line ≡ Ok (timed_script script) →
+        Answers opened.0 opened.1 (L.answer options.tree L.unopened line)) }
+{
+    let mut base = RuleBase::new(alloc, script.library)?;
+    let schedule = Schedule {
+        units: script.items,
+        clock: script.clock,
+    };
+    let text = base.run(rt, alloc, schedule, options)?;
+    Ok((text, Stage::Up(base)))
+}
+
+/// Answers the first line: the answer, and how matters stand after it.
 ///
 /// An error means that memory ran out.
 fn open<T: Threads + Sync>(
@@ -51,21 +75,7 @@ fn open<T: Threads + Sync>(
     ensures { IfOk result (λ opened. Answers opened.0 opened.1 (L.answer options.tree L.unopened line.now)) }
 {
     match decode(alloc, line) {
-        Ok(
-            Script {
-                library,
-                items,
-                clock,
-            },
-        ) => {
-            let mut base = RuleBase::new(alloc, library)?;
-            let schedule = Schedule {
-                units: items,
-                clock,
-            };
-            let text = base.run(rt, alloc, schedule, options)?;
-            Ok((text, Stage::Up(base)))
-        }
+        Ok(script) => open_by(rt, alloc, script, options),
         Err(DecodeError::Refused(refusal)) => Ok((refusal_text(alloc, &refusal)?, Stage::Closed)),
         Err(DecodeError::Memory) => Err(AllocError),
     }
@@ -91,6 +101,29 @@ fn answer_later<T: Threads + Sync>(
     }
 }
 
+/// Answers a line, and changes how matters stand.
+///
+/// An error means that memory ran out; some of what the line asks for may have happened.
+fn answer_at<T: Threads + Sync>(
+    rt: &T,
+    alloc: Global,
+    stage: &mut Stage,
+    line: &[u8],
+    options: Options,
+) -> Result<String, AllocError>
+    ensures { IfOk result (λ text. (now : L.Stage) → IsStage stage.old now → Answers text stage.new (L.answer options.tree now line.now)) }
+{
+    match stage {
+        Stage::Unopened => {
+            let (text, opened) = open(rt, alloc, line, options)?;
+            *stage = opened;
+            Ok(text)
+        }
+        Stage::Up(base) => answer_later(rt, alloc, base, line, options),
+        Stage::Closed => Ok(String::new(alloc)),
+    }
+}
+
 impl Desk {
     /// A desk at which no line has come yet.
     pub fn new(alloc: Global, options: Options) -> Desk
@@ -105,7 +138,7 @@ impl Desk {
 
     /// How a run ends that ends now: where the script was refused nothing more is answered.
     pub fn status(&self) -> Status
-        ensures { (d : L.Desk) → IsDesk self.now d → result ≡ status_at d.stage }
+        ensures { (s : L.Stage) → IsStage self.now.stage s → result ≡ status_at s }
     {
         match self.stage {
             Stage::Unopened | Stage::Up(_) => Status::Ended,
@@ -120,15 +153,7 @@ impl Desk {
         ensures text { IfOk result (λ text. (d : L.Desk) → IsDesk self.old d → string_bytes text ≡ L.reply d) }
         ensures next { OnOk result ((d : L.Desk) → IsDesk self.old d → IsDesk self.new (L.answered d)) }
     {
-        let text = match &mut self.stage {
-            Stage::Unopened => {
-                let (text, stage) = open(rt, alloc, &self.line, self.options)?;
-                self.stage = stage;
-                text
-            }
-            Stage::Up(base) => answer_later(rt, alloc, base, &self.line, self.options)?,
-            Stage::Closed => String::new(alloc),
-        };
+        let text = answer_at(rt, alloc, &mut self.stage, &self.line, self.options)?;
         self.line.clear();
         Ok(text)
     }
@@ -145,6 +170,7 @@ impl Desk {
         ensures next { OnOk result ((d : L.Desk) → IsDesk self.old d → IsDesk self.new (L.answered d)) }
         ensures begins { (d : L.Desk) → IsDesk self.old d → Begins (W.contents writer.old) (W.contents writer.new) (L.reply d) }
         ensures write { result ≡ Err Fault.Write ↔ (W.has_failed writer.new ≡ true) }
+        ensures whole { OnOk result (W.has_failed writer.new ≡ false) }
         ensures read { result ≢ Err Fault.Read }
     {
         let text = self.answer(rt, alloc)?;
@@ -165,6 +191,7 @@ impl Desk {
         ensures next { OnOk result ((d : L.Desk) → IsDesk self.old d → IsDesk self.new (L.next d byte)) }
         ensures begins { (d : L.Desk) → IsDesk self.old d → Begins (W.contents writer.old) (W.contents writer.new) (L.told d byte) }
         ensures write { result ≡ Err Fault.Write ↔ (W.has_failed writer.new ≡ true) }
+        ensures whole { OnOk result (W.has_failed writer.new ≡ false) }
         ensures read { result ≢ Err Fault.Read }
     {
         if byte == b'\n' {
@@ -192,6 +219,7 @@ impl Desk {
         ensures next { OnOk result ((d : L.Desk) → IsDesk self.old d → IsDesk self.new (L.after d piece.now)) }
         ensures begins { (d : L.Desk) → IsDesk self.old d → Begins (W.contents writer.old) (W.contents writer.new) (L.said d piece.now) }
         ensures write { result ≡ Err Fault.Write ↔ (W.has_failed writer.new ≡ true) }
+        ensures whole { OnOk result (W.has_failed writer.new ≡ false) }
         ensures read { result ≢ Err Fault.Read }
     {
         for byte in piece {
@@ -211,8 +239,10 @@ impl Desk {
     ) -> Result<(), Fault>
         requires { W.has_failed writer.old ≡ false }
         ensures said { OnOk result ((d : L.Desk) → IsDesk self.old d → Appends (W.contents writer.old) (W.contents writer.new) (L.said_at_end d)) }
+        ensures stage { OnOk result ((d : L.Desk) → IsDesk self.old d → IsStage self.new.stage (L.stage_after d.with_tree d.stage (begun d.line))) }
         ensures begins { (d : L.Desk) → IsDesk self.old d → Begins (W.contents writer.old) (W.contents writer.new) (L.said_at_end d) }
         ensures write { result ≡ Err Fault.Write ↔ (W.has_failed writer.new ≡ true) }
+        ensures whole { OnOk result (W.has_failed writer.new ≡ false) }
         ensures read { result ≢ Err Fault.Read }
     {
         if self.line.is_empty() {

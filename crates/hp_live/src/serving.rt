@@ -48,7 +48,7 @@ pub fn serve<T: Threads + Sync, R: Source, W: Sink>(
     let mut desk = Desk::new(alloc, options);
     let mut buf = [0u8; 4096];
     for _ in 0..u64::MAX {
-        if desk.status() == Status::Refused {
+        if let Status::Refused = desk.status() {
             return Ok(Status::Refused);
         }
         match reader.read(&mut buf) {
