@@ -1,6 +1,6 @@
 -- What was said of bytes that came in pieces.
 use Rattle.std.proofs.Common.{◌≡◌, ℕ, suc, drop-cons, ◌+◌, ◌<◌, List, [], ◌∷◌, ◌++◌, length, take, drop, slice_index_or, Option, Some, None, IfSome, Bool, false, refl, sym, ap, subst, ◌∙◌, append_assoc, append-nil, arith}
-use Rattle.std.specs.Io.KnownBytes.{Appends, Consumes, IsAtEnd}
+use Rattle.std.specs.Io.KnownBytes.{Appends, Consumes, Keeps, IsAtEnd}
 use Rattle.std.proofs.Math.Seq.{take-suc}
 use Rattle.std.proofs.lemmas.List.{take-append-drop}
 use Rattle.std.proofs.KnownBytes.{Appends-nil, Appends-trans, Consumes-nil, Consumes-trans}
@@ -133,8 +133,8 @@ closed_of (L.up base) e = cc
 closed_of L.closed e = refl
 
 -- a run that ends with the refusal of the script
-pub closed_by : (d : L.Desk) (status : Status) → status ≡ Refused → status ≡ status_at d.stage → d.stage ≡ closed
-closed_by d status is told = closed_of d.stage (sym told ∙ is)
+pub closed_by : (s : L.Stage) (status : Status) → status ≡ Refused → status ≡ status_at s → s ≡ closed
+closed_by s status is told = closed_of s (sym told ∙ is)
 
 pub status_closed : (left rest : Option (List ℕ)) (with_tree : Bool) (bytes : List ℕ) → Consumes left rest bytes → (after (new_desk with_tree) bytes).stage ≡ closed
     → IfSome left (λ input. Refused ≡ status_of with_tree input)
@@ -151,3 +151,25 @@ status_end (Some input) None with_tree bytes status taken ended told = absurd ta
 status_end (Some input) (Some r) with_tree bytes status taken ended told =
     let whole : bytes ≡ input = sym (append-nil bytes) ∙ ap (λ (l : List ℕ). bytes ++ l) (sym ended) ∙ sym taken in
     told ∙ ap status_at (stage_of with_tree bytes) ∙ ap (status_of with_tree) whole
+
+-- ---- what reads leave
+
+-- a read at the end gave nothing
+pub ended : (left rest more : Option (List ℕ)) (bytes buf : List ℕ) (n : ℕ) → n ≡ 0 → Consumes left rest bytes → Consumes rest more (take n buf) → Consumes left more bytes
+ended left rest more bytes buf n none taken last =
+    subst (Consumes left more) (append-nil bytes) (Consumes-trans left rest more bytes [] taken (subst (λ m. Consumes rest more (take m buf)) none last))
+
+-- a read that failed gave nothing
+pub kept_left : (left rest new : Option (List ℕ)) (bytes : List ℕ) → Consumes left rest bytes → Keeps rest new → Consumes left new bytes
+kept_left None rest new bytes taken keeps = tt
+kept_left (Some input) None new bytes taken keeps = absurd taken
+kept_left (Some input) (Some r) None bytes taken keeps = absurd keeps
+kept_left (Some input) (Some r) (Some q) bytes taken keeps = taken ∙ ap (λ (l : List ℕ). bytes ++ l) (sym keeps)
+
+-- what went out of a piece is a beginning of the output
+pub begins_fed : (left rest more old mid new : Option (List ℕ)) (with_tree : Bool) (bytes piece : List ℕ) → Consumes left rest bytes → Consumes rest more piece → Appends old mid (said (new_desk with_tree) bytes)
+    → Begins mid new (said (after (new_desk with_tree) bytes) piece) → IfSome left (λ input. Begins old new (output with_tree input))
+begins_fed left rest more old mid new with_tree bytes piece taken next out begins =
+    let d = new_desk with_tree in
+    begins_output left more old new with_tree (bytes ++ piece) (Consumes-trans left rest more bytes piece taken next)
+    (subst (Begins old new) (sym (said-append d bytes piece)) (begins_on old mid new (said d bytes) (said (after d bytes) piece) out begins))
