@@ -3,3 +3,4 @@ pub mod Lines
 pub mod Said
 pub mod Anywhere
 pub mod Journal
+pub mod Sessions

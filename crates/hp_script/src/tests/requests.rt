@@ -9,12 +9,7 @@ const BASE: &str =
     "{\"version\":1,\"classes\":[[\"acct\",[[\"bal\",\"int\"]]]],\"rules\":[[\"r\",[\"at\",7],\"immediate\",[],\"immediate\",[]]],\"items\":[[\"clock\",5]]}";
 
 /// What is written for a refused line, without its line feed; or how many units it asks for, and the time after it.
-fn asked(
-    alloc: Global,
-    library: &Arc<Library>,
-    clock: u64,
-    line: &str,
-) -> Result<String, Fail> {
+fn asked(alloc: Global, library: &Arc<Library>, clock: u64, line: &str) -> Result<String, Fail> {
     match decode_request(alloc, library, clock, line.as_bytes()) {
         Ok(Request::State) => Ok(String::from_str(alloc, "state")?),
         Ok(Request::Item(schedule)) => {
@@ -38,7 +33,10 @@ fn reads_what_is_asked_of_a_rule_base(rt: HostRuntime) -> Result<(), Fail> {
     };
     assert!(rt; clock == 5);
     for (line, want) in [
-        ("[\"tx\",[[\"install\",\"r\"],[\"delete\",\"acct\",1]]]", "1 at 5"),
+        (
+            "[\"tx\",[[\"install\",\"r\"],[\"delete\",\"acct\",1]]]",
+            "1 at 5",
+        ),
         (" [\"clock\",9]\r", "1 at 9"),
         ("[\"clock\",5]", "0 at 5"),
         ("[\"show\"]", "state"),
