@@ -104,7 +104,7 @@ fn evaluated<T: Threads + Sync>(
     ensures { IfOk result (λ report. (with_tree : Bool) → text_of with_tree (Ok (script_of_model script))
         ≡ report_text (library report.library.value) with_tree (evaluation report)) }
 {
-    let Script { library, items } = script;
+    let Script { library, items, .. } = script;
     let mut store = opening(alloc)?;
     let ran = run_items(rt, alloc, &library, &mut store, &items, workers);
     let units = whole(ran)?;

@@ -18,6 +18,10 @@ spaced ws = flat_map (λ (w : Bytes). 32 ∷ w) ws
 abbrev pub emit_lines : List Value → Bytes
 emit_lines vs = flat_map (λ v. line 0 (codes "emit" ∷ value_text v ∷ [])) vs
 
+-- the lines of a state
+abbrev pub state_text : Library → Objects → List RuleState → Bytes
+state_text library objects rules = objects_text library objects ++ rules_text library.rules rules
+
 -- the lines after the units
 abbrev pub final_text : Library → Objects → List RuleState → Bytes
 final_text library objects rules =

@@ -37,7 +37,16 @@ pub fn final_state(
 pub fn final_objects(alloc: Global, units: &[UnitReport]) -> Result<Objects, AllocError>
     ensures { IfOk result (λ objects. objects ≡ replay_units [] (map model.unit_report units.now)) }
 {
-    let mut objects = Objects::new(alloc);
+    replay_units(Objects::new(alloc), units)
+}
+
+/// The objects that units leave: what their trees' committed operations make of those that were there.
+///
+/// An error means that memory ran out; the objects are then lost.
+pub fn replay_units(initial: Objects, units: &[UnitReport]) -> Result<Objects, AllocError>
+    ensures { IfOk result (λ objects. objects ≡ replay_units initial (map model.unit_report units.now)) }
+{
+    let mut objects = initial;
     for unit in units {
         objects = replay_tops(objects, &unit.tops)?;
     }

@@ -8,13 +8,15 @@ mod ending;
 mod input;
 mod names;
 mod output;
+mod parts;
 mod report;
 mod text;
 mod watched;
 
 pub use device::{Sink, Source};
-pub use ending::{final_objects, final_state, final_statuses};
+pub use ending::{final_objects, final_state, final_statuses, replay_units};
 pub use input::{ReadFault, read_up_to};
 pub use output::{WriteFault, write_text};
+pub use parts::{state_text, units_text};
 pub use report::{Report, Status, write_report};
 pub use watched::Watched;

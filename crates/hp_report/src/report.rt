@@ -49,7 +49,7 @@ fn text_of(alloc: Global, report: &Report, with_tree: bool) -> Result<String, Al
         rules: report.library.rules(),
     };
     let mut out = String::new(alloc);
-    put_units(alloc, &mut out, &names, with_tree, &report.units)?;
+    put_units(alloc, &mut out, &names, with_tree, 1, &report.units)?;
     put_final(alloc, &mut out, &names, &report.objects, &report.statuses)?;
     Ok(out)
 }

@@ -8,6 +8,6 @@ mod units;
 mod words;
 
 pub use objects::put_fields;
-pub use state::put_final;
+pub use state::{put_final, put_state};
 pub use units::put_units;
 pub use words::put_value;

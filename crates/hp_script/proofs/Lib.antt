@@ -5,3 +5,4 @@ pub mod Readings
 pub mod Parsed
 pub mod ItemScopes
 pub mod OwnBodies
+pub mod Timed

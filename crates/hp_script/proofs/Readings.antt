@@ -1,6 +1,6 @@
 -- Forms read from their parts, one after the other.
-use Rattle.std.proofs.Common.{◌≡◌, ℕ, List, [], ◌∷◌, ◌++◌, length, map, ap, sym, ◌∙◌, Ok, Vec, Global}
-use Rattle.std.proofs.lemmas.List.{length-map, map-append}
+use Rattle.std.proofs.Common.{◌≡◌, ℕ, List, [], ◌∷◌, ◌++◌, map, ap, sym, ◌∙◌, Ok, Vec, Global}
+use Rattle.std.proofs.lemmas.List.{map-append}
 use Rattle.serde_json.specs.Data.{Data}
 use Rattle.hp_model.specs.Values.{Name}
 use Rattle.hp_model.specs.Expressions.{Expression}
@@ -11,17 +11,16 @@ use Rattle.hp_model.specs.Parts.{place_at}
 use Rattle.hp_model.specs.Scopes.{Scope, class_names, new_row_at}
 use Rattle.hp_model.specs.ExpressionGrammar.{expression_at}
 use Rattle.hp_model.specs.StatementGrammar.{Reading, body_of, query_at, statements_by, statements_at, each_at, for_at, with_at}
-use Rattle.hp_model.specs.Decode.{Schedule, script_scope, transaction_at}
+use Rattle.hp_model.specs.Decode.{Schedule, transaction_at}
 use Rattle.hp_model.specs.Checked.{script_body_check}
-use Rattle.hp_model.proofs.WellFormedScripts.{read_body}
 use Rattle.hp_rule.specs.Mapped.{statement, body_in, body as body_of_model, unit}
 use Rattle.hp_rule.specs.declared.stmt.Stmt.{Stmt}
 use Rattle.hp_rule.specs.declared.body.Body.{Body}
 use Rattle.hp_rule.specs.declared.unit.Unit.{Unit}
 use Rattle.hp_rule.specs.declared.unit.Unit.TheVariants.{Transaction}
-use Rattle.hp_script.specs.Forms.{head_view, heads_view}
-use Rattle.hp_script.specs.declared.rule_head.RuleHead.{RuleHead}
+use Rattle.hp_script.specs.Scopes.{library_scope}
 use Rattle.hp_script.proofs.Bodies.{body_of_statements}
+use Rattle.hp_script.proofs.ItemScopes.{read_body}
 
 pub for_read : (scope : Scope) (read : Reading) (rows : List Name) (path : Path) (d1 d2 : Data) (x : Name) (ss : List R.Statement) (s : R.Statement)
     → query_at scope (item_at path 1) d1 ≡ Ok x → statements_by read rows (item_at path 2) d2 ≡ Ok ss → s ≡ R.for_answer x (body_of ss)
@@ -55,7 +54,6 @@ transaction_pushed units new body statements e is =
     ap (map unit) e ∙ map-append unit units (Transaction body ∷ []) ∙ ap (λ b. map unit units ++ C.transaction b ∷ []) (is ∙ body_of_statements statements.items)
 
 -- a body that was read is well formed
-pub body_checked : (library : R.Library) (heads : List RuleHead) (path : Path) (d : Data) (ss : List Stmt)
-    → length library.rules ≡ length heads → statements_at (script_scope library.classes (heads_view heads)) [] path d ≡ Ok (map statement ss) → script_body_check library [] (body_in ss) ≡ Ok tt
-body_checked library heads path d ss as_many read =
-    rw body_of_statements (read_body library (heads_view heads) path d (map statement ss) (as_many ∙ sym (length-map heads head_view)) read)
+pub body_checked : (library : R.Library) (path : Path) (d : Data) (ss : List Stmt)
+    → statements_at (library_scope library) [] path d ≡ Ok (map statement ss) → script_body_check library [] (body_in ss) ≡ Ok tt
+body_checked library path d ss read = rw body_of_statements (read_body library path d (map statement ss) read)

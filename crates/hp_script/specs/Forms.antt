@@ -2,7 +2,6 @@
 use Rattle.std.specs.Prelude.{List, map, option_map}
 use Rattle.serde_json.specs.View.{view}
 use Rattle.hp_model.specs.Json as J
-use Rattle.hp_model.specs.RuleHeads as H
 use Rattle.hp_model.specs.Scopes as S
 use Rattle.hp_model.specs.ExpressionGrammar as E
 use Rattle.hp_model.specs.EventGrammar as V
@@ -24,32 +23,16 @@ use Rattle.hp_script.specs.declared.item.ItemForm.TheVariants.{Transaction, Cloc
 use Rattle.hp_script.specs.declared.version.Version.{Version}
 use Rattle.hp_script.specs.declared.version.Version.TheVariants.{First, Second}
 use Rattle.hp_script.specs.declared.decoding.Root.{Root}
-use Rattle.hp_script.specs.declared.rule_head.RuleParts.{RuleParts}
-use Rattle.hp_script.specs.declared.rule_head.RuleHead.{RuleHead}
+pub use Rattle.hp_script.specs.Heads.{parts_view, head_view, heads_view}
+use Rattle.hp_script.specs.RuleNames.{names_of}
 
 abbrev pub form_view : Form → J.Form
 form_view f = record { word = f.word.now; parts = map view f.parts.now }
 
-abbrev pub parts_view : RuleParts → H.RuleParts
-parts_view p = record {
-  name = view p.name.now;
-  event = view p.event.now;
-  event_coupling = view p.event_coupling.now;
-  condition = view p.condition.now;
-  action_coupling = view p.action_coupling.now;
-  action = view p.action.now;
-}
-
-abbrev pub head_view : RuleHead → H.RuleHead
-head_view h = record { name = h.name.now; parts = parts_view h.parts }
-
-abbrev pub heads_view : List RuleHead → List H.RuleHead
-heads_view = map head_view
-
 abbrev pub scope_view : Scope → S.Scope
 scope_view s = record {
   classes = map class_def s.classes.now;
-  rules = H.rule_names (heads_view s.rules.now);
+  rules = names_of s.rules;
   queries = S.query_names (map query s.queries.now);
   in_action = s.in_action;
 }

@@ -2,6 +2,11 @@ pub mod Mapped
 pub mod Place
 pub mod Rows
 pub mod Moments
+pub mod Heads
+pub mod RuleNames
 pub mod Forms
-pub mod ItemScopes
+pub mod Scopes
 pub mod OwnBodies
+pub mod Timed
+pub mod Requests
+pub mod Asked

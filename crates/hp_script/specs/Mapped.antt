@@ -5,6 +5,7 @@ use Rattle.hp_model.specs.Refusals as R
 use Rattle.hp_model.specs.Cascade as C
 use Rattle.hp_model.specs.Decode as D
 use Rattle.hp_rule.specs.Mapped.{library, unit}
+use Rattle.hp_script.specs.Timed.{TimedScript}
 use Rattle.hp_script.specs.declared.schedule.Schedule.{Schedule}
 use Rattle.hp_script.specs.declared.script.Script.{Script}
 use Rattle.hp_script.specs.declared.refusal.Member.{Member}
@@ -72,3 +73,6 @@ schedule s = record { units = map unit s.units.items; clock = s.clock }
 
 abbrev pub script : Script → C.Script
 script s = record { library = library s.library.value; units = map unit s.items.items }
+
+abbrev pub timed_script : Script → TimedScript
+timed_script s = record { script = script s; clock = s.clock }

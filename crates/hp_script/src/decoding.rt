@@ -3,12 +3,14 @@
 ghost use Rattle.std.specs.Prelude.{◌≡◌, ◌≤◌, ◌<◌, codes, length, map, option_map, IfOk};
 ghost use Rattle.serde_json.specs.View.{view};
 ghost use Rattle.hp_model.specs.Refusals.{under_root};
-ghost use Rattle.hp_model.specs.Decode.{wanted_count, root_of, rules_at, script_scope, decode as script_at, script_of};
+ghost use Rattle.hp_model.specs.Decode.{wanted_count, root_of, rules_at, units_at, script_scope, script_of};
 ghost use Rattle.hp_value.specs.Mapped.{class_def};
-ghost use Rattle.hp_rule.specs.Mapped.{rule};
+ghost use Rattle.hp_rule.specs.Mapped.{library as model_library, rule};
 ghost use Rattle.hp_script.specs.Forms.{heads_view, root_view, version_view};
-ghost use Rattle.hp_script.specs.Mapped.{Gives, script};
+ghost use Rattle.hp_script.specs.Mapped.{Gives, schedule, script, timed_script};
 ghost use Rattle.hp_script.specs.OwnBodies.{AreOf};
+ghost use Rattle.hp_script.specs.Scopes.{library_scope};
+ghost use Rattle.hp_script.specs.Timed.{library_at, timed_script_at, timed_script_of};
 
 use crate::class::classes_at;
 use crate::item::units_at;
@@ -17,7 +19,9 @@ use crate::place::{Place, misshapen};
 use crate::refusal::{DecodeError, Limit, Member, Refusal};
 use crate::rule::rules_at;
 use crate::rule_head::{RuleHead, rule_heads_at};
-use crate::scope::{ItemScope, Scope};
+use crate::rule_names::RuleNames;
+use crate::schedule::Schedule;
+use crate::scope::Scope;
 use crate::script::Script;
 use crate::version::{Version, depth_if_any, version_at};
 use hp_rule::{Library, Rule};
@@ -27,7 +31,7 @@ use std::alloc::Global;
 use std::sync::Arc;
 
 /// The bytes that a script may have.
-const MAX_BYTES: usize = 1_048_576;
+pub(crate) const MAX_BYTES: usize = 1_048_576;
 
 /// The members of the root.
 #[derive(Clone, Copy)]
@@ -80,50 +84,57 @@ fn rules_of(
 {
     let scope = Scope {
         classes,
-        rules: heads,
+        rules: RuleNames::Heads(heads),
         queries: &[],
         in_action: false,
     };
     rules_at(alloc, &Place::Member(Member::Rules), version, &scope, heads)
 }
 
-/// The script that a JSON value says.
-#[tactic(auto, unfolding(hp_model::specs::Decode::decode, hp_model::specs::Decode::script_from))]
-fn script_at(alloc: Global, value: &Value) -> Result<Script, DecodeError>
-    ensures own { IfOk result (λ s. AreOf s.library.value s.items.items) }
-    ensures reads { Gives script result (script_at (view value.now)) }
+/// The items over a script's library, as the units that they run.
+fn items_of(alloc: Global, library: &Arc<Library>, value: &Value) -> Result<Schedule, DecodeError>
+    ensures own { IfOk result (λ s. AreOf library.now.value s.units.items) }
+    ensures reads { Gives schedule result (units_at (model_library library.now.value).rules (library_scope (model_library library.now.value)) (under_root (codes "items")) (view value.now)) }
 {
-    let Some(root) = root_of(value) else {
-        return Err(misshapen(alloc, &Place::Root));
-    };
+    units_at(alloc, &Place::Member(Member::Items), library, value)
+}
+
+/// The library that the root's members say.
+#[tactic(auto, unfolding(crate::specs::Timed::library_at))]
+fn library_of(alloc: Global, root: &Root<'_>) -> Result<Arc<Library>, DecodeError>
+    ensures { Gives (λ l. model_library l.value) result (library_at (root_view root.entry.now)) }
+{
     let version = version_at(alloc, &Place::Member(Member::Version), root.version)?;
     let depth_limit = depth_if_any(alloc, &Place::Member(Member::Depth), root.depth)?;
     let classes = classes_at(alloc, &Place::Member(Member::Classes), root.classes)?;
     let heads = rule_heads_at(alloc, &Place::Member(Member::Rules), root.rules)?;
-    let heads = heads.as_slice();
-    let rules = rules_of(alloc, version, classes.as_slice(), heads)?;
+    let rules = rules_of(alloc, version, classes.as_slice(), heads.as_slice())?;
     let library = Library::of_checked(alloc, classes, rules, depth_limit)?;
-    let library = Arc::new(alloc, library)?;
-    let scope = ItemScope {
-        library: &library,
-        heads,
+    Ok(Arc::new(alloc, library)?)
+}
+
+/// The script that a JSON value says.
+#[tactic(auto, unfolding(crate::specs::Timed::timed_script_at))]
+fn script_at(alloc: Global, value: &Value) -> Result<Script, DecodeError>
+    ensures own { IfOk result (λ s. AreOf s.library.value s.items.items) }
+    ensures reads { Gives timed_script result (timed_script_at (view value.now)) }
+{
+    let Some(root) = root_of(value) else {
+        return Err(misshapen(alloc, &Place::Root));
     };
-    let schedule = units_at(alloc, &Place::Member(Member::Items), &scope, root.items)?;
+    let library = library_of(alloc, &root)?;
+    let schedule = items_of(alloc, &library, root.items)?;
     Ok(Script {
         library,
         items: schedule.units,
+        clock: schedule.clock,
     })
 }
 
-/// The script that the bytes say.
-///
-/// `Refused` tells the first fault, in the order of the grammar's checks: the size, the JSON text, the root's members,
-/// the version, the depth limit, the classes, the form and name of each rule, the other parts of each rule, and the
-/// items. `Memory` means that memory ran out, and says nothing of the bytes but that they are no more than 1,048,576:
-/// more are refused before any memory is taken. The bodies of a script are of its own library.
-#[tactic(auto, unfolding(hp_model::specs::Decode::script_of))]
-pub fn decode(alloc: Global, bytes: &[u8]) -> Result<Script, DecodeError>
-    ensures reads { Gives script result (script_of bytes.now) }
+/// The script that the bytes say, unless they are too many.
+#[tactic(auto, unfolding(crate::specs::Timed::timed_script_of))]
+fn script_in(alloc: Global, bytes: &[u8]) -> Result<Script, DecodeError>
+    ensures timed { Gives timed_script result (timed_script_of bytes.now) }
     ensures own { IfOk result (λ s. AreOf s.library.value s.items.items) }
     ensures too_long { 1048576 < length bytes.now → result ≡ Err (DecodeError.Refused (Refusal.S5 Limit.Size)) }
 {
@@ -132,4 +143,19 @@ pub fn decode(alloc: Global, bytes: &[u8]) -> Result<Script, DecodeError>
     }
     let value = json_at(alloc, bytes)?;
     script_at(alloc, &value)
+}
+
+/// The script that the bytes say.
+///
+/// `Refused` tells the first fault, in the order of the grammar's checks: the size, the JSON text, the root's members,
+/// the version, the depth limit, the classes, the form and name of each rule, the other parts of each rule, and the
+/// items. `Memory` means that memory ran out, and says nothing of the bytes but that they are no more than 1,048,576:
+/// more are refused before any memory is taken. The bodies of a script are of its own library.
+pub fn decode(alloc: Global, bytes: &[u8]) -> Result<Script, DecodeError>
+    ensures reads { Gives script result (script_of bytes.now) }
+    ensures timed { Gives timed_script result (timed_script_of bytes.now) }
+    ensures own { IfOk result (λ s. AreOf s.library.value s.items.items) }
+    ensures too_long { 1048576 < length bytes.now → result ≡ Err (DecodeError.Refused (Refusal.S5 Limit.Size)) }
+{
+    script_in(alloc, bytes)
 }

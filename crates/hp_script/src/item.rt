@@ -4,12 +4,12 @@ ghost use Rattle.std.specs.Prelude.{◌≡◌, ◌++◌, map, option_map, IfOk};
 ghost use Rattle.serde_json.specs.View.{view};
 ghost use Rattle.hp_model.specs.Cascade.{moment};
 ghost use Rattle.hp_model.specs.Decode.{item_form_of_one, item_form, item_form_at, transaction_at, clock_at, unit_at, units_at};
-ghost use Rattle.hp_rule.specs.Mapped.{rule, unit};
+ghost use Rattle.hp_rule.specs.Mapped.{library as model_library, rule, unit};
 ghost use Rattle.hp_script.specs.Forms.{item_form_view};
-ghost use Rattle.hp_script.specs.ItemScopes.{item_library, item_rules, item_scope};
 ghost use Rattle.hp_script.specs.Mapped.{Gives, schedule};
 ghost use Rattle.hp_script.specs.OwnBodies.{AreOf};
 ghost use Rattle.hp_script.specs.Place.{path_to};
+ghost use Rattle.hp_script.specs.Scopes.{library_scope};
 
 use crate::moment::due_moments;
 use crate::number::number_from;
@@ -17,12 +17,13 @@ use crate::place::{Place, misshapen};
 use crate::refusal::{DecodeError, Limit, Refusal};
 use crate::rows::no_rows;
 use crate::schedule::Schedule;
-use crate::scope::ItemScope;
+use crate::scope::Scope;
 use crate::shape::{form_of, list_of};
 use crate::statement::statements_at;
 use hp_rule::{Body, Library, Rule, Unit};
 use serde_json::Value;
 use std::alloc::{AllocError, Global};
+use std::sync::Arc;
 
 /// An item whose part is still JSON.
 #[derive(Clone, Copy)]
@@ -70,17 +71,17 @@ fn item_form_at<'a>(
 fn transaction_at(
     alloc: Global,
     place: &Place<'_>,
-    scope: &ItemScope<'_>,
+    library: &Arc<Library>,
     before: Schedule,
     body: &Value,
 ) -> Result<Schedule, DecodeError>
-    ensures own { IfOk result (λ s. AreOf (item_library scope.entry.now) before.units.items → AreOf (item_library scope.entry.now) s.units.items) }
-    ensures reads { Gives schedule result (transaction_at (item_scope scope.entry.now) (path_to place.now) (schedule before) (view body.now)) }
+    ensures own { IfOk result (λ s. AreOf library.now.value before.units.items → AreOf library.now.value s.units.items) }
+    ensures reads { Gives schedule result (transaction_at (library_scope (model_library library.now.value)) (path_to place.now) (schedule before) (view body.now)) }
 {
     let rows = no_rows();
-    let of_bodies = scope.of_bodies();
-    let statements = statements_at(alloc, &place.item(1), &of_bodies, &rows, body)?;
-    let body = Body::of_checked(scope.library, statements)?;
+    let scope = Scope::of_library(library);
+    let statements = statements_at(alloc, &place.item(1), &scope, &rows, body)?;
+    let body = Body::of_checked(library, statements)?;
     let Schedule { mut units, clock } = before;
     units.push(Unit::Transaction(body))?;
     Ok(Schedule { units, clock })
@@ -119,19 +120,19 @@ fn clock_at(
 
 /// What was read before, and the item that stands at a place.
 #[tactic(auto, unfolding(hp_model::specs::Decode::unit_at))]
-fn unit_at(
+pub(crate) fn unit_at(
     alloc: Global,
     place: &Place<'_>,
-    scope: &ItemScope<'_>,
+    library: &Arc<Library>,
     before: Schedule,
     value: &Value,
 ) -> Result<Schedule, DecodeError>
-    ensures own { IfOk result (λ s. AreOf (item_library scope.entry.now) before.units.items → AreOf (item_library scope.entry.now) s.units.items) }
-    ensures reads { Gives schedule result (unit_at (item_rules scope.entry.now) (item_scope scope.entry.now) (path_to place.now) (schedule before) (view value.now)) }
+    ensures own { IfOk result (λ s. AreOf library.now.value before.units.items → AreOf library.now.value s.units.items) }
+    ensures reads { Gives schedule result (unit_at (model_library library.now.value).rules (library_scope (model_library library.now.value)) (path_to place.now) (schedule before) (view value.now)) }
 {
     match item_form_at(alloc, place, value)? {
-        ItemForm::Transaction(body) => transaction_at(alloc, place, scope, before, body),
-        ItemForm::Clock(time) => clock_at(alloc, place, scope.library.rules(), before, time),
+        ItemForm::Transaction(body) => transaction_at(alloc, place, library, before, body),
+        ItemForm::Clock(time) => clock_at(alloc, place, library.rules(), before, time),
     }
 }
 
@@ -140,11 +141,11 @@ fn unit_at(
 pub(crate) fn units_at(
     alloc: Global,
     place: &Place<'_>,
-    scope: &ItemScope<'_>,
+    library: &Arc<Library>,
     value: &Value,
 ) -> Result<Schedule, DecodeError>
-    ensures own { IfOk result (λ s. AreOf (item_library scope.entry.now) s.units.items) }
-    ensures reads { Gives schedule result (units_at (item_rules scope.entry.now) (item_scope scope.entry.now) (path_to place.now) (view value.now)) }
+    ensures own { IfOk result (λ s. AreOf library.now.value s.units.items) }
+    ensures reads { Gives schedule result (units_at (model_library library.now.value).rules (library_scope (model_library library.now.value)) (path_to place.now) (view value.now)) }
 {
     let Some(values) = list_of(value) else {
         return Err(misshapen(alloc, place));
@@ -154,7 +155,7 @@ pub(crate) fn units_at(
         clock: 0,
     };
     for (i, value) in values.iter().enumerate() {
-        schedule = unit_at(alloc, &place.item(i), scope, schedule, value)?;
+        schedule = unit_at(alloc, &place.item(i), library, schedule, value)?;
     }
     Ok(schedule)
 }

@@ -10,7 +10,7 @@ ghost use Rattle.hp_script.specs.Forms.{scope_view};
 ghost use Rattle.hp_script.specs.Mapped.{Gives};
 ghost use Rattle.hp_script.specs.Place.{path_to};
 
-use crate::known::{class_place, rule_place};
+use crate::known::class_place;
 use crate::name::name_at;
 use crate::place::{Place, misnamed};
 use crate::refusal::DecodeError;
@@ -32,7 +32,7 @@ fn class_number(scope: &Scope<'_>, name: &str) -> Option<ClassNo>
 fn rule_number(scope: &Scope<'_>, name: &str) -> Option<RuleNo>
     ensures { result ≡ place_of (scope_view scope.entry.now).rules name.now }
 {
-    let place = rule_place(scope.rules, name)?;
+    let place = scope.rules.place(name)?;
     Some(place as RuleNo)
 }
 

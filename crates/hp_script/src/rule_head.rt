@@ -7,7 +7,7 @@ ghost use Rattle.hp_script.specs.Forms.{parts_view, head_view, heads_view};
 ghost use Rattle.hp_script.specs.Mapped.{Gives};
 ghost use Rattle.hp_script.specs.Place.{path_to};
 
-use crate::known::rule_place;
+use crate::known::head_place;
 use crate::name::name_at;
 use crate::place::{Place, misnamed, misshapen};
 use crate::refusal::{DecodeError, Limit, Refusal};
@@ -73,7 +73,7 @@ fn rule_head_at<'a>(
         return Err(misshapen(alloc, place));
     };
     let name = name_at(alloc, &place.item(0), parts.name)?;
-    if rule_place(before, name).is_some() {
+    if head_place(before, name).is_some() {
         return Err(misnamed(alloc, &place.item(0)));
     }
     Ok(RuleHead { name, parts })

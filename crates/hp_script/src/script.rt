@@ -10,4 +10,6 @@ pub struct Script {
     pub library: Arc<Library>,
     /// What is run, in order. A move of the clock stands as its due moments.
     pub items: Vec<Unit>,
+    /// Where the clock stands after them.
+    pub clock: u64,
 }

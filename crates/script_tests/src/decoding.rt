@@ -574,7 +574,7 @@ fn reads_parts(rt: HostRuntime) -> Result<(), Fail> {
     let alloc = rt.alloc();
     let text =
         "{\"version\":1,\"depth\":3,\"classes\":[[\"acct\",[[\"bal\",\"int\"]]]],\"rules\":[[\"r\",[\"signal\",\"go\"],\"immediate\",[],\"immediate\",[]]],\"items\":[[\"tx\",[[\"abort\"]]]]}";
-    let Ok(Script { library, items }) = decode(alloc, text.as_bytes()) else {
+    let Ok(Script { library, items, .. }) = decode(alloc, text.as_bytes()) else {
         return Err(Fail::from("refused"));
     };
     assert!(rt; library.depth_limit() == 3);

@@ -10,4 +10,6 @@ mod endings;
 #[cfg(test)]
 mod fixtures;
 #[cfg(test)]
+mod requests;
+#[cfg(test)]
 mod texts;

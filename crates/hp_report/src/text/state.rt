@@ -2,7 +2,7 @@
 
 ghost use Rattle.std.specs.Prelude.{map, OnOk};
 ghost use Rattle.hp_report.specs.Mapped as model;
-ghost use Rattle.hp_report.specs.Text.{Gains, final_text};
+ghost use Rattle.hp_report.specs.Text.{Gains, final_text, state_text};
 
 use crate::names::Names;
 use crate::report::Status;
@@ -24,7 +24,21 @@ pub fn put_final(
         (final_text (model.library_of names.now) objects.now (map model.rule_state statuses.now))) }
 {
     writeln!(out, "final")?;
-    put_objects(alloc, out, names, objects)?;
-    put_rules(out, names.rules, statuses)?;
+    put_state(alloc, out, names, objects, statuses)?;
     writeln!(out, "end")
+}
+
+/// The lines of a state: its objects, and the statuses of its rules.
+pub fn put_state(
+    alloc: Global,
+    out: &mut String,
+    names: &Names<'_>,
+    objects: &Objects,
+    statuses: &[Status],
+) -> Result<(), AllocError>
+    ensures { OnOk result (Gains out.old out.new
+        (state_text (model.library_of names.now) objects.now (map model.rule_state statuses.now))) }
+{
+    put_objects(alloc, out, names, objects)?;
+    put_rules(out, names.rules, statuses)
 }

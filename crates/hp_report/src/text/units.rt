@@ -1,6 +1,6 @@
 //! Lines of units.
 
-ghost use Rattle.std.specs.Prelude.{◌++◌, map, flat_map, option_map, OnOk};
+ghost use Rattle.std.specs.Prelude.{◌++◌, ◌+◌, ◌<◌, ◌^◌, length, map, flat_map, option_map, OnOk};
 ghost use Rattle.hp_model.specs.Report.{words, line, heading, ending_words, outcome_text, transaction_text, units_text};
 ghost use Rattle.hp_report.specs.Mapped as model;
 ghost use Rattle.hp_report.specs.Text.{Gains, emit_lines};
@@ -111,19 +111,21 @@ fn put_tops(
     Ok(())
 }
 
-/// The lines of units, which are numbered from 1, with their trees where these are wanted.
+/// The lines of units, the first of which has this number, with their trees where these are wanted.
 pub fn put_units(
     alloc: Global,
     out: &mut String,
     names: &Names<'_>,
     with_tree: bool,
+    first: usize,
     units: &[UnitReport],
 ) -> Result<(), AllocError>
+    requires { first + length units.now < 2 ^ 64 }
     ensures { OnOk result (Gains out.old out.new
-        (units_text (model.library_of names.now) with_tree 1 (map model.unit_report units.now))) }
+        (units_text (model.library_of names.now) with_tree first (map model.unit_report units.now))) }
 {
     for (index, unit) in units.iter().enumerate() {
-        put_tops(alloc, out, names, with_tree, index + 1, unit)?;
+        put_tops(alloc, out, names, with_tree, first + index, unit)?;
     }
     Ok(())
 }

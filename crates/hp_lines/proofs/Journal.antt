@@ -1,0 +1,318 @@
+-- That accepted lines are a journal.
+use Rattle.std.proofs.Common.{◌≡◌, ℕ, suc, ◌+◌, nat_lt, Bool, true, false, cond, List, [], ◌∷◌, ◌++◌, length, Option, Some, None, Ok, Err, refl, sym, ap, subst, ◌∙◌, append_assoc, append-nil, arith}
+use Rattle.std.specs.Prelude.{codes, flat_map}
+use Rattle.std.proofs.lemmas.List.{length-append}
+use Rattle.serde_json.specs.Data.{Data}
+use Rattle.hp_model.specs.Values.{◌>>=◌}
+use Rattle.hp_model.specs.Rules.{Library, Rule}
+use Rattle.hp_model.specs.State.{State, initial_state}
+use Rattle.hp_model.specs.Cascade.{Unit, Script, UnitReport, Evaluation, unit_report, run_unit, run_units, evaluate}
+use Rattle.hp_model.specs.Scopes.{Scope}
+use Rattle.hp_model.specs.Refusals.{Path, Refusal, Decoded, under_root, item_at, over_limit, size_limit, shaped}
+use Rattle.hp_model.specs.Json.{list_of}
+use Rattle.hp_model.specs.Decode.{Schedule, no_item, Root, root_of, json_at, unit_at, units_from, units_at, decode}
+use Rattle.hp_model.specs.Report.{Bytes, transaction_text, units_text}
+use Rattle.hp_model.specs.Output.{text_of}
+use Rattle.hp_report.specs.Text.{final_text}
+use Rattle.hp_script.specs.Scopes.{library_scope}
+use Rattle.hp_script.specs.Requests.{Request, item, state, asks_for_state, nothing_since, item_of, request_at, request_of}
+use Rattle.hp_script.specs.Timed.{TimedScript, library_at, timed_script_at, timed_script_of, untimed}
+use Rattle.hp_script.proofs.Timed.{untimed_at}
+use Rattle.hp_lines.specs.Lines.{Line}
+use Rattle.hp_lines.specs.Live.{RuleBase, new_base, Stage, unopened, up, closed, Answer, ran, opening_answer, later_answer, answer, stage_after}
+use Rattle.hp_lines.specs.Journal.{item_in, item_for, value_if, body_if, accepted, accepted_bodies, opened_by, IsJournal, Replays, AcceptedLinesReplay}
+use Rattle.hp_lines.proofs.Anywhere.{unit_goes}
+use Rattle.hp_lines.proofs.Said.{closed_stage}
+
+-- ---- units, and then more units
+
+run-append : (library : Library) (us vs : List Unit) (S : State)
+    → run_units library (us ++ vs) S ≡ record { units = (run_units library us S).units ++ (run_units library vs (run_units library us S).state).units; state = (run_units library vs (run_units library us S).state).state }
+run-append library [] vs S = refl
+run-append library (u ∷ us) vs S =
+    ap (λ (e : Evaluation). record { units = unit_report u (run_unit library u S) ∷ e.units; state = e.state }) (run-append library us vs (run_unit library u S).state)
+
+text-append : (library : Library) (with_tree : Bool) (n : ℕ) (us vs : List UnitReport) → units_text library with_tree n (us ++ vs) ≡ units_text library with_tree n us ++ units_text library with_tree (n + length us) vs
+text-append library with_tree n [] vs =
+    let same : n ≡ n + 0 = omega arith in
+    ap (λ m. units_text library with_tree m vs) same
+text-append library with_tree n (u ∷ us) vs =
+    let lines : Bytes = flat_map (transaction_text library with_tree n u.time) u.transactions in
+    let same : suc n + length us ≡ n + suc (length us) = omega arith in
+    ap (λ (b : Bytes). lines ++ b) (text-append library with_tree (suc n) us vs)
+    ∙ sym (append_assoc lines (units_text library with_tree (suc n) us) (units_text library with_tree (suc n + length us) vs))
+    ∙ ap (λ m. (lines ++ units_text library with_tree (suc n) us) ++ units_text library with_tree m vs) same
+
+-- ---- items, and then more items
+
+after_ok : {A B : Type 0} (r : Decoded A) (x : A) (f : A → Decoded B) → r ≡ Ok x → (r >>= f) ≡ f x
+after_ok r x f e = ap (λ q. q >>= f) e
+
+-- what comes of a reading that succeeds
+record Both {A B : Type 0} (r : Decoded A) (f : A → Decoded B) (y : B) : Type 0 where
+  pub first : A
+  pub is : r ≡ Ok first
+  pub then_is : f first ≡ Ok y
+
+both : {A B : Type 0} (r : Decoded A) (f : A → Decoded B) (y : B) → (r >>= f) ≡ Ok y → Both r f y
+both (Ok x) f y e = record { first = x; is = refl; then_is = e }
+both (Err r) f y e = cc
+
+from-append : (rules : List Rule) (scope : Scope) (path : Path) (before : Schedule) (i : ℕ) (ds es : List Data) (s : Schedule)
+    → units_from rules scope path before i ds ≡ Ok s → units_from rules scope path before i (ds ++ es) ≡ units_from rules scope path s (i + length ds) es
+from-append rules scope path before i [] es s read =
+    let same : before ≡ s = cc in
+    let place : i ≡ i + 0 = omega arith in
+    ap (λ (b : Schedule). units_from rules scope path b i es) same ∙ ap (λ n. units_from rules scope path s n es) place
+from-append rules scope path before i (d ∷ ds) es s read =
+    let parts = both (unit_at rules scope (item_at path i) before d) (λ next. units_from rules scope path next (suc i) ds) s read in
+    let place : suc i + length ds ≡ i + suc (length ds) = omega arith in
+    after_ok (unit_at rules scope (item_at path i) before d) parts.first (λ next. units_from rules scope path next (suc i) (ds ++ es)) parts.is
+    ∙ from-append rules scope path parts.first (suc i) ds es s parts.then_is ∙ ap (λ n. units_from rules scope path s n es) place
+
+-- ---- a line that is accepted
+
+unless_ok : {A : Type 0} (b : Bool) (e : Refusal) (r : Decoded A) (x : A) → cond b (Err e) r ≡ Ok x → r ≡ Ok x
+unless_ok true e r x h = cc
+unless_ok false e r x h = h
+
+-- its value, and what is read of it
+record IsItem (library : Library) (clock : ℕ) (l : Line) (s : Schedule) : Type 0 where
+  pub value : Data
+  pub value_is : json_at l ≡ Ok value
+  pub reads : unit_at library.rules (library_scope library) [] (nothing_since clock) value ≡ Ok s
+
+item_or_state : (b : Bool) (r : Decoded Request) (s : Schedule) → cond b (Ok state) r ≡ Ok (item s) → r ≡ Ok (item s)
+item_or_state true r s h = cc
+item_or_state false r s h = h
+
+abbrev asked_for : Schedule → Decoded Request
+asked_for s = Ok (item s)
+
+same_item : (s t : Schedule) (r : Decoded Schedule) → r ≡ Ok s → asked_for s ≡ asked_for t → r ≡ Ok t
+same_item s t r read e = let same : s ≡ t = cc in read ∙ ap (λ (x : Schedule). Ok x) same
+
+item_read : (library : Library) (clock : ℕ) (l : Line) (s : Schedule) → request_of library clock l ≡ Ok (item s) → IsItem library clock l s
+unfolding request_of request_at item_of
+item_read library clock l s read =
+    let parts = both (json_at l) (request_at library clock) (item s) (unless_ok (nat_lt 1048576 (length l)) (over_limit size_limit) (json_at l >>= request_at library clock) (item s) read) in
+    let asked = item_or_state (asks_for_state parts.first) (item_of library clock parts.first) s parts.then_is in
+    let schedule = both (unit_at library.rules (library_scope library) [] (nothing_since clock) parts.first) (λ x. Ok (item x)) (item s) asked in
+    record { value = parts.first; value_is = parts.is; reads = same_item schedule.first s _ schedule.is schedule.then_is }
+
+-- ---- lines after the first
+
+-- a rule base is where a script's units lead
+record Leads (S : State) (before : Schedule) (base : RuleBase) : Type 0 where
+  pub clock_is : before.clock ≡ base.clock
+  pub state_is : (run_units base.library before.units S).state ≡ base.state
+  pub units_are : length (run_units base.library before.units S).units ≡ base.units
+
+-- items that are read after others lead on, and say more
+record Leads_on (with_tree : Bool) (S : State) (path : Path) (base : RuleBase) (before : Schedule) (i : ℕ) (ds : List Data) (bodies : Bytes) (end : RuleBase) : Type 0 where
+  pub all : Schedule
+  pub reads : units_from base.library.rules (library_scope base.library) path before i ds ≡ Ok all
+  pub library_is : end.library ≡ base.library
+  pub state_is : (run_units base.library all.units S).state ≡ end.state
+  pub text : units_text base.library with_tree 1 (run_units base.library all.units S).units ≡ units_text base.library with_tree 1 (run_units base.library before.units S).units ++ bodies
+
+-- the rule base after an item
+abbrev ran_to : RuleBase → Schedule → RuleBase
+ran_to base s =
+    let e = run_units base.library s.units base.state in
+    record { library = base.library; state = e.state; clock = s.clock; units = base.units + length e.units }
+
+abbrev joined : Schedule → Schedule → Schedule
+joined before s = record { units = before.units ++ s.units; clock = s.clock }
+
+-- the units of an item, after those before it
+ran_joined : (S : State) (base : RuleBase) (before s : Schedule) → Leads S before base
+    → run_units base.library (before.units ++ s.units) S ≡ record { units = (run_units base.library before.units S).units ++ (run_units base.library s.units base.state).units; state = (run_units base.library s.units base.state).state }
+ran_joined S base before s leads =
+    run-append base.library before.units s.units S
+    ∙ ap (λ T. record { units = (run_units base.library before.units S).units ++ (run_units base.library s.units T).units; state = (run_units base.library s.units T).state }) leads.state_is
+
+leads_joined : (S : State) (base : RuleBase) (before s : Schedule) → Leads S before base → Leads S (joined before s) (ran_to base s)
+leads_joined S base before s leads =
+    let both_ran = ran_joined S base before s leads in
+    let old = (run_units base.library before.units S).units in
+    let new = (run_units base.library s.units base.state).units in
+    record {
+      clock_is = refl;
+      state_is = ap (λ (e : Evaluation). e.state) both_ran;
+      units_are = ap (λ (e : Evaluation). length e.units) both_ran ∙ length-append old new ∙ ap (λ n. n + length new) leads.units_are;
+    }
+
+text_joined : (with_tree : Bool) (S : State) (base : RuleBase) (before s : Schedule) → Leads S before base
+    → units_text base.library with_tree 1 (run_units base.library (before.units ++ s.units) S).units
+    ≡ units_text base.library with_tree 1 (run_units base.library before.units S).units ++ units_text base.library with_tree (base.units + 1) (run_units base.library s.units base.state).units
+text_joined with_tree S base before s leads =
+    let old = (run_units base.library before.units S).units in
+    let new = (run_units base.library s.units base.state).units in
+    let number : 1 + length old ≡ base.units + 1 = omega (arith, leads.units_are) in
+    ap (λ (e : Evaluation). units_text base.library with_tree 1 e.units) (ran_joined S base before s leads)
+    ∙ text-append base.library with_tree 1 old new
+    ∙ ap (λ n. units_text base.library with_tree 1 old ++ units_text base.library with_tree n new) number
+
+-- one line more, by what is read of it
+step : (with_tree : Bool) (S : State) (path : Path) (base : RuleBase) (before : Schedule) (i : ℕ) (l : Line) (ls : List Line) (end : RuleBase)
+    → ((base : RuleBase) (before : Schedule) (i : ℕ) → Leads S before base → stage_after with_tree (up base) ls ≡ up end
+    → Leads_on with_tree S path base before i (accepted with_tree (up base) ls) (accepted_bodies with_tree (up base) ls) end)
+    → Leads S before base → (r : Decoded Request) → request_of base.library base.clock l ≡ r → stage_after with_tree (later_answer with_tree base r).stage ls ≡ up end
+    → Leads_on with_tree S path base before i (value_if (item_in r) (json_at l) ++ accepted with_tree (later_answer with_tree base r).stage ls)
+    (body_if (item_in r) (later_answer with_tree base r).body ++ accepted_bodies with_tree (later_answer with_tree base r).stage ls) end
+step with_tree S path base before i l ls end rest leads (Err e) asked ends = rest base before i leads ends
+step with_tree S path base before i l ls end rest leads (Ok state) asked ends = rest base before i leads ends
+step with_tree S path base before i l ls end rest leads (Ok (item s)) asked ends =
+    let read = item_read base.library base.clock l s asked in
+    let clock : nothing_since base.clock ≡ nothing_since before.clock = ap nothing_since (sym leads.clock_is) in
+    let alone = ap (λ b. unit_at base.library.rules (library_scope base.library) [] b read.value) (sym clock) ∙ read.reads in
+    let here = unit_goes base.library.rules (library_scope base.library) before read.value [] (item_at path i) s alone in
+    let later = rest (ran_to base s) (joined before s) (suc i) (leads_joined S base before s leads) ends in
+    let body = units_text base.library with_tree (base.units + 1) (run_units base.library s.units base.state).units in
+    let more = accepted_bodies with_tree (up (ran_to base s)) ls in
+    record {
+      all = later.all;
+      reads =
+          ap (λ v. units_from base.library.rules (library_scope base.library) path before i (value_if (Some s) v ++ accepted with_tree (up (ran_to base s)) ls)) read.value_is
+          ∙ after_ok _ (joined before s) (λ next. units_from base.library.rules (library_scope base.library) path next (suc i) (accepted with_tree (up (ran_to base s)) ls)) here
+          ∙ later.reads;
+      library_is = later.library_is;
+      state_is = later.state_is;
+      text =
+          later.text ∙ ap (λ (b : Bytes). b ++ more) (text_joined with_tree S base before s leads)
+          ∙ append_assoc (units_text base.library with_tree 1 (run_units base.library before.units S).units) body more;
+    }
+
+same_end : (base end : RuleBase) → up base ≡ up end → base ≡ end
+same_end base end e = cc
+
+later_lines : (with_tree : Bool) (S : State) (path : Path) (base : RuleBase) (before : Schedule) (i : ℕ) (ls : List Line) (end : RuleBase)
+    → Leads S before base → stage_after with_tree (up base) ls ≡ up end → Leads_on with_tree S path base before i (accepted with_tree (up base) ls) (accepted_bodies with_tree (up base) ls) end
+later_lines with_tree S path base before i [] end leads ends =
+    let same : base ≡ end = same_end base end ends in
+    record {
+      all = before;
+      reads = refl;
+      library_is = ap (λ (b : RuleBase). b.library) (sym same);
+      state_is = leads.state_is ∙ ap (λ (b : RuleBase). b.state) same;
+      text = sym (append-nil _);
+    }
+later_lines with_tree S path base before i (l ∷ ls) end leads ends =
+    step with_tree S path base before i l ls end (λ base' before' i' leads' ends'. later_lines with_tree S path base' before' i' ls end leads' ends')
+    leads (request_of base.library base.clock l) refl ends
+
+-- ---- the first line
+
+-- what the first line's script is read from
+record Opening (script : Data) (root : Root) (items : List Data) (t : TimedScript) : Type 0 where
+  pub schedule : Schedule
+  pub library_read : library_at root ≡ Ok t.script.library
+  pub items_read : units_from t.script.library.rules (library_scope t.script.library) (under_root (codes "items")) no_item 0 items ≡ Ok schedule
+  pub units_are : t.script.units ≡ schedule.units
+  pub clock_is : t.clock ≡ schedule.clock
+
+listed : (rules : List Rule) (scope : Scope) (path : Path) (d : Data) (ds : List Data) → list_of d ≡ Some ds → units_at rules scope path d ≡ units_from rules scope path no_item 0 ds
+unfolding units_at
+listed rules scope path d ds is = ap (λ o. shaped path o >>= units_from rules scope path no_item 0) is
+
+abbrev timed : Library → Schedule → TimedScript
+timed library s = record { script = record { library = library; units = s.units }; clock = s.clock }
+
+abbrev read_timed : Library → Schedule → Decoded TimedScript
+read_timed library s = Ok (timed library s)
+
+opening : (script : Data) (root : Root) (items : List Data) (t : TimedScript) → root_of script ≡ Some root → list_of root.items ≡ Some items → timed_script_at script ≡ Ok t → Opening script root items t
+unfolding timed_script_at
+opening script root items t root_is items_are read =
+    let of_root = sym (ap (λ o. shaped [] o >>= λ r. library_at r >>= λ library. units_at library.rules (library_scope library) (under_root (codes "items")) r.items >>= read_timed library) root_is) ∙ read in
+    let parts = both (library_at root) (λ library. units_at library.rules (library_scope library) (under_root (codes "items")) root.items >>= read_timed library) t of_root in
+    let library = parts.first in
+    let rest = both (units_at library.rules (library_scope library) (under_root (codes "items")) root.items) (read_timed library) t parts.then_is in
+    let same : timed library rest.first ≡ t = cc in
+    let library_is : library ≡ t.script.library = ap (λ (x : TimedScript). x.script.library) same in
+    record {
+      schedule = rest.first;
+      library_read = parts.is ∙ ap (λ l. Ok l) library_is;
+      items_read =
+          subst (λ (l : Library). units_from l.rules (library_scope l) (under_root (codes "items")) no_item 0 items ≡ Ok rest.first) library_is
+          (sym (listed library.rules (library_scope library) (under_root (codes "items")) root.items items items_are) ∙ rest.is);
+      units_are = ap (λ (x : TimedScript). x.script.units) (sym same);
+      clock_is = ap (λ (x : TimedScript). x.clock) (sym same);
+    }
+
+-- ---- the journal
+
+-- the root's members with other items
+abbrev with_entries : Root → Data → Root
+with_entries root entries = record { version = root.version; depth = root.depth; classes = root.classes; rules = root.rules; items = entries }
+
+same_library : (root : Root) (entries : Data) → library_at (with_entries root entries) ≡ library_at root
+unfolding library_at
+same_library root entries = refl
+
+journal_read : (journal : Data) (root : Root) (entries : Data) (library : Library) (all : Schedule) → root_of journal ≡ Some (with_entries root entries) → library_at root ≡ Ok library
+    → units_at library.rules (library_scope library) (under_root (codes "items")) entries ≡ Ok all → timed_script_at journal ≡ read_timed library all
+unfolding timed_script_at
+journal_read journal root entries library all is_root is_library is_all =
+    let units : Library → Decoded Schedule = λ l. units_at l.rules (library_scope l) (under_root (codes "items")) entries in
+    ap (λ o. shaped [] o >>= λ r. library_at r >>= λ l. units_at l.rules (library_scope l) (under_root (codes "items")) r.items >>= read_timed l) is_root
+    ∙ after_ok (library_at (with_entries root entries)) library (λ l. units l >>= read_timed l) (same_library root entries ∙ is_library)
+    ∙ after_ok (units library) all (read_timed library) is_all
+
+first_read : (first : Line) (script : Data) (t : TimedScript) → json_at first ≡ Ok script → timed_script_of first ≡ Ok t → timed_script_at script ≡ Ok t
+unfolding timed_script_of
+first_read first script t value read =
+    sym (after_ok (json_at first) script timed_script_at value) ∙ unless_ok (nat_lt 1048576 (length first)) (over_limit size_limit) (json_at first >>= timed_script_at) t read
+
+-- the law, by what is read of the first line
+record ReplaysBy (with_tree : Bool) (r : Decoded TimedScript) (later : List Line) (journal : Data) (base : RuleBase) : Type 0 where
+  pub script : Script
+  pub decoded : decode journal ≡ Ok script
+  pub library_is : script.library ≡ base.library
+  pub state_is : (evaluate script).state ≡ base.state
+  pub report_is : text_of with_tree (Ok script)
+      ≡ ((opening_answer with_tree r).body ++ accepted_bodies with_tree (opening_answer with_tree r).stage later) ++ final_text base.library base.state.objects base.state.rules
+
+replayed_by : (with_tree : Bool) (first : Line) (later : List Line) (journal : Data) (base : RuleBase) (script : Data) (root : Root) (entries : Data) (items : List Data) (r : Decoded TimedScript)
+    → timed_script_of first ≡ r → stage_after with_tree (opening_answer with_tree r).stage later ≡ up base → json_at first ≡ Ok script → root_of script ≡ Some root
+    → root_of journal ≡ Some (with_entries root entries) → list_of root.items ≡ Some items → list_of entries ≡ Some (items ++ accepted with_tree (opening_answer with_tree r).stage later)
+    → ReplaysBy with_tree r later journal base
+replayed_by with_tree first later journal base script root entries items (Err e) read ends value is_root is_journal are_items are_entries =
+    let never : closed ≡ up base = sym (closed_stage with_tree later) ∙ ends in
+    cc
+replayed_by with_tree first later journal base script root entries items (Ok t) read ends value is_root is_journal are_items are_entries =
+    let library = t.script.library in
+    let S = initial_state library in
+    let o = opening script root items t is_root are_items (first_read first script t value read) in
+    let given : Schedule = record { units = t.script.units; clock = t.clock } in
+    let opened = ran_to (new_base library) given in
+    let path = under_root (codes "items") in
+    let ran_first = (run_units library t.script.units S).units in
+    let from_none : length ran_first ≡ 0 + length ran_first = omega arith in
+    let leads : Leads S o.schedule opened = record {
+      clock_is = sym o.clock_is;
+      state_is = ap (λ us. (run_units library us S).state) (sym o.units_are);
+      units_are = ap (λ us. length (run_units library us S).units) (sym o.units_are) ∙ from_none;
+    } in
+    let on = later_lines with_tree S path opened o.schedule (0 + length items) later base leads ends in
+    let all_read = listed library.rules (library_scope library) path entries (items ++ accepted with_tree (up opened) later) are_entries
+    ∙ from-append library.rules (library_scope library) path no_item 0 items (accepted with_tree (up opened) later) o.schedule o.items_read ∙ on.reads in
+    let timed_is = journal_read journal root entries library on.all is_journal o.library_read all_read in
+    let bodies = accepted_bodies with_tree (up opened) later in
+    record {
+      script = (timed library on.all).script;
+      decoded = sym (untimed_at journal) ∙ ap untimed timed_is;
+      library_is = sym on.library_is;
+      state_is = on.state_is;
+      report_is =
+          ap (λ (b : Bytes). b ++ final_text library (run_units library on.all.units S).state.objects (run_units library on.all.units S).state.rules) on.text
+          ∙ ap (λ us. (units_text library with_tree 1 (run_units library us S).units ++ bodies) ++ final_text library (run_units library on.all.units S).state.objects (run_units library on.all.units S).state.rules) (sym o.units_are)
+          ∙ ap (λ (T : State). (units_text library with_tree 1 (run_units library t.script.units S).units ++ bodies) ++ final_text library T.objects T.rules) on.state_is
+          ∙ ap (λ l. (units_text library with_tree 1 (run_units library t.script.units S).units ++ bodies) ++ final_text l base.state.objects base.state.rules) (sym on.library_is);
+    }
+
+pub accepted_lines_replay : AcceptedLinesReplay
+accepted_lines_replay with_tree first later journal base ends j =
+    let by = replayed_by with_tree first later journal base j.script j.root j.entries j.items (timed_script_of first) refl ends j.first_is j.root_is j.journal_is j.items_are j.entries_are in
+    record { script = by.script; decoded = by.decoded; library_is = by.library_is; state_is = by.state_is; report_is = by.report_is }

@@ -1,0 +1,30 @@
+-- Worked sessions, each with what is answered, proved by computation.
+use Rattle.std.proofs.Common.{◌≡◌, refl, List, [], ◌∷◌, codes, false}
+use Rattle.hp_model.proofs.Decoding.{script_on_literals}
+use Rattle.hp_model.proofs.Scripts.{lines}
+use Rattle.hp_script.specs.Timed.{library_at, timed_script_at, timed_script_of}
+use Rattle.hp_script.specs.Requests.{item_of, request_at, request_of}
+use Rattle.hp_lines.specs.Live.{output}
+
+-- units are numbered on, and a refused line changes nothing
+pub numbered_on : output false (codes "{\"version\":1,\"classes\":[],\"rules\":[],\"items\":[[\"tx\",[]]]}\n[\"tx\",[[\"emit\",7]]]\n[\"tx\",[[\"emit\"]]]\n[\"tx\",[]]\n")
+    ≡ lines (codes "unit 1 committed" ∷ codes "ok 1" ∷ codes "unit 2 committed" ∷ codes "emit 7" ∷ codes "ok 2" ∷ codes "refused S2 /1/0" ∷ codes "unit 3 committed" ∷ codes "ok 3" ∷ [])
+unfolding script_on_literals library_at timed_script_at timed_script_of item_of request_at request_of
+numbered_on = refl
+
+-- the state is shown as it is; the last line needs no line feed
+pub shown : output false (codes "{\"version\":1,\"classes\":[[\"acct\",[[\"bal\",\"int\"]]]],\"rules\":[],\"items\":[[\"tx\",[[\"create\",\"acct\",1,[[\"bal\",5]]]]]]}\r\n[\"show\"]")
+    ≡ lines (codes "unit 1 committed" ∷ codes "ok 1" ∷ codes "object acct 1 bal=5" ∷ codes "ok 1" ∷ [])
+unfolding script_on_literals library_at timed_script_at timed_script_of item_of request_at request_of
+shown = refl
+
+-- the clock goes on from where it stands
+pub clock_goes_on : output false (codes "{\"version\":1,\"classes\":[],\"rules\":[],\"items\":[[\"clock\",5]]}\n[\"clock\",4]\n[\"clock\",6]\n")
+    ≡ lines (codes "ok 0" ∷ codes "refused S2 /1" ∷ codes "ok 0" ∷ [])
+unfolding script_on_literals library_at timed_script_at timed_script_of item_of request_at request_of
+clock_goes_on = refl
+
+-- after a refused script nothing is answered
+pub refused_script : output false (codes "[]\n[\"show\"]\n") ≡ lines (codes "refused S2 /" ∷ [])
+unfolding script_on_literals library_at timed_script_at timed_script_of item_of request_at request_of
+refused_script = refl

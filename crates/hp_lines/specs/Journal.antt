@@ -1,0 +1,73 @@
+-- Accepted lines are a journal: a script of their items gives the same answers, and the same state.
+use Rattle.std.specs.Prelude.{◌≡◌, Bool, List, [], ◌∷◌, ◌++◌, Option, Some, None, Ok, Err}
+use Rattle.serde_json.specs.Data.{Data}
+use Rattle.hp_model.specs.Cascade.{Script, evaluate}
+use Rattle.hp_model.specs.Refusals.{Decoded}
+use Rattle.hp_model.specs.Json.{list_of}
+use Rattle.hp_model.specs.Decode.{Schedule, Root, root_of, json_at, decode}
+use Rattle.hp_model.specs.Report.{Bytes}
+use Rattle.hp_model.specs.Output.{text_of}
+use Rattle.hp_report.specs.Text.{final_text}
+use Rattle.hp_script.specs.Requests.{Request, item, state, request_of}
+use Rattle.hp_lines.specs.Lines.{Line}
+use Rattle.hp_lines.specs.Live.{RuleBase, Stage, unopened, up, closed, answer, stage_after}
+
+-- what a line asks for, if it is an item and accepted
+abbrev pub item_in : Decoded Request → Option Schedule
+item_in (Ok (item schedule)) = Some schedule
+item_in (Ok state) = None
+item_in (Err r) = None
+
+abbrev pub item_for : Stage → Line → Option Schedule
+item_for unopened l = None
+item_for (up base) l = item_in (request_of base.library base.clock l)
+item_for closed l = None
+
+abbrev pub value_if : Option Schedule → Decoded Data → List Data
+value_if None value = []
+value_if (Some schedule) (Err r) = []
+value_if (Some schedule) (Ok d) = d ∷ []
+
+abbrev pub body_if : Option Schedule → Bytes → Bytes
+body_if None body = []
+body_if (Some schedule) body = body
+
+-- the JSON values of the lines that are accepted items, in order
+abbrev pub accepted : (with_tree : Bool) → Stage → List Line → List Data
+accepted with_tree stage [] = []
+accepted with_tree stage (l ∷ ls) = value_if (item_for stage l) (json_at l) ++ accepted with_tree (answer with_tree stage l).stage ls
+
+-- the answers to these, their last lines left out
+abbrev pub accepted_bodies : (with_tree : Bool) → Stage → List Line → Bytes
+accepted_bodies with_tree stage [] = []
+accepted_bodies with_tree stage (l ∷ ls) = body_if (item_for stage l) (answer with_tree stage l).body ++ accepted_bodies with_tree (answer with_tree stage l).stage ls
+
+-- after the first line
+abbrev pub opened_by : (with_tree : Bool) → Line → Stage
+opened_by with_tree first = (answer with_tree unopened first).stage
+
+-- a script that is the first line's but for its items: these are followed by the later lines that are accepted items
+pub record IsJournal (with_tree : Bool) (first : Line) (later : List Line) (journal : Data) : Type 0 where
+  pub script : Data
+  pub root : Root
+  pub entries : Data
+  pub items : List Data
+  pub first_is : json_at first ≡ Ok script
+  pub root_is : root_of script ≡ Some root
+  pub journal_is : root_of journal ≡ Some (record { version = root.version; depth = root.depth; classes = root.classes; rules = root.rules; items = entries })
+  pub items_are : list_of root.items ≡ Some items
+  pub entries_are : list_of entries ≡ Some (items ++ accepted with_tree (opened_by with_tree first) later)
+
+-- the script gives a report with the lines that were answered, and leaves the library and the state of the rule base
+pub record Replays (with_tree : Bool) (first : Line) (later : List Line) (journal : Data) (base : RuleBase) : Type 0 where
+  pub script : Script
+  pub decoded : decode journal ≡ Ok script
+  pub library_is : script.library ≡ base.library
+  pub state_is : (evaluate script).state ≡ base.state
+  pub report_is : text_of with_tree (Ok script)
+      ≡ ((answer with_tree unopened first).body ++ accepted_bodies with_tree (opened_by with_tree first) later) ++ final_text base.library base.state.objects base.state.rules
+
+-- whatever lines come, where a rule base is up after them, their journal replays to it
+abbrev pub AcceptedLinesReplay : Type 0
+AcceptedLinesReplay = (with_tree : Bool) (first : Line) (later : List Line) (journal : Data) (base : RuleBase)
+    → stage_after with_tree unopened (first ∷ later) ≡ up base → IsJournal with_tree first later journal → Replays with_tree first later journal base

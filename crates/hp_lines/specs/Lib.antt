@@ -1,0 +1,4 @@
+pub mod Lines
+pub mod Live
+pub mod Laws
+pub mod Journal

@@ -1,0 +1,127 @@
+-- A rule manager that stays up: what it answers to lines.
+use Rattle.std.specs.Prelude.{ℕ, suc, ◌+◌, ◌==◌, Bool, List, [], ◌∷◌, ◌++◌, length, codes, decimal, Ok, Err, if◌then◌else◌}
+use Rattle.hp_model.specs.Rules.{Library}
+use Rattle.hp_model.specs.State.{State, initial_state}
+use Rattle.hp_model.specs.Cascade.{UnitReport, run_units}
+use Rattle.hp_model.specs.Refusals.{Decoded}
+use Rattle.hp_model.specs.Decode.{Schedule}
+use Rattle.hp_model.specs.Report.{Bytes, line, units_text}
+use Rattle.hp_model.specs.Output.{refusal_text}
+use Rattle.hp_report.specs.Text.{state_text}
+use Rattle.hp_script.specs.Timed.{TimedScript, timed_script_of}
+use Rattle.hp_script.specs.Requests.{Request, item, state, request_of}
+use Rattle.hp_lines.specs.Lines.{Line, lines_of, kept_with, begun}
+
+-- ---- a rule base that is up
+
+-- its library, its state, where its clock stands, and how many units have run
+pub record RuleBase : Type 0 where
+  pub library : Library
+  pub state : State
+  pub clock : ℕ
+  pub units : ℕ
+
+abbrev pub new_base : Library → RuleBase
+new_base library = record { library = library; state = initial_state library; clock = 0; units = 0 }
+
+-- no line was read yet; a rule base is up; the script was refused, and nothing more is answered
+pub data Stage : Type 0 where
+  unopened : Stage
+  up : RuleBase → Stage
+  closed : Stage
+
+-- ---- answers
+
+-- the lines of an answer but its last one, the last one, and how matters stand after it
+pub record Answer : Type 0 where
+  pub body : Bytes
+  pub last : Bytes
+  pub stage : Stage
+
+abbrev pub ok_line : ℕ → Bytes
+ok_line units = line 0 (codes "ok" ∷ decimal units ∷ [])
+
+-- units run, and are numbered on from those before
+abbrev pub ran : (with_tree : Bool) → RuleBase → Schedule → Answer
+ran with_tree base schedule =
+    let e = run_units base.library schedule.units base.state in
+    let units = base.units + length e.units in
+    record {
+      body = units_text base.library with_tree (base.units + 1) e.units;
+      last = ok_line units;
+      stage = up (record { library = base.library; state = e.state; clock = schedule.clock; units = units });
+    }
+
+-- nothing of a refused line happens
+abbrev pub opening_answer : (with_tree : Bool) → Decoded TimedScript → Answer
+opening_answer with_tree (Err r) = record { body = []; last = refusal_text r; stage = closed }
+opening_answer with_tree (Ok t) = ran with_tree (new_base t.script.library) (record { units = t.script.units; clock = t.clock })
+
+abbrev pub later_answer : (with_tree : Bool) → RuleBase → Decoded Request → Answer
+later_answer with_tree base (Err r) = record { body = []; last = refusal_text r; stage = up base }
+later_answer with_tree base (Ok (item schedule)) = ran with_tree base schedule
+later_answer with_tree base (Ok state) =
+    record { body = state_text base.library base.state.objects base.state.rules; last = ok_line base.units; stage = up base }
+
+-- the first line is a script; each later one is an item of it, or asks for the state
+abbrev pub answer : (with_tree : Bool) → Stage → Line → Answer
+answer with_tree unopened l = opening_answer with_tree (timed_script_of l)
+answer with_tree (up base) l = later_answer with_tree base (request_of base.library base.clock l)
+answer with_tree closed l = record { body = []; last = []; stage = closed }
+
+-- ---- lines, one after the other
+
+abbrev pub answers : (with_tree : Bool) → Stage → List Line → Bytes
+answers with_tree stage [] = []
+answers with_tree stage (l ∷ ls) =
+    let a = answer with_tree stage l in
+    (a.body ++ a.last) ++ answers with_tree a.stage ls
+
+abbrev pub stage_after : (with_tree : Bool) → Stage → List Line → Stage
+stage_after with_tree stage [] = stage
+stage_after with_tree stage (l ∷ ls) = stage_after with_tree (answer with_tree stage l).stage ls
+
+-- all that is written for an input
+abbrev pub output : (with_tree : Bool) → List ℕ → Bytes
+output with_tree input = answers with_tree unopened (lines_of input)
+
+-- ---- the same, byte by byte
+
+-- whether trees are wanted, how matters stand, and what has come of the next line
+pub record Desk : Type 0 where
+  pub with_tree : Bool
+  pub stage : Stage
+  pub line : Line
+
+abbrev pub new_desk : (with_tree : Bool) → Desk
+new_desk with_tree = record { with_tree = with_tree; stage = unopened; line = [] }
+
+-- the answer to the line as it is, and the desk after it
+abbrev pub reply : Desk → Bytes
+reply d = let a = answer d.with_tree d.stage d.line in a.body ++ a.last
+
+abbrev pub answered : Desk → Desk
+answered d = record { with_tree = d.with_tree; stage = (answer d.with_tree d.stage d.line).stage; line = [] }
+
+abbrev pub grown : Desk → ℕ → Desk
+grown d x = record { with_tree = d.with_tree; stage = d.stage; line = kept_with d.line x }
+
+-- what one more byte has written: the answer to a line that is whole with it
+abbrev pub told : Desk → ℕ → Bytes
+told d x = if x == 10 then reply d else []
+
+abbrev pub next : Desk → ℕ → Desk
+next d x = if x == 10 then answered d else grown d x
+
+-- what a piece of input has written: the answers to all lines that are whole with it
+abbrev pub said : Desk → List ℕ → Bytes
+said d [] = []
+said d (x ∷ xs) = told d x ++ said (next d x) xs
+
+abbrev pub after : Desk → List ℕ → Desk
+after d [] = d
+after d (x ∷ xs) = after (next d x) xs
+
+-- what the end of the input has written: the answer to a last line without a line feed
+abbrev pub said_at_end : Desk → Bytes
+said_at_end d = answers d.with_tree d.stage (begun d.line)

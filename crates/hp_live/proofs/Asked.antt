@@ -1,0 +1,58 @@
+-- The answer to a line after the first, by what is asked.
+use Rattle.std.proofs.Common.{◌≡◌, ◌∙◌, ◌++◌, ap, sym, subst, ℕ, List, string_bytes, String, Global, Bool, Result, Ok, Err, IfOk, OnOk}
+use Rattle.hp_model.specs.Refusals.{Refusal, Decoded}
+use Rattle.hp_model.specs.Decode.{Schedule}
+use Rattle.hp_model.specs.Output.{refusal_text}
+use Rattle.hp_report.specs.Text.{state_text}
+use Rattle.hp_rule.specs.Mapped.{library}
+use Rattle.hp_script.specs.Timed.{TimedScript, timed_script_of}
+use Rattle.hp_script.specs.Requests as R
+use Rattle.hp_script.specs.Requests.{Request, request_of}
+use Rattle.hp_lines.specs.Live as L
+use Rattle.hp_live.specs.Kept.{StandsFor, IsStage, Answers}
+use Rattle.hp_live.specs.Running.{ran_base}
+use Rattle.hp_live.specs.declared.base.RuleBase.{RuleBase}
+use Rattle.hp_live.specs.declared.desk.Stage.{Stage}
+use Rattle.hp_live.specs.declared.desk.Stage.TheVariants.{Up}
+
+-- what is read with what is kept is read with what it stands for
+pub asked_of : (kept : RuleBase) (base : L.RuleBase) (line : List ℕ) (r : Decoded Request) → StandsFor kept base → request_of (library kept.library.value) kept.clock line ≡ r → request_of base.library base.clock line ≡ r
+asked_of kept base line r stands read = ap (λ l. request_of l base.clock line) stands.library_is ∙ ap (λ t. request_of (library kept.library.value) t line) (sym stands.clock_is) ∙ read
+
+-- by what is asked
+answers_by : (text : String Global) (kept : RuleBase) (with_tree : Bool) (base : L.RuleBase) (line : List ℕ) (r : Decoded Request) → request_of base.library base.clock line ≡ r
+    → Answers text (Up kept) (L.later_answer with_tree base r) → Answers text (Up kept) (L.answer with_tree (L.up base) line)
+answers_by text kept with_tree base line r read answers = subst (λ q. Answers text (Up kept) (L.later_answer with_tree base q)) (sym read) answers
+
+pub answers_item : (text : String Global) (old new : RuleBase) (with_tree : Bool) (base : L.RuleBase) (line : List ℕ) (s : Schedule) → StandsFor old base → request_of (library old.library.value) old.clock line ≡ Ok (R.item s)
+    → string_bytes text ≡ (L.ran with_tree base s).body ++ (L.ran with_tree base s).last → StandsFor new (ran_base base s) → Answers text (Up new) (L.answer with_tree (L.up base) line)
+answers_item text old new with_tree base line s stands read is later =
+    answers_by text new with_tree base line (Ok (R.item s)) (asked_of old base line (Ok (R.item s)) stands read) (record { text_is = is; stage_is = later })
+
+pub answers_state : (text : String Global) (kept : RuleBase) (with_tree : Bool) (base : L.RuleBase) (line : List ℕ) → StandsFor kept base → request_of (library kept.library.value) kept.clock line ≡ Ok R.state
+    → string_bytes text ≡ state_text base.library base.state.objects base.state.rules ++ L.ok_line base.units → Answers text (Up kept) (L.answer with_tree (L.up base) line)
+answers_state text kept with_tree base line stands read is =
+    answers_by text kept with_tree base line (Ok R.state) (asked_of kept base line (Ok R.state) stands read) (record { text_is = is; stage_is = stands })
+
+pub answers_refusal : (text : String Global) (kept : RuleBase) (with_tree : Bool) (base : L.RuleBase) (line : List ℕ) (r : Refusal) → StandsFor kept base → request_of (library kept.library.value) kept.clock line ≡ Err r
+    → string_bytes text ≡ refusal_text r → Answers text (Up kept) (L.answer with_tree (L.up base) line)
+answers_refusal text kept with_tree base line r stands read is =
+    answers_by text kept with_tree base line (Err r) (asked_of kept base line (Err r) stands read) (record { text_is = is; stage_is = stands })
+
+-- two facts of one result
+pub both_ok : {T E : Type 0} (r : Result T E) (P : T → Type 0) (Q : Type 0) (R : T → Type 0) → IfOk r P → OnOk r Q → ((x : T) → P x → Q → R x) → IfOk r R
+both_ok (Ok x) P Q R p q f = f x p q
+both_ok (Err e) P Q R p q f = tt
+
+-- a rule base that is up is where one is up
+pub stands_up : (kept : RuleBase) (now : L.Stage) (A : L.Stage → Type 0) → IsStage (Up kept) now → ((base : L.RuleBase) → StandsFor kept base → A (L.up base)) → A now
+stands_up kept L.unopened A is f = absurd is
+stands_up kept (L.up base) A is f = f base is
+stands_up kept L.closed A is f = absurd is
+
+-- the answer to the script
+pub answers_script : (text : String Global) (new : RuleBase) (with_tree : Bool) (line : List ℕ) (t : TimedScript) → timed_script_of line ≡ Ok t
+    → string_bytes text ≡ (L.ran with_tree (L.new_base t.script.library) (record { units = t.script.units; clock = t.clock })).body ++ (L.ran with_tree (L.new_base t.script.library) (record { units = t.script.units; clock = t.clock })).last
+    → StandsFor new (ran_base (L.new_base t.script.library) (record { units = t.script.units; clock = t.clock })) → Answers text (Up new) (L.answer with_tree L.unopened line)
+answers_script text new with_tree line t read is later =
+    subst (λ q. Answers text (Up new) (L.opening_answer with_tree q)) (sym read) (record { text_is = is; stage_is = later })

@@ -1,0 +1,175 @@
+-- What was said of bytes that came in pieces.
+use Rattle.std.proofs.Common.{◌≡◌, ℕ, suc, drop-cons, ◌+◌, ◌<◌, List, [], ◌∷◌, ◌++◌, length, take, drop, slice_index_or, Option, Some, None, IfSome, Bool, false, refl, sym, ap, subst, ◌∙◌, append_assoc, append-nil, arith}
+use Rattle.std.specs.Io.KnownBytes.{Appends, Consumes, Keeps, IsAtEnd}
+use Rattle.std.proofs.Math.Seq.{take-suc}
+use Rattle.std.proofs.lemmas.List.{take-append-drop}
+use Rattle.std.proofs.KnownBytes.{Appends-nil, Appends-trans, Consumes-nil, Consumes-trans}
+use Rattle.hp_report.specs.Device.{Begins}
+use Rattle.hp_lines.specs.Lines.{lines_of}
+use Rattle.hp_lines.specs.Live as L
+use Rattle.hp_lines.specs.Live.{said, after, told, next, said_at_end, new_desk, output, closed, stage_after, unopened}
+use Rattle.hp_lines.proofs.Said.{said-append, after-append, in_all, in_all-append, in_all_of, stage_in_all, stage_of, stage-append, closed_says, closed_stays}
+use Rattle.hp_lines.proofs.Kept.{begins_whole, begins_more, begins_on}
+use Rattle.hp_live.specs.Kept.{IsDesk}
+use Rattle.hp_live.specs.Ends.{status_at, status_of}
+use Rattle.hp_live.specs.declared.desk.Desk.{Desk}
+use Rattle.hp_live.specs.declared.fault.Status.{Status}
+use Rattle.hp_live.specs.declared.fault.Status.TheVariants.{Refused}
+
+-- ---- a piece
+
+-- all was said of some bytes, and no write failed
+pub record Fed (old new : Option (List ℕ)) (failed : Bool) (before now : Desk) (bytes : List ℕ) : Type 0 where
+  pub out : (d : L.Desk) → IsDesk before d → Appends old new (said d bytes)
+  pub at : (d : L.Desk) → IsDesk before d → IsDesk now (after d bytes)
+  pub whole : failed ≡ false
+
+pub none_fed : (old : Option (List ℕ)) (failed : Bool) (desk : Desk) → failed ≡ false → Fed old old failed desk desk []
+none_fed old failed desk whole = record { out = λ d is. Appends-nil old; at = λ d is. is; whole = whole }
+
+one_more : (xs : List ℕ) (i : ℕ) → i < length xs → take (i + 1) xs ≡ take i xs ++ slice_index_or xs i 0 ∷ []
+one_more xs i low =
+    let one : i + 1 ≡ suc i = omega arith in
+    ap (λ (n : ℕ). take n xs) one ∙ take-suc xs i 0 low
+
+-- and of one byte more
+pub fed_byte : (old mid new : Option (List ℕ)) (was is : Bool) (before now then : Desk) (xs : List ℕ) (i : ℕ) → Fed old mid was before now (take i xs)
+    → ((d : L.Desk) → IsDesk now d → Appends mid new (told d (slice_index_or xs i 0))) → ((d : L.Desk) → IsDesk now d → IsDesk then (next d (slice_index_or xs i 0))) → is ≡ false → i < length xs
+    → Fed old new is before then (take (i + 1) xs)
+fed_byte old mid new was is before now then xs i fed out at whole low =
+    let x = slice_index_or xs i 0 in
+    let front = take i xs in
+    subst (Fed old new is before then) (sym (one_more xs i low)) (record {
+      out = λ d here.
+          let e = fed.at d here in
+          subst (Appends old new) (sym (said-append d front (x ∷ []) ∙ ap (λ (l : List ℕ). said d front ++ l) (append-nil (told (after d front) x))))
+          (Appends-trans old mid new (said d front) (told (after d front) x) (fed.out d here) (out (after d front) e));
+      at = λ d here. subst (IsDesk then) (sym (after-append d front (x ∷ []))) (at (after d front) (fed.at d here));
+      whole = whole;
+    })
+
+-- what went out at one of the bytes is a beginning of what is said of all
+pub begins_piece : (old mid new : Option (List ℕ)) (was : Bool) (before now : Desk) (xs : List ℕ) (i : ℕ) → Fed old mid was before now (take i xs)
+    → ((d : L.Desk) → IsDesk now d → Begins mid new (told d (slice_index_or xs i 0))) → i < length xs → (d : L.Desk) → IsDesk before d → Begins old new (said d xs)
+begins_piece old mid new was before now xs i fed begins low d here =
+    let x = slice_index_or xs i 0 in
+    let front = take i xs in
+    let e = after d front in
+    let rest = said (next e x) (drop (suc i) xs) in
+    let parts : said d front ++ (told e x ++ rest) ≡ said d xs =
+    sym (said-append d front (x ∷ drop (suc i) xs)) ∙ ap (λ (l : List ℕ). said d (front ++ l)) (sym (drop-cons xs i 0 low)) ∙ ap (said d) (take-append-drop i xs) in
+    subst (Begins old new) parts (begins_on old mid new (said d front) (told e x ++ rest) (fed.out d here) (begins_more mid new (told e x) rest (begins e (fed.at d here))))
+
+-- ---- a whole run
+
+-- what was read so far was all told
+pub record Served (left rest : Option (List ℕ)) (lost : Bool) (old new : Option (List ℕ)) (failed : Bool) (first : L.Desk) (now : Desk) : Type 0 where
+  pub bytes : List ℕ
+  pub taken : Consumes left rest bytes
+  pub sound : lost ≡ false
+  pub out : Appends old new (said first bytes)
+  pub at : IsDesk now (after first bytes)
+  pub whole : failed ≡ false
+
+pub none_served : (left old : Option (List ℕ)) (lost failed : Bool) (first : L.Desk) (desk : Desk) → lost ≡ false → failed ≡ false → IsDesk desk first → Served left left lost old old failed first desk
+none_served left old lost failed first desk sound whole at = record { bytes = []; taken = Consumes-nil left; sound = sound; out = Appends-nil old; at = at; whole = whole }
+
+-- and then what one more read gave
+pub served_on : (left rest more : Option (List ℕ)) (lost gone : Bool) (old mid new : Option (List ℕ)) (was is : Bool) (first : L.Desk) (now then : Desk) (piece : List ℕ)
+    → Served left rest lost old mid was first now → Consumes rest more piece → gone ≡ false
+    → ((d : L.Desk) → IsDesk now d → Appends mid new (said d piece)) → ((d : L.Desk) → IsDesk now d → IsDesk then (after d piece)) → is ≡ false
+    → Served left more gone old new is first then
+served_on left rest more lost gone old mid new was is first now then piece s taken sound out at whole = record {
+  bytes = s.bytes ++ piece;
+  taken = Consumes-trans left rest more s.bytes piece s.taken taken;
+  sound = sound;
+  out = subst (Appends old new) (sym (said-append first s.bytes piece)) (Appends-trans old mid new (said first s.bytes) (said (after first s.bytes) piece) s.out (out (after first s.bytes) s.at));
+  at = subst (IsDesk then) (sym (after-append first s.bytes piece)) (at (after first s.bytes) s.at);
+  whole = whole;
+}
+
+-- what is said of the bytes so far is a beginning of the output
+pub begins_output : (left rest old new : Option (List ℕ)) (with_tree : Bool) (bytes : List ℕ) → Consumes left rest bytes → Begins old new (said (new_desk with_tree) bytes)
+    → IfSome left (λ input. Begins old new (output with_tree input))
+begins_output None rest old new with_tree bytes taken begins = tt
+begins_output (Some input) None old new with_tree bytes taken begins = absurd taken
+begins_output (Some input) (Some r) old new with_tree bytes taken begins =
+    let d = new_desk with_tree in
+    let all : said d bytes ++ in_all (after d bytes) r ≡ output with_tree input = sym (in_all-append d bytes r) ∙ ap (in_all d) (sym taken) ∙ in_all_of with_tree input in
+    subst (Begins old new) all (begins_more old new (said d bytes) (in_all (after d bytes) r) begins)
+
+-- what is said of all the bytes, and at their end, is a beginning of it, and the whole
+pub begins_end : (left rest old mid new : Option (List ℕ)) (with_tree : Bool) (bytes : List ℕ) → Consumes left rest bytes → IsAtEnd rest → Appends old mid (said (new_desk with_tree) bytes)
+    → Begins mid new (said_at_end (after (new_desk with_tree) bytes)) → IfSome left (λ input. Begins old new (output with_tree input))
+begins_end None rest old mid new with_tree bytes taken ended out begins = tt
+begins_end (Some input) None old mid new with_tree bytes taken ended out begins = absurd taken
+begins_end (Some input) (Some r) old mid new with_tree bytes taken ended out begins =
+    let whole : bytes ≡ input = sym (append-nil bytes) ∙ ap (λ (l : List ℕ). bytes ++ l) (sym ended) ∙ sym taken in
+    subst (Begins old new) (in_all_of with_tree bytes ∙ ap (output with_tree) whole) (begins_on old mid new (said (new_desk with_tree) bytes) (said_at_end (after (new_desk with_tree) bytes)) out begins)
+
+pub said_end : (left rest old mid new : Option (List ℕ)) (with_tree : Bool) (bytes : List ℕ) → Consumes left rest bytes → IsAtEnd rest → Appends old mid (said (new_desk with_tree) bytes)
+    → Appends mid new (said_at_end (after (new_desk with_tree) bytes)) → IfSome left (λ input. Appends old new (output with_tree input))
+said_end None rest old mid new with_tree bytes taken ended out last = tt
+said_end (Some input) None old mid new with_tree bytes taken ended out last = absurd taken
+said_end (Some input) (Some r) old mid new with_tree bytes taken ended out last =
+    let whole : bytes ≡ input = sym (append-nil bytes) ∙ ap (λ (l : List ℕ). bytes ++ l) (sym ended) ∙ sym taken in
+    subst (Appends old new) (in_all_of with_tree bytes ∙ ap (output with_tree) whole) (Appends-trans old mid new (said (new_desk with_tree) bytes) (said_at_end (after (new_desk with_tree) bytes)) out last)
+
+-- where the script was refused, all is said
+pub said_closed : (left rest old new : Option (List ℕ)) (with_tree : Bool) (bytes : List ℕ) → Consumes left rest bytes → Appends old new (said (new_desk with_tree) bytes)
+    → (after (new_desk with_tree) bytes).stage ≡ closed → IfSome left (λ input. Appends old new (output with_tree input))
+said_closed None rest old new with_tree bytes taken out shut = tt
+said_closed (Some input) None old new with_tree bytes taken out shut = absurd taken
+said_closed (Some input) (Some r) old new with_tree bytes taken out shut =
+    let d = new_desk with_tree in
+    let all : said d bytes ≡ output with_tree input =
+    sym (append-nil (said d bytes)) ∙ ap (λ (l : List ℕ). said d bytes ++ l) (sym (closed_says (after d bytes) r shut)) ∙ sym (in_all-append d bytes r) ∙ ap (in_all d) (sym taken)
+    ∙ in_all_of with_tree input in
+    subst (Appends old new) all out
+
+closed_of : (s : L.Stage) → status_at s ≡ Refused → s ≡ closed
+closed_of L.unopened e = cc
+closed_of (L.up base) e = cc
+closed_of L.closed e = refl
+
+-- a run that ends with the refusal of the script
+pub closed_by : (s : L.Stage) (status : Status) → status ≡ Refused → status ≡ status_at s → s ≡ closed
+closed_by s status is told = closed_of s (sym told ∙ is)
+
+pub status_closed : (left rest : Option (List ℕ)) (with_tree : Bool) (bytes : List ℕ) → Consumes left rest bytes → (after (new_desk with_tree) bytes).stage ≡ closed
+    → IfSome left (λ input. Refused ≡ status_of with_tree input)
+status_closed None rest with_tree bytes taken shut = tt
+status_closed (Some input) None with_tree bytes taken shut = absurd taken
+status_closed (Some input) (Some r) with_tree bytes taken shut =
+    let d = new_desk with_tree in
+    ap status_at (sym (closed_stays (after d bytes) r shut) ∙ sym (stage-append d bytes r) ∙ ap (stage_in_all d) (sym taken) ∙ stage_of with_tree input)
+
+pub status_end : (left rest : Option (List ℕ)) (with_tree : Bool) (bytes : List ℕ) (status : Status) → Consumes left rest bytes → IsAtEnd rest → status ≡ status_at (stage_in_all (new_desk with_tree) bytes)
+    → IfSome left (λ input. status ≡ status_of with_tree input)
+status_end None rest with_tree bytes status taken ended told = tt
+status_end (Some input) None with_tree bytes status taken ended told = absurd taken
+status_end (Some input) (Some r) with_tree bytes status taken ended told =
+    let whole : bytes ≡ input = sym (append-nil bytes) ∙ ap (λ (l : List ℕ). bytes ++ l) (sym ended) ∙ sym taken in
+    told ∙ ap status_at (stage_of with_tree bytes) ∙ ap (status_of with_tree) whole
+
+-- ---- what reads leave
+
+-- a read at the end gave nothing
+pub ended : (left rest more : Option (List ℕ)) (bytes buf : List ℕ) (n : ℕ) → n ≡ 0 → Consumes left rest bytes → Consumes rest more (take n buf) → Consumes left more bytes
+ended left rest more bytes buf n none taken last =
+    subst (Consumes left more) (append-nil bytes) (Consumes-trans left rest more bytes [] taken (subst (λ m. Consumes rest more (take m buf)) none last))
+
+-- a read that failed gave nothing
+pub kept_left : (left rest new : Option (List ℕ)) (bytes : List ℕ) → Consumes left rest bytes → Keeps rest new → Consumes left new bytes
+kept_left None rest new bytes taken keeps = tt
+kept_left (Some input) None new bytes taken keeps = absurd taken
+kept_left (Some input) (Some r) None bytes taken keeps = absurd keeps
+kept_left (Some input) (Some r) (Some q) bytes taken keeps = taken ∙ ap (λ (l : List ℕ). bytes ++ l) (sym keeps)
+
+-- what went out of a piece is a beginning of the output
+pub begins_fed : (left rest more old mid new : Option (List ℕ)) (with_tree : Bool) (bytes piece : List ℕ) → Consumes left rest bytes → Consumes rest more piece → Appends old mid (said (new_desk with_tree) bytes)
+    → Begins mid new (said (after (new_desk with_tree) bytes) piece) → IfSome left (λ input. Begins old new (output with_tree input))
+begins_fed left rest more old mid new with_tree bytes piece taken next out begins =
+    let d = new_desk with_tree in
+    begins_output left more old new with_tree (bytes ++ piece) (Consumes-trans left rest more bytes piece taken next)
+    (subst (Begins old new) (sym (said-append d bytes piece)) (begins_on old mid new (said d bytes) (said (after d bytes) piece) out begins))

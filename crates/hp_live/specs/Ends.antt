@@ -1,0 +1,29 @@
+-- How a run ends.
+use Rattle.std.specs.Prelude.{List, ℕ, Bool, Result, Ok, Err}
+use Rattle.hp_report.specs.declared.output.WriteFault.{WriteFault}
+use Rattle.hp_report.specs.declared.output.WriteFault.TheVariants as writing
+use Rattle.hp_lines.specs.Lines.{lines_of}
+use Rattle.hp_lines.specs.Live.{Stage, unopened, up, closed, stage_after}
+use Rattle.hp_live.specs.declared.fault.Fault.{Fault}
+use Rattle.hp_live.specs.declared.fault.Fault.TheVariants as fault
+use Rattle.hp_live.specs.declared.fault.Status.{Status}
+use Rattle.hp_live.specs.declared.fault.Status.TheVariants.{Ended, Refused}
+
+abbrev pub write_fault : WriteFault → Fault
+write_fault writing.Write = fault.Write
+write_fault writing.NoMemory = fault.NoMemory
+
+abbrev pub status_at : Stage → Status
+status_at unopened = Ended
+status_at (up base) = Ended
+status_at closed = Refused
+
+-- an input ends as such, unless its first line is refused
+abbrev pub status_of : (with_tree : Bool) → List ℕ → Status
+status_of with_tree input = status_at (stage_after with_tree unopened (lines_of input))
+
+-- a program's exit status
+abbrev pub code_of : Result Status Fault → ℕ
+code_of (Ok Ended) = 0
+code_of (Ok Refused) = 2
+code_of (Err f) = 4

@@ -1,0 +1,44 @@
+-- What the program keeps of a rule base, and what it stands for.
+use Rattle.std.specs.Prelude.{◌≡◌, ⊤, ℕ, List, ◌++◌, Option, string_bytes, Bool, false}
+use Rattle.std.specs.declared.string.String.{String}
+use Rattle.std.specs.declared.alloc.Global.{Global}
+use Rattle.std.specs.Io.KnownBytes.{Appends, Consumes}
+use Rattle.hp_model.specs.State.{IsOrdered}
+use Rattle.hp_model.specs.Cells.{cells}
+use Rattle.hp_model.specs.Report.{Bytes}
+use Rattle.hp_rule.specs.Mapped.{library}
+use Rattle.hp_store.specs.Stack.{cells_in}
+use Rattle.hp_lines.specs.Live as L
+use Rattle.hp_live.specs.declared.base.RuleBase.{RuleBase}
+use Rattle.hp_live.specs.declared.desk.Stage.{Stage}
+use Rattle.hp_live.specs.declared.desk.Stage.TheVariants.{Unopened, Up, Closed}
+use Rattle.hp_live.specs.declared.desk.Desk.{Desk}
+
+-- a rule base with the same library, clock and number of units, whose state has the cells of the store and the objects
+pub record StandsFor (kept : RuleBase) (base : L.RuleBase) : Type 0 where
+  pub library_is : base.library ≡ library kept.library.value
+  pub ordered : IsOrdered base.library base.state
+  pub cells_are : cells base.library base.state ≡ cells_in kept.store
+  pub objects_are : kept.objects ≡ base.state.objects
+  pub clock_is : kept.clock ≡ base.clock
+  pub units_are : kept.units ≡ base.units
+
+abbrev pub IsStage : Stage → L.Stage → Type 0
+IsStage Unopened L.unopened = ⊤
+IsStage (Up kept) (L.up base) = StandsFor kept base
+IsStage Closed L.closed = ⊤
+IsStage s t = ⊥
+
+pub record IsDesk (kept : Desk) (d : L.Desk) : Type 0 where
+  pub tree_is : kept.options.tree ≡ d.with_tree
+  pub stage_is : IsStage kept.stage d.stage
+  pub line_is : kept.line.items ≡ d.line
+
+-- the text is the answer, and the stage is as it says
+pub record Answers (text : String Global) (kept : Stage) (a : L.Answer) : Type 0 where
+  pub text_is : string_bytes text ≡ a.body ++ a.last
+  pub stage_is : IsStage kept a.stage
+
+-- what was read, and all that is said of it was written
+abbrev pub WasTold : (left rest : Option (List ℕ)) → (old new : Option (List ℕ)) → L.Desk → Type 0
+WasTold left rest old new d = (bytes : List ℕ) × Consumes left rest bytes × Appends old new (L.said d bytes)

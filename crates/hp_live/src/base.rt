@@ -1,0 +1,133 @@
+//! A rule base that is up.
+
+ghost use Rattle.std.specs.Prelude.{◌≡◌, ◌++◌, List, IfOk, OnOk, None, map, string_bytes};
+ghost use Rattle.hp_model.specs.Cascade.{run_units};
+ghost use Rattle.hp_model.specs.Decode as D;
+ghost use Rattle.hp_report.specs.Text.{Gains, state_text};
+ghost use Rattle.hp_report.specs.Mapped.{unit_report};
+ghost use Rattle.hp_rule.specs.Mapped.{library as model_library, unit as model_unit};
+ghost use Rattle.hp_script.specs.Mapped.{schedule as model_schedule};
+ghost use Rattle.hp_lines.specs.Live as L;
+ghost use Rattle.hp_live.specs.Kept.{StandsFor};
+ghost use Rattle.hp_live.specs.Running.{with_state, ran_base};
+
+use crate::options::Options;
+use hp_report::{final_statuses, replay_units, state_text, units_text};
+use hp_rule::{Library, Unit};
+use hp_script::Schedule;
+use hp_store::Store;
+use hp_top::{Items, opening, run_items};
+use hp_tree::{Objects, UnitReport};
+use std::alloc::{AllocError, Global};
+use std::fmt::Write;
+use std::mem;
+use std::sync::Arc;
+use std::thread::Threads;
+
+/// A rule base: its library, its state, where its clock stands, and how many units have run.
+///
+/// Of the units only the number is kept.
+#[derive(Drop)]
+pub(crate) struct RuleBase {
+    pub library: Arc<Library>,
+    pub store: Store,
+    /// The objects of the store, by class and key.
+    pub objects: Objects,
+    pub clock: u64,
+    pub units: usize,
+}
+
+impl RuleBase {
+    /// The rule base of a library, before its first unit.
+    ///
+    /// An error means that memory ran out.
+    pub(crate) fn new(alloc: Global, library: Arc<Library>) -> Result<RuleBase, AllocError>
+        ensures { IfOk result (λ base. StandsFor base (L.new_base (model_library library.value))) }
+    {
+        Ok(RuleBase {
+            library,
+            store: opening(alloc)?,
+            objects: Objects::new(alloc),
+            clock: 0,
+            units: 0,
+        })
+    }
+
+    /// Runs units on the state as it is, and gives what is reported of them.
+    ///
+    /// An error means that memory ran out; some of the units may have run.
+    fn run_units<T: Threads + Sync>(
+        &mut self,
+        rt: &T,
+        alloc: Global,
+        units: &[Unit],
+        workers: usize,
+    ) -> Result<Vec<UnitReport>, AllocError>
+        ensures reports { IfOk result (λ reports. (base : L.RuleBase) → StandsFor self.old base →
+            map unit_report reports.items ≡ (run_units base.library (map model_unit units.now) base.state).units) }
+        ensures state { OnOk result ((base : L.RuleBase) → StandsFor self.old base →
+            StandsFor self.new (with_state base (run_units base.library (map model_unit units.now) base.state).state)) }
+    {
+        let ran = run_items(rt, alloc, &self.library, &mut self.store, units, workers);
+        let reports = whole(ran)?;
+        let objects = mem::replace(&mut self.objects, Objects::new(alloc));
+        self.objects = replay_units(objects, &reports)?;
+        Ok(reports)
+    }
+
+    /// Runs what an item runs, and gives the answer.
+    ///
+    /// An error means that memory ran out, or that 64 bits don't number the units; some of them may have run.
+    pub(crate) fn run<T: Threads + Sync>(
+        &mut self,
+        rt: &T,
+        alloc: Global,
+        schedule: Schedule,
+        options: Options,
+    ) -> Result<String, AllocError>
+        ensures text { IfOk result (λ text. (base : L.RuleBase) → StandsFor self.old base →
+            string_bytes text ≡ (L.ran options.tree base (model_schedule schedule)).body ++ (L.ran options.tree base (model_schedule schedule)).last) }
+        ensures state { OnOk result ((base : L.RuleBase) → StandsFor self.old base →
+            StandsFor self.new (ran_base base (model_schedule schedule))) }
+    {
+        let reports = self.run_units(rt, alloc, &schedule.units, options.workers)?;
+        let first = self.units.checked_add(1).ok_or(AllocError)?;
+        let above = first.checked_add(reports.len()).ok_or(AllocError)?;
+        let mut text = units_text(alloc, &self.library, options.tree, first, &reports)?;
+        self.units = above - 1;
+        self.clock = schedule.clock;
+        put_ok(&mut text, self.units)?;
+        Ok(text)
+    }
+
+    /// The lines of the state as it is, as an answer.
+    ///
+    /// An error means that memory ran out.
+    pub(crate) fn shown(&self, alloc: Global) -> Result<String, AllocError>
+        ensures { IfOk result (λ text. (base : L.RuleBase) → StandsFor self.now base →
+            string_bytes text ≡ state_text base.library base.state.objects base.state.rules ++ L.ok_line base.units) }
+    {
+        let statuses = final_statuses(alloc, &self.library, &self.store)?;
+        let mut text = state_text(alloc, &self.library, &self.objects, &statuses)?;
+        put_ok(&mut text, self.units)?;
+        Ok(text)
+    }
+}
+
+/// The reports of units, if all ran.
+fn whole(ran: Items) -> Result<Vec<UnitReport>, AllocError>
+    ensures all { IfOk result (λ units. units ≡ ran.reports) }
+    ensures unstopped { OnOk result (ran.stopped ≡ None) }
+{
+    match ran.stopped {
+        Some(error) => Err(error),
+        None => Ok(ran.reports),
+    }
+}
+
+/// The last line of an answer, with the number of units so far.
+fn put_ok(out: &mut String, units: usize) -> Result<(), AllocError>
+    ensures { OnOk result (Gains out.old out.new (L.ok_line units)) }
+{
+    writeln!(out, "ok {units}")
+}

@@ -1,0 +1,15 @@
+//! A rule manager that stays up: lines in, answers out.
+//!
+//! The first line is a script, each later one an item, or `["show"]`. `specs/Live.antt` says what is answered.
+#![tactic(auto)]
+
+mod base;
+mod desk;
+mod fault;
+mod options;
+mod serving;
+
+pub use desk::Desk;
+pub use fault::{Fault, Status, exit_code};
+pub use options::Options;
+pub use serving::serve;

@@ -1,0 +1,64 @@
+//! A whole run.
+
+ghost use Rattle.std.specs.Prelude.{◌≡◌, ◌↔◌, OnOk, IfOk, IfSome, true, false};
+ghost use Rattle.std.specs.Io.KnownBytes.{Appends};
+ghost use Rattle.hp_report.specs.Device.{Begins};
+ghost use Rattle.hp_lines.specs.Live as L;
+ghost use Rattle.hp_live.specs.Kept.{WasTold};
+ghost use Rattle.hp_live.specs.Ends.{status_of};
+
+use crate::desk::Desk;
+use crate::fault::{Fault, Status};
+use crate::options::Options;
+use hp_report::{Sink, Source};
+use std::alloc::Global;
+use std::thread::Threads;
+
+/// Reads lines up to the reader's end, and answers each as soon as it is read. It ends early where the script is refused.
+///
+/// The reader and the writer must not have failed before. After a fault what went out is a beginning of the answers; after
+/// `Fault::Read` it is all answers to what was read. No call of a device is tried again.
+pub fn serve<T: Threads + Sync, R: Source, W: Sink>(
+    rt: &T,
+    alloc: Global,
+    reader: &mut R,
+    writer: &mut W,
+    options: Options,
+) -> Result<Status, Fault>
+    requires reader { R.has_failed reader.old ≡ false }
+    requires writer { W.has_failed writer.old ≡ false }
+
+    // Where it answers `Ok`, it has written the definition's answers for all the bytes up to the reader's end.
+    ensures output { OnOk result (IfSome (R.remaining reader.old) (λ input.
+        Appends (W.contents writer.old) (W.contents writer.new) (L.output options.tree input))) }
+    ensures status { IfOk result (λ status. IfSome (R.remaining reader.old) (λ input. status ≡ status_of options.tree input)) }
+
+    // However it ends, what went out is a beginning of them.
+    ensures begins { IfSome (R.remaining reader.old) (λ input.
+        Begins (W.contents writer.old) (W.contents writer.new) (L.output options.tree input)) }
+
+    // Where a read fails, all lines that were whole before it have been answered: no answer is held back.
+    ensures at_once { result ≡ Err Fault.Read → WasTold (R.remaining reader.old) (R.remaining reader.new)
+        (W.contents writer.old) (W.contents writer.new) (L.new_desk options.tree) }
+
+    // The faults of devices come exactly where a call has failed.
+    ensures read { result ≡ Err Fault.Read ↔ (R.has_failed reader.new ≡ true) }
+    ensures write { result ≡ Err Fault.Write ↔ (W.has_failed writer.new ≡ true) }
+{
+    let mut desk = Desk::new(alloc, options);
+    let mut buf = [0u8; 4096];
+    for _ in 0..u64::MAX {
+        if let Status::Refused = desk.status() {
+            return Ok(Status::Refused);
+        }
+        match reader.read(&mut buf) {
+            Ok(0) => {
+                desk.finish(rt, alloc, writer)?;
+                return Ok(desk.status());
+            }
+            Ok(count) => desk.feed(rt, alloc, writer, &buf[..count])?,
+            Err(_) => return Err(Fault::Read),
+        }
+    }
+    Err(Fault::NoMemory)
+}

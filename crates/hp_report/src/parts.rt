@@ -1,0 +1,58 @@
+//! Parts of a report as texts of their own.
+
+ghost use Rattle.std.specs.Prelude.{◌≡◌, ◌+◌, ◌<◌, ◌^◌, IfOk, length, map, string_bytes};
+ghost use Rattle.hp_model.specs.Report.{units_text};
+ghost use Rattle.hp_report.specs.Mapped as model;
+ghost use Rattle.hp_report.specs.Text.{state_text};
+
+use crate::names::Names;
+use crate::report::Status;
+use crate::text::{put_state, put_units};
+use hp_rule::Library;
+use hp_tree::{Objects, UnitReport};
+use std::alloc::{AllocError, Global};
+
+/// The lines that a report has for units, the first of which has this number, with the trees of their transactions where
+/// these are wanted.
+///
+/// An error means that memory ran out.
+pub fn units_text(
+    alloc: Global,
+    library: &Library,
+    with_tree: bool,
+    first: usize,
+    units: &[UnitReport],
+) -> Result<String, AllocError>
+    requires { first + length units.now < 2 ^ 64 }
+    ensures { IfOk result (λ text. string_bytes text
+        ≡ units_text (model.library library.now) with_tree first (map model.unit_report units.now)) }
+{
+    let names = Names {
+        classes: library.classes(),
+        rules: library.rules(),
+    };
+    let mut out = String::new(alloc);
+    put_units(alloc, &mut out, &names, with_tree, first, units)?;
+    Ok(out)
+}
+
+/// The lines that a report has for a state: its objects, and the status of each rule, by its number.
+///
+/// An error means that memory ran out.
+pub fn state_text(
+    alloc: Global,
+    library: &Library,
+    objects: &Objects,
+    statuses: &[Status],
+) -> Result<String, AllocError>
+    ensures { IfOk result (λ text. string_bytes text
+        ≡ state_text (model.library library.now) objects.now (map model.rule_state statuses.now)) }
+{
+    let names = Names {
+        classes: library.classes(),
+        rules: library.rules(),
+    };
+    let mut out = String::new(alloc);
+    put_state(alloc, &mut out, &names, objects, statuses)?;
+    Ok(out)
+}

@@ -1,0 +1,5 @@
+//! Tests of the rule manager that stays up.
+#![tactic(auto)]
+
+#[cfg(test)]
+mod serving;
