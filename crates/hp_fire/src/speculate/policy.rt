@@ -25,10 +25,10 @@ const KEPT: usize = 4;
 /// After so many conflicts in a row a worker tries no more tasks.
 pub(crate) const CONFLICTS: usize = 2;
 
-/// To take in an attempt takes about as long as to copy so many writes, as reckoned: it wasn't measured.
+/// To take in an attempt takes about as long as to copy so many writes (estimated, not measured).
 pub(crate) const COPIES: usize = 32;
 
-/// So often the owner polls for the next attempt at the end of a wave: for some 50 us, as reckoned, about as long as a task takes
+/// So often the owner polls for the next attempt at the end of a wave: for some 50 us (estimated), about as long as a task takes
 /// that scans a few hundred objects.
 pub(crate) const POLLS: usize = 500;
 

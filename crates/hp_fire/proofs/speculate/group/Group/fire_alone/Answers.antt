@@ -30,7 +30,7 @@ loop-task-preserved g c =
     let one = ap length c.in_ok-add.ensures.outcomes ∙ length-append c.loop-task.settled.outcomes.items (c.in_ok-outcome.outcome ∷ []) in
     let long : length c.add.new.self.outcomes.items ≡ c.loop-task.task-index + 1 = omega (arith, one, at) in (
       so_far_ran c.loop-task.settled.outcomes.items c.add.new.self.outcomes.items c.loop-task.settled.end c.add.new.self.end (task c.task-item.result) _ c.in_ok-outcome.outcome c.loop-task.invariant.1 here
-      c.in_ok-add.ensures.outcomes c.in_ok-add.ensures.end c.loop-task.invariant.0 c.in_ok-outcome.ensures,
+          c.in_ok-add.ensures.outcomes c.in_ok-add.ensures.end c.loop-task.invariant.0 c.in_ok-outcome.ensures,
       none,
       long,
     )

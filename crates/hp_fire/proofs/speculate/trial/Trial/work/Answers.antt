@@ -20,15 +20,15 @@ loop-preserved g c =
     let same : c.try_number.new.worker.wave.now ≡ c.args.wave.now = ap (λ w. w.now) (c.try_number.ensures.wave ∙ c.draw.ensures.wave) ∙ so_far.3 in
     elim c.match-try_number.branch [
       | in-Some-try_number w ↦ (
-          subst (λ f. AreSoundTries lib f.items) (sym w.found-is) (w.hand_over.ensures.found lib so_far.1 so_far.0),
-          subst (λ s. IsOf lib (sent s)) (sym w.sender-is) (w.hand_over.ensures.line lib so_far.1),
-          c.try_number.ensures.worker,
-          same,
-        )
+        subst (λ f. AreSoundTries lib f.items) (sym w.found-is) (w.hand_over.ensures.found lib so_far.1 so_far.0),
+        subst (λ s. IsOf lib (sent s)) (sym w.sender-is) (w.hand_over.ensures.line lib so_far.1),
+        c.try_number.ensures.worker,
+        same,
+      )
       | in_default-try_number w ↦ (
-          subst (λ f. AreSoundTries lib f.items) (sym w.found-is) so_far.0,
-          subst (λ s. IsOf lib (sent s)) (sym w.sender-is) so_far.1,
-          c.try_number.ensures.worker,
-          same,
-        )
+        subst (λ f. AreSoundTries lib f.items) (sym w.found-is) so_far.0,
+        subst (λ s. IsOf lib (sent s)) (sym w.sender-is) so_far.1,
+        c.try_number.ensures.worker,
+        same,
+      )
     ]
