@@ -1,5 +1,7 @@
 //! A small bank: class 0 with the keys -3, 2 and 10, whose balances are 100 more.
 
+ghost use Rattle.std.specs.Prelude.{◌≡◌, IfOk, []};
+
 use hp_store::{CellValue, Layer, Snapshot};
 use hp_value::{Cell, Field, Key, Kind, Row, Value};
 use hp_view::View;
@@ -37,7 +39,9 @@ fn snapshot(alloc: Global) -> Result<Snapshot, AllocError> {
     Snapshot::empty(alloc)?.with_layer(alloc, accounts)
 }
 
-pub fn bank(alloc: Global) -> Result<View, AllocError> {
+pub fn bank(alloc: Global) -> Result<View, AllocError>
+    ensures { IfOk result (λ v. v.undo ≡ []) }
+{
     View::new(alloc, snapshot(alloc)?)
 }
 

@@ -1,5 +1,7 @@
 //! Views over a small bank, with values worked out by hand.
 
+ghost use Rattle.std.specs.Prelude.{◌≡◌, []};
+
 use crate::fixtures::{balance, balance_in, bank, shown};
 use hp_query::{Query, answer};
 use hp_store::{Layer, Snapshot};
@@ -52,7 +54,9 @@ fn assert_all_reads(rt: &impl Abort, reads: &Reads) {
     assert_reads(rt, reads, &wanted);
 }
 
-fn write_and_abort(rt: &impl Abort, alloc: Global, view: &mut View) -> Result<(), AllocError> {
+fn write_and_abort(rt: &impl Abort, alloc: Global, view: &mut View) -> Result<(), AllocError>
+    requires { view.old.undo ≡ [] }
+{
     let mark = view.enter();
     three_writes(alloc, view)?;
     all_reads(alloc, view)?;
