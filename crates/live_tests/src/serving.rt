@@ -56,7 +56,7 @@ impl Write for Device<'_> {
     }
 }
 
-fn device<'a>(alloc: Global, input: &'a [u8], step: usize, fails_at: usize) -> Device<'a> {
+fn new_device<'a>(alloc: Global, input: &'a [u8], step: usize, fails_at: usize) -> Device<'a> {
     Device {
         input,
         output: Vec::new(alloc),
@@ -77,8 +77,8 @@ fn served<R: AllocGlobal + Threads + Sync>(
     let alloc = rt.alloc();
     let mut input = String::from_str(alloc, SCRIPT)?;
     input.push_str(lines)?;
-    let mut reader = Watched::new(device(alloc, input.as_bytes(), step, fails_at));
-    let mut writer = Watched::new(device(alloc, b"", 4096, 0));
+    let mut reader = Watched::new(new_device(alloc, input.as_bytes(), step, fails_at));
+    let mut writer = Watched::new(new_device(alloc, b"", 4096, 0));
     let options = Options {
         workers: 1,
         tree: false,
