@@ -1,7 +1,7 @@
 """The report of a run, as `./hipac --tree` writes it, read into a tree of plain objects.
 
 Values stay the texts that the report has: a whole number of 64 bits is more than a page's script could hold as a
-number, and nothing here reckons with them.
+number, and nothing here computes with them.
 """
 
 from __future__ import annotations
