@@ -785,7 +785,8 @@ class RuleBase:
             if timer:
                 timer.cancel()
         if isinstance(answer, Refused):
-            raise Refused(answer.code, answer.path, answer.limit, _at_path(value, answer.path or "/"))
+            part = None if answer.path is None else _at_path(value, answer.path)
+            raise Refused(answer.code, answer.path, answer.limit, part)
         self.units = answer.count
         return answer
 
