@@ -30,13 +30,14 @@ import re
 import signal
 import subprocess
 import threading
+import time
 from collections import deque
 from dataclasses import dataclass, field
 from pathlib import Path
 from typing import Any, Dict, Iterable, Iterator, List, Mapping, NoReturn, Optional, Sequence, Tuple, Union
 
-PROGRAM = (str(Path(__file__).resolve().parents[2] / "hipac-live"),)
-"""The words that start the program: the repository's launcher."""
+PROGRAM = (os.environ.get("HIPAC_LIVE") or str(Path(__file__).resolve().parents[2] / "hipac-live"),)
+"""The words that start the program: $HIPAC_LIVE where that is set, else the repository's launcher."""
 
 Value = Union[int, bool, str]
 Script = Union[Mapping[str, Any], str, bytes, "os.PathLike[str]"]
@@ -46,6 +47,9 @@ _LOG = logging.getLogger("hipac_live")
 
 # So many lines of standard error are kept for the exception.
 _KEPT_ERRORS = 100
+
+# Seconds for which another process may have the journal.
+_LOCK_LIMIT = 3
 
 # Seconds that the program may take to end once its input has ended, and its standard error to end after it.
 _STOP_LIMIT = 10
@@ -224,6 +228,9 @@ class Detached(_Ended):
     emits: List[Value] = field(default_factory=list)
     tree: Optional[List[Node]] = None
 
+    def __str__(self) -> str:
+        return f"{self.mode} {self.rule} {self.ending}"
+
 
 @dataclass
 class Unit(_Ended):
@@ -245,6 +252,9 @@ class Unit(_Ended):
         """What the unit and then its cascade emitted."""
         return self.emits + [value for task in self.cascade for value in task.emits]
 
+    def __str__(self) -> str:
+        return f"unit {self.number}" + ("" if self.time is None else f" time {self.time}") + f" {self.ending}"
+
 
 @dataclass
 class Object:
@@ -256,6 +266,10 @@ class Object:
 
     def __getitem__(self, name: str) -> Value:
         return self.fields[name]
+
+    def __str__(self) -> str:
+        row = (f"{name}={json.dumps(value, ensure_ascii=False)}" for name, value in self.fields.items())
+        return " ".join([self.class_name, str(self.key), *row])
 
 
 @dataclass
@@ -392,8 +406,8 @@ class _Reader:
         unit, detached = _UNIT.fullmatch(line), _DETACHED.fullmatch(line)
         tree: Optional[List[Node]] = [] if self._trees else None
         if unit and int(unit[1]) == self._answer.count + 1 and not self._has_state():
-            time = None if unit[2] is None else int(unit[2])
-            self._transaction = Unit(int(unit[1]), time, _ending(unit[3]), tree=tree)
+            moment = None if unit[2] is None else int(unit[2])
+            self._transaction = Unit(int(unit[1]), moment, _ending(unit[3]), tree=tree)
             self._answer.units.append(self._transaction)
             self._answer.count += 1
         elif detached and self._transaction is not None:
@@ -497,16 +511,25 @@ class Journal:
         self.path = Path(path)
         self._file = open(self.path, "ab", buffering=0)  # pylint: disable=consider-using-with
         try:
-            fcntl.flock(self._file, fcntl.LOCK_EX | fcntl.LOCK_NB)
+            self._lock()
             self._size = sum(len(line) for line in self._whole_lines())
             self._cut()
             self._sync_folder()
-        except BaseException as fault:
+        except BaseException:
             self._file.close()
-            if isinstance(fault, BlockingIOError):
-                raise JournalFault(f"{self.path}: another process has this journal") from None
             raise
         self._is_broken = False
+
+    def _lock(self) -> None:
+        """Has the file for this process. One that was killed a moment ago may still be about to let go of it."""
+        deadline = time.monotonic() + _LOCK_LIMIT
+        while True:
+            try:
+                return fcntl.flock(self._file, fcntl.LOCK_EX | fcntl.LOCK_NB)
+            except BlockingIOError:
+                if time.monotonic() > deadline:
+                    raise JournalFault(f"{self.path}: another process has this journal") from None
+                time.sleep(0.05)
 
     def _whole_lines(self) -> Iterator[bytes]:
         with open(self.path, "rb") as file:
@@ -622,8 +645,8 @@ class _Program:
 class RuleBase:
     """A rule base in a program that stays up. Several threads may share it: each call is one line and its answer.
 
-    - `program`: the words that start the program, else the repository's launcher. That makes the program first if need
-      be, which takes about a minute. What the program says on standard error is logged as warnings of "hipac_live".
+    - `program`: the words that start the program, else `PROGRAM`. The launcher makes the program first if need be, which
+      takes about a minute. What is said on standard error is logged as warnings of "hipac_live".
     - `workers`: 1 to 64; the answers don't change.
     - `tree`: whether the units have trees.
     - `timeout`: so many seconds a line and its answer may take. If they take longer, the program is killed, and
@@ -763,8 +786,8 @@ class RuleBase:
             return answer
 
     def _moved(self, items: Any) -> None:
-        time = _clock_after(items)
-        self.time = self.time if time is None else time
+        moment = _clock_after(items)
+        self.time = self.time if moment is None else moment
 
     def _raise_if_ended(self) -> None:
         """An exception of its own for each call, since an exception keeps where it was raised."""

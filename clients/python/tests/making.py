@@ -3,19 +3,15 @@
 from __future__ import annotations
 
 import logging
-import os
 import sys
 import tempfile
 import unittest
 from pathlib import Path
 from typing import Any, Sequence
 
-from hipac_live import PROGRAM as LAUNCHER, RuleBase, Script
+from hipac_live import RuleBase, Script
 
 REPOSITORY = Path(__file__).resolve().parents[3]
-
-PROGRAM = [os.environ["HIPAC_LIVE"]] if os.environ.get("HIPAC_LIVE") else list(LAUNCHER)
-"""The program: $HIPAC_LIVE where that is set, else `./hipac-live` at the repository's root."""
 
 # The launcher's notice is for people.
 logging.getLogger("hipac_live").setLevel(logging.CRITICAL)
@@ -55,12 +51,12 @@ class RuleBaseTest(unittest.TestCase):
     """A test with rule bases that are closed at its end, and a folder of its own."""
 
     def base(self, given: Script, **options: Any) -> RuleBase:
-        base = RuleBase(given, **{"program": PROGRAM, **options})
+        base = RuleBase(given, **options)
         self.addCleanup(base.close)
         return base
 
     def recovered(self, journal: Any, given: Any = None, **options: Any) -> RuleBase:
-        base = RuleBase.recover(journal, given, **{"program": PROGRAM, **options})
+        base = RuleBase.recover(journal, given, **options)
         self.addCleanup(base.close)
         return base
 

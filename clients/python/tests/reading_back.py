@@ -10,13 +10,13 @@ from hipac_live import Act, Answer, Emit, Fire, Node, ObjectOperation, RuleOpera
 
 def lines_of(answer: Answer) -> Iterator[str]:
     for unit in answer.units:
-        yield f"unit {unit.number}" + ("" if unit.time is None else f" time {unit.time}") + f" {unit.ending}"
+        yield str(unit)
         yield from below(unit)
         for task in unit.cascade:
-            yield f"{task.mode} {task.rule} {task.ending}"
+            yield str(task)
             yield from below(task)
     for thing in answer.state.objects:
-        yield f"object {thing.class_name} {thing.key}" + row(thing.fields)
+        yield f"object {thing}"
     for name, status in answer.state.rules.items():
         yield f"rule {name} {status}"
     yield f"ok {answer.count}"

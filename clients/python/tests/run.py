@@ -18,7 +18,7 @@ ORDERS = CLIENT.parents[1] / "examples" / "orders"
 sys.dont_write_bytecode = True
 sys.path.insert(0, str(CLIENT))
 
-from tests.making import PROGRAM  # noqa: E402 - found by the path above
+from hipac_live import PROGRAM  # noqa: E402 - found by the path above
 
 
 def main(words: list) -> int:

@@ -9,9 +9,9 @@ import time
 import unittest
 from unittest import mock
 
-from hipac_live import AnswerFault, ProgramEnded, Refused, RuleBase, TimedOut
+from hipac_live import AnswerFault, PROGRAM, ProgramEnded, Refused, RuleBase, TimedOut
 
-from .making import PROGRAM, STOCK, RuleBaseTest, python, script
+from .making import STOCK, RuleBaseTest, python, script
 
 # Answers the first line, and then goes on as the text says.
 OPENS = "import os, signal, sys, time\nsys.stdin.readline()\nprint('ok 0', flush=True)\n"

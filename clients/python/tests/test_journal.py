@@ -11,9 +11,9 @@ import unittest
 from pathlib import Path
 from unittest import mock
 
-from hipac_live import Journal, JournalFault, ProgramEnded, Refused
+from hipac_live import Journal, JournalFault, PROGRAM, ProgramEnded, Refused
 
-from .making import NO_OVERSELL, PROGRAM, STOCK, RuleBaseTest, python, rule, script
+from .making import NO_OVERSELL, STOCK, RuleBaseTest, python, rule, script
 from .test_endings import OPENS
 
 TICK = rule("tick", ["every", 10, 10], [["emit", ["time", 0]]])
@@ -174,7 +174,7 @@ class JournalTest(RuleBaseTest):
 
     def test_one_process_has_it(self):
         journal = Journal(self.path)
-        with self.assertRaisesRegex(JournalFault, "another process"):
+        with mock.patch("hipac_live._LOCK_LIMIT", 0.1), self.assertRaisesRegex(JournalFault, "another process"):
             Journal(self.path)
         journal.close()
         Journal(self.path).close()

@@ -21,10 +21,8 @@ def body_of(size: int) -> list:
 
 class LargeTest(RuleBaseTest):
     def test_the_longest_line(self):
-        base = self.base(STOCK, tree=True)
-        body = body_of(SIZE)
-        unit = base.tx(body)
-        self.assertEqual((unit.emits, len(unit.tree)), ([text for _, text in body], len(body)))
+        base, body = self.base(STOCK), body_of(SIZE)
+        self.assertEqual(base.tx(body).emits, [text for _, text in body])
         with self.assertRaises(Refused) as caught:
             base.tx(body_of(SIZE + 1))
         self.assertEqual(caught.exception.limit, "size")
@@ -32,21 +30,21 @@ class LargeTest(RuleBaseTest):
 
     def test_a_line_of_other_letters(self):
         """Letters outside ASCII are sent as they are, and take no more bytes than they must."""
-        unit = self.base(STOCK).tx([["emit", "漢" * 341]] * 500)
-        self.assertEqual(unit.emits, ["漢" * 341] * 500)
+        unit = self.base(STOCK).tx([["emit", "漢" * 341]] * 100)
+        self.assertEqual(unit.emits, ["漢" * 341] * 100)
 
     def test_an_answer_that_is_far_longer_than_its_line(self):
         echo = rule("echo", ["signal", "go"], [["for", "i", [["for", "i", [["emit", ["arg", 0, 0]]]]]]], queries=[["i", "item", True]])
         base = self.base(installed(echo))
-        base.tx([["create", "item", key, [["stock", key]]] for key in range(60)])
+        base.tx([["create", "item", key, [["stock", key]]] for key in range(40)])
         unit = base.tx([["signal", "go", ["long " * 200]]])
-        self.assertEqual(unit.emits, ["long " * 200] * 3600)
+        self.assertEqual(unit.emits, ["long " * 200] * 1600)
         self.assertEqual(base.tx([["emit", 1]]).emits, [1])
 
     def test_a_large_state(self):
         base = self.base(script())
-        base.tx([["create", "note", key, [["text", "x" * 1000], ["read", True]]] for key in range(900)])
-        self.assertEqual([(it.key, it["text"]) for it in base.show().objects], [(key, "x" * 1000) for key in range(900)])
+        base.tx([["create", "note", key, [["text", "x" * 1000], ["read", True]]] for key in range(200)])
+        self.assertEqual([(it.key, it["text"]) for it in base.show().objects], [(key, "x" * 1000) for key in range(200)])
 
     def test_much_on_standard_error(self):
         base = self.base(script(), program=python(

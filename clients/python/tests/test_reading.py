@@ -7,15 +7,15 @@ import subprocess
 import sys
 import unittest
 
-from hipac_live import AnswerFault, Refused, _Reader
+from hipac_live import AnswerFault, PROGRAM, Refused, _Reader
 
-from .making import PROGRAM, REPOSITORY
+from .making import REPOSITORY
 from .reading_back import lines_of
 
 sys.path.insert(0, str(REPOSITORY / "tools" / "tests"))
 from made_scripts import made_script  # noqa: E402 - found by the path above
 
-SEEDS = range(12)
+SEEDS = range(8)
 
 
 def answers_to(script: dict, trees: bool) -> list:

@@ -6,7 +6,7 @@ import unittest
 
 from hipac_live import Refused
 
-from .making import ITEM, PROGRAM, STOCK, RuleBaseTest, rule, script
+from .making import ITEM, STOCK, RuleBaseTest, rule, script
 
 SIZE = 1_048_576
 
@@ -155,7 +155,7 @@ class UnsendableTest(RuleBaseTest):
     def test_workers_out_of_bounds(self):
         for workers in (0, 65, -1):
             with self.assertRaises(ValueError):
-                self.base(STOCK, program=[*PROGRAM], workers=workers)
+                self.base(STOCK, workers=workers)
 
 
 if __name__ == "__main__":

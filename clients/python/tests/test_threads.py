@@ -11,7 +11,7 @@ from hipac_live import ProgramEnded, Refused
 
 from .making import STOCK, RuleBaseTest, installed, rule
 
-THREADS, CALLS = 8, 40
+THREADS, CALLS = 8, 20
 
 
 class ThreadsTest(RuleBaseTest):
@@ -61,11 +61,11 @@ class ThreadsTest(RuleBaseTest):
     def test_closing_waits_for_an_answer(self):
         base = self.base(STOCK)
         with ThreadPoolExecutor(2) as pool:
-            answer = pool.submit(base.tx, [["emit", "x" * 1000]] * 1000)
+            answer = pool.submit(base.tx, [["emit", "x" * 1000]] * 300)
             while base._lock.acquire(blocking=False):
                 base._lock.release()
             base.close()
-            self.assertEqual(len(answer.result().emits), 1000)
+            self.assertEqual(len(answer.result().emits), 300)
 
 
 if __name__ == "__main__":
