@@ -31,7 +31,7 @@ from typing import Any, Callable, Dict, Iterable, List
 
 sys.path.insert(0, str(Path(__file__).resolve().parents[2] / "clients" / "python"))
 
-from hipac_live import JournalFault, ProgramEnded, Refused, RuleBase, Unit, Value  # noqa: E402 - found by the path above
+from hipac_live import JournalFault, ProgramEnded, Refused, RuleBase, Unit, Value  # noqa: E402 - by the path above
 
 RULES = Path(__file__).with_name("rules.json")
 ADDRESS = ("127.0.0.1", int(os.environ.get("DESK_PORT", "7070")))

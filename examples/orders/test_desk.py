@@ -58,6 +58,11 @@ class DeskTest(unittest.TestCase):
                 return desk
         return self.fail("the desk didn't open")
 
+    def desk(self, *words: str) -> subprocess.CompletedProcess:
+        """A desk that has ended."""
+        how = {"env": self.how["env"], "capture_output": True, "text": True}
+        return subprocess.run([sys.executable, str(HERE / "desk.py"), *words], timeout=LIMIT, check=False, **how)
+
     @contextlib.contextmanager
     def client(self) -> Iterator["Client"]:
         with socket.create_connection(("127.0.0.1", self.port), LIMIT) as connection:
@@ -89,7 +94,8 @@ class PageTest(DeskTest):
     def test_the_page_is_as_it_is_written(self):
         steps: List[Tuple[str, str]] = STEP.findall((HERE / "README.md").read_text(encoding="utf-8"))
         self.assertEqual(len(steps), 9)
-        shell = subprocess.Popen(["bash"], stdin=subprocess.PIPE, stdout=subprocess.PIPE, text=True, start_new_session=True, **self.how)
+        pipes = {"stdin": subprocess.PIPE, "stdout": subprocess.PIPE, "text": True}
+        shell = subprocess.Popen(["bash"], start_new_session=True, **pipes, **self.how)
         try:
             for commands, wanted in steps:
                 shell.stdin.write(commands + "echo end of step\n")
@@ -102,11 +108,11 @@ class PageTest(DeskTest):
 
 
 class CrashTest(DeskTest):
-    DAY = ("product 7 20 5 desk lamp", "order 1 7 2", "pay 1", "order 2 7 9", "order 3 7 90", "complain 7", "nonsense", "clock 1500",
-           "order 4 7 1")
+    DAY = ("product 7 20 5 desk lamp", "order 1 7 2", "pay 1", "order 2 7 9", "order 3 7 90", "complain 7", "nonsense",
+           "clock 1500", "order 4 7 1")
 
     def test_killed_between_any_two_lines(self):
-        """Both the desk and its program, one after the other: all that was answered is there again, and goes on alike."""
+        """The desk and its program, one after the other: all that was answered is there again, and goes on alike."""
         whole = self.serve()
         wanted = self.ask(*self.DAY, "complain 7", "clock 2880", "show")
         whole.kill()
@@ -132,8 +138,7 @@ class CrashTest(DeskTest):
 
     def test_a_desk_that_is_in_use(self):
         self.serve()
-        ended = subprocess.run([sys.executable, str(HERE / "desk.py"), "serve", self.journal], capture_output=True, text=True,
-                               timeout=LIMIT, check=False, env=self.how["env"])
+        ended = self.desk("serve", self.journal)
         self.assertEqual(ended.returncode, 1)
         self.assertIn("another process has this journal", ended.stderr)
 
@@ -186,8 +191,8 @@ class RequestTest(DeskTest):
 
     def test_words_that_are_none(self):
         for words in ([], ["serve"], ["ask"], ["open", "x"]):
-            ended = subprocess.run([sys.executable, str(HERE / "desk.py"), *words], capture_output=True, timeout=LIMIT, check=False)
-            self.assertEqual((ended.returncode, ended.stdout), (2, b""))
+            ended = self.desk(*words)
+            self.assertEqual((ended.returncode, ended.stdout), (2, ""))
 
 
 if __name__ == "__main__":

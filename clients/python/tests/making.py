@@ -16,16 +16,18 @@ REPOSITORY = Path(__file__).resolve().parents[3]
 # The launcher's notice is for people.
 logging.getLogger("hipac_live").setLevel(logging.CRITICAL)
 
+Parts = Sequence[Any]
+
 ITEM = ["item", [["stock", "int"]]]
 NOTE = ["note", [["text", "text"], ["read", "bool"]]]
 
 
-def script(rules: Sequence[Any] = (), items: Sequence[Any] = (), classes: Sequence[Any] = (ITEM, NOTE), version: int = 2,
-           **members: Any) -> dict:
-    return {"version": version, "classes": list(classes), "rules": list(rules), "items": list(items), **members}
+def script(rules: Parts = (), items: Parts = (), classes: Parts = (ITEM, NOTE), **members: Any) -> dict:
+    return {"version": 2, "classes": list(classes), "rules": list(rules), "items": list(items), **members}
 
 
-def rule(name: str, event: list, action: list, ec: str = "immediate", ca: str = "immediate", queries: Sequence[Any] = ()) -> list:
+def rule(name: str, event: list, action: list, ec: str = "immediate", ca: str = "immediate",
+         queries: Parts = ()) -> list:
     return [name, event, ec, list(queries), ca, action]
 
 

@@ -10,8 +10,8 @@ from .making import ITEM, NOTE, STOCK, RuleBaseTest, installed, rule, script
 
 LEAST, GREATEST = -(2 ** 63), 2 ** 63 - 1
 
-TEXTS = ("", "two words", 'a quote " and \\', "tab\tline\nreturn\r\b\f", "\x00\x01\x1f\x7f", "é ß 漢字 🦀", "\u2028\u2029\x85\ufeff",
-         "x=1 y=2", "\nok 1\nrefused S1\n", "</script>", "a" * 1024)
+TEXTS = ("", "two words", 'a quote " and \\', "tab\tline\nreturn\r\b\f", "\x00\x01\x1f\x7f", "é ß 漢字 🦀",
+         "\u2028\u2029\x85\ufeff", "x=1 y=2", "\nok 1\nrefused S1\n", "</script>", "a" * 1024)
 
 
 class EndingTest(RuleBaseTest):
@@ -56,10 +56,10 @@ class ValueTest(RuleBaseTest):
         self.assertEqual([(type(it), it) for it in unit.emits], [(type(it), it) for it in values])
 
     def test_values_in_fields(self):
+        wanted = [{"text": text, "read": key % 2 == 0} for key, text in enumerate(TEXTS)]
         for tree in (False, True):
             base = self.base(script(), tree=tree)
-            unit = base.tx([["create", "note", key, [["text", text], ["read", key % 2 == 0]]] for key, text in enumerate(TEXTS)])
-            wanted = [{"text": text, "read": key % 2 == 0} for key, text in enumerate(TEXTS)]
+            unit = base.tx([["create", "note", key, list(it.items())] for key, it in enumerate(wanted)])
             self.assertEqual([it.fields for it in base.show().objects], wanted)
             self.assertEqual(unit.tree and [it.fields for it in unit.tree], wanted if tree else None)
 
@@ -117,7 +117,8 @@ class CascadeTest(RuleBaseTest):
         base = self.base(installed(rule("late", ["at", 5], [["emit", "late"]], "dependent")), tree=True)
         unit, = base.clock(5)
         self.assertEqual((unit.time, unit.tree, len(unit.cascade)), (5, [], 1))
-        self.assertEqual(unit.cascade[0].tree, [Fire("late", "dependent", "satisfied", action=Ending(), items=[Emit("late")])])
+        fire = Fire("late", "dependent", "satisfied", action=Ending(), items=[Emit("late")])
+        self.assertEqual(unit.cascade[0].tree, [fire])
 
 
 class TreeTest(RuleBaseTest):
@@ -126,8 +127,9 @@ class TreeTest(RuleBaseTest):
 
     def test_operations(self):
         one = rule("one", ["at", 9], [])
-        tree = self.tree([["create", "item", -5, [["stock", 3]]], ["update", "item", -5, []], ["delete", "item", -5],
-                          ["disable", "one"], ["enable", "one"], ["remove", "one"], ["install", "one"], ["emit", True]], one)
+        body = [["create", "item", -5, [["stock", 3]]], ["update", "item", -5, []], ["delete", "item", -5]]
+        body += [[verb, "one"] for verb in ("disable", "enable", "remove", "install")]
+        tree = self.tree([*body, ["emit", True]], one)
         self.assertEqual(tree, [
             ObjectOperation("create", "item", -5, {"stock": 3}), ObjectOperation("update", "item", -5, {"stock": 3}),
             ObjectOperation("delete", "item", -5), RuleOperation("disable", "one"), RuleOperation("enable", "one"),

@@ -37,12 +37,14 @@ class EndingTest(RuleBaseTest):
 
     def test_each_fault(self):
         for fault in ("F1", "F2", "F3"):
-            base = self.base(script(), program=python(OPENS + f"sys.stdin.readline()\nsys.exit(print('fault {fault}', file=sys.stderr) or 4)"))
+            text = f"sys.stdin.readline()\nprint('fault {fault}', file=sys.stderr)\nsys.exit(4)"
+            base = self.base(script(), program=python(OPENS + text))
             error = self.expect_ended(base.show, status=4, fault=fault, errors=f"fault {fault}\n")
             self.expect_same_again(base, error)
 
     def test_a_read_that_fails(self):
-        self.expect_ended(lambda: self.base(STOCK, program=["sh", "-c", 'exec "$0" "$@" </', *PROGRAM]), status=4, fault="F2")
+        folder = ["sh", "-c", 'exec "$0" "$@" </', *PROGRAM]
+        self.expect_ended(lambda: self.base(STOCK, program=folder), status=4, fault="F2")
 
     def test_a_write_that_fails(self):
         full = ["sh", "-c", 'exec "$0" "$@" >/dev/full', *PROGRAM]
@@ -60,7 +62,8 @@ class EndingTest(RuleBaseTest):
         self.expect_same_again(base, self.expect_ended(base.show, status=2, fault=None))
 
     def test_a_status_that_says_nothing(self):
-        base = self.base(script(), program=python(OPENS + "sys.stdin.readline()\nsys.stderr.write('why\\n' * 3)\nsys.exit(2)"))
+        text = "sys.stdin.readline()\nsys.stderr.write('why\\n' * 3)\nsys.exit(2)"
+        base = self.base(script(), program=python(OPENS + text))
         error = self.expect_ended(base.show, status=2, fault=None, errors="why\nwhy\nwhy\n")
         self.assertEqual(str(error), "the program ended with status 2; it said:\nwhy\nwhy\nwhy")
         self.expect_same_again(base, error)
@@ -73,8 +76,8 @@ class EndingTest(RuleBaseTest):
         self.expect_same_again(base, error)
 
     def test_killed_in_the_middle_of_an_answer(self):
-        base = self.base(script(), program=python(
-            OPENS + "sys.stdin.readline()\nprint('unit 1 comm', end='', flush=True)\nos.kill(os.getpid(), signal.SIGKILL)"))
+        text = "sys.stdin.readline()\nprint('unit 1 comm', end='', flush=True)\nos.kill(os.getpid(), signal.SIGKILL)"
+        base = self.base(script(), program=python(OPENS + text))
         self.expect_same_again(base, self.expect_ended(lambda: base.tx([]), status=-9))
 
     def test_killed_while_it_is_waited_for(self):

@@ -3,6 +3,7 @@
 from __future__ import annotations
 
 import errno
+import json
 import os
 import resource
 import signal
@@ -20,10 +21,23 @@ TICK = rule("tick", ["every", 10, 10], [["emit", ["time", 0]]])
 DAY = rule("day", ["closure", ["signal", "sold"], ["every", 10, 10]], [["emit", ["count"]]])
 GIVEN = script([NO_OVERSELL, TICK, DAY], [["tx", [["install", it] for it in ("no_oversell", "tick", "day")]]])
 
+# A client that is never done, and tells what was answered.
+CLIENT = """
+import sys
+sys.path.insert(0, sys.argv[1])
+from hipac_live import RuleBase
+base = RuleBase.recover(sys.argv[2], sys.argv[3])
+print(base.pid, flush=True)
+for number in range(10**9):
+    base.tx([["update", "item", 7, [["stock", number]]]])
+    print(number, flush=True)
+"""
+
 
 def a_day(base) -> None:
     """Items of each kind: committed, aborted, refused, and a move of the clock."""
-    base.tx([["create", "item", 7, [["stock", 3]]], ["create", "note", 1, [["text", "é \"x\"\n\u2028"], ["read", False]]]])
+    note = ["create", "note", 1, [["text", "é \"x\"\n\u2028"], ["read", False]]]
+    base.tx([["create", "item", 7, [["stock", 3]]], note])
     base.tx([["update", "item", 7, [["stock", -1]]]])
     base.tx([["signal", "sold", []]])
     base.clock(12)
@@ -79,8 +93,8 @@ class RecoveryTest(RuleBaseTest):
             base.tx([["emit", float("nan")]])
         lines = self.path.read_bytes().split(b"\n")
         self.assertEqual(lines[1:], ['["tx",[["emit","é\\n"]]]'.encode(), b'["clock",3]', b""])
-        self.assertEqual(subprocess.run(PROGRAM, input=self.path.read_bytes(), capture_output=True, check=True).stdout.decode(),
-                         'unit 1 committed\nok 1\nunit 2 committed\nemit "é\\n"\nok 2\nok 2\n')
+        ended = subprocess.run(PROGRAM, input=self.path.read_bytes(), capture_output=True, check=True)
+        self.assertEqual(ended.stdout.decode(), 'unit 1 committed\nok 1\nunit 2 committed\nemit "é\\n"\nok 2\nok 2\n')
 
     def test_a_cut_last_line(self):
         base, state = self.after_a_day()
@@ -123,7 +137,8 @@ class RecoveryTest(RuleBaseTest):
 
     def test_journals_of_others(self):
         """Such as `tee` makes them, with questions, refused lines, spaces and carriage returns."""
-        self.path.write_bytes(b'{"version": 1, "classes": [], "rules": [], "items": []}\r\n["show"]\r\n\n{\n [ "clock", 4 ] \n')
+        first = b'{"version": 1, "classes": [], "rules": [], "items": []}\r\n'
+        self.path.write_bytes(first + b'["show"]\r\n\n{\n [ "clock", 4 ] \n')
         base = self.recovered(self.path)
         self.assertEqual((base.replayed, base.time, base.units), (5, 4, 0))
 
@@ -162,8 +177,11 @@ class JournalTest(RuleBaseTest):
         self.path = self.folder() / "journal"
 
     def test_lines_are_synced_before_they_are_sent(self):
+        def sync(_: object) -> None:
+            self.assertEqual(self.path.read_bytes(), b"one\n")
+
         with Journal(self.path) as journal:
-            with mock.patch("os.fsync", side_effect=lambda file: self.assertEqual(self.path.read_bytes(), b"one\n")) as synced:
+            with mock.patch("os.fsync", side_effect=sync) as synced:
                 journal.append(b"one")
             self.assertEqual(synced.call_count, 1)
             with self.assertRaises(ValueError):
@@ -213,12 +231,8 @@ class JournalTest(RuleBaseTest):
 
     def test_a_killed_client_leaves_a_journal(self):
         """A client that is killed in the middle of its work lets go of the journal, and its program ends by itself."""
-        client = Path(__file__).resolve().parents[1]
-        running = subprocess.Popen(
-            python("import sys\nsys.path.insert(0, sys.argv[1])\nfrom hipac_live import RuleBase\n"
-                   f"base = RuleBase.recover(sys.argv[2], {STOCK!r}, program={PROGRAM!r})\nprint(base.pid, flush=True)\n"
-                   "for number in range(10**9):\n  base.tx([['update', 'item', 7, [['stock', number]]]])\n  print(number, flush=True)\n")
-            + [str(client), str(self.path)], stdout=subprocess.PIPE, stderr=subprocess.DEVNULL)
+        words = python(CLIENT) + [str(Path(__file__).resolve().parents[1]), str(self.path), json.dumps(STOCK)]
+        running = subprocess.Popen(words, stdout=subprocess.PIPE, stderr=subprocess.DEVNULL)
         self.addCleanup(running.stdout.close)
         program = int(running.stdout.readline())
         answered = [int(running.stdout.readline()) for _ in range(50)][-1]

@@ -34,7 +34,8 @@ class LargeTest(RuleBaseTest):
         self.assertEqual(unit.emits, ["漢" * 341] * 100)
 
     def test_an_answer_that_is_far_longer_than_its_line(self):
-        echo = rule("echo", ["signal", "go"], [["for", "i", [["for", "i", [["emit", ["arg", 0, 0]]]]]]], queries=[["i", "item", True]])
+        each = [["for", "i", [["for", "i", [["emit", ["arg", 0, 0]]]]]]]
+        echo = rule("echo", ["signal", "go"], each, queries=[["i", "item", True]])
         base = self.base(installed(echo))
         base.tx([["create", "item", key, [["stock", key]]] for key in range(40)])
         unit = base.tx([["signal", "go", ["long " * 200]]])
@@ -44,11 +45,11 @@ class LargeTest(RuleBaseTest):
     def test_a_large_state(self):
         base = self.base(script())
         base.tx([["create", "note", key, [["text", "x" * 1000], ["read", True]]] for key in range(200)])
-        self.assertEqual([(it.key, it["text"]) for it in base.show().objects], [(key, "x" * 1000) for key in range(200)])
+        self.assertEqual([(it.key, len(it["text"])) for it in base.show().objects], [(key, 1000) for key in range(200)])
 
     def test_much_on_standard_error(self):
-        base = self.base(script(), program=python(
-            OPENS + "for line in sys.stdin:\n  sys.stderr.write('a warning\\n' * 100_000)\n  print('ok 0', flush=True)\n"))
+        text = "for line in sys.stdin:\n  sys.stderr.write('a warning\\n' * 100_000)\n  print('ok 0', flush=True)\n"
+        base = self.base(script(), program=python(OPENS + text))
         for _ in range(3):
             self.assertEqual(base.show().objects, [])
 

@@ -58,32 +58,38 @@ class RefusingTest(unittest.TestCase):
         return reader.take(lines[-1])
 
     def test_lines_that_are_none(self):
-        unit = "unit 1 committed"
-        for lines in (
-                ("",), ("ok",), ("ok 1",), ("ok 01",), ("ok 0 ",), (unit, "ok 2"), (unit, "ok"), (unit, "refused S1"),
-                ("refused",), ("refused S7",), ("refused S2",), ("refused S1 /",), ("refused S4 1",), ("refused S5 big",),
-                ("unit 2 committed",), ("unit 1 commited",), ("unit 1 aborted",), ("unit 1 aborted A9",),
-                ("unit 1 aborted A8 guard",), ("unit 1 aborted A10",), ("unit 1 time committed",), ("unit 01 committed",),
-                ("unit 1 time -1 committed",), ("unit 1 committed ",), (" unit 1 committed",), ("unit 1  committed",),
-                ("separate r committed",), (unit, "immediate r committed"), (unit, "separate r"), (unit, "separate 1 committed"),
-                ("emit 1",), (unit, "emit"), (unit, "emit 01"), (unit, "emit -0"), (unit, "emit 1.0"), (unit, "emit True"),
-                (unit, 'emit "'), (unit, 'emit "a'), (unit, 'emit "a" '), (unit, 'emit "\\x"'), (unit, 'emit "\\u0041"'),
-                (unit, 'emit "\\/"'), (unit, 'emit "\t"'), (unit, "emit null"), (unit, "emit ١"),
-                ("unit 1 aborted A8", "emit 1"), (unit, "  emit 1", "emit 1"),
-                (unit, "    emit 1"), (unit, " emit 1"), (unit, "   emit 1"), (unit, "  emit 1", "    emit 1"),
-                (unit, "  op make item 1"), (unit, "  op create item"), (unit, "  op create item 1 a"),
-                (unit, "  op create item 1 a=b"), (unit, "  op create item 1  a=1"), (unit, "  op delete item 1 a=1"),
-                (unit, "  op install"), (unit, "  op install r 1"), (unit, "  sub"), (unit, "  sub committed 1"),
-                (unit, "  fire r never satisfied committed"), (unit, "  fire r immediate satisfied none"),
-                (unit, "  fire r immediate unsatisfied later"), (unit, "  fire r immediate fault none"),
-                (unit, "  fire r immediate unsatisfied committed"), (unit, "  act r deferred"), (unit, "  act r deferred later"),
-                (unit, "object item 1"), (unit, "rule r enabled"), ("object item 1", unit), ("rule r on",),
-                ("rule r enabled", "object item 1"), ("rule r enabled", "rule r enabled"), ("object item a",),
-                ("object item 1 a=",), ("object item 1", "refused S1"), ("final",), ("end",)):
-            with self.subTest(lines):
-                with self.assertRaises(AnswerFault) as caught:
-                    self.take(*lines)
-                self.assertIn(repr(lines[-1]), str(caught.exception))
+        for line in ("", "ok", "ok 1", "ok 01", "ok 0 ", "refused", "refused S7", "refused S2", "refused S1 /",
+                     "refused S4 1", "refused S5 big", "unit 2 committed", "unit 1 commited", "unit 1 aborted", "unit 1 aborted A9",
+                     "unit 1 aborted A8 guard", "unit 1 aborted A10", "unit 1 time committed", "unit 01 committed",
+                     "unit 1 time -1 committed", "unit 1 committed ", " unit 1 committed", "unit 1  committed",
+                     "separate r committed", "emit 1", "  emit 1", "rule r on", "object item a", "object item 1 a=",
+                     "object item", "final", "end"):
+            self.refuse(line)
+
+    def test_lines_that_are_none_below_a_unit(self):
+        for line in ("ok 2", "ok", "refused S1", "immediate r committed", "separate r", "separate 1 committed", "emit",
+                     "emit 01", "emit -0", "emit 1.0", "emit True", 'emit "', 'emit "a', 'emit "a" ', 'emit "\\x"',
+                     'emit "\\u0041"', 'emit "\\/"', 'emit "\t"', "emit null", "emit ١", "    emit 1", " emit 1",
+                     "   emit 1", "  op make item 1", "  op create item", "  op create item 1 a", "  op create item 1 a=b",
+                     "  op create item 1  a=1", "  op delete item 1 a=1", "  op install", "  op install r 1", "  sub",
+                     "  sub committed 1", "  fire r never satisfied committed", "  fire r immediate satisfied none",
+                     "  fire r immediate unsatisfied later", "  fire r immediate fault none", "  act r deferred",
+                     "  fire r immediate unsatisfied committed", "  act r deferred later", "object item 1",
+                     "rule r enabled"):
+            self.refuse("unit 1 committed", line)
+
+    def test_lines_that_are_none_after_others(self):
+        for lines in (("unit 1 aborted A8", "emit 1"), ("unit 1 committed", "  emit 1", "emit 1"),
+                      ("unit 1 committed", "  emit 1", "    emit 1"), ("object item 1", "unit 1 committed"),
+                      ("rule r enabled", "object item 1"), ("rule r enabled", "rule r enabled"),
+                      ("object item 1", "refused S1")):
+            self.refuse(*lines)
+
+    def refuse(self, *lines: str) -> None:
+        with self.subTest(lines):
+            with self.assertRaises(AnswerFault) as caught:
+                self.take(*lines)
+            self.assertIn(repr(lines[-1]), str(caught.exception))
 
     def test_trees_that_nobody_asked_for(self):
         with self.assertRaises(AnswerFault):
@@ -94,10 +100,10 @@ class RefusingTest(unittest.TestCase):
         self.assertEqual(self.take("unit 5 time 0 aborted A7", "ok 5", count=4).units[0].time, 0)
         told = self.take("unit 1 committed", "  fire r deferred fault A9 r none", "ok 1")
         self.assertEqual(told.units[0].tree[0].fault.rule, "r")
-        for line in ("refused S1", "refused S2 /", "refused S3 /1/0/3", "refused S4 /rules/0/2", "refused S5 size", "refused S6"):
-            refused = self.take(line)
+        for line in ("S1", "S2 /", "S3 /1/0/3", "S4 /rules/0/2", "S5 size", "S6"):
+            refused = self.take("refused " + line)
             self.assertIsInstance(refused, Refused)
-            self.assertEqual(" ".join(filter(None, ("refused", refused.code, refused.path, refused.limit))), line)
+            self.assertEqual(" ".join(filter(None, (refused.code, refused.path, refused.limit))), line)
 
 
 if __name__ == "__main__":

@@ -37,8 +37,8 @@ class ThreadsTest(RuleBaseTest):
         self.assertEqual(sorted(sum(numbers, [])), list(range(2, 2 + THREADS * CALLS)))
 
     def test_updates_are_one_after_the_other(self):
-        count = rule("count", ["signal", "go"], [["for", "i", [["update", "item", 7, [["stock", ["+", ["of", "i", "stock"], 1]]]]]]],
-                     queries=[["i", "item", True]])
+        more = [["update", "item", 7, [["stock", ["+", ["of", "i", "stock"], 1]]]]]
+        count = rule("count", ["signal", "go"], more, queries=[["i", "item", True]])
         base = self.base(installed(count))
         base.tx([["create", "item", 7, [["stock", 0]]]])
         with ThreadPoolExecutor(THREADS) as pool:
@@ -62,8 +62,8 @@ class ThreadsTest(RuleBaseTest):
         base = self.base(STOCK)
         with ThreadPoolExecutor(2) as pool:
             answer = pool.submit(base.tx, [["emit", "x" * 1000]] * 300)
-            while base._lock.acquire(blocking=False):
-                base._lock.release()
+            while not answer.done() and not base._lock.locked():
+                pass
             base.close()
             self.assertEqual(len(answer.result().emits), 300)
 
