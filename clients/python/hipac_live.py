@@ -16,7 +16,7 @@ A transaction that aborts is an answer, and no exception: its unit says so. Thes
 - `Refused`: the line has a fault. Nothing of it has happened, and the rule base goes on.
 - `ProgramEnded`: the program has gone away, and the state with it. Each later call raises it again.
 - `AnswerFault`: the program has written what is no answer. It is ended; later calls raise `ProgramEnded`.
-- `JournalFault`: a journal is in use, or can't be written or used.
+- `JournalFault`: a journal is in use, can't be written, or is another rule base's. Nothing was sent.
 """
 
 from __future__ import annotations
@@ -36,7 +36,7 @@ from dataclasses import dataclass, field
 from pathlib import Path
 from typing import Any, Dict, Iterable, Iterator, List, Mapping, NoReturn, Optional, Sequence, Tuple, Union
 
-PROGRAM = (os.environ.get("HIPAC_LIVE") or str(Path(__file__).resolve().parents[2] / "hipac-live"),)
+PROGRAM = (os.environ.get("HIPAC_LIVE") or str(Path(__file__).resolve().parent.parent.parent / "hipac-live"),)
 """The words that start the program: $HIPAC_LIVE where that is set, else the repository's launcher."""
 
 Value = Union[int, bool, str]
@@ -45,8 +45,9 @@ Script = Union[Mapping[str, Any], str, bytes, "os.PathLike[str]"]
 
 _LOG = logging.getLogger("hipac_live")
 
-# So many lines of standard error are kept for the exception.
+# So many lines of standard error are kept for the exception, each of so many bytes at most.
 _KEPT_ERRORS = 100
+_LONGEST_ERROR = 4096
 
 # Seconds for which another process may have the journal.
 _LOCK_LIMIT = 3
@@ -553,7 +554,10 @@ class Journal:
         return (line[:-1] for line in self._whole_lines())
 
     def append(self, line: bytes) -> None:
-        """Adds a line and syncs it. Where that fails the journal stays as it was, or takes no more lines."""
+        """Adds a line and syncs it. Where that fails it is a JournalFault: the line isn't in the journal.
+
+        Where it can't even be taken out again, the journal takes no more lines.
+        """
         if b"\n" in line:
             raise ValueError("a line of a journal has no line feed")
         if self._is_broken or self._file.closed:
@@ -563,10 +567,13 @@ class Journal:
             while left:
                 left = left[self._file.write(left):]
             os.fsync(self._file)
+            self._size += len(line) + 1
+        except OSError as fault:
+            self._undo()
+            raise JournalFault(f"{self.path}: a line can't be written: {fault}") from fault
         except BaseException:
             self._undo()
             raise
-        self._size += len(line) + 1
 
     def _undo(self) -> None:
         try:
@@ -605,7 +612,7 @@ class _Program:
 
     def _listen(self) -> None:
         with self._process.stderr as stream:
-            for raw in stream:
+            for raw in iter(lambda: stream.readline(_LONGEST_ERROR), b""):
                 line = raw.decode("utf-8", "replace")
                 self._errors.append(line)
                 _LOG.warning("%s", line.rstrip("\n"))
@@ -675,12 +682,11 @@ class RuleBase:
         words = (["--workers", str(workers)] if workers else []) + (["--tree"] if tree else [])
         self._program = _Program([*(program or PROGRAM), *words])
         try:
-            self.opening: List[Unit] = self._exchange(self._script_line, value, None).units
+            self.opening: List[Unit] = self._exchange(self._script_line, value).units
             """The units of the script's own items."""
         except BaseException:
             self.close()
             raise
-        self._moved(value.get("items", ()) if isinstance(value, dict) else ())
 
     @classmethod
     def recover(cls, journal: Union[Journal, str, "os.PathLike[str]"], script: Optional[Script] = None,
@@ -721,7 +727,7 @@ class RuleBase:
 
     def tx(self, body: Sequence[Any]) -> Unit:
         """Runs a transaction: a list of statements."""
-        return self._one(["tx", body])
+        return self.item(["tx", body])[0]
 
     def clock(self, t: int) -> List[Unit]:
         """Moves the clock, and gives a unit for each moment that was due."""
@@ -729,11 +735,11 @@ class RuleBase:
 
     def item(self, item: Sequence[Any]) -> List[Unit]:
         """Runs an item of a script, `["tx", body]` or `["clock", t]`, and gives its units."""
-        return self._ask(item, journaled=True).units
+        return self._ask(item, self._journal).units
 
     def show(self) -> State:
         """The objects and the rules as they are."""
-        return self._ask(["show"], journaled=False).state
+        return self._ask(["show"]).state
 
     def replay(self, lines: Iterable[Union[str, bytes]]) -> None:
         """Sends the later lines of a journal (`Journal.lines`), and skips their answers and refusals."""
@@ -748,8 +754,7 @@ class RuleBase:
             with self._lock:
                 self._raise_if_ended()
                 try:
-                    self.last_replayed = self._exchange(raw, value, None)
-                    self._moved([value])
+                    self.last_replayed = self._exchange(raw, value)
                 except Refused as refused:
                     self.last_replayed = refused
                 self.replayed += 1
@@ -769,49 +774,55 @@ class RuleBase:
     def __exit__(self, *_: object) -> None:
         self.close()
 
-    def _one(self, item: Sequence[Any]) -> Unit:
-        units = self.item(item)
-        if len(units) != 1:
-            raise AnswerFault(f"a transaction is one unit, and not {len(units)}")
-        return units[0]
-
-    def _ask(self, value: Sequence[Any], journaled: bool) -> Answer:
+    def _ask(self, value: Sequence[Any], journal: Optional[Journal] = None) -> Answer:
         line = _line(value)
         with self._lock:
             self._raise_if_ended()
-            if journaled and self._journal is not None:
-                self._journal.append(line)
-            answer = self._exchange(line, value, self._timeout)
-            self._moved([value])
-            return answer
-
-    def _moved(self, items: Any) -> None:
-        moment = _clock_after(items)
-        self.time = self.time if moment is None else moment
+            return self._exchange(line, value, journal, self._timeout)
 
     def _raise_if_ended(self) -> None:
         """An exception of its own for each call, since an exception keeps where it was raised."""
         if self._ended is not None:
             raise type(self._ended)(self._ended.status, self._ended.errors, self._ended.why)
 
-    def _exchange(self, line: bytes, value: Any, timeout: Optional[float]) -> Answer:
-        """Sends a line and reads its answer. Where that is interrupted in any way, the program is of no more use."""
-        late = threading.Event()
-        timer = threading.Timer(timeout, lambda: (late.set(), self._program.kill())) if timeout is not None else None
-        try:
-            if timer:
-                timer.start()
-            answer = self._answer_to(line)
-        except BaseException as fault:
-            self._give_up(fault, late.is_set())
-        finally:
-            if timer:
-                timer.cancel()
+    def _exchange(self, line: bytes, value: Any, journal: Optional[Journal] = None,
+                  timeout: Optional[float] = None) -> Answer:
+        """Sends a line and reads its answer. Where that is broken off in any way, the program is of no more use."""
+        with self._limited(timeout) as late:
+            try:
+                if journal is not None:
+                    journal.append(line)
+                answer = self._answer_to(line)
+                if isinstance(answer, Answer):
+                    self._take_in(value, answer)
+            except JournalFault:
+                # The line is neither in the journal nor sent.
+                raise
+            except BaseException as fault:
+                self._give_up(fault, late.is_set())
         if isinstance(answer, Refused):
             part = None if answer.path is None else _at_path(value, answer.path)
             raise Refused(answer.code, answer.path, answer.limit, part)
-        self.units = answer.count
         return answer
+
+    @contextlib.contextmanager
+    def _limited(self, timeout: Optional[float]) -> Iterator[threading.Event]:
+        """Kills the program after so many seconds, and notes that it was too late."""
+        late = threading.Event()
+        if timeout is None:
+            yield late
+            return
+
+        def expire() -> None:
+            late.set()
+            self._program.kill()
+
+        timer = threading.Timer(timeout, expire)
+        timer.start()
+        try:
+            yield late
+        finally:
+            timer.cancel()
 
     def _answer_to(self, line: bytes) -> Union[Answer, Refused]:
         reader = _Reader(self.units, self._tree)
@@ -823,6 +834,16 @@ class RuleBase:
             answer = reader.take(told)
             if answer is not None:
                 return answer
+
+    def _take_in(self, value: Any, answer: Answer) -> None:
+        """Notes how matters stand, if what was answered is what was asked for."""
+        asked = value[0] if isinstance(value, (list, tuple)) and value else None
+        if (asked == "tx" and len(answer.units) != 1) or (asked == "show" and answer.units):
+            raise AnswerFault(f"the answer to {asked!r} has {len(answer.units)} units")
+        if asked != "show" and answer.state != State():
+            raise AnswerFault(f"the answer to {asked!r} is a state")
+        moment = _clock_after(value.get("items", ()) if isinstance(value, dict) else [value])
+        self.units, self.time = answer.count, self.time if moment is None else moment
 
     def _give_up(self, fault: BaseException, is_late: bool) -> NoReturn:
         has_gone = isinstance(fault, (EOFError, OSError))

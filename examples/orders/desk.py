@@ -31,7 +31,7 @@ from typing import Any, Callable, Dict, Iterable, List
 
 sys.path.insert(0, str(Path(__file__).resolve().parents[2] / "clients" / "python"))
 
-from hipac_live import JournalFault, ProgramEnded, Refused, RuleBase, Unit, Value  # noqa: E402 - by the path above
+from hipac_live import HipacError, JournalFault, Refused, RuleBase, Unit, Value  # noqa: E402 - by the path above
 
 RULES = Path(__file__).with_name("rules.json")
 ADDRESS = ("127.0.0.1", int(os.environ.get("DESK_PORT", "7070")))
@@ -120,6 +120,8 @@ def answer(base: RuleBase, request: str) -> List[str]:
         units = run(base, word, [int(it) if re.fullmatch("-?[0-9]{1,19}", it) else it for it in rest])
     except NoRequest:
         return ["no: that is no request here"]
+    except JournalFault as fault:
+        return [f"no: {fault}"]
     except Refused as refused:
         return [f"no: {refused}" + (f"; it is minute {base.time}" if word == "clock" else "")]
     return news(units) + [end_of(units)]
@@ -151,7 +153,7 @@ class Client(socketserver.StreamRequestHandler):
         for raw in self.rfile:
             try:
                 lines = answer(self.server.base, raw.decode("utf-8", "replace"))
-            except (ProgramEnded, JournalFault, OSError) as fault:
+            except HipacError as fault:
                 self.reply(["no: the desk goes down; when it is up again, it shows whether this was done"])
                 self.server.fail(fault)
                 return
@@ -207,5 +209,5 @@ def main(words: List[str]) -> int:
 if __name__ == "__main__":
     try:
         sys.exit(main(sys.argv[1:]))
-    except (JournalFault, ProgramEnded, Refused, OSError) as fault:
+    except (HipacError, OSError) as fault:
         sys.exit(f"desk: {fault}")

@@ -108,7 +108,8 @@ class EndingTest(RuleBaseTest):
             os.kill(base.pid, 0)
 
     def test_what_is_no_answer(self):
-        for said in ("'hello'", "'ok 7'", "'refused'", "'unit 2 committed'", "b'\\xff'"):
+        for said in ("'hello'", "'ok 7'", "'refused'", "'unit 2 committed'", "b'\\xff'", "'ok 0'",
+                     "'unit 1 committed\\nunit 2 committed\\nok 2'", "'rule r enabled\\nok 0'"):
             base = self.base(script(), program=python(
                 OPENS + f"sys.stdin.readline()\nsaid = {said}\n"
                 "sys.stdout.buffer.write((said if isinstance(said, bytes) else said.encode()) + b'\\n')\n"

@@ -127,6 +127,17 @@ class RecoveryTest(RuleBaseTest):
         self.assertEqual([it.emits for it in again.last_replayed.units], [["made"]])
         self.assertEqual([it.key for it in again.show().objects], [1])
 
+    def test_an_interrupt_after_the_line_was_written(self):
+        """The line is in the journal, and so the rule base that goes on must be one that has run it."""
+        base = self.recovered(self.path, STOCK)
+        with mock.patch("hipac_live._Program.send", side_effect=KeyboardInterrupt):
+            with self.assertRaises(KeyboardInterrupt):
+                base.tx([["delete", "item", 7]])
+        with self.assertRaises(ProgramEnded):
+            base.show()
+        base.close()
+        self.assertEqual(self.recovered(self.path).show().objects, [])
+
     def test_a_refused_last_line(self):
         base = self.recovered(self.path, STOCK)
         with self.assertRaises(Refused):
@@ -205,9 +216,9 @@ class JournalTest(RuleBaseTest):
         resource.setrlimit(resource.RLIMIT_FSIZE, (len(before) + 5, limits[1]))
         try:
             for _ in range(2):
-                with self.assertRaises(OSError) as caught:
+                with self.assertRaisesRegex(JournalFault, "a line can't be written") as caught:
                     base.tx([["delete", "item", 7]])
-                self.assertEqual((caught.exception.errno, self.path.read_bytes()), (errno.EFBIG, before))
+                self.assertEqual((caught.exception.__cause__.errno, self.path.read_bytes()), (errno.EFBIG, before))
         finally:
             resource.setrlimit(resource.RLIMIT_FSIZE, limits)
         self.assertEqual(base.tx([["emit", 1]]).number, 2)
@@ -216,17 +227,18 @@ class JournalTest(RuleBaseTest):
     def test_a_line_that_was_not_synced(self):
         with Journal(self.path) as journal:
             journal.append(b"one")
-            with mock.patch("os.fsync", side_effect=[OSError(errno.EIO, "broken"), None]), self.assertRaises(OSError):
-                journal.append(b"two")
+            with mock.patch("os.fsync", side_effect=[OSError(errno.EIO, "broken"), None]):
+                with self.assertRaises(JournalFault):
+                    journal.append(b"two")
             journal.append(b"three")
             self.assertEqual(list(journal.lines()), [b"one", b"three"])
 
     def test_a_disk_that_is_gone(self):
         with Journal(self.path) as journal:
             with mock.patch("os.fsync", side_effect=OSError(errno.EIO, "broken")):
-                with self.assertRaises(OSError):
+                with self.assertRaises(JournalFault):
                     journal.append(b"one")
-            with self.assertRaises(JournalFault):
+            with self.assertRaisesRegex(JournalFault, "takes no more lines"):
                 journal.append(b"two")
 
     def test_a_killed_client_leaves_a_journal(self):
