@@ -97,10 +97,11 @@ class ProgramEnded(HipacError):
     """The program has ended, and the state with it.
 
     `status` is its exit status, or the number of the signal that killed it with a minus sign. `errors` is what it said
-    on standard error. `fault` is F1, F2 or F3 where it met one. A line that was sent and not answered may have run.
+    on standard error. `fault` is F1, F2 or F3 where it met one. `is_kept` says whether the line of this call is in the
+    journal: then it runs, once, when the rule base is recovered. Without a journal a line that wasn't answered is lost.
     """
 
-    def __init__(self, status: int, errors: str = "", why: str = ""):
+    def __init__(self, status: int, errors: str = "", why: str = "", is_kept: bool = False):
         said = re.search(r"^fault (F[123])\s*\Z", errors, re.MULTILINE) if status == _FAULT_STATUS else None
         fault = said[1] if said else None
         if not why:
@@ -108,7 +109,7 @@ class ProgramEnded(HipacError):
             why += f" ({fault}: {FAULTS[fault]})" if fault else ""
             why += "; it said:\n" + errors.rstrip() if status > 0 and errors.strip() and not fault else ""
         super().__init__(why)
-        self.status, self.errors, self.fault, self.why = status, errors, fault, why
+        self.status, self.errors, self.fault, self.why, self.is_kept = status, errors, fault, why, is_kept
 
 
 class TimedOut(ProgramEnded):
@@ -781,17 +782,19 @@ class RuleBase:
             return self._exchange(line, value, journal, self._timeout)
 
     def _raise_if_ended(self) -> None:
-        """An exception of its own for each call, since an exception keeps where it was raised."""
+        """An exception of its own for each call, whose line isn't kept: no such line gets into the journal."""
         if self._ended is not None:
             raise type(self._ended)(self._ended.status, self._ended.errors, self._ended.why)
 
     def _exchange(self, line: bytes, value: Any, journal: Optional[Journal] = None,
                   timeout: Optional[float] = None) -> Answer:
         """Sends a line and reads its answer. Where that is broken off in any way, the program is of no more use."""
+        is_kept = False
         with self._limited(timeout) as late:
             try:
                 if journal is not None:
                     journal.append(line)
+                    is_kept = True
                 answer = self._answer_to(line)
                 if isinstance(answer, Answer):
                     self._take_in(value, answer)
@@ -799,7 +802,7 @@ class RuleBase:
                 # The line is neither in the journal nor sent.
                 raise
             except BaseException as fault:
-                self._give_up(fault, late.is_set())
+                self._give_up(fault, late.is_set(), is_kept)
         if isinstance(answer, Refused):
             part = None if answer.path is None else _at_path(value, answer.path)
             raise Refused(answer.code, answer.path, answer.limit, part)
@@ -845,7 +848,7 @@ class RuleBase:
         moment = _clock_after(value.get("items", ()) if isinstance(value, dict) else [value])
         self.units, self.time = answer.count, self.time if moment is None else moment
 
-    def _give_up(self, fault: BaseException, is_late: bool) -> NoReturn:
+    def _give_up(self, fault: BaseException, is_late: bool, is_kept: bool) -> NoReturn:
         has_gone = isinstance(fault, (EOFError, OSError))
         if not has_gone:
             self._program.kill()
@@ -854,7 +857,8 @@ class RuleBase:
             self._ended = ProgramEnded(status, errors, f"the program was killed, as {fault!r} came before its answer")
             raise fault
         if is_late:
-            self._ended = TimedOut(status, errors, f"no answer in {self._timeout} seconds; the program was killed")
+            why = f"no answer in {self._timeout} seconds; the program was killed"
+            self._ended = TimedOut(status, errors, why, is_kept)
         else:
-            self._ended = ProgramEnded(status, errors)
+            self._ended = ProgramEnded(status, errors, "", is_kept)
         raise self._ended from None

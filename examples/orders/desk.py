@@ -20,6 +20,7 @@ An answer is what the rules have to say, a line each and indented, and then `don
 
 from __future__ import annotations
 
+import contextlib
 import os
 import re
 import socket
@@ -31,7 +32,8 @@ from typing import Any, Callable, Dict, Iterable, List
 
 sys.path.insert(0, str(Path(__file__).resolve().parents[2] / "clients" / "python"))
 
-from hipac_live import HipacError, JournalFault, Refused, RuleBase, Unit, Value  # noqa: E402 - by the path above
+from hipac_live import (  # noqa: E402 - found by the path above
+    HipacError, JournalFault, ProgramEnded, Refused, RuleBase, Unit, Value)
 
 RULES = Path(__file__).with_name("rules.json")
 ADDRESS = ("127.0.0.1", int(os.environ.get("DESK_PORT", "7070")))
@@ -150,16 +152,21 @@ class Client(socketserver.StreamRequestHandler):
     server: Desk
 
     def handle(self) -> None:
-        for raw in self.rfile:
-            try:
-                lines = answer(self.server.base, raw.decode("utf-8", "replace"))
-            except HipacError as fault:
-                self.reply(["no: the desk goes down; when it is up again, it shows whether this was done"])
-                self.server.fail(fault)
-                return
-            self.reply(lines)
+        # A client that goes away in the middle does no harm.
+        with contextlib.suppress(ConnectionError):
+            for raw in self.rfile:
+                self.reply(raw.decode("utf-8", "replace"))
 
-    def reply(self, lines: List[str]) -> None:
+    def reply(self, request: str) -> None:
+        try:
+            self.write(answer(self.server.base, request))
+        except HipacError as fault:
+            is_kept = isinstance(fault, ProgramEnded) and fault.is_kept
+            with contextlib.suppress(ConnectionError):
+                self.write(["no: the desk goes down; " + ("this runs when it is up again" if is_kept else "ask again")])
+            self.server.fail(fault)
+
+    def write(self, lines: List[str]) -> None:
         self.wfile.write("".join(line + "\n" for line in lines).encode())
 
 

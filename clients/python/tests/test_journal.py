@@ -61,8 +61,9 @@ class RecoveryTest(RuleBaseTest):
     def killed(self, base) -> None:
         """A rule base whose process was killed: it lets go of the journal."""
         os.kill(base.pid, signal.SIGKILL)
-        with self.assertRaises(ProgramEnded):
+        with self.assertRaises(ProgramEnded) as caught:
             base.show()
+        self.assertFalse(caught.exception.is_kept)
         base.close()
 
     def test_a_journal_brings_all_back(self):
@@ -118,10 +119,12 @@ class RecoveryTest(RuleBaseTest):
     def test_a_line_that_had_no_answer(self):
         """The program goes away with the answer: the line runs once, when the journal is replayed."""
         base = self.recovered(self.path, script(), program=python(OPENS + "sys.stdin.readline()\nsys.exit(4)"))
-        with self.assertRaises(ProgramEnded):
+        with self.assertRaises(ProgramEnded) as caught:
             base.tx([["create", "item", 1, [["stock", 5]]], ["emit", "made"]])
-        with self.assertRaises(ProgramEnded):
+        self.assertTrue(caught.exception.is_kept)
+        with self.assertRaises(ProgramEnded) as caught:
             base.tx([["create", "item", 2, [["stock", 5]]]])
+        self.assertFalse(caught.exception.is_kept)
         base.close()
         again = self.recovered(self.path)
         self.assertEqual([it.emits for it in again.last_replayed.units], [["made"]])

@@ -59,7 +59,8 @@ class RefusingTest(unittest.TestCase):
 
     def test_lines_that_are_none(self):
         for line in ("", "ok", "ok 1", "ok 01", "ok 0 ", "refused", "refused S7", "refused S2", "refused S1 /",
-                     "refused S4 1", "refused S5 big", "unit 2 committed", "unit 1 commited", "unit 1 aborted", "unit 1 aborted A9",
+                     "refused S4 1", "refused S5 big", "unit 2 committed", "unit 1 commited", "unit 1 aborted",
+                     "unit 1 aborted A9",
                      "unit 1 aborted A8 guard", "unit 1 aborted A10", "unit 1 time committed", "unit 01 committed",
                      "unit 1 time -1 committed", "unit 1 committed ", " unit 1 committed", "unit 1  committed",
                      "separate r committed", "emit 1", "  emit 1", "rule r on", "object item a", "object item 1 a=",
@@ -70,7 +71,8 @@ class RefusingTest(unittest.TestCase):
         for line in ("ok 2", "ok", "refused S1", "immediate r committed", "separate r", "separate 1 committed", "emit",
                      "emit 01", "emit -0", "emit 1.0", "emit True", 'emit "', 'emit "a', 'emit "a" ', 'emit "\\x"',
                      'emit "\\u0041"', 'emit "\\/"', 'emit "\t"', "emit null", "emit ١", "    emit 1", " emit 1",
-                     "   emit 1", "  op make item 1", "  op create item", "  op create item 1 a", "  op create item 1 a=b",
+                     "   emit 1", "  op make item 1", "  op create item", "  op create item 1 a",
+                     "  op create item 1 a=b",
                      "  op create item 1  a=1", "  op delete item 1 a=1", "  op install", "  op install r 1", "  sub",
                      "  sub committed 1", "  fire r never satisfied committed", "  fire r immediate satisfied none",
                      "  fire r immediate unsatisfied later", "  fire r immediate fault none", "  act r deferred",

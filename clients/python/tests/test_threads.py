@@ -50,9 +50,10 @@ class ThreadsTest(RuleBaseTest):
 
         def caller(thread: int) -> int:
             with self.assertRaises(ProgramEnded) as caught:
-                while base.tx([["emit", thread]]).number < 10_000:
-                    if base.units > 30:
+                for call in range(10_000):
+                    if (thread, call) == (0, 5):
                         os.kill(base.pid, signal.SIGKILL)
+                    base.tx([["emit", thread]])
             return caught.exception.status
 
         with ThreadPoolExecutor(THREADS) as pool:
