@@ -1,15 +1,16 @@
 #!/usr/bin/env python3
-"""Compares what hipac_live answers with what hipac reports, on sessions made at random, and looks at each kind of answer.
+"""Compares answers of hipac_live with reports of hipac, on sessions made at random, and looks at each kind of answer.
 
     checks/live_sessions.py [--sessions N] [--jobs N]
 
-Each session has 1 and 4 workers, with trees and without. Its input comes in pieces cut at random, each by a read of its own. The
-answers to accepted lines, without their last lines, are to be the report on their journal: the script whose items are the first
-line's and then the accepted ones. So is the state that the last `["show"]` tells. Refused lines are to have exactly their refusal,
-and each `ok` the number of units. Then each kind of line and each refusal has a case by name, with the exact bytes.
+Each session has 1 and 4 workers, with trees and without. Its input comes in pieces cut at random, each by a read of its
+own. The answers to accepted lines, without their last lines, are to be the report on their journal: the script whose
+items are the first line's and then the accepted ones. So is the state that the last `["show"]` tells. Refused lines are
+to have exactly their refusal, and each `ok` the number of units. Before that, each kind of line and each refusal has a
+case by name, with the exact bytes.
 
-HIPAC and HIPAC_LIVE name the programs. Without them these are the ones that ./hipac and ./hipac-live start. The seeds are fixed:
-session n is the same on each machine. The last line is 'N passed, M failed'.
+HIPAC and HIPAC_LIVE name the programs. Without them these are the ones that ./hipac and ./hipac-live start. The seeds
+are fixed: session n is the same on each machine. The last line is 'N passed, M failed'.
 """
 
 import argparse
@@ -17,12 +18,12 @@ import concurrent.futures
 import json
 import os
 import random
-import shutil
 import socket
 import struct
 import subprocess
 import sys
 import tempfile
+import time
 from dataclasses import dataclass
 
 TOP = os.path.dirname(os.path.dirname(os.path.abspath(__file__)))
@@ -49,6 +50,11 @@ class Failed(Exception):
 def expect(found, wanted, what):
     if found != wanted:
         raise Failed(f"{what}: {str(found)[-1500:]!r}, and not {str(wanted)[-1500:]!r}")
+
+
+def bytes_of(path):
+    with open(path, "rb") as file:
+        return file.read()
 
 
 # ---- the programs
@@ -145,10 +151,12 @@ def refused_statement(pick):
     """A statement that is refused, why, and the path to the fault from the statement."""
     return pick([
         (["veto"], "S2", ""), (["emit"], "S2", ""), (["create", "acct"], "S2", ""), (["if", True, []], "S2", ""),
-        (["delete", 7, 1], "S2", "/1"), (["sub", [["abort", 1]], []], "S2", "/1/0"), (["emit", ["id", -1]], "S2", "/1/1"),
+        (["delete", 7, 1], "S2", "/1"), (["sub", [["abort", 1]], []], "S2", "/1/0"),
+        (["emit", ["id", -1]], "S2", "/1/1"),
         (["emit", 1.5], "S3", "/1"), (["delete", "acct", 1e3], "S3", "/2"), (["emit", ["+", 1, 2**63]], "S3", "/1/2"),
-        (["install", "nobody"], "S4", "/1"), (["create", "none", 1, []], "S4", "/1"), (["emit", ["of", "x", "bal"]], "S4", "/1/1"),
-        (["update", "acct", 1, [["none", 1]]], "S4", "/3/0/0"), (["update", "acct", 1, [["bal", 1], ["bal", 2]]], "S4", "/3/1/0"),
+        (["install", "nobody"], "S4", "/1"), (["create", "none", 1, []], "S4", "/1"),
+        (["emit", ["of", "x", "bal"]], "S4", "/1/1"), (["update", "acct", 1, [["none", 1]]], "S4", "/3/0/0"),
+        (["update", "acct", 1, [["bal", 1], ["bal", 2]]], "S4", "/3/1/0"),
         (["create", "acct", 7, [["bal", 1]]], "S4", "/3"), (["for", "q0", []], "S4", "/1"),
         (["emit", "a" * 1025], "S5 text", None), (["signal", "go", [0] * 33], "S5 args", None),
         (["emit", nested(lambda e: ["neg", e], 16, 1)], "S5 expr", None),
@@ -158,10 +166,10 @@ def refused_statement(pick):
 
 # Lines that are no items whatever the state is, each with its refusal.
 NO_ITEMS = [
-    (b"", "S1"), (b"  \t", "S1"), (b'["tx",[', "S1"), (b'["tx",[]] []', "S1"), (b'["tx",[["emit","\xff"]]]', "S1"), (b"\x00", "S1"),
-    (b"[]", "S2 /"), (b"7", "S2 /"), (b'"show"', "S2 /"), (b'["show",1]', "S2 /"), (b'["tx"]', "S2 /"), (b'{"version":1}', "S2 /"),
-    (b'["tx",{}]', "S2 /1"), (b'["clock",-1]', "S2 /1"), (b'["clock","3"]', "S2 /1"), (b'["clock",1.0]', "S3 /1"),
-    (b'["clock",1e400]', "S1"),
+    (b"", "S1"), (b"  \t", "S1"), (b'["tx",[', "S1"), (b'["tx",[]] []', "S1"), (b"\x00", "S1"),
+    (b'["tx",[["emit","\xff"]]]', "S1"), (b"[]", "S2 /"), (b"7", "S2 /"), (b'"show"', "S2 /"), (b'["show",1]', "S2 /"),
+    (b'["tx"]', "S2 /"), (b'{"version":1}', "S2 /"), (b'["tx",{}]', "S2 /1"), (b'["clock",-1]', "S2 /1"),
+    (b'["clock","3"]', "S2 /1"), (b'["clock",1.0]', "S3 /1"), (b'["clock",1e400]', "S1"),
 ]
 
 SHOW = [b'["show"]', b' [ "show" ]', b'["\\u0073how"]']
@@ -204,10 +212,11 @@ class SessionMaker:
 
     def add_refused_body(self):
         """A transaction that would do much, were it not for its last statement."""
-        body = [["create", "bare", 90, []], ["update", "acct", 1, [["bal", 90]]], ["install", self.maker.rule_names[0]], ["emit", 90]]
-        body = body[: self.random.randint(0, len(body))]
+        change, install = ["update", "acct", 1, [["bal", 90]]], ["install", self.maker.rule_names[0]]
+        body = [["create", "bare", 90, []], change, install, ["emit", 90]][: self.random.randint(0, 4)]
         statement, why, path = refused_statement(self.random.choice)
-        self.add_refused(self.text_of(["tx", [*body, statement]]), why if path is None else f"{why} /1/{len(body)}{path}")
+        why += "" if path is None else f" /1/{len(body)}{path}"
+        self.add_refused(self.text_of(["tx", [*body, statement]]), why)
 
     def add_others(self):
         """Lines that change nothing, sometimes with the state before and after."""
@@ -294,18 +303,17 @@ def look_at(made, answers, units, state):
 
 def look_at_refusal(made, hipac):
     """The same line refuses a script as its last item, in the same words."""
-    before = [line.item for line in made.lines if line.item]
-    refused = [line for line in made.lines if line.refusal and line.text.strip().startswith((b'["tx"', b'["clock"')) and b"S1" not in line.refusal]
-    if not refused or not before:
+    items = [*made.script["items"], *(line.item for line in made.lines if line.item)]
+    forms = (b'["tx"', b'["clock"')
+    refused = [line for line in made.lines if line.text.startswith(forms) and line.refusal > b"refused S2"]
+    if not refused or not items:
         return
     line = made.random.choice(refused)
-    whole = json.dumps(dict(made.script, items=[*made.script["items"], *before, None]))
-    place = f"/items/{len(made.script['items']) + len(before)}"
-    # The last item is put in as the line has it, and the text keeps its own numbers.
-    script = whole[: whole.rindex("null")].encode() + line.text.strip() + whole[whole.rindex("null") + 4 :].encode()
-    word, _, path = line.refusal.decode().removesuffix("\n").partition(" /")
-    wanted = f"{word} {place}{'/' if path else ''}{path}\n" if " /" in line.refusal.decode() else line.refusal.decode()
-    expect(by_pipe(hipac, script), (2, wanted.encode(), b""), f"a script with the line {line.text[:200]!r}")
+    # (the text of the line itself, whose numbers are as they are written)
+    before, after = json.dumps(dict(made.script, items=[*items, "HERE"])).split('"HERE"')
+    given = before.encode() + line.text + after.encode()
+    wanted = line.refusal.replace(b" /", f" /items/{len(items)}/".encode()).replace(b"/\n", b"\n")
+    expect(by_pipe(hipac, given), (2, wanted, b""), f"a script with the line {line.text[:200]!r}")
 
 
 def session(seed, programs):
@@ -330,8 +338,8 @@ def script(items=(), **others):
     """A first line: a class, a rule that tells changes, and one that fires at 5 and 9."""
     tell = ["tell", ["update", "acct"], "immediate", [], "immediate", [["emit", ["new", 0, "bal"]]]]
     wake = ["wake", ["or", ["at", 5], ["at", 9]], "immediate", [], "immediate", [["emit", ["time", 0]]]]
-    whole = {"version": 1, "classes": [["acct", [["bal", "int"]]]], "rules": [tell, wake], "items": list(items), **others}
-    return json.dumps(whole, separators=(",", ":"))
+    whole = {"version": 1, "classes": [["acct", [["bal", "int"]]]], "rules": [tell, wake], "items": list(items)}
+    return json.dumps({**whole, **others}, separators=(",", ":"))
 
 
 OPEN = ["tx", [["install", "tell"], ["install", "wake"], ["create", "acct", 1, [["bal", 3]]]]]
@@ -376,14 +384,17 @@ CASES = {
     "the script alone": (UP, "unit 1 committed\nok 1\n", 0),
     "a script without items": (script(), "ok 0\n", 0),
     "an item": later(change(5), "unit 2 committed\nemit 5\nok 2\n"),
-    "an item without its line feed": (f"{UP}\n{change(5)}", "unit 1 committed\nok 1\nunit 2 committed\nemit 5\nok 2\n", 0),
+    "an item without its line feed": (f"{UP}\n{change(5)}",
+                                      "unit 1 committed\nok 1\nunit 2 committed\nemit 5\nok 2\n", 0),
     "an item with a carriage return": later(f"{change(5)}\r", "unit 2 committed\nemit 5\nok 2\n"),
     "an item with spaces round it": later(f" \t{change(5)}  ", "unit 2 committed\nemit 5\nok 2\n"),
     "an item that aborts": later('["tx",[["abort"]]]', "unit 2 aborted A8\nok 2\n"),
-    "a move of the clock": later('["clock",9]', "unit 2 time 5 committed\nemit 5\nunit 3 time 9 committed\nemit 9\nok 3\n"),
+    "a move of the clock": later('["clock",9]', "unit 2 time 5 committed\nemit 5\n"
+                                                "unit 3 time 9 committed\nemit 9\nok 3\n"),
     "a move to no moment": later('["clock",4]', "ok 1\n"),
     "the clock goes on": (f'{UP}\n["clock",5]\n["clock",9]\n["clock",9]',
-                          "unit 1 committed\nok 1\nunit 2 time 5 committed\nemit 5\nok 2\nunit 3 time 9 committed\nemit 9\nok 3\nok 3\n", 0),
+                          "unit 1 committed\nok 1\nunit 2 time 5 committed\nemit 5\nok 2\n"
+                          "unit 3 time 9 committed\nemit 9\nok 3\nok 3\n", 0),
     "a rule base that nothing is in": (f'{script()}\n["show"]', "ok 0\nrule tell absent\nrule wake absent\nok 0\n", 0),
     "the longest line": later(longest(change(5), MOST), "unit 2 committed\nemit 5\nok 2\n"),
     "the longest script": (longest(UP, MOST), "unit 1 committed\nok 1\n", 0),
@@ -394,7 +405,8 @@ CASES = {
     "S2, no form": later("{}", "refused S2 /\n"),
     "S2, a veto": later('["tx",[["emit",1],["veto"]]]', "refused S2 /1/1\n"),
     "S2, show with a part": later('["show",1]', "refused S2 /\n"),
-    "S2, a clock that goes back": (f'{UP}\n["clock",3]\n["clock",2]\n["clock",3]\n', "unit 1 committed\nok 1\nok 1\nrefused S2 /1\nok 1\n", 0),
+    "S2, a clock that goes back": (f'{UP}\n["clock",3]\n["clock",2]\n["clock",3]\n',
+                                   "unit 1 committed\nok 1\nok 1\nrefused S2 /1\nok 1\n", 0),
     "S3": later(emit(1.5), "refused S3 /1/0/1\n"),
     "S4, no such rule": later('["tx",[["install","nobody"]]]', "refused S4 /1/0/1\n"),
     "S4, no such field": later('["tx",[["update","acct",1,[["bal",9],["stok",1]]]]]', "refused S4 /1/0/3/1/0\n"),
@@ -402,8 +414,9 @@ CASES = {
     "S5 text": later(emit("a" * 1025), "refused S5 text\n"),
     "S5 args": later(json.dumps(["tx", [["signal", "go", [0] * 33]]]), "refused S5 args\n"),
     "S5 expr": later(emit(nested(lambda e: ["neg", e], 16, 1)), "refused S5 expr\n"),
-    "S5 nesting": later(json.dumps(["tx", [nested(lambda s: ["sub", [s], []], 16, ["abort"])]]), "refused S5 nesting\n"),
-    "S5 moments": (f'{script(rules=OFTEN, items=[["tx", [["install", "r"]]]])}\n["clock",1001]\n["show"]\n',
+    "S5 nesting": later(json.dumps(["tx", [nested(lambda inside: ["sub", [inside], []], 16, ["abort"])]]),
+                        "refused S5 nesting\n"),
+    "S5 moments": (f'{script([["tx", [["install", "r"]]]], rules=OFTEN)}\n["clock",1001]\n["show"]\n',
                    "unit 1 committed\nok 1\nrefused S5 moments\nrule r enabled\nok 1\n", 0),
     "S6, a script line after the first": later(script(version=3), "refused S2 /\n"),
     "first line: S1": first("{", "refused S1\n"),
@@ -427,9 +440,19 @@ def case(live, given, answers, status):
 
 
 def trees(live):
-    text = "unit 1 committed\n  op install tell\n  op install wake\n  op create acct 1 bal=3\nok 1\n" \
-           "unit 2 committed\nemit 5\n  op update acct 1 bal=5\n  fire tell immediate satisfied committed\n    emit 5\nok 2\n"
-    expect(by_pipe([*live, "--tree"], f"{UP}\n{change(5)}\n".encode()), (0, text.encode(), b""), "with trees")
+    text = b"""unit 1 committed
+  op install tell
+  op install wake
+  op create acct 1 bal=3
+ok 1
+unit 2 committed
+emit 5
+  op update acct 1 bal=5
+  fire tell immediate satisfied committed
+    emit 5
+ok 2
+"""
+    expect(by_pipe([*live, "--tree"], f"{UP}\n{change(5)}\n".encode()), (0, text, b""), "with trees")
 
 
 def refused_words(live):
@@ -440,52 +463,61 @@ def refused_words(live):
 
 def failed_read(live):
     """A read that fails after a line and a half: the line has been answered."""
-    with socket.create_server(("127.0.0.1", 0)) as server, tempfile.TemporaryFile() as wrote, tempfile.TemporaryFile() as said:
+    with socket.create_server(("127.0.0.1", 0)) as server:
         ours = socket.create_connection(server.getsockname())
         its = server.accept()[0]
+    with ours, tempfile.TemporaryFile() as wrote, tempfile.TemporaryFile() as said:
         with its:
             running = started(live, its, wrote, said)
         ours.sendall(f"{UP}\n{change(5)[:9]}".encode())
         while not os.fstat(wrote.fileno()).st_size and running.poll() is None:
-            pass
+            time.sleep(0.01)
         # (a close that resets the connection, so that the next read fails)
         ours.setsockopt(socket.SOL_SOCKET, socket.SO_LINGER, struct.pack("ii", 1, 0))
         ours.close()
-        expect(ended(running, wrote, said), (4, b"unit 1 committed\nok 1\n", b"fault F2\n"), "status, answers and standard error")
+        wanted = (4, b"unit 1 committed\nok 1\n", b"fault F2\n")
+        expect(ended(running, wrote, said), wanted, "status, answers and standard error")
+
+
+def nobody():
+    """A pipe from which nobody reads."""
+    reader, writer = os.pipe()
+    os.close(reader)
+    return open(writer, "wb")
 
 
 def failed_write(live):
     """Nobody takes the answers: the first write fails."""
-    with tempfile.TemporaryFile() as said:
-        for name in ("/dev/full", None):
-            reader, writer = os.pipe()
-            os.close(reader)
-            with open(name, "wb") if name else open(writer, "wb") as wrote:
-                running = subprocess.run(live, input=f"{UP}\n".encode(), stdout=wrote, stderr=subprocess.PIPE, env=ENVIRONMENT, timeout=LIMIT, check=False)
-            expect((running.returncode, running.stderr), (4, b"fault F3\n"), f"status and standard error with {name or 'a pipe'}")
+    for wrote in (open("/dev/full", "wb"), nobody()):
+        with wrote:
+            how = {"stdout": wrote, "stderr": subprocess.PIPE, "env": ENVIRONMENT}
+            done = subprocess.run(live, input=f"{UP}\n".encode(), timeout=LIMIT, check=False, **how)
+        expect((done.returncode, done.stderr), (4, b"fault F3\n"), "status and standard error")
 
 
 def answers_at_once(live):
     """Each line is answered before the next is sent."""
-    pipe = subprocess.PIPE
-    with subprocess.Popen(live, stdin=pipe, stdout=pipe, stderr=subprocess.DEVNULL, env=ENVIRONMENT) as running:
-        for line, answer in ((UP, ["unit 1 committed\n", "ok 1\n"]), ("[", ["refused S1\n"]), (change(5), ["unit 2 committed\n", "emit 5\n", "ok 2\n"])):
+    session = {UP: "unit 1 committed\nok 1\n", "[": "refused S1\n", change(5): "unit 2 committed\nemit 5\nok 2\n"}
+    with started(live, subprocess.PIPE, subprocess.PIPE, subprocess.DEVNULL) as running:
+        for line, answer in session.items():
             running.stdin.write(f"{line}\n".encode())
             running.stdin.flush()
-            expect([running.stdout.readline().decode() for _ in answer], answer, f"the answer to {line}")
+            lines = [running.stdout.readline().decode() for _ in answer.splitlines()]
+            expect("".join(lines), answer, f"the answer to {line}")
         running.stdin.close()
         expect((running.stdout.read(), running.wait(LIMIT)), (b"", 0), "what comes at the end")
 
 
 def stored(live):
     folder = os.path.join(TOP, "crates", "hipac_live")
-    with open(os.path.join(folder, "stdin"), "rb") as given, open(os.path.join(folder, "stdout"), "rb") as wanted:
-        expect(by_pipe(live, given.read()), (0, wanted.read(), b""), "status, answers and standard error")
+    given, wanted = (bytes_of(os.path.join(folder, name)) for name in ("stdin", "stdout"))
+    expect(by_pipe(live, given), (0, wanted, b""), "status, answers and standard error")
 
 
 def launcher():
     """The launcher starts the program with the words and the input given."""
-    done = subprocess.run([os.path.join(TOP, "hipac-live"), "--workers", "1"], input=UP.encode(), stdout=subprocess.PIPE, timeout=LIMIT, check=False, stderr=subprocess.DEVNULL)
+    how = {"stdout": subprocess.PIPE, "stderr": subprocess.DEVNULL, "timeout": LIMIT, "check": False}
+    done = subprocess.run([os.path.join(TOP, "hipac-live"), "--workers", "1"], input=UP.encode(), **how)
     expect((done.returncode, done.stdout), (0, b"unit 1 committed\nok 1\n"), "status and answers")
 
 
@@ -505,7 +537,7 @@ def checks(programs, sessions):
 def main():
     parser = argparse.ArgumentParser(description=__doc__, formatter_class=argparse.RawDescriptionHelpFormatter)
     parser.add_argument("--sessions", type=int, default=1000, help="how many sessions are made at random (1,000)")
-    parser.add_argument("--jobs", type=int, default=os.cpu_count(), help="how many checks go on at once: as many as there are processors")
+    parser.add_argument("--jobs", type=int, default=os.cpu_count(), help="how many go on at once (one a processor)")
     words = parser.parse_args()
     programs = Programs(command_of("hipac"), command_of("hipac_live"))
     passed, failed = 0, 0
