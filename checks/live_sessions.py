@@ -18,6 +18,7 @@ import concurrent.futures
 import json
 import os
 import random
+import select
 import socket
 import struct
 import subprocess
@@ -98,11 +99,12 @@ def in_pieces(command, pieces):
     with tempfile.TemporaryFile() as wrote, tempfile.TemporaryFile() as said, ours:
         with its:
             running = started(command, its, wrote, said)
+        ours.settimeout(LIMIT)
         try:
             for piece in pieces:
                 ours.sendall(piece)
         except OSError:
-            # It has ended, and takes no more.
+            # It has ended, or takes no more.
             pass
         ours.close()
         return ended(running, wrote, said)
@@ -466,11 +468,12 @@ def failed_read(live):
     with socket.create_server(("127.0.0.1", 0)) as server:
         ours = socket.create_connection(server.getsockname())
         its = server.accept()[0]
+    deadline = time.monotonic() + LIMIT
     with ours, tempfile.TemporaryFile() as wrote, tempfile.TemporaryFile() as said:
         with its:
             running = started(live, its, wrote, said)
         ours.sendall(f"{UP}\n{change(5)[:9]}".encode())
-        while not os.fstat(wrote.fileno()).st_size and running.poll() is None:
+        while not os.fstat(wrote.fileno()).st_size and running.poll() is None and time.monotonic() < deadline:
             time.sleep(0.01)
         # (a close that resets the connection, so that the next read fails)
         ours.setsockopt(socket.SOL_SOCKET, socket.SO_LINGER, struct.pack("ii", 1, 0))
@@ -495,6 +498,17 @@ def failed_write(live):
         expect((done.returncode, done.stderr), (4, b"fault F3\n"), "status and standard error")
 
 
+def read_within(running, size):
+    """So many bytes of what a program writes, or fewer where it writes no more in time."""
+    taken, deadline = b"", time.monotonic() + LIMIT
+    while len(taken) < size and select.select([running.stdout], [], [], max(0, deadline - time.monotonic()))[0]:
+        more = os.read(running.stdout.fileno(), size - len(taken))
+        if not more:
+            break
+        taken += more
+    return taken.decode()
+
+
 def answers_at_once(live):
     """Each line is answered before the next is sent."""
     session = {UP: "unit 1 committed\nok 1\n", "[": "refused S1\n", change(5): "unit 2 committed\nemit 5\nok 2\n"}
@@ -502,8 +516,7 @@ def answers_at_once(live):
         for line, answer in session.items():
             running.stdin.write(f"{line}\n".encode())
             running.stdin.flush()
-            lines = [running.stdout.readline().decode() for _ in answer.splitlines()]
-            expect("".join(lines), answer, f"the answer to {line}")
+            expect(read_within(running, len(answer)), answer, f"the answer to {line}")
         running.stdin.close()
         expect((running.stdout.read(), running.wait(LIMIT)), (b"", 0), "what comes at the end")
 
