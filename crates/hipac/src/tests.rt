@@ -9,8 +9,15 @@ use std::test::Fail;
 use std::thread::Threads;
 
 /// The thinnest run: one update and one rule.
-const SCRIPT: &[u8] =
-    b"{\"version\":1,\"classes\":[[\"acct\",[[\"bal\",\"int\"]]]],\"rules\":[[\"r\",[\"update\",\"acct\"],\"immediate\",[],\"immediate\",[[\"emit\",[\"-\",[\"new\",0,\"bal\"],[\"old\",0,\"bal\"]]]]]],\"items\":[[\"tx\",[[\"install\",\"r\"],[\"create\",\"acct\",1,[[\"bal\",5]]],[\"update\",\"acct\",1,[[\"bal\",7]]]]]]}";
+const SCRIPT: &[u8] = br#"{
+  "version": 1,
+  "classes": [["acct", [["bal", "int"]]]],
+  "rules": [
+    ["r", ["update", "acct"], "immediate", [], "immediate",
+      [["emit", ["-", ["new", 0, "bal"], ["old", 0, "bal"]]]]]
+  ],
+  "items": [["tx", [["install", "r"], ["create", "acct", 1, [["bal", 5]]], ["update", "acct", 1, [["bal", 7]]]]]]
+}"#;
 
 const TEXT: &[u8] = b"unit 1 committed\nemit 2\nfinal\nobject acct 1 bal=7\nrule r enabled\nend\n";
 
