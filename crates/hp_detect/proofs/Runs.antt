@@ -1,12 +1,12 @@
 -- Parts of lists: those that begin at a place and aren't empty, and whether two lists are alike there.
-use Rattle.std.proofs.Common.{◌≡◌, refl, ap, ap₂, sym, ◌∙◌, ℕ, zero, suc, ◌+◌, ◌-◌, ◌<◌, ◌≤◌, arith, List, [], ◌∷◌, ◌++◌, length, map, take, drop, append_assoc, length-append, length-drop, Bool, true, false, ◌&&◌}
+use Rattle.std.proofs.Common.{◌≡◌, refl, ap, ap₂, sym, ◌∙◌, ℕ, zero, suc, ◌+◌, ◌-◌, ◌<◌, ◌≤◌, arith, List, [], ◌∷◌, ◌++◌, length, map, take, drop, length-append, length-drop, Bool, true, false, ◌&&◌}
 use Rattle.std.proofs.lemmas.List.{append-nil, drop-append-le, take-append-le, length-map, take-map, drop-map, drop-drop}
 use Rattle.std.proofs.Math.ListN.{drop_of_length-le}
 use Rattle.std.proofs.Math.Seq.{take-length, drop-append-add}
 use Rattle.std.specs.Ordering.{on}
 use lib.Pointwise.{pointwise}
 use mathlib.Core.Bool.{true≢false}
-use Rattle.hp_value.proofs.Lists.{pointwise_map, first_of, second_of}
+use Rattle.hp_value.proofs.Lists.{pointwise_map}
 use Rattle.hp_detect.specs.Ropes.{IsRun}
 
 -- ---- what is left from a place on

@@ -53,9 +53,9 @@ impl PartialEq for Queue {
 
     /// Whether the same waits in both. It takes no memory.
     ///
-    /// Queues of different lengths and those of which the last differ are told apart at once. Others are compared from
-    /// the oldest on, up to the first that differ. So the time goes with the length where the queues are equal, in
-    /// whatever chunks each has them.
+    /// Queues of different lengths, and those whose newest differ, are told apart at once. Others are compared from the
+    /// oldest on, up to the first that differ, however each has them in chunks. So where the queues are equal the time
+    /// goes with their length, and each chunk costs a way down both trees.
     fn eq(&self, other: &Queue) -> bool {
         self.len() == other.len() && agree(self, other)
     }

@@ -1,4 +1,4 @@
-use Rattle.std.proofs.Common.{rules, ◌≡◌, ◌≤◌, ◌∙◌, sym, length}
+use Rattle.std.proofs.Common.{rules, ◌≤◌, ◌∙◌, sym, length}
 use Rattle.std.specs.declared.sync.Arc.{Arc}
 use Rattle.std.specs.declared.alloc.Global.{Global}
 use Rattle.hp_value.specs.declared.occurrence.Occurrence.{Occurrence}

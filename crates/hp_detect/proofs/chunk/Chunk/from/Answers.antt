@@ -1,4 +1,3 @@
-use Rattle.std.proofs.Common.{map}
 use Rattle.hp_value.specs.Mapped.{occurrence}
 use Rattle.hp_detect.proofs.Runs.{rest_map}
 use Rattle.hp_detect.proofs.chunk.Chunk.from.Goals as goal
