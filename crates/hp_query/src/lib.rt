@@ -8,6 +8,7 @@ mod by_key;
 mod collect;
 mod condition;
 mod look;
+mod part;
 mod plain;
 mod query;
 
