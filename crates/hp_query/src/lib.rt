@@ -14,5 +14,6 @@ mod query;
 
 pub use condition::{Verdict, evaluate_condition};
 pub use look::Look;
+pub use part::asked_field;
 pub use plain::{ObjectName, PlainObjects};
 pub use query::{Query, answer, selected_rows};

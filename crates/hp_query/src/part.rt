@@ -84,8 +84,10 @@ pub(crate) fn asked_part<'e>(
     }
 }
 
-/// The field whose values tell which rows a predicate may be true of, where it begins by comparing one.
-pub(crate) fn asked_field<'e>(name: &str, predicate: &'e Expr) -> Option<&'e str> {
+/// The field by which the rows are found of which a predicate may be true, each tested under a name: where the predicate
+/// begins by comparing a field of its row with what doesn't hang on the row. With an index of that field the query costs what
+/// it finds. No answer depends on it.
+pub fn asked_field<'e>(name: &str, predicate: &'e Expr) -> Option<&'e str> {
     match compared_attribute(name, predicate)?.attribute {
         Attribute::Field(field) => Some(field),
         Attribute::Key => None,

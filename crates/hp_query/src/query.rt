@@ -36,8 +36,7 @@ impl Query {
         asks_key(self.name.as_str(), &self.predicate)
     }
 
-    /// The field whose index serves the query: by comparing it with what doesn't hang on the row, the predicate begins. No
-    /// answer depends on it.
+    /// The field whose index serves the query ([`asked_field`]). No answer depends on it.
     pub fn asked_field(&self) -> Option<&str> {
         asked_field(self.name.as_str(), &self.predicate)
     }
