@@ -5,7 +5,7 @@ ghost use Rattle.hp_view.specs.Seeing.{OnlyReads};
 
 use crate::speculate::{Effort, ROW};
 use hp_query::{Look, Query};
-use hp_value::{ClassNo, Expr, Key, ObjectList, Row};
+use hp_value::{ClassNo, ClassPart, Expr, Key, KeyedRow, ObjectList, Row};
 use hp_view::View;
 use std::alloc::{AllocError, Global};
 use std::sync::Arc;
@@ -93,6 +93,19 @@ impl Look for Counting<'_> {
         let objects = Look::objects(self.view, alloc, class)?;
         if let Some(objects) = &objects {
             self.count(objects.rows().len());
+        }
+        Ok(objects)
+    }
+
+    fn part(
+        &mut self,
+        alloc: Global,
+        class: ClassNo,
+        part: &ClassPart<'_>,
+    ) -> Result<Option<Vec<KeyedRow>>, AllocError> {
+        let objects = Look::part(self.view, alloc, class, part)?;
+        if let Some(objects) = &objects {
+            self.count(objects.len());
         }
         Ok(objects)
     }

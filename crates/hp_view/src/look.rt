@@ -3,7 +3,7 @@
 use crate::view::View;
 use hp_query::Look;
 use hp_store::CellValue;
-use hp_value::{Cell, ClassNo, Key, ObjectList, Row};
+use hp_value::{Cell, ClassNo, ClassPart, Key, KeyedRow, ObjectList, Row};
 use std::alloc::{AllocError, Global};
 use std::sync::Arc;
 
@@ -41,5 +41,14 @@ impl Look for View {
     ) -> Result<Option<Arc<ObjectList>>, AllocError> {
         let objects = View::objects(self, alloc, class)?;
         Ok(objects)
+    }
+
+    fn part(
+        &mut self,
+        alloc: Global,
+        class: ClassNo,
+        part: &ClassPart<'_>,
+    ) -> Result<Option<Vec<KeyedRow>>, AllocError> {
+        Ok(None)
     }
 }
