@@ -50,8 +50,8 @@ pub trait Look {
         ensures goes_on { goes_on self.old self.new }
         ensures listed { IfOk result (λ found. IfSome found (λ objects. (world : Objects) → ObjectsRise world → allows self.new world → objects.value ≡ rows_of class world)) };
 
-    /// The objects of a part of a class with their rows, by rising keys, where the look finds them without looking at the
-    /// others, and can tell of each other object that it isn't of the part. None where the look can't.
+    /// The objects of a part of a class with their rows, by rising keys, where the look finds them without looking at
+    /// the others, and can tell of each other object that it isn't of the part. None where the look can't.
     ///
     /// An error means that memory ran out.
     fn part(

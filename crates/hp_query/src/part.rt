@@ -56,8 +56,8 @@ fn bounds<T: Copy>(compared: Comparison, other: T) -> (Option<T>, Option<T>)
 /// What part of its class a predicate asks for, where it begins by comparing the key or a field of its row with what
 /// doesn't hang on that row.
 ///
-/// None where it isn't so, or isn't seen to be: also where what is compared with has a fault, since the first row then has
-/// that fault too. An error means that memory ran out.
+/// None where it isn't so, or isn't seen to be: also where what is compared with has a fault, since the first row then
+/// has that fault too. An error means that memory ran out.
 pub(crate) fn asked_part<'e>(
     alloc: Global,
     name: &str,
@@ -84,9 +84,9 @@ pub(crate) fn asked_part<'e>(
     }
 }
 
-/// The field by which the rows are found of which a predicate may be true, each tested under a name: where the predicate
-/// begins by comparing a field of its row with what doesn't hang on the row. With an index of that field the query costs what
-/// it finds. No answer depends on it.
+/// The field by which the rows are found of which a predicate may be true, each tested under a name: where the
+/// predicate begins by comparing a field of its row with what doesn't hang on the row. With an index of that field the
+/// query costs what it finds. No answer depends on it.
 pub fn asked_field<'e>(name: &str, predicate: &'e Expr) -> Option<&'e str> {
     match compared_attribute(name, predicate)?.attribute {
         Attribute::Field(field) => Some(field),

@@ -70,8 +70,8 @@ pub fn answer<L: Look>(
 
 /// The rows of a class, by rising keys, for which a predicate is true, each tested under a name.
 ///
-/// This is what [`answer`] does, for a caller that has no [`Query`]. Where the predicate begins by asking for one key, or for
-/// a part of the class that the look finds, the rows asked for are looked at and no others.
+/// This is what [`answer`] does, for a caller that has no [`Query`]. Where the predicate begins by asking for one key,
+/// or for a part of the class that the look finds, the rows asked for are looked at and no others.
 pub fn selected_rows<L: Look>(
     alloc: Global,
     name: &str,
@@ -132,8 +132,8 @@ fn selected_at<L: Look>(
     }
 }
 
-/// Rows among which all that are asked for are, and of whose others the predicate is false: a part of the class. None where
-/// the predicate asks for no part, or the look doesn't find it.
+/// The rows of a part of the class outside which the predicate is false. None where the predicate asks for no part, or
+/// the look doesn't find it.
 fn part_rows<L: Look>(
     alloc: Global,
     asked: &Asked<'_>,

@@ -96,9 +96,9 @@ impl Library {
         &self.rules
     }
 
-    /// The fields by which the rules' queries find rows, each once: those of conditions, and of statements `each` in actions.
-    /// With an index of such a field a query costs what it finds. What the bodies of transactions ask for isn't among them,
-    /// since the library doesn't know them. No answer depends on it.
+    /// The fields by which the rules' queries find rows, each once: those of conditions, and of statements `each` in
+    /// actions. With an index of such a field a query costs what it finds. What the bodies of transactions ask for isn't
+    /// among them, since the library doesn't know them. No answer depends on it.
     pub fn asked_fields(&self) -> &[AskedField] {
         &self.asked_fields
     }

@@ -1,4 +1,4 @@
-//! Answers of queries that begin by asking for a part of a class, with a look that finds parts and with one that doesn't.
+//! Queries that begin by asking for a part of a class, with a look that finds parts and with one that doesn't.
 
 use crate::fixtures::{account, row, text};
 use crate::queries::{
@@ -102,8 +102,8 @@ impl Looks {
         self.parts.objects.insert(class, key, row.clone()?)
     }
 
-    /// The predicate's rows are those with these keys. Gives how many objects are in the part in which they are sought, if
-    /// there is one.
+    /// The predicate's rows are those with these keys. Gives how many objects are in the part in which they are sought,
+    /// if there is one.
     fn assert_rows(
         &mut self,
         rt: &impl Abort,
@@ -149,7 +149,8 @@ fn changed(how: Comparison) -> Comparison {
     }
 }
 
-// A comparison of an attribute with a number: the keys of its answer, and how many objects the part has, if one is asked for.
+// A comparison of an attribute with a number: the keys of its answer, and how many objects the part has, if one is asked
+// for.
 #[derive(Clone, Copy)]
 struct Case {
     how: Comparison,
