@@ -26,8 +26,8 @@ use std::thread::Threads;
 impl<R: Threads + Sync> Runner<'_, R> {
     /// Runs a unit on the view: its own transaction, and the cascade of what that detaches. It gives what is reported of it.
     ///
-    /// Groups of firings inside get so much width. An error means that memory ran out; the view may then hold a part of the
-    /// effects.
+    /// Groups of firings inside get so much width. An error means that memory ran out; the view may then hold a part of
+    /// the effects, and is only to be dropped.
     pub(crate) fn run_unit_on(&self, view: &mut View, unit: &Unit) -> Result<UnitReport, AllocError>
         ensures { IfOk result (λ r. RunsUnit (library self.now.engine.lib.now) (unit_of unit.now) view.old view.new (unit_report r)) }
     {
@@ -91,7 +91,7 @@ impl<R: Threads + Sync> Runner<'_, R> {
 /// Runs a unit on the view: its own transaction, and the cascade of what that detaches. It gives what is reported of it.
 ///
 /// Groups of firings inside get so much width. An error means that memory ran out; the view may then hold a part of the
-/// effects.
+/// effects, and is only to be dropped.
 pub fn run_unit_on<R: Threads + Sync>(
     rt: &R,
     alloc: Global,
