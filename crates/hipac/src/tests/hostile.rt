@@ -2,7 +2,7 @@
 
 use super::{expect, expect_with};
 use crate::fault::Status;
-use crate::words::Options;
+use hp_words::Options;
 use std::alloc::Global;
 use std::test::Fail;
 

@@ -2,7 +2,7 @@
 
 use super::expect_with;
 use crate::fault::Status;
-use crate::words::Options;
+use hp_words::Options;
 use std::process::Abort;
 use std::test::Fail;
 use std::thread::Threads;
