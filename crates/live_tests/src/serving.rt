@@ -76,13 +76,13 @@ impl Write for Device<'_> {
     }
 }
 
-fn new_device<'a>(alloc: Global, input: &'a [u8], steps: Steps) -> Watched<Device<'a>> {
-    Watched::new(Device {
+fn new_device<'a>(alloc: Global, input: &'a [u8], steps: Steps) -> Device<'a> {
+    Device {
         input,
         output: Vec::new(alloc),
         steps,
         calls: 0,
-    })
+    }
 }
 
 /// What is written for an input, and how the run ends.
@@ -93,8 +93,8 @@ fn served<R: AllocGlobal + Threads + Sync>(
     writes: Steps,
 ) -> (Vec<u8>, Result<Status, Fault>) {
     let alloc = rt.alloc();
-    let mut reader = new_device(alloc, input, reads);
-    let mut writer = new_device(alloc, b"", writes);
+    let mut reader = Watched::new(new_device(alloc, input, reads));
+    let mut writer = Watched::new(new_device(alloc, b"", writes));
     let options = Options {
         workers: 1,
         tree: false,
