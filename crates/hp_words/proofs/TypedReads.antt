@@ -5,7 +5,7 @@ use Rattle.std.specs.Str.{bytes_eq}
 use Rattle.std.specs.Str.Parse.{ParsesUnsigned, ParsesBool}
 use Rattle.clap.specs.Words.{ReadsOne}
 use Rattle.clap.proofs.WalkLemmas.{byte_read}
-use Rattle.hipac_live.specs.Words.{number_in, flag_in}
+use Rattle.hp_words.specs.Words.{number_in, flag_in}
 
 pub number_read : (E : Type 0) (G : List ℕ → Result ℕ E → Type 0) → ((u : List ℕ) (x : Result ℕ E) → G u x → ParsesUnsigned 8 10 u x)
     → (o : Option (List ℕ)) (r : Option ℕ) → (o ≡ None → r ≡ None) → ((t : List ℕ) → o ≡ Some t → ReadsOne G t r) → unwrap_or r 0 ≡ number_in o

@@ -6,8 +6,8 @@ use Rattle.clap.specs.Words.{App, Kinds, Row, Rule, fault_of, matches_of, new_ap
 use Rattle.clap.specs.Walk.{byte_or_zero}
 use Rattle.clap.specs.declared.builder.ArgAction.TheVariants.{SetTrue}
 use Rattle.clap.specs.declared.builder.value_parser.ValueParser.TheVariants as parser
-use Rattle.hipac_live.specs.declared.words.WordFault.{WordFault}
-use Rattle.hipac_live.specs.declared.words.WordFault.TheVariants.{Refused, NoMemory}
+use Rattle.hp_words.specs.declared.words.WordFault.{WordFault}
+use Rattle.hp_words.specs.declared.words.WordFault.TheVariants.{Refused, NoMemory}
 
 -- `--workers N`, of 8 bits, 4 where it isn't given
 abbrev pub workers_rule : Rule
@@ -21,9 +21,9 @@ workers_rule = record (new_rule (codes "workers")) {
 abbrev pub tree_rule : Rule
 tree_rule = record (new_rule (codes "tree")) { long = Some (codes "tree"); action = Some SetTrue }
 
--- the command `hipac_live [--workers N] [--tree]`
+-- a command with `[--workers N] [--tree]`, whose name no text shows
 abbrev pub app : App
-app = with_rule (with_rule (new_app (codes "hipac_live")) workers_rule) tree_rule
+app = with_rule (with_rule (new_app (codes "program")) workers_rule) tree_rule
 
 -- what stands for each argument
 unfoldable pub rows_for : List (List ℕ) → List Row

@@ -2,9 +2,9 @@ use Rattle.std.proofs.Common.{ap, codes, ◌∙◌}
 use Rattle.std.specs.Str.Parse.{ParsesUnsigned, ExplainsUnsignedError, HasUnsignedDigitsIfOk}
 use Rattle.clap.proofs.WalkLemmas.{one_text-rows}
 use Rattle.clap.specs.Words.{found_of, one_text}
-use Rattle.hipac_live.specs.Words.{number_in}
-use Rattle.hipac_live.proofs.TypedReads.{number_read}
-use Rattle.hipac_live.proofs.words.workers_in.Goals as goal
+use Rattle.hp_words.specs.Words.{number_in}
+use Rattle.hp_words.proofs.TypedReads.{number_read}
+use Rattle.hp_words.proofs.words.workers_in.Goals as goal
 
 pub returns : goal.returns
 returns c =

@@ -4,8 +4,8 @@ use Rattle.clap.specs.Words.{App, FailsBy, app_of, fault_of, is_simple, is_simpl
 use Rattle.clap.specs.declared.builder.value_parser.ValueParser.{ValueParser}
 use Rattle.clap.specs.declared.builder.value_parser.ValueParser.TheVariants as vp
 use Rattle.clap.proofs.OnLiterals.{clap_on_literals}
-use Rattle.hipac.specs.Words.{app, workers_rule, tree_rule, rows_for, faults_for}
-use Rattle.hipac.proofs.words.matches_of.Goals as goal
+use Rattle.hp_words.specs.Words.{app, workers_rule, tree_rule, rows_for, faults_for}
+use Rattle.hp_words.proofs.words.matches_of.Goals as goal
 
 app_simple : is_simple app ≡ true
 unfolding clap_on_literals

@@ -1,9 +1,9 @@
 use Rattle.std.proofs.Common.{ap, codes, ◌∙◌}
 use Rattle.clap.proofs.WalkLemmas.{one_text-rows}
 use Rattle.clap.specs.Words.{found_of, one_text}
-use Rattle.hipac.specs.Words.{flag_in}
-use Rattle.hipac.proofs.TypedReads.{flag_read}
-use Rattle.hipac.proofs.words.tree_in.Goals as goal
+use Rattle.hp_words.specs.Words.{flag_in}
+use Rattle.hp_words.proofs.TypedReads.{flag_read}
+use Rattle.hp_words.proofs.words.tree_in.Goals as goal
 
 pub returns : goal.returns
 returns c =

@@ -2,13 +2,23 @@
 
 ghost use Rattle.std.specs.Prelude.{◌≡◌, map, string_bytes, codes, IfOk, Some, None};
 ghost use Rattle.clap.specs.Words.{one_of, rows_of, found_of, FailsBy};
-ghost use Rattle.hipac_live.specs.Words.{rows_for, faults_for, number_in, flag_in, options_for, word_code_of};
+ghost use Rattle.hp_words.specs.Words.{rows_for, faults_for, number_in, flag_in, options_for, word_code_of};
 
 use clap::error::ErrorKind;
 use clap::{Arg, ArgAction, ArgMatches, Command, Error, value_parser};
-use hp_live::Options;
 use std::alloc::Global;
+use std::env;
+use std::env::Env;
 use thiserror::Error as ThisError;
+
+/// What the words of a command line ask for.
+#[derive(Clone, Copy, Debug, PartialEq, Eq)]
+pub struct Options {
+    /// How many workers may try sibling firings at once, 1 to 64. It has no effect on what is written.
+    pub workers: usize,
+    /// Whether the trees of the transactions are written.
+    pub tree: bool,
+}
 
 /// Why there are no options.
 #[derive(Clone, Copy, Debug, PartialEq, Eq, ThisError)]
@@ -47,6 +57,17 @@ pub fn parse_words(alloc: Global, words: &[String]) -> Result<Options, WordFault
     }
 }
 
+/// The options that the process was started with.
+pub fn options_of<R: Env + AllocGlobal>(rt: &R) -> Result<Options, WordFault> {
+    let Ok(words) = env::args(rt) else {
+        return Err(WordFault::NoMemory);
+    };
+    let Ok(words) = words.collect::<Vec<String>>(rt.alloc()) else {
+        return Err(WordFault::NoMemory);
+    };
+    parse_words(rt.alloc(), words.as_slice())
+}
+
 /// The status with which the program ends where there are no options: 3 where the words were refused, 4 where memory ran out.
 pub fn word_code(fault: WordFault) -> u8
     ensures { result ≡ word_code_of fault }
@@ -69,7 +90,7 @@ fn matches_of<'a>(alloc: Global, words: &'a [String]) -> Result<ArgMatches<'a>, 
     let tree = Arg::new(alloc, "tree")
         .long("tree")
         .action(ArgAction::SetTrue);
-    let command = Command::new(alloc, "hipac_live").arg(workers)?.arg(tree)?;
+    let command = Command::new(alloc, "program").arg(workers)?.arg(tree)?;
     command.try_get_matches_from(words)
 }
 

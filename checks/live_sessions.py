@@ -1,0 +1,571 @@
+#!/usr/bin/env python3
+"""Compares answers of hipac_live with reports of hipac, on sessions made at random, and looks at each kind of answer.
+
+    checks/live_sessions.py [--sessions N] [--jobs N]
+
+Each session has 1 and 4 workers, with trees and without. Its input comes in pieces cut at random, each by a read of its
+own. The answers to accepted lines, without their last lines, are to be the report on their journal: the script whose
+items are the first line's and then the accepted ones. So is the state that the last `["show"]` tells. Refused lines are
+to have exactly their refusal, and each `ok` the number of units. Before that, each kind of line and each refusal has a
+case by name, with the exact bytes.
+
+HIPAC and HIPAC_LIVE name the programs. Without them these are the ones that ./hipac and ./hipac-live start. The seeds
+are fixed: session n is the same on each machine. The last line is 'N passed, M failed'.
+"""
+
+import argparse
+import concurrent.futures
+import json
+import os
+import random
+import select
+import socket
+import struct
+import subprocess
+import sys
+import tempfile
+import time
+from dataclasses import dataclass
+
+TOP = os.path.dirname(os.path.dirname(os.path.abspath(__file__)))
+sys.path.insert(0, os.path.join(TOP, "tools"))
+sys.dont_write_bytecode = True
+
+import unproved  # noqa: E402 (it lies in tools/)
+from tests.made_scripts import ScriptMaker  # noqa: E402
+
+# Seconds that one run may take.
+LIMIT = 120
+
+# The most bytes that the program takes by one read: a longer piece would be cut by the socket.
+MOST_READ = 4096
+
+# The most bytes of a line.
+MOST = 1_048_576
+
+
+class Failed(Exception):
+    """What a check found wrong."""
+
+
+def expect(found, wanted, what):
+    if found != wanted:
+        raise Failed(f"{what}: {str(found)[-1500:]!r}, and not {str(wanted)[-1500:]!r}")
+
+
+def bytes_of(path):
+    with open(path, "rb") as file:
+        return file.read()
+
+
+# ---- the programs
+
+
+def key_of(name, *folders):
+    return subprocess.check_output([os.path.join(TOP, "tools", "key"), TOP, name, *folders], text=True).strip()
+
+
+def command_of(name):
+    """The words that start a program, as tools/start does."""
+    named = os.environ.get(name.upper())
+    if named:
+        return [os.path.abspath(named)]
+    proved = os.path.join(TOP, ".built", f"{name}-proved-{key_of(name, 'src', 'specs', 'proofs')}")
+    if os.access(proved, os.X_OK):
+        return [proved]
+    subprocess.run([os.path.join(TOP, "tools", "unproved.py"), name], stdin=subprocess.DEVNULL, check=True)
+    return [*unproved.loader(), os.path.join(TOP, ".built", f"{name}-unproved-{key_of(name, 'src')}", "program")]
+
+
+@dataclass
+class Programs:
+    """The words that start each program."""
+
+    hipac: list
+    live: list
+
+
+# (where memory is refused the checks of an unproved program would else end it)
+ENVIRONMENT = {"ASAN_OPTIONS": "allocator_may_return_null=1"}
+
+
+def started(command, given, wrote, said):
+    return subprocess.Popen(command, stdin=given, stdout=wrote, stderr=said, env=ENVIRONMENT)
+
+
+def in_pieces(command, pieces):
+    """How a program ends that gets each piece by a read of its own: the status, what it wrote, and what it said."""
+    ours, its = socket.socketpair(socket.AF_UNIX, socket.SOCK_SEQPACKET)
+    with tempfile.TemporaryFile() as wrote, tempfile.TemporaryFile() as said, ours:
+        with its:
+            running = started(command, its, wrote, said)
+        ours.settimeout(LIMIT)
+        try:
+            for piece in pieces:
+                ours.sendall(piece)
+        except OSError:
+            # It has ended, or takes no more.
+            pass
+        ours.close()
+        return ended(running, wrote, said)
+
+
+def ended(running, wrote, said):
+    try:
+        status = running.wait(LIMIT)
+    finally:
+        running.kill()
+    texts = []
+    for file in (wrote, said):
+        file.seek(0)
+        texts.append(file.read())
+    return (status, *texts)
+
+
+def by_pipe(command, given):
+    """The same, where the input comes by a pipe, as fast as it is read."""
+    how = {"stdout": subprocess.PIPE, "stderr": subprocess.PIPE, "env": ENVIRONMENT}
+    done = subprocess.run(command, input=given, timeout=LIMIT, check=False, **how)
+    return done.returncode, done.stdout, done.stderr
+
+
+# ---- sessions made at random
+
+
+@dataclass
+class Line:
+    """A line as it is sent, without its end, and what is to come of it."""
+
+    text: bytes
+    # The item, if it is one that is accepted.
+    item: object = None
+    # The whole answer, if it is refused.
+    refusal: bytes = b""
+
+
+def nested(form, levels, inside):
+    for _ in range(levels):
+        inside = form(inside)
+    return inside
+
+
+def refused_statement(pick):
+    """A statement that is refused, why, and the path to the fault from the statement."""
+    return pick([
+        (["veto"], "S2", ""), (["emit"], "S2", ""), (["create", "acct"], "S2", ""), (["if", True, []], "S2", ""),
+        (["delete", 7, 1], "S2", "/1"), (["sub", [["abort", 1]], []], "S2", "/1/0"),
+        (["emit", ["id", -1]], "S2", "/1/1"),
+        (["emit", 1.5], "S3", "/1"), (["delete", "acct", 1e3], "S3", "/2"), (["emit", ["+", 1, 2**63]], "S3", "/1/2"),
+        (["install", "nobody"], "S4", "/1"), (["create", "none", 1, []], "S4", "/1"),
+        (["emit", ["of", "x", "bal"]], "S4", "/1/1"), (["update", "acct", 1, [["none", 1]]], "S4", "/3/0/0"),
+        (["update", "acct", 1, [["bal", 1], ["bal", 2]]], "S4", "/3/1/0"),
+        (["create", "acct", 7, [["bal", 1]]], "S4", "/3"), (["for", "q0", []], "S4", "/1"),
+        (["emit", "a" * 1025], "S5 text", None), (["signal", "go", [0] * 33], "S5 args", None),
+        (["emit", nested(lambda e: ["neg", e], 16, 1)], "S5 expr", None),
+        (nested(lambda statement: ["sub", [statement], []], 16, ["abort"]), "S5 nesting", None),
+    ])
+
+
+# Lines that are no items whatever the state is, each with its refusal.
+NO_ITEMS = [
+    (b"", "S1"), (b"  \t", "S1"), (b'["tx",[', "S1"), (b'["tx",[]] []', "S1"), (b"\x00", "S1"),
+    (b'["tx",[["emit","\xff"]]]', "S1"), (b"[]", "S2 /"), (b"7", "S2 /"), (b'"show"', "S2 /"), (b'["show",1]', "S2 /"),
+    (b'["tx"]', "S2 /"), (b'{"version":1}', "S2 /"), (b'["tx",{}]', "S2 /1"), (b'["clock",-1]', "S2 /1"),
+    (b'["clock","3"]', "S2 /1"), (b'["clock",1.0]', "S3 /1"), (b'["clock",1e400]', "S1"),
+]
+
+SHOW = [b'["show"]', b' [ "show" ]', b'["\\u0073how"]']
+
+
+class SessionMaker:
+    """Makes one session: a first line, later ones, and the pieces in which they come."""
+
+    def __init__(self, seed):
+        self.random = random.Random(seed)
+        self.maker = ScriptMaker(seed)
+        self.clock = 0
+        script = self.maker.script()
+        opening = self.random.randint(0, min(3, len(script["items"])))
+        self.script = dict(script, items=script["items"][:opening])
+        self.pass_on(self.script["items"])
+        self.lines = [Line(self.text_of(self.script))]
+        for item in script["items"][opening:]:
+            self.add_others()
+            self.lines.append(Line(self.text_of(item), item=item))
+            self.pass_on([item])
+        if self.random.random() < 0.04:
+            self.add_refused(b" " * (MOST + 1 + self.random.randint(0, 9)), "S5 size")
+        self.add_others()
+        self.lines.append(Line(self.random.choice(SHOW)))
+        if self.random.random() < 0.3:
+            # (a line is empty only where its end has come)
+            self.lines.append(Line(b"[", refusal=b"refused S1\n"))
+
+    def pass_on(self, items):
+        for word, what in items:
+            self.clock = what if word == "clock" else self.clock
+
+    def text_of(self, value):
+        apart = self.random.choice([(",", ":"), (", ", ": "), (" ,\t", " : ")])
+        return json.dumps(value, separators=apart, ensure_ascii=self.random.random() < 0.5).encode()
+
+    def add_refused(self, text, why):
+        self.lines.append(Line(text, refusal=f"refused {why}\n".encode()))
+
+    def add_refused_body(self):
+        """A transaction that would do much, were it not for its last statement."""
+        change, install = ["update", "acct", 1, [["bal", 90]]], ["install", self.maker.rule_names[0]]
+        body = [["create", "bare", 90, []], change, install, ["emit", 90]][: self.random.randint(0, 4)]
+        statement, why, path = refused_statement(self.random.choice)
+        why += "" if path is None else f" /1/{len(body)}{path}"
+        self.add_refused(self.text_of(["tx", [*body, statement]]), why)
+
+    def add_others(self):
+        """Lines that change nothing, sometimes with the state before and after."""
+        for _ in range(self.random.choice([0, 0, 1, 1, 2])):
+            shows = self.random.random() < 0.3
+            if shows:
+                self.lines.append(Line(self.random.choice(SHOW)))
+            if self.clock and self.random.random() < 0.2:
+                self.add_refused(self.text_of(["clock", self.random.randint(0, self.clock - 1)]), "S2 /1")
+            elif self.random.random() < 0.5:
+                self.add_refused_body()
+            else:
+                self.add_refused(*self.random.choice(NO_ITEMS))
+            if shows:
+                self.lines.append(Line(self.random.choice(SHOW)))
+
+    def input(self):
+        """The bytes of all lines. Some have a carriage return, and the last one may lack its line feed."""
+        ends = [self.random.choice([b"\n", b"\n", b"\r\n"]) for _ in self.lines]
+        ends[-1] = self.random.choice([b"", b"\n", b"\r\n"])
+        return b"".join(line.text + end for line, end in zip(self.lines, ends))
+
+    def pieces(self, given):
+        """The same bytes, cut at random."""
+        longest = self.random.choice([2, 40, 400, MOST_READ]) if len(given) < 50_000 else MOST_READ
+        at = 0
+        while at < len(given):
+            size = self.random.randint(1, longest)
+            yield given[at : at + size]
+            at += size
+
+    def journal(self):
+        """The script of all items that are accepted."""
+        items = [*self.script["items"], *(line.item for line in self.lines if line.item)]
+        return json.dumps(dict(self.script, items=items)).encode()
+
+
+# ---- what is looked at
+
+
+def answers_of(wrote):
+    """The answers in what was written: of each the lines before the last one, and that one."""
+    answers, body = [], []
+    for line in wrote.splitlines(keepends=True):
+        if line.startswith((b"ok ", b"refused ")):
+            answers.append((b"".join(body), line))
+            body = []
+        else:
+            body.append(line)
+    expect(body, [], "lines after the last answer")
+    return answers
+
+
+def report_of(hipac, journal, tree):
+    """The units of the report on a journal, and its final state."""
+    status, wrote, said = by_pipe([*hipac, "--workers", "1", *tree], journal)
+    expect((status, said), (0, b""), "the journal's status and standard error")
+    lines = wrote.splitlines(keepends=True)
+    final = lines.index(b"final\n")
+    expect(lines[-1], b"end\n", "the journal's last line")
+    return b"".join(lines[:final]), b"".join(lines[final + 1 : -1])
+
+
+def look_at(made, answers, units, state):
+    """Answers are those to the lines, by the report on the journal."""
+    expect(len(answers), len(made.lines), "answers")
+    bodies, ran, shown = [], 0, None
+    for number, (line, (body, last)) in enumerate(zip(made.lines, answers)):
+        what = f"line {number + 1}, {line.text[:200]!r}"
+        if line.refusal:
+            expect((body, last), (b"", line.refusal), what)
+            continue
+        if number == 0 or line.item:
+            bodies.append(body)
+            ran += sum(each.startswith(b"unit ") for each in body.splitlines())
+            shown = None
+        else:
+            expect(body, body if shown is None else shown, f"{what}: the state after no more than refused lines")
+            shown = body
+        expect(last, f"ok {ran}\n".encode(), what)
+    expect(b"".join(bodies), units, "the answers without their last lines, and the journal's report")
+    expect(shown, state, "the state, and the journal's final one")
+
+
+def look_at_refusal(made, hipac):
+    """The same line refuses a script as its last item, in the same words."""
+    items = [*made.script["items"], *(line.item for line in made.lines if line.item)]
+    forms = (b'["tx"', b'["clock"')
+    refused = [line for line in made.lines if line.text.startswith(forms) and line.refusal > b"refused S2"]
+    if not refused or not items:
+        return
+    line = made.random.choice(refused)
+    # (the text of the line itself, whose numbers are as they are written)
+    before, after = json.dumps(dict(made.script, items=[*items, "HERE"])).split('"HERE"')
+    given = before.encode() + line.text + after.encode()
+    wanted = line.refusal.replace(b" /", f" /items/{len(items)}/".encode()).replace(b"/\n", b"\n")
+    expect(by_pipe(hipac, given), (2, wanted, b""), f"a script with the line {line.text[:200]!r}")
+
+
+def session(seed, programs):
+    """One session, each way."""
+    made = SessionMaker(seed)
+    given, journal = made.input(), made.journal()
+    for tree in ([], ["--tree"]):
+        units, state = report_of(programs.hipac, journal, tree)
+        for workers in ("1", "4"):
+            command = [*programs.live, "--workers", workers, *tree]
+            whole = seed % 8 == int(workers) + len(tree)
+            status, wrote, said = by_pipe(command, given) if whole else in_pieces(command, made.pieces(given))
+            expect((status, said), (0, b""), "status and standard error")
+            look_at(made, answers_of(wrote), units, state)
+    look_at_refusal(made, programs.hipac)
+
+
+# ---- cases by name
+
+
+def script(items=(), **others):
+    """A first line: a class, a rule that tells changes, and one that fires at 5 and 9."""
+    tell = ["tell", ["update", "acct"], "immediate", [], "immediate", [["emit", ["new", 0, "bal"]]]]
+    wake = ["wake", ["or", ["at", 5], ["at", 9]], "immediate", [], "immediate", [["emit", ["time", 0]]]]
+    whole = {"version": 1, "classes": [["acct", [["bal", "int"]]]], "rules": [tell, wake], "items": list(items)}
+    return json.dumps({**whole, **others}, separators=(",", ":"))
+
+
+OPEN = ["tx", [["install", "tell"], ["install", "wake"], ["create", "acct", 1, [["bal", 3]]]]]
+UP = script([OPEN])
+STATE = "object acct 1 bal=3\nrule tell enabled\nrule wake enabled\nok 1\n"
+
+
+def change(balance):
+    return json.dumps(["tx", [["update", "acct", 1, [["bal", balance]]]]])
+
+
+def emit(expression):
+    return json.dumps(["tx", [["emit", expression]]])
+
+
+def later(line, answer):
+    """A session in which this line comes after the script, and the state is asked for before and after."""
+    same = "" if answer.startswith("ok") or not answer.startswith("refused") else STATE
+    tail = '["show"]\n' if same else ""
+    return f'{UP}\n["show"]\n{line}\n{tail}', f"unit 1 committed\nok 1\n{STATE}{answer}{same}", 0
+
+
+def first(line, answer):
+    """A session whose first line is refused, so that no later one is answered."""
+    return f'{line}\n["show"]\n{UP}\n', answer, 2
+
+
+def longest(line, size):
+    """The line with so many bytes, by spaces at its end."""
+    return line + " " * (size - len(line.encode()))
+
+
+CLASSES = [[f"c{n}", []] for n in range(65)]
+FIELDS = [["wide", [[f"f{n}", "int"] for n in range(33)]]]
+RULES = [[f"r{n}", ["commit"], "immediate", [], "immediate", []] for n in range(257)]
+EVENT = [["r", nested(lambda e: ["or", e, ["commit"]], 16, ["commit"]), "immediate", [], "immediate", []]]
+OFTEN = [["r", ["every", 1, 1], "immediate", [], "immediate", []]]
+
+# Each case: the input, the answers, the status.
+CASES = {
+    "no line": ("", "", 0),
+    "the script alone": (UP, "unit 1 committed\nok 1\n", 0),
+    "a script without items": (script(), "ok 0\n", 0),
+    "an item": later(change(5), "unit 2 committed\nemit 5\nok 2\n"),
+    "an item without its line feed": (f"{UP}\n{change(5)}",
+                                      "unit 1 committed\nok 1\nunit 2 committed\nemit 5\nok 2\n", 0),
+    "an item with a carriage return": later(f"{change(5)}\r", "unit 2 committed\nemit 5\nok 2\n"),
+    "an item with spaces round it": later(f" \t{change(5)}  ", "unit 2 committed\nemit 5\nok 2\n"),
+    "an item that aborts": later('["tx",[["abort"]]]', "unit 2 aborted A8\nok 2\n"),
+    "a move of the clock": later('["clock",9]', "unit 2 time 5 committed\nemit 5\n"
+                                                "unit 3 time 9 committed\nemit 9\nok 3\n"),
+    "a move to no moment": later('["clock",4]', "ok 1\n"),
+    "the clock goes on": (f'{UP}\n["clock",5]\n["clock",9]\n["clock",9]',
+                          "unit 1 committed\nok 1\nunit 2 time 5 committed\nemit 5\nok 2\n"
+                          "unit 3 time 9 committed\nemit 9\nok 3\nok 3\n", 0),
+    "a rule base that nothing is in": (f'{script()}\n["show"]', "ok 0\nrule tell absent\nrule wake absent\nok 0\n", 0),
+    "the longest line": later(longest(change(5), MOST), "unit 2 committed\nemit 5\nok 2\n"),
+    "the longest script": (longest(UP, MOST), "unit 1 committed\nok 1\n", 0),
+    "S1, no JSON": later('["tx",[', "refused S1\n"),
+    "S1, an empty line": later("", "refused S1\n"),
+    "S1, a carriage return alone": later("\r", "refused S1\n"),
+    "S1, two values": later('["tx",[]]["tx",[]]', "refused S1\n"),
+    "S2, no form": later("{}", "refused S2 /\n"),
+    "S2, a veto": later('["tx",[["emit",1],["veto"]]]', "refused S2 /1/1\n"),
+    "S2, show with a part": later('["show",1]', "refused S2 /\n"),
+    "S2, a clock that goes back": (f'{UP}\n["clock",3]\n["clock",2]\n["clock",3]\n',
+                                   "unit 1 committed\nok 1\nok 1\nrefused S2 /1\nok 1\n", 0),
+    "S3": later(emit(1.5), "refused S3 /1/0/1\n"),
+    "S4, no such rule": later('["tx",[["install","nobody"]]]', "refused S4 /1/0/1\n"),
+    "S4, no such field": later('["tx",[["update","acct",1,[["bal",9],["stok",1]]]]]', "refused S4 /1/0/3/1/0\n"),
+    "S5 size": later(longest(change(5), MOST + 1), "refused S5 size\n"),
+    "S5 text": later(emit("a" * 1025), "refused S5 text\n"),
+    "S5 args": later(json.dumps(["tx", [["signal", "go", [0] * 33]]]), "refused S5 args\n"),
+    "S5 expr": later(emit(nested(lambda e: ["neg", e], 16, 1)), "refused S5 expr\n"),
+    "S5 nesting": later(json.dumps(["tx", [nested(lambda inside: ["sub", [inside], []], 16, ["abort"])]]),
+                        "refused S5 nesting\n"),
+    "S5 moments": (f'{script([["tx", [["install", "r"]]]], rules=OFTEN)}\n["clock",1001]\n["show"]\n',
+                   "unit 1 committed\nok 1\nrefused S5 moments\nrule r enabled\nok 1\n", 0),
+    "S6, a script line after the first": later(script(version=3), "refused S2 /\n"),
+    "first line: S1": first("{", "refused S1\n"),
+    "first line: S1, empty": first("", "refused S1\n"),
+    "first line: S2": first('["show"]', "refused S2 /\n"),
+    "first line: S2, an item": first(script(["tx"]), "refused S2 /items/0\n"),
+    "first line: S3": first(script(version=1.5), "refused S3 /version\n"),
+    "first line: S4": first(script([["tx", [["install", "nobody"]]]]), "refused S4 /items/0/1/0/1\n"),
+    "first line: S5 size": first(longest(UP, MOST + 1), "refused S5 size\n"),
+    "first line: S5 depth": first(script(depth=17), "refused S5 depth\n"),
+    "first line: S5 classes": first(script(classes=CLASSES), "refused S5 classes\n"),
+    "first line: S5 fields": first(script(classes=FIELDS, rules=[]), "refused S5 fields\n"),
+    "first line: S5 rules": first(script(rules=RULES), "refused S5 rules\n"),
+    "first line: S5 event": first(script(rules=EVENT), "refused S5 event\n"),
+    "first line: S6": first(script(version=3), "refused S6\n"),
+}
+
+
+def case(live, given, answers, status):
+    expect(by_pipe(live, given.encode()), (status, answers.encode(), b""), "status, answers and standard error")
+
+
+def trees(live):
+    text = b"""unit 1 committed
+  op install tell
+  op install wake
+  op create acct 1 bal=3
+ok 1
+unit 2 committed
+emit 5
+  op update acct 1 bal=5
+  fire tell immediate satisfied committed
+    emit 5
+ok 2
+"""
+    expect(by_pipe([*live, "--tree"], f"{UP}\n{change(5)}\n".encode()), (0, text, b""), "with trees")
+
+
+def refused_words(live):
+    """Words that are none of the program's: nothing is read, and nothing is answered."""
+    for words in (["--workers", "65"], ["--workers", "0"], ["--workers"], ["--trees"], ["file"], ["--tree", "--tree"]):
+        expect(by_pipe([*live, *words], UP.encode()), (3, b"", b"command line refused\n"), f"with {words}")
+
+
+def failed_read(live):
+    """A read that fails after a line and a half: the line has been answered."""
+    with socket.create_server(("127.0.0.1", 0)) as server:
+        ours = socket.create_connection(server.getsockname())
+        its = server.accept()[0]
+    deadline = time.monotonic() + LIMIT
+    with ours, tempfile.TemporaryFile() as wrote, tempfile.TemporaryFile() as said:
+        with its:
+            running = started(live, its, wrote, said)
+        ours.sendall(f"{UP}\n{change(5)[:9]}".encode())
+        while not os.fstat(wrote.fileno()).st_size and running.poll() is None and time.monotonic() < deadline:
+            time.sleep(0.01)
+        # (a close that resets the connection, so that the next read fails)
+        ours.setsockopt(socket.SOL_SOCKET, socket.SO_LINGER, struct.pack("ii", 1, 0))
+        ours.close()
+        wanted = (4, b"unit 1 committed\nok 1\n", b"fault F2\n")
+        expect(ended(running, wrote, said), wanted, "status, answers and standard error")
+
+
+def nobody():
+    """A pipe from which nobody reads."""
+    reader, writer = os.pipe()
+    os.close(reader)
+    return open(writer, "wb")
+
+
+def failed_write(live):
+    """Nobody takes the answers: the first write fails."""
+    for wrote in (open("/dev/full", "wb"), nobody()):
+        with wrote:
+            how = {"stdout": wrote, "stderr": subprocess.PIPE, "env": ENVIRONMENT}
+            done = subprocess.run(live, input=f"{UP}\n".encode(), timeout=LIMIT, check=False, **how)
+        expect((done.returncode, done.stderr), (4, b"fault F3\n"), "status and standard error")
+
+
+def read_within(running, size):
+    """So many bytes of what a program writes, or fewer where it writes no more in time."""
+    taken, deadline = b"", time.monotonic() + LIMIT
+    while len(taken) < size and select.select([running.stdout], [], [], max(0, deadline - time.monotonic()))[0]:
+        more = os.read(running.stdout.fileno(), size - len(taken))
+        if not more:
+            break
+        taken += more
+    return taken.decode()
+
+
+def answers_at_once(live):
+    """Each line is answered before the next is sent."""
+    session = {UP: "unit 1 committed\nok 1\n", "[": "refused S1\n", change(5): "unit 2 committed\nemit 5\nok 2\n"}
+    with started(live, subprocess.PIPE, subprocess.PIPE, subprocess.DEVNULL) as running:
+        for line, answer in session.items():
+            running.stdin.write(f"{line}\n".encode())
+            running.stdin.flush()
+            expect(read_within(running, len(answer)), answer, f"the answer to {line}")
+        running.stdin.close()
+        expect((running.stdout.read(), running.wait(LIMIT)), (b"", 0), "what comes at the end")
+
+
+def stored(live):
+    folder = os.path.join(TOP, "crates", "hipac_live")
+    given, wanted = (bytes_of(os.path.join(folder, name)) for name in ("stdin", "stdout"))
+    expect(by_pipe(live, given), (0, wanted, b""), "status, answers and standard error")
+
+
+def launcher():
+    """The launcher starts the program with the words and the input given."""
+    how = {"stdout": subprocess.PIPE, "stderr": subprocess.DEVNULL, "timeout": LIMIT, "check": False}
+    done = subprocess.run([os.path.join(TOP, "hipac-live"), "--workers", "1"], input=UP.encode(), **how)
+    expect((done.returncode, done.stdout), (0, b"unit 1 committed\nok 1\n"), "status and answers")
+
+
+def checks(programs, sessions):
+    """All checks, each with its name."""
+    live = programs.live
+    for name, (given, answers, status) in CASES.items():
+        yield name, lambda given=given, answers=answers, status=status: case(live, given, answers, status)
+    for look in (stored, trees, refused_words, failed_read, failed_write, answers_at_once):
+        yield look.__name__.replace("_", " "), lambda look=look: look(live)
+    if "HIPAC_LIVE" not in os.environ:
+        yield "the launcher", launcher
+    for seed in range(sessions):
+        yield f"session {seed}", lambda seed=seed: session(seed, programs)
+
+
+def main():
+    parser = argparse.ArgumentParser(description=__doc__, formatter_class=argparse.RawDescriptionHelpFormatter)
+    parser.add_argument("--sessions", type=int, default=1000, help="how many sessions are made at random (1,000)")
+    parser.add_argument("--jobs", type=int, default=os.cpu_count(), help="how many go on at once (one a processor)")
+    words = parser.parse_args()
+    programs = Programs(command_of("hipac"), command_of("hipac_live"))
+    passed, failed = 0, 0
+    with concurrent.futures.ThreadPoolExecutor(words.jobs) as pool:
+        running = [(title, pool.submit(check)) for title, check in checks(programs, words.sessions)]
+        for title, one in running:
+            try:
+                one.result()
+                passed += 1
+            except (Failed, OSError, ValueError, subprocess.SubprocessError) as error:
+                failed += 1
+                print(f"FAILED {title}\n  {error}", flush=True)
+    print(f"{passed} passed, {failed} failed")
+    return 1 if failed else 0
+
+
+if __name__ == "__main__":
+    sys.exit(main())
