@@ -50,11 +50,7 @@ impl<R: Threads + Sync> Runner<'_, R> {
     /// Tries a unit on a snapshot, which is dropped.
     ///
     /// An error means that memory ran out.
-    pub fn attempt_unit(
-        &self,
-        snapshot: Snapshot,
-        unit: &Unit,
-    ) -> Result<UnitAttempt, AllocError>
+    pub fn attempt_unit(&self, snapshot: Snapshot, unit: &Unit) -> Result<UnitAttempt, AllocError>
         ensures sound { IfOk result (λ a. IsSoundUnit (library self.now.engine.lib.now) (unit_of unit.now) a.reads (changes a.layer.value) (unit_report a.report)) }
         ensures so_it_was { IfOk result (λ a. Holds (cells_in snapshot) a.reads) }
     {
@@ -80,6 +76,7 @@ impl<R: Threads + Sync> Runner<'_, R> {
         ensures fit { IfOk result (λ r. IsUnitOf (library self.now.engine.lib.now) (unit_of unit.now) → HasFitState (library self.now.engine.lib.now) (cells_in store.old) → HasFitState (library self.now.engine.lib.now) (cells_in store.new)) }
         ensures err { OnErr result (store.new ≡ store.old) }
     {
+        keep_indexes(self.alloc(), store, self.engine.lib)?;
         let snapshot = store.snapshot()?;
         let attempt = self.attempt_unit(snapshot, unit)?;
         keep_lists(store, &attempt.reads)?;
@@ -169,6 +166,19 @@ pub fn run_unit<R: Threads + Sync>(
     let past = Past::new(alloc, lib, width);
     let report = Runner::new(rt, alloc, lib, width, &past).run_unit(store, unit)?;
     Ok(report)
+}
+
+/// Has the store keep an index of each field by which queries of the library's rules find the objects of a class. Where it does
+/// so already this costs nothing but a look.
+///
+/// An error means that memory ran out; the store then keeps some of them.
+pub fn keep_indexes(alloc: Global, store: &mut Store, lib: &Library) -> Result<(), AllocError>
+    ensures { store.new ≡ store.old }
+{
+    for asked in lib.asked_fields() {
+        store.keep_index(alloc, asked.class, asked.field.as_str())?;
+    }
+    Ok(())
 }
 
 // Keeps the lists of the classes that were read as a whole.
