@@ -56,12 +56,17 @@ fn asked_classes(alloc: Global, lib: &Library, tasks: &[Task]) -> Result<Vec<Cla
     Ok(classes)
 }
 
-// Adds the classes of one condition that aren't there yet. A query that asks for one key looks at no other object.
+// Adds the classes of one condition that aren't there yet, of which all objects are looked at.
 fn note_asked(condition: &[Query], classes: &mut Vec<ClassNo>) -> Result<(), AllocError> {
     for query in condition {
-        if !query.asks_key() && !classes.contains(&query.class) {
+        if scans(query) && !classes.contains(&query.class) {
             classes.push(query.class)?;
         }
     }
     Ok(())
+}
+
+// Whether a query looks at all objects of its class: it asks neither for one key nor for values of a field.
+fn scans(query: &Query) -> bool {
+    !query.asks_key() && query.asked_field().is_none()
 }
