@@ -84,7 +84,7 @@ tells_always test keys r fails is each = sym fails ∙ is ∙ all_pass test keys
 -- ---- the objects of a part
 
 -- an object is there with this row, and belongs to the part
-abbrev IsShown : Cells → ClassPart → ℕ → KeyedRow → Type 0
+abbrev pub IsShown : Cells → ClassPart → ℕ → KeyedRow → Type 0
 IsShown cells p class o = (cells (object_cell class o.key) ≡ Some (row_value o.row)) × (belongs p o ≡ Ok true)
 
 row_held : (row : Row) (v : Option C.CellValue) → holds_row row v ≡ true → v ≡ Some (row_value row)
@@ -123,7 +123,7 @@ shown_all cells p class (o ∷ os) all =
     (shown_all cells p class os (All-tail (IsShown cells p class) (keyed_row o) (map keyed_row os) all))
 
 module _ (cells : Cells) (p : ClassPart) (class : ℕ) where
-  shown_at : (objects : List KeyedRow) (key : ℤ) → All (IsShown cells p class) objects → is_among (keys_of objects) key ≡ true → belongs_in p key (cells (object_cell class key)) ≡ Ok true
+  pub shown_at : (objects : List KeyedRow) (key : ℤ) → All (IsShown cells p class) objects → is_among (keys_of objects) key ≡ true → belongs_in p key (cells (object_cell class key)) ≡ Ok true
   shown_at [] key shown among = cc
   shown_at (o ∷ os) key shown among = by (shown_at os key) (int_eq key o.key) refl among
     where
