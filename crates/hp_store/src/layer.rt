@@ -138,7 +138,7 @@ impl Layer {
         self.changes.remove(&cell)
     }
 
-    /// Keeps an index of a field from now on, as `Store::keep_index`.
+    /// Tells that parts of a class by a field will be asked for, as `Store::keep_index`.
     ///
     /// An error means that memory ran out.
     pub fn keep_index(

@@ -163,13 +163,7 @@ impl Snapshot {
     }
 
     // Whether an object is there with this row and belongs to the part.
-    fn shows(
-        &self,
-        writes: &Layer,
-        class: ClassNo,
-        part: &ClassPart<'_>,
-        object: &KeyedRow,
-    ) -> bool
+    fn shows(&self, writes: &Layer, class: ClassNo, part: &ClassPart<'_>, object: &KeyedRow) -> bool
         ensures { result ≡ is_shown (over (cells_in self.now) (changes writes.now)) (mapped.class_part part.now) class (mapped.keyed_row object.now) }
     {
         let Some(CellValue::Row(row)) = self.under(writes, Cell::Object(class, object.key)) else {
