@@ -1,25 +1,26 @@
 -- Attempts that are taken in.
-use Rattle.std.proofs.Common.{◌≡◌, refl, sym, ap, ◌∙◌, subst, ℕ, ℤ, List, [], ◌∷◌}
+use Rattle.std.proofs.Common.{◌≡◌, refl, sym, ap, ◌∙◌, subst, ℕ, ℤ, List, [], ◌∷◌, slice_index_or}
 use Rattle.std.specs.Prelude.{Result, Ok, Err, OnOk}
 use Rattle.hp_model.specs.Rules.{Library}
 use Rattle.hp_model.specs.Tree.{Task}
 use Rattle.hp_model.specs.Values.{KeyedRow}
-use Rattle.hp_model.specs.Cells.{Cells, cells, over, Read, keys_read, objects_read, IsTold, AllTold, Holds, AreKeys, AreObjects}
+use Rattle.hp_model.specs.ClassParts.{ClassPart}
+use Rattle.hp_model.specs.Cells.{Cells, cells, object_cell, belongs_in, over, Read, keys_read, objects_read, part_read, IsTold, AllTold, Holds, AreKeys, AreObjects, ArePart}
 use Rattle.hp_model.specs.Firing.{fire_task}
 use Rattle.hp_model.specs.Soundness.{firing_answer, LeadsTo, Attempt, IsSound}
 use Rattle.hp_model.specs.Answers.{FaithfulFiring}
 use Rattle.hp_model.proofs.BridgesCells.{stacked, over-over, Holds-front}
 use Rattle.hp_store.specs.Changes.{Entries, changes}
 use Rattle.hp_store.specs.Stack.{cells_in}
-use Rattle.hp_view.specs.Seeing.{Seeing, written, now_in, Shows, ShowsKeys, ShowsObjects, TakesIn, OnlyReads, GoesOn}
+use Rattle.hp_view.specs.Seeing.{Seeing, written, now_in, Shows, ShowsKeys, ShowsObjects, ShowsPart, TakesIn, OnlyReads, GoesOn}
 use Rattle.hp_view.specs.Looks.{only_reads_then}
 use Rattle.hp_view.proofs.Views.{GoesOn-then}
 use Rattle.hp_value.specs.declared.cell.Cell.{Cell as RustCell}
 use Rattle.hp_value.specs.Mapped.{cell}
 use Rattle.hp_view.specs.declared.reads.Found.{Found}
-use Rattle.hp_view.specs.declared.reads.Found.TheVariants.{Value, Keys, Objects}
+use Rattle.hp_view.specs.declared.reads.Found.TheVariants.{Value, Keys, Objects, Part}
 use Rattle.hp_view.specs.declared.reads.Seen.{Seen}
-use Rattle.hp_view.specs.declared.reads.Seen.TheVariants.{Cell as OfCell, Keys as OfKeys}
+use Rattle.hp_view.specs.declared.reads.Seen.TheVariants.{Cell as OfCell, Keys as OfKeys, Part as OfPart}
 use Rattle.hp_view.specs.Mapped.{read}
 use Rattle.hp_attempt.specs.Holding.{IsReadOf, IsReadAgain, Covers}
 
@@ -41,6 +42,8 @@ read_is_of (OfCell q) found = refl
 read_is_of (OfKeys n) (Value v) = refl
 read_is_of (OfKeys n) (Keys keys) = refl
 read_is_of (OfKeys n) (Objects objects) = refl
+read_is_of (OfKeys n) (Part part) = refl
+read_is_of (OfPart n number) found = refl
 
 pub again_cell : (old new : Seeing) (q : RustCell) (found : Found) → Shows new (cell q) (now_in old (cell q)) → IsReadAgain old new (read (OfCell q, found))
 again_cell old new q found shows = λ told base held. shows.everywhere base held ∙ told
@@ -50,6 +53,21 @@ again_keys old new n keys shows = λ told base held. (shows keys told).everywher
 
 pub again_objects : (old new : Seeing) (n : ℕ) (objects : List KeyedRow) → ((os : List KeyedRow) → AreObjects (now_in old) n os → ShowsObjects new n os) → IsReadAgain old new (objects_read n objects)
 again_objects old new n objects shows = λ told base held. (shows objects told).everywhere base held
+
+pub again_part : (old new : Seeing) (n : ℕ) (p : ClassPart) (objects : List KeyedRow) → ((os : List KeyedRow) → ArePart (now_in old) n p os → ShowsPart new n p os) → IsReadAgain old new (part_read n p objects)
+again_part old new n p objects shows = λ told base held. (shows objects told).everywhere base held
+
+-- a part is told in cells that are the same in its class
+part_moved : {A B : Cells} {n : ℕ} {p : ClassPart} {objects : List KeyedRow} → ((key : ℤ) → A (object_cell n key) ≡ B (object_cell n key)) → ArePart B n p objects → ArePart A n p objects
+part_moved {A} {B} {n} {p} {objects} same told = record {
+  rise = told.rise;
+  has = λ key. ap (belongs_in p key) (same key) ∙ told.has key;
+  rows = λ i d below. same (slice_index_or objects i d).key ∙ told.rows i d below;
+}
+
+-- it is shown where all cells of its class are
+pub again_class : (old new : Seeing) (n : ℕ) (p : ClassPart) (objects : List KeyedRow) → ((key : ℤ) → Shows new (object_cell n key) (now_in old (object_cell n key))) → IsReadAgain old new (part_read n p objects)
+again_class old new n p objects shows = λ told base held. part_moved (λ key. (shows key).everywhere base held) told
 
 -- what a call promises where it succeeds
 pub where_ok : {X E P Q : Type 0} (r : Result X E) → (P → Q) → OnOk r P → OnOk r Q

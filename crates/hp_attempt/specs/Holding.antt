@@ -1,19 +1,25 @@
 -- Reads that hold, and the first that doesn't.
 use Rattle.std.specs.Prelude.{◌≡◌, List, ◌∷◌, ◌++◌}
-use Rattle.hp_model.specs.Cells.{Cells, over, Read, cell_read, keys_read, objects_read, IsTold, Holds}
+use Rattle.hp_model.specs.Cells.{Cells, over, Read, cell_read, keys_read, objects_read, part_read, IsTold, Holds}
 use Rattle.hp_value.specs.Mapped.{cell}
 use Rattle.hp_view.specs.declared.reads.Seen.{Seen}
-use Rattle.hp_view.specs.declared.reads.Seen.TheVariants.{Cell as OfCell, Keys as OfKeys}
+use Rattle.hp_view.specs.declared.reads.Seen.TheVariants.{Cell as OfCell, Keys as OfKeys, Part as OfPart}
 use Rattle.hp_view.specs.Seeing.{Seeing, written, now_in}
 
--- a read of this cell, or of this class's keys, alone or with the rows
+-- a read of this cell, of this class's keys, alone or with the rows, or of a part of this class
 abbrev pub IsReadOf : Seen → Read → Type 0
 IsReadOf (OfCell q) (cell_read c value) = c ≡ cell q
 IsReadOf (OfCell q) (keys_read class keys) = ⊥
 IsReadOf (OfCell q) (objects_read class objects) = ⊥
+IsReadOf (OfCell q) (part_read class part objects) = ⊥
 IsReadOf (OfKeys n) (cell_read c value) = ⊥
 IsReadOf (OfKeys n) (keys_read class keys) = class ≡ n
 IsReadOf (OfKeys n) (objects_read class objects) = class ≡ n
+IsReadOf (OfKeys n) (part_read class part objects) = ⊥
+IsReadOf (OfPart n number) (cell_read c value) = ⊥
+IsReadOf (OfPart n number) (keys_read class keys) = ⊥
+IsReadOf (OfPart n number) (objects_read class objects) = ⊥
+IsReadOf (OfPart n number) (part_read class part objects) = class ≡ n
 
 -- the first of the reads that doesn't hold looked there: those before it hold
 pub record FirstFailed (base : Cells) (reads : List Read) (seen : Seen) : Type 0 where

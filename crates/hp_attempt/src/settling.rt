@@ -2,14 +2,14 @@
 
 ghost use Rattle.std.specs.Prelude.{◌≡◌, ◌↔◌, IsTrue, IsOk, IfOk, OnOk, OnErr};
 ghost use Rattle.hp_model.specs.Rules.{Library};
-ghost use Rattle.hp_model.specs.Cells.{Holds};
+ghost use Rattle.hp_model.specs.Cells.{Holds, part_read};
 ghost use Rattle.hp_model.specs.Firing.{fire_task};
 ghost use Rattle.hp_model.specs.Soundness.{IsSound};
 ghost use Rattle.hp_model.specs.Answers.{FaithfulFiring};
 ghost use Rattle.hp_model.proofs.BridgesCells.{stacked};
 ghost use Rattle.hp_rule.specs.Mapped.{task as task_of};
 ghost use Rattle.hp_store.specs.Changes.{changes};
-ghost use Rattle.hp_view.specs.Mapped.{read, class_read};
+ghost use Rattle.hp_view.specs.Mapped.{read, class_read, part_found, objects_found};
 ghost use Rattle.hp_view.specs.Seeing.{now_in, written, OnlyReads, GoesOn, Restores};
 ghost use Rattle.hp_attempt.specs.Mapped.{firing, attempt as attempt_of};
 ghost use Rattle.hp_attempt.specs.Holding.{IsReadAgain, Covers};
@@ -88,6 +88,7 @@ fn read_again(alloc: Global, view: &mut View, seen: &Seen, found: &Found) -> Res
     match seen {
         Seen::Cell(cell) => view.read(*cell),
         Seen::Keys(class) => read_class_again(alloc, view, *class, found),
+        Seen::Part(class, _) => read_part_again(alloc, view, *class, found),
     }
 }
 
@@ -106,5 +107,23 @@ fn read_class_again(
         Found::Objects(_) => view.read_objects(alloc, class),
         Found::Keys(_) => view.read_keys(alloc, class),
         Found::Value(_) => view.read_keys(alloc, class),
+        Found::Part(_) => view.read_keys(alloc, class),
     }
+}
+
+// The same of a part of a class. Where the view can't read the part alone, it reads all of the class.
+fn read_part_again(
+    alloc: Global,
+    view: &mut View,
+    class: ClassNo,
+    found: &Found,
+) -> Result<(), AllocError>
+    ensures only { OnlyReads view.old view.new }
+    ensures goes_on { GoesOn view.old view.new }
+    ensures again { OnOk result (IsReadAgain view.old view.new (part_read class (part_found found.now) (objects_found found.now))) }
+{
+    if view.read_part(alloc, class, &found.part())? {
+        return Ok(());
+    }
+    view.read_objects(alloc, class)
 }

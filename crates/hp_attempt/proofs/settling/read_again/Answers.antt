@@ -14,3 +14,7 @@ returns-in-Cell-clause-again c =
 pub returns-in-Keys-clause-again : goal.returns-in-Keys-clause-again
 returns-in-Keys-clause-again c =
     where_ok c.read_class_again.result (λ again. subst (λ s. IsReadAgain c.args.view.now c.read_class_again.new.view (read (s, c.args.found.now))) (sym c.in-Keys.is) again) c.read_class_again.ensures.again
+
+pub returns-in-Part-clause-again : goal.returns-in-Part-clause-again
+returns-in-Part-clause-again c =
+    where_ok c.read_part_again.result (λ again. subst (λ s. IsReadAgain c.args.view.now c.read_part_again.new.view (read (s, c.args.found.now))) (sym c.in-Part.is) again) c.read_part_again.ensures.again

@@ -24,3 +24,10 @@ returns-in-Value-clause-again c =
     (λ shows. subst (λ f. IsReadAgain c.args.view.now c.read_keys-in-Value.new.self (class_read c.args.class f)) (sym c.in-Value.is)
     (again_keys c.args.view.now c.read_keys-in-Value.new.self c.args.class [] shows))
     c.read_keys-in-Value.ensures.shows
+
+pub returns-in-Part-clause-again : goal.returns-in-Part-clause-again
+returns-in-Part-clause-again c =
+    where_ok c.read_keys-in-Part.result
+    (λ shows. subst (λ f. IsReadAgain c.args.view.now c.read_keys-in-Part.new.self (class_read c.args.class f)) (sym c.in-Part.is)
+    (again_keys c.args.view.now c.read_keys-in-Part.new.self c.args.class [] shows))
+    c.read_keys-in-Part.ensures.shows

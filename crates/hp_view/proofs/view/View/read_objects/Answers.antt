@@ -4,7 +4,7 @@ use Rattle.hp_model.specs.Cells.{object_cell}
 use Rattle.hp_view.specs.Seeing.{Shows, now_in}
 use Rattle.hp_view.specs.Looks.{only_reads_then}
 use Rattle.hp_view.proofs.Reading.{some_told}
-use Rattle.hp_view.proofs.Wholes.{whole_still, read_by_rows}
+use Rattle.hp_view.proofs.Wholes.{whole_still, read_by_rows, cells_of_whole, cells_by_rows}
 use Rattle.hp_view.proofs.view.View.read_objects.Goals as goal
 
 pub returns-then-is_some-clause-shows : goal.returns-then-is_some-clause-shows
@@ -17,3 +17,14 @@ returns-clause-shows c = λ objects are.
     read_by_rows (only_reads_then c.args.self.now c.objects.new.self c.keys.new.self c.objects.ensures.only c.keys.ensures.only) c.in_ok-keys.ensures.shows c.in_ok-keys.ensures.so_it_was
     c.read_rows.ensures.only
     (subst (All (λ key. Shows c.read_rows.new.self (object_cell c.args.class key) (now_in c.keys.new.self (object_cell c.args.class key)))) c.deref.ensures.value c.in_ok-read_rows.ensures.shows) are
+
+pub returns-then-is_some-clause-cells : goal.returns-then-is_some-clause-cells
+returns-then-is_some-clause-cells c =
+    let found = some_told c.in_ok-objects.field-0 c.in_ok-objects.ensures.shows (sym c.is_some.ensures ∙ c.if-is_some.true) in
+    cells_of_whole c.objects.ensures.only c.in_ok-objects.ensures.so_it_was found.1
+
+pub returns-clause-cells : goal.returns-clause-cells
+returns-clause-cells c =
+    cells_by_rows (only_reads_then c.args.self.now c.objects.new.self c.keys.new.self c.objects.ensures.only c.keys.ensures.only) c.in_ok-keys.ensures.shows c.in_ok-keys.ensures.so_it_was
+    c.read_rows.ensures.only
+    (subst (All (λ key. Shows c.read_rows.new.self (object_cell c.args.class key) (now_in c.keys.new.self (object_cell c.args.class key)))) c.deref.ensures.value c.in_ok-read_rows.ensures.shows)
