@@ -25,9 +25,9 @@ use std::sync::Arc;
 /// written later changes it.
 #[derive(Debug, Drop)]
 pub struct Snapshot {
-    base: Arc<Base>,
+    pub(crate) base: Arc<Base>,
     // The newest last.
-    layers: Layers,
+    pub(crate) layers: Layers,
     // Classes that were listed ahead, for all who start from the snapshot.
     lists: Vec<KeptList>,
 }
