@@ -138,6 +138,21 @@ impl Layer {
         self.changes.remove(&cell)
     }
 
+    /// Keeps an index of a field from now on, as `Store::keep_index`.
+    ///
+    /// An error means that memory ran out.
+    pub fn keep_index(
+        &mut self,
+        _alloc: Global,
+        _class: ClassNo,
+        _field: &str,
+    ) -> Result<(), AllocError>
+        ensures changes { changes self.new ≡ changes self.old }
+        ensures entries { self.new ≡ self.old }
+    {
+        Ok(())
+    }
+
     /// Takes in the changes of a layer over this one. They are shared, and hold where both layers name a cell.
     ///
     /// An error means that memory ran out; some of the upper layer's changes may have been taken in.

