@@ -4,5 +4,6 @@ mod Noting
 mod Undoing
 mod Looking
 mod Wholes
+pub mod Adding
 mod PartsRead
 pub mod Views

@@ -1,5 +1,5 @@
 -- Recorded reads, found by what was looked at.
-use Rattle.std.proofs.Common.{◌≡◌, refl, sym, ap, ap₂, ◌∙◌, subst, ℕ, Bool, true, false, ◌&&◌, ◌||◌, ◌==◌, cond, List, [], ◌∷◌, ◌++◌, map, Option, Some, None, is_some}
+use Rattle.std.proofs.Common.{◌≡◌, refl, sym, ap, ap₂, ◌∙◌, subst, ℕ, zero, suc, take, Bool, true, false, ◌&&◌, ◌||◌, ◌==◌, cond, List, [], ◌∷◌, ◌++◌, map, Option, Some, None, is_some}
 use Rattle.std.specs.List.{list_any}
 use Rattle.std.specs.Map.{lookup}
 use Rattle.std.specs.Prelude.{IfSome}
@@ -123,6 +123,12 @@ value_told q (Some found) es is = λ base held. told_value q found.now base es (
 pub numbered_more : (es : List (Seen × Found)) (e : Seen × Found) → AreNumbered es → IsNumbered e → AreNumbered (es ++ e ∷ [])
 numbered_more [] e n fits = (fits, tt)
 numbered_more (f ∷ fs) e n fits = (n.0, numbered_more fs e n.1 fits)
+
+-- the first ones
+pub numbered_first : (n : ℕ) (es : List (Seen × Found)) → AreNumbered es → AreNumbered (take n es)
+numbered_first zero es all = tt
+numbered_first (suc n) [] all = tt
+numbered_first (suc n) (e ∷ es) all = (all.0, numbered_first n es all.1)
 
 -- ---- parts
 

@@ -1,3 +1,4 @@
+pub mod Adding
 pub mod Codes
 pub mod Keeping
 pub mod Looks

@@ -49,6 +49,7 @@ impl Look for View {
         class: ClassNo,
         part: &ClassPart<'_>,
     ) -> Result<Option<Vec<KeyedRow>>, AllocError> {
+        self.keep_index(alloc, class, part);
         let objects = View::part(self, alloc, class, part)?;
         Ok(objects)
     }

@@ -132,7 +132,7 @@ impl Model for Reads {
 }
 
 impl Reads {
-    ghost use Rattle.std.specs.Prelude.{◌≡◌, ◌↔◌, true, false, [], Some, IsTrue, IsSome, IfOk, IfSome, OnOk, OnErr, is_some, map, option_map, length};
+    ghost use Rattle.std.specs.Prelude.{◌≡◌, ◌↔◌, true, false, [], Some, IsTrue, IsSome, IfOk, IfSome, OnOk, OnErr, is_some, map, option_map, length, take};
     ghost use Rattle.hp_model.specs.Cells.{Cells, AreKeys, AreObjects, Holds, cell_read, keys_read, objects_read, part_read};
     ghost use Rattle.hp_value.specs.Mapped as mapped;
     ghost use Rattle.hp_store.specs.Mapped.{cell_value};
@@ -157,6 +157,13 @@ impl Reads {
         ensures { self.new ≡ self.old }
     {
         self.entries.reserve(more)
+    }
+
+    /// Forgets the reads after the first ones, as many as given.
+    pub(crate) fn truncate(&mut self, len: usize)
+        ensures { self.new ≡ take len self.old }
+    {
+        self.entries.truncate(len);
     }
 
     /// How many reads there are.
