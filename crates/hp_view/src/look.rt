@@ -49,6 +49,8 @@ impl Look for View {
         class: ClassNo,
         part: &ClassPart<'_>,
     ) -> Result<Option<Vec<KeyedRow>>, AllocError> {
-        Ok(None)
+        self.keep_index(alloc, class, part);
+        let objects = View::part(self, alloc, class, part)?;
+        Ok(objects)
     }
 }

@@ -9,6 +9,7 @@ mod boards;
 mod fixtures;
 #[cfg(test)]
 mod parts;
+mod store_parts;
 #[cfg(test)]
 mod stores;
 #[cfg(test)]

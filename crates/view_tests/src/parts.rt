@@ -1,190 +1,179 @@
-//! Parts of a class, as a snapshot finds them and compares them.
+//! Parts of the class of a small bank, by their keys, with values worked out by hand.
 
-use crate::fixtures::balance;
-use hp_store::{Layer, Snapshot, Store};
+ghost use Rattle.std.specs.Prelude.{◌≡◌, []};
+
+use crate::fixtures::{balance, bank};
+use hp_attempt::{first_failed, holds};
 use hp_value::{Attribute, Bounds, Cell, ClassPart, Key, KeyedRow};
+use hp_view::{Found, Reads, Seen, View};
 use std::alloc::{AllocError, Global};
 use std::process::Abort;
-use std::sync::Arc;
 use std::test::Fail;
 
-/// The class of the tests' objects.
-const CLASS: u32 = 3;
+const BY_KEYS: ClassPart<'static> = ClassPart {
+    attribute: Attribute::Key,
+    bounds: Bounds::Numbers(Some(0), Some(5)),
+};
 
-/// A layer that gives objects balances, and removes others.
-fn layer(alloc: Global, made: &[(Key, i64)], removed: &[Key]) -> Result<Layer, AllocError> {
-    let mut layer = Layer::new(alloc);
-    for (key, value) in made {
-        let _ = layer.insert(Cell::Object(CLASS, *key), Some(balance(alloc, *value)?))?;
-    }
-    for key in removed {
-        let _ = layer.insert(Cell::Object(CLASS, *key), None)?;
-    }
-    Ok(layer)
+fn set(alloc: Global, view: &mut View, key: Key, value: i64) -> Result<(), AllocError> {
+    view.put(Cell::Object(0, key), balance(alloc, value)?)
 }
 
-fn write(
-    alloc: Global,
-    store: &mut Store,
-    made: &[(Key, i64)],
-    removed: &[Key],
-) -> Result<(), AllocError> {
-    let layer = layer(alloc, made, removed)?;
-    store.apply(alloc, Arc::new(alloc, layer)?)
-}
-
-fn by_key(low: Option<Key>, high: Option<Key>) -> ClassPart<'static> {
+// The objects from a key on.
+fn from_key(low: Key) -> ClassPart<'static> {
     ClassPart {
         attribute: Attribute::Key,
-        bounds: Bounds::Numbers(low, high),
+        bounds: Bounds::Numbers(Some(low), None),
     }
 }
 
-fn by_balance(low: i64, high: i64) -> ClassPart<'static> {
-    ClassPart {
-        attribute: Attribute::Field("bal"),
-        bounds: Bounds::Numbers(Some(low), Some(high)),
+fn assert_keys(rt: &impl Abort, rows: &[KeyedRow], wanted: &[Key]) {
+    assert_eq!(rt; rows.len(), wanted.len());
+    for (row, key) in rows.iter().zip(wanted) {
+        assert_eq!(rt; row.key, *key);
     }
 }
 
-/// Whether the part under the writes has the objects with these keys, and is seen to have them.
-fn finds(
-    alloc: Global,
-    snapshot: &Snapshot,
-    writes: &Layer,
-    part: &ClassPart<'_>,
-    keys: &[Key],
-) -> Result<bool, AllocError> {
-    let Some(objects) = snapshot.part_over(alloc, writes, CLASS, part)? else {
-        return Ok(false);
-    };
-    let is_there = snapshot.has_part_over(writes, CLASS, part, &objects);
-    Ok(is_there && have_keys(&objects, keys))
-}
-
-fn have_keys(objects: &[KeyedRow], keys: &[Key]) -> bool {
-    if objects.len() != keys.len() {
-        return false;
-    }
-    for i in 0..keys.len() {
-        if objects[i].key != keys[i] {
-            return false;
-        }
-    }
-    true
-}
-
-/// Keys 0, 10, .. 90 with their tenths as balances.
-fn store_of_ten(alloc: Global) -> Result<Store, AllocError> {
-    let mut store = Store::empty(alloc)?;
-    for i in 0..10 {
-        write(alloc, &mut store, &[(i * 10, i)], &[])?;
-    }
-    Ok(store)
-}
-
-fn expect(
+fn assert_part(
     rt: &impl Abort,
     alloc: Global,
-    store: &Store,
+    view: &mut View,
     part: &ClassPart<'_>,
-    keys: &[Key],
+    wanted: &[Key],
 ) -> Result<(), Fail> {
-    let nothing = Layer::new(alloc);
-    assert!(rt; finds(alloc, &store.snapshot()?, &nothing, part, keys)?, "{keys:?}");
+    let rows = view.part(alloc, 0, part)?.ok_or("a part is found")?;
+    assert_keys(rt, &rows, wanted);
     Ok(())
 }
 
-fn ask_by_key(rt: &impl Abort, alloc: Global, store: &Store) -> Result<(), Fail> {
-    expect(rt, alloc, store, &by_key(Some(20), Some(45)), &[20, 30, 40])?;
-    expect(rt, alloc, store, &by_key(Some(70), None), &[70, 80, 90])?;
-    expect(rt, alloc, store, &by_key(None, Some(10)), &[0, 10])?;
-    expect(rt, alloc, store, &by_key(Some(30), Some(30)), &[30])?;
-    expect(rt, alloc, store, &by_key(Some(45), Some(20)), &[])?;
-    Ok(())
-}
-
-#[test]
-fn a_part_by_keys_is_found(rt: HostRuntime) -> Result<(), Fail> {
-    let store = store_of_ten(rt.alloc())?;
-    ask_by_key(&rt, rt.alloc(), &store)
-}
-
-/// Nine layers over a base that somebody else holds, so that the ninth is folded with the others.
-fn pile_nine(alloc: Global, store: &mut Store) -> Result<(), AllocError> {
-    for i in 0..9 {
-        write(alloc, store, &[(i * 10 + 1, i)], &[i * 10])?;
+// The objects that each read found, which are all of parts of class 0.
+fn assert_found(rt: &impl Abort, reads: &Reads, wanted: &[&[Key]]) {
+    assert_eq!(rt; reads.len(), wanted.len());
+    for ((seen, found), keys) in reads.iter().zip(wanted) {
+        assert!(rt; matches!((seen, found), (Seen::Part(0, _), Found::Part(_))));
+        assert_keys(rt, found.objects(), keys);
     }
-    Ok(())
 }
 
-fn ask_the_pile(rt: &impl Abort, alloc: Global, store: &Store) -> Result<(), Fail> {
-    expect(rt, alloc, store, &by_key(Some(20), Some(45)), &[21, 31, 41])?;
-    expect(rt, alloc, store, &by_key(Some(80), None), &[81, 90])?;
-    Ok(())
-}
-
-fn pile(rt: &impl Abort, alloc: Global, store: &mut Store) -> Result<(), Fail> {
-    let before = store.snapshot()?;
-    pile_nine(alloc, store)?;
-    ask_the_pile(rt, alloc, store)?;
-    drop(before);
-    write(alloc, store, &[], &[90])?;
-    expect(rt, alloc, store, &by_key(Some(80), None), &[81])
+fn ask_thrice(rt: &impl Abort, alloc: Global, view: &mut View) -> Result<(), Fail> {
+    assert_part(rt, alloc, view, &BY_KEYS, &[2])?;
+    assert_part(rt, alloc, view, &BY_KEYS, &[2])?;
+    assert_part(rt, alloc, view, &from_key(2), &[2, 10])
 }
 
 #[test]
-fn a_part_by_keys_is_found_through_layers(rt: HostRuntime) -> Result<(), Fail> {
-    let mut store = store_of_ten(rt.alloc())?;
-    pile(&rt, rt.alloc(), &mut store)
+fn a_part_is_read_once(rt: HostRuntime) -> Result<(), Fail> {
+    let mut view = bank(rt.alloc())?;
+    ask_thrice(&rt, rt.alloc(), &mut view)?;
+    let (reads, _) = view.into_parts();
+    assert_found(&rt, &reads, &[&[2], &[2, 10]]);
+    Ok(())
 }
 
-/// Whether objects are seen to be those of the part under some writes.
-fn has_under(
-    alloc: Global,
-    snapshot: &Snapshot,
-    part: &ClassPart<'_>,
-    objects: &[KeyedRow],
-    writes: (&[(Key, i64)], &[Key]),
-) -> Result<bool, AllocError> {
-    let (made, removed) = writes;
-    let writes = layer(alloc, made, removed)?;
-    Ok(snapshot.has_part_over(&writes, CLASS, part, objects))
+fn ask_over_writes(rt: &impl Abort, alloc: Global, view: &mut View) -> Result<(), Fail> {
+    set(alloc, view, 3, 103)?;
+    view.cut(Cell::Object(0, 2))?;
+    assert_part(rt, alloc, view, &BY_KEYS, &[3])
 }
 
-/// The part has the keys 20, 30 and 40, whose balances are 2, 3 and 4.
-fn compare(
+// The view shows its own writes, and what it reads is what the snapshot holds beneath them.
+#[test]
+fn a_part_is_read_beneath_own_writes(rt: HostRuntime) -> Result<(), Fail> {
+    let mut view = bank(rt.alloc())?;
+    ask_over_writes(&rt, rt.alloc(), &mut view)?;
+    let (reads, _) = view.into_parts();
+    assert_found(&rt, &reads, &[&[2]]);
+    Ok(())
+}
+
+fn ask_inside(rt: &impl Abort, alloc: Global, view: &mut View) -> Result<(), Fail>
+    requires { view.old.undo ≡ [] }
+{
+    let mark = view.enter();
+    set(alloc, view, 3, 103)?;
+    assert_part(rt, alloc, view, &BY_KEYS, &[2, 3])?;
+    view.abort(mark)?;
+    assert_part(rt, alloc, view, &BY_KEYS, &[2])
+}
+
+#[test]
+fn a_part_stays_read_after_an_abort(rt: HostRuntime) -> Result<(), Fail> {
+    let mut view = bank(rt.alloc())?;
+    ask_inside(&rt, rt.alloc(), &mut view)?;
+    let (reads, _) = view.into_parts();
+    assert_found(&rt, &reads, &[&[2]]);
+    Ok(())
+}
+
+// What a look at a part reads.
+fn reads_of(alloc: Global, part: &ClassPart<'_>) -> Result<Reads, AllocError> {
+    let mut view = bank(alloc)?;
+    drop(view.part(alloc, 0, part)?);
+    let (reads, _) = view.into_parts();
+    Ok(reads)
+}
+
+fn assert_fails(rt: &impl Abort, view: &View, reads: &Reads) {
+    assert!(rt; !holds(reads, view));
+    assert!(rt; matches!(first_failed(reads, view), Some(Seen::Part(0, _))));
+}
+
+fn change_rows(rt: &impl Abort, alloc: Global, view: &mut View, reads: &Reads) -> Result<(), Fail> {
+    assert!(rt; holds(reads, view));
+
+    // Objects of the class that aren't in the part.
+    set(alloc, view, -3, 5)?;
+    set(alloc, view, 6, 5)?;
+    view.cut(Cell::Object(0, 10))?;
+    assert!(rt; holds(reads, view));
+
+    set(alloc, view, 2, 5)?;
+    assert_fails(rt, view, reads);
+    set(alloc, view, 2, 102)?;
+    assert!(rt; holds(reads, view));
+    Ok(())
+}
+
+#[test]
+fn a_part_holds_while_its_rows_are_the_same(rt: HostRuntime) -> Result<(), Fail> {
+    let reads = reads_of(rt.alloc(), &BY_KEYS)?;
+    let mut view = bank(rt.alloc())?;
+    change_rows(&rt, rt.alloc(), &mut view, &reads)
+}
+
+fn come_and_leave(
     rt: &impl Abort,
     alloc: Global,
-    snapshot: &Snapshot,
-    part: &ClassPart<'_>,
-    objects: &[KeyedRow],
+    view: &mut View,
+    reads: &Reads,
 ) -> Result<(), Fail> {
-    let apart: (&[(Key, i64)], &[Key]) = (&[(95, 9)], &[10, 90]);
-    let same: (&[(Key, i64)], &[Key]) = (&[(20, 2)], &[]);
-    let added: (&[(Key, i64)], &[Key]) = (&[(25, 3)], &[]);
-    let changed: (&[(Key, i64)], &[Key]) = (&[(30, 4)], &[]);
-    let removed: (&[(Key, i64)], &[Key]) = (&[], &[20]);
-    assert!(rt; has_under(alloc, snapshot, part, objects, apart)?);
-    assert!(rt; has_under(alloc, snapshot, part, objects, same)?);
-    assert!(rt; !has_under(alloc, snapshot, part, objects, added)?);
-    assert!(rt; !has_under(alloc, snapshot, part, objects, changed)?);
-    assert!(rt; !has_under(alloc, snapshot, part, objects, removed)?);
+    set(alloc, view, 3, 103)?;
+    assert_fails(rt, view, reads);
+    view.cut(Cell::Object(0, 3))?;
+    assert!(rt; holds(reads, view));
+    view.cut(Cell::Object(0, 2))?;
+    assert_fails(rt, view, reads);
     Ok(())
 }
 
-fn compare_parts(rt: &impl Abort, alloc: Global, snapshot: &Snapshot) -> Result<(), Fail> {
-    let Some(objects) = snapshot.part(alloc, CLASS, &by_key(Some(20), Some(45)))? else {
-        assert!(rt; false, "the part is found by its keys");
-        return Ok(());
-    };
-    compare(rt, alloc, snapshot, &by_key(Some(20), Some(45)), &objects)?;
-    compare(rt, alloc, snapshot, &by_balance(2, 4), &objects)
+#[test]
+fn a_part_fails_where_an_object_comes_or_leaves(rt: HostRuntime) -> Result<(), Fail> {
+    let reads = reads_of(rt.alloc(), &BY_KEYS)?;
+    let mut view = bank(rt.alloc())?;
+    come_and_leave(&rt, rt.alloc(), &mut view, &reads)
+}
+
+fn change_the_other_part(rt: &impl Abort, alloc: Global, first: &Reads, second: &Reads) -> Result<(), Fail> {
+    let mut view = bank(alloc)?;
+    set(alloc, &mut view, 11, 5)?;
+    assert!(rt; holds(first, &view));
+    assert_fails(rt, &view, second);
+    Ok(())
 }
 
 #[test]
-fn a_part_is_compared_under_writes(rt: HostRuntime) -> Result<(), Fail> {
-    let store = store_of_ten(rt.alloc())?;
-    let snapshot = store.snapshot()?;
-    compare_parts(&rt, rt.alloc(), &snapshot)
+fn different_parts_do_not_conflict(rt: HostRuntime) -> Result<(), Fail> {
+    let first = reads_of(rt.alloc(), &BY_KEYS)?;
+    let second = reads_of(rt.alloc(), &from_key(6))?;
+    change_the_other_part(&rt, rt.alloc(), &first, &second)
 }
