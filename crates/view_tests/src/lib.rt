@@ -9,6 +9,7 @@ mod boards;
 mod fixtures;
 #[cfg(test)]
 mod parts;
+#[cfg(test)]
 mod store_parts;
 #[cfg(test)]
 mod stores;
