@@ -8,8 +8,6 @@ mod fixtures;
 #[cfg(test)]
 mod groups;
 #[cfg(test)]
-mod policy;
-#[cfg(test)]
 mod seen;
 #[cfg(test)]
 mod tops;
@@ -17,3 +15,5 @@ mod tops;
 mod units;
 #[cfg(test)]
 mod waves;
+#[cfg(test)]
+mod worth;
