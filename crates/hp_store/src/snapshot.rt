@@ -48,8 +48,8 @@ impl Model for Snapshot {
 
     ghost use Rattle.hp_model.specs.Cells.{over};
     ghost use Rattle.hp_store.specs.Changes.{changes_in};
-ghost use Rattle.hp_store.specs.Kept.{HoldsNoRow};
-ghost use Rattle.hp_store.specs.Mapped as here;
+    ghost use Rattle.hp_store.specs.Kept.{HoldsNoRow};
+    ghost use Rattle.hp_store.specs.Mapped as here;
     ghost use Rattle.hp_store.specs.Kept.{AreKept};
     ghost use Rattle.hp_store.specs.Tables.{base_cells};
 

@@ -1,7 +1,6 @@
-use Rattle.std.proofs.Common.{◌∙◌, sym, ap, Some, option_map, pos, get_or, w64, FitsSigned, rules}
+use Rattle.std.proofs.Common.{◌∙◌, sym, ap, Some, pos, get_or, w64, FitsSigned, rules}
 use Rattle.std.proofs.lemmas.Int.{to_z-of_z}
 use Rattle.hp_model.specs.Cells.{row_value}
-use Rattle.hp_store.specs.Mapped.{cell_value}
 use Rattle.hp_store.specs.Stack.{cells_in}
 use Rattle.hp_store.proofs.Wholes.{listed_more}
 use Rattle.hp_store.proofs.snapshot.Snapshot.listed.Goals as goal
