@@ -155,7 +155,8 @@ impl Layer {
 
     /// Takes in the changes of a layer over this one. They are shared, and hold where both layers name a cell.
     ///
-    /// An error means that memory ran out; some of the upper layer's changes may have been taken in, and the rest is as before.
+    /// An error means that memory ran out; some of the upper layer's changes may have been taken in. What it doesn't name is
+    /// as before.
     pub fn take_in(&mut self, upper: &Layer) -> Result<(), AllocError>
         ensures ok { OnOk result ((q : ModelCell) → changes self.new q ≡ option_or (changes upper.now q) (changes self.old q)) }
         ensures others { (q : ModelCell) → changes upper.now q ≡ None → changes self.new q ≡ changes self.old q }

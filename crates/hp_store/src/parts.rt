@@ -21,8 +21,8 @@ use hp_value::{Cause, Cell, ClassNo, ClassPart, Key, KeyedRow, Row};
 use std::alloc::{AllocError, Global};
 
 impl Snapshot {
-    /// The objects of a part of a class with their rows, by rising keys. None where they can't be found without a look at
-    /// all objects of the class, or where it can't be told of each object whether it belongs to the part.
+    /// The objects of a part of a class with their rows, by rising keys. None where they can't be found without a look
+    /// at all objects of the class, or where it can't be told of each object whether it belongs to the part.
     ///
     /// An error means that memory ran out.
     pub fn part(
@@ -55,8 +55,8 @@ impl Snapshot {
         Ok(found)
     }
 
-    /// Whether these are the objects of a part of a class by rising keys, once a layer has been written over the cells. It
-    /// takes no memory.
+    /// Whether these are the objects of a part of a class by rising keys, once a layer has been written over the cells.
+    /// It takes no memory.
     pub fn has_part_over(
         &self,
         writes: &Layer,

@@ -85,8 +85,8 @@ impl Store {
         self.state.keep_list(class, objects)
     }
 
-    /// Tells that parts of a class by a field will be asked for. No index is kept of it: `Snapshot::part` answers None for
-    /// such a part.
+    /// Tells that parts of a class by a field will be asked for. No index is kept of it: `Snapshot::part` answers None
+    /// for such a part.
     ///
     /// An error means that memory ran out.
     pub fn keep_index(
