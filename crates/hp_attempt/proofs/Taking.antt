@@ -130,6 +130,7 @@ pub class_for_part : (layer : Changes) (n : ℕ) (p : ClassPart) (objects : List
 class_for_part layer n p objects (cell_read q value) fits = fits
 class_for_part layer n p objects (keys_read m keys) fits = fits
 class_for_part layer n p objects (objects_read m found) fits = fits
+class_for_part layer n p objects (part_read m q found) fits = absurd fits
 
 -- what an attempt that is taken in does
 pub taken_written : {old new : Seeing} {reads : List Read} {layer : Entries} → IsTakenIn old new reads layer → written new ≡ stacked (written old) (changes layer)

@@ -8,7 +8,7 @@ mod boards;
 #[cfg(test)]
 mod fixtures;
 #[cfg(test)]
-mod parts;
+mod read_parts;
 #[cfg(test)]
 mod store_parts;
 #[cfg(test)]

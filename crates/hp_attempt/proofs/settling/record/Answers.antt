@@ -20,3 +20,8 @@ loop-seen-preserved c =
 
 pub returns-clause-covers : goal.returns-clause-covers
 returns-clause-covers c = covers_all (ap (map read) c.in-None.ensures.steps.0) c.loop-seen.invariant.covers
+
+pub returns-in_err-read_again-clause-reads : goal.returns-in_err-read_again-clause-reads
+returns-in_err-read_again-clause-reads c =
+    let i = c.loop-seen.invariant in
+    adds_next c.read_again.new.view c.args.reads.now (read (c.in-Some.seen.now, c.in-Some.found.now)) (ap (map read) c.in-Some.ensures.steps) i.only i.adds i.into c.read_again.ensures.reads

@@ -20,10 +20,10 @@ pub returns-in-Ok-clause-so_it_was : goal.returns-in-Ok-clause-so_it_was
 returns-in-Ok-clause-so_it_was c = λ accepted. c.in-Ok.ensures.ok.so_it_was
 
 pub returns-in-Err-clause-goes_on : goal.returns-in-Err-clause-goes_on
-returns-in-Err-clause-goes_on c = same_goes_on (forgotten c.read_count.result c.in-Err.ensures.err c.read_count.ensures c.forget_reads.ensures)
+returns-in-Err-clause-goes_on c = same_goes_on (forgotten c.read_count-before.result c.in-Err.ensures.err c.read_count-before.ensures c.forget_reads.ensures)
 
 pub returns-in-Err-clause-unchanged : goal.returns-in-Err-clause-unchanged
-returns-in-Err-clause-unchanged c = forgotten c.read_count.result c.in-Err.ensures.err c.read_count.ensures c.forget_reads.ensures
+returns-in-Err-clause-unchanged c = forgotten c.read_count-before.result c.in-Err.ensures.err c.read_count-before.ensures c.forget_reads.ensures
 
 pub returns-in-Err-clause-err : goal.returns-in-Err-clause-err
-returns-in-Err-clause-err c = same_restores (forgotten c.read_count.result c.in-Err.ensures.err c.read_count.ensures c.forget_reads.ensures)
+returns-in-Err-clause-err c = same_restores (forgotten c.read_count-before.result c.in-Err.ensures.err c.read_count-before.ensures c.forget_reads.ensures)

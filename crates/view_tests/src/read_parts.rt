@@ -163,7 +163,12 @@ fn a_part_fails_where_an_object_comes_or_leaves(rt: HostRuntime) -> Result<(), F
     come_and_leave(&rt, rt.alloc(), &mut view, &reads)
 }
 
-fn change_the_other_part(rt: &impl Abort, alloc: Global, first: &Reads, second: &Reads) -> Result<(), Fail> {
+fn change_the_other_part(
+    rt: &impl Abort,
+    alloc: Global,
+    first: &Reads,
+    second: &Reads,
+) -> Result<(), Fail> {
     let mut view = bank(alloc)?;
     set(alloc, &mut view, 11, 5)?;
     assert!(rt; holds(first, &view));
