@@ -12,3 +12,4 @@ pub mod Wholes
 pub mod Keeping
 pub mod Covered
 pub mod Told
+pub mod Picked

@@ -1,10 +1,10 @@
 -- Whether a list has the objects of a part of a class.
-use Rattle.std.proofs.Common.{◌≡◌, refl, ⊎_elim, ap, ap₂, sym, ◌∙◌, subst, ℕ, zero, suc, ◌<◌, ◌+◌, ℤ, pos, Bool, true, false, not, ◌&&◌, ◌||◌, cond, List, [], ◌∷◌, map, length, get_or, Option, Some, None, IsTrue, int_eq, Result, Ok, Err, arith}
+use Rattle.std.proofs.Common.{◌≡◌, refl, ⊎_elim, ap, ap₂, sym, ◌∙◌, subst, ℕ, zero, suc, ◌<◌, ◌+◌, ℤ, pos, Bool, true, false, ◌&&◌, ◌||◌, List, [], ◌∷◌, map, length, get_or, Option, Some, None, IsTrue, int_eq, Result, Ok, Err, arith}
 use Rattle.std.specs.Prelude.{All}
 use Rattle.std.specs.Ordering.{is_eq, is_lt, int_cmp, ordering_reverse}
 use Rattle.std.specs.Result.{is_ok}
 use Rattle.std.specs.declared.cmp.Ordering.TheVariants.{Less, Equal, Greater}
-use Rattle.std.specs.List.{list_all, list_any, AllWithin, HoldsAt, AllAdjacentBelow}
+use Rattle.std.specs.List.{list_all, AllWithin, HoldsAt, AllAdjacentBelow}
 use Rattle.std.specs.List.Sorted.{IsStrictlySortedBy, IsSortedBy, IsSearchInRange, IsBinarySearchResult}
 use Rattle.std.proofs.lemmas.Bool.{cases_lt}
 use Rattle.std.proofs.lemmas.Bool.Decides.{Decides-int_eq}
@@ -20,7 +20,7 @@ use Rattle.hp_model.specs.Cells as C
 use Rattle.hp_model.specs.Cells.{object_cell, row_value, Cells, belongs_in, ArePart}
 use Rattle.hp_value.specs.declared.row.KeyedRow.{KeyedRow as Object}
 use Rattle.hp_value.specs.Mapped.{keyed_row, keys_of}
-use Rattle.hp_value.specs.Same.{row_same, row_decides}
+use Rattle.hp_value.specs.Same.{row_decides}
 use Rattle.hp_store.specs.Parts.{Covers, is_among, says, is_told, holds_row, is_shown}
 use Rattle.hp_store.proofs.Cells.{int_at}
 use Rattle.hp_store.proofs.Based.{no_keys_rise}
@@ -84,7 +84,7 @@ tells_always test keys r fails is each = sym fails ∙ is ∙ all_pass test keys
 -- ---- the objects of a part
 
 -- an object is there with this row, and belongs to the part
-abbrev IsShown : Cells → ClassPart → ℕ → KeyedRow → Type 0
+abbrev pub IsShown : Cells → ClassPart → ℕ → KeyedRow → Type 0
 IsShown cells p class o = (cells (object_cell class o.key) ≡ Some (row_value o.row)) × (belongs p o ≡ Ok true)
 
 row_held : (row : Row) (v : Option C.CellValue) → holds_row row v ≡ true → v ≡ Some (row_value row)
@@ -123,7 +123,7 @@ shown_all cells p class (o ∷ os) all =
     (shown_all cells p class os (All-tail (IsShown cells p class) (keyed_row o) (map keyed_row os) all))
 
 module _ (cells : Cells) (p : ClassPart) (class : ℕ) where
-  shown_at : (objects : List KeyedRow) (key : ℤ) → All (IsShown cells p class) objects → is_among (keys_of objects) key ≡ true → belongs_in p key (cells (object_cell class key)) ≡ Ok true
+  pub shown_at : (objects : List KeyedRow) (key : ℤ) → All (IsShown cells p class) objects → is_among (keys_of objects) key ≡ true → belongs_in p key (cells (object_cell class key)) ≡ Ok true
   shown_at [] key shown among = cc
   shown_at (o ∷ os) key shown among = by (shown_at os key) (int_eq key o.key) refl among
     where

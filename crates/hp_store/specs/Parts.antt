@@ -1,5 +1,5 @@
 -- Keys of a class among which a part's objects are looked for.
-use Rattle.std.specs.Prelude.{◌≡◌, ◌&&◌, ℕ, ℤ, Bool, false, true, List, [], ◌∷◌, map, Option, Some, None, Ok, Err, if◌then◌else◌, not}
+use Rattle.std.specs.Prelude.{◌≡◌, ◌&&◌, ℕ, ℤ, Bool, false, true, List, [], ◌∷◌, ◌++◌, map, Option, Some, None, Ok, Err, if◌then◌else◌, not}
 use Rattle.std.specs.Ordering.{int_cmp, int_eq}
 use Rattle.std.specs.BTreeMap.Range.{range_contains}
 use Rattle.std.specs.List.{list_any}
@@ -64,3 +64,14 @@ holds_row row value = false
 -- an object is there with this row, and belongs to the part
 abbrev pub is_shown : Cells → ClassPart → ℕ → KeyedRow → Bool
 is_shown cells p class o = holds_row o.row (cells (object_cell class o.key)) && says true (belongs p o)
+
+-- ---- the objects of a part
+
+-- what is told of an object: its row, if it belongs to the part
+abbrev pub IsMember : ClassPart → ℤ → Option Value → Option Row → Type 0
+IsMember p key v None = belongs_in p key v ≡ Ok false
+IsMember p key v (Some row) = (v ≡ Some (row_value row)) × (belongs p (record { key = key; row = row }) ≡ Ok true)
+
+abbrev pub with_member : List KeyedRow → ℤ → Option Row → List KeyedRow
+with_member objects key None = objects
+with_member objects key (Some row) = objects ++ record { key = key; row = row } ∷ []

@@ -9,7 +9,7 @@ ghost use Rattle.hp_store.specs.Tables.{table_at};
 use crate::candidates::{Candidates, are_crossed, included, key_bounds};
 use crate::layer::Layer;
 use crate::value::CellValue;
-use hp_value::{Cell, ClassNo, ClassPart, Key, RuleNo};
+use hp_value::{Attribute, Bounds, Cell, ClassNo, ClassPart, Key, RuleNo};
 use std::alloc::{AllocError, Global};
 use std::collections::BTreeMap;
 
@@ -97,6 +97,14 @@ impl Base {
     {
         let (low, high) = key_bounds(part);
         self.between(class, low, high)
+    }
+
+    /// Whether these keys go up to the part's bounds, so that it doesn't take a look at the whole class.
+    pub(crate) fn finds(&self, part: &ClassPart<'_>) -> bool {
+        matches!(
+            (part.attribute, part.bounds),
+            (Attribute::Key, Bounds::Numbers(_, _))
+        )
     }
 
     // The keys of a class between two bounds.
