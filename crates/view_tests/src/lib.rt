@@ -8,9 +8,9 @@ mod boards;
 #[cfg(test)]
 mod fixtures;
 #[cfg(test)]
-mod read_parts;
+mod parts;
 #[cfg(test)]
-mod store_parts;
+mod read_parts;
 #[cfg(test)]
 mod stores;
 #[cfg(test)]
