@@ -158,31 +158,31 @@ struct Case {
     found: Option<usize>,
 }
 
-fn case(how: Comparison, keys: &'static [Key], found: Option<usize>) -> Case {
+fn made(how: Comparison, keys: &'static [Key], found: Option<usize>) -> Case {
     Case { how, keys, found }
 }
 
 // The accounts whose keys compare so with 2. Where one key is asked for no part is.
 fn by_key() -> [Case; 6] {
     [
-        case(Comparison::Equal, &[2], None),
-        case(Comparison::Unequal, &[-20, -3, 10], None),
-        case(Comparison::Less, &[-20, -3], Some(3)),
-        case(Comparison::AtMost, &[-20, -3, 2], Some(3)),
-        case(Comparison::Greater, &[10], Some(2)),
-        case(Comparison::AtLeast, &[2, 10], Some(2)),
+        made(Comparison::Equal, &[2], None),
+        made(Comparison::Unequal, &[-20, -3, 10], None),
+        made(Comparison::Less, &[-20, -3], Some(3)),
+        made(Comparison::AtMost, &[-20, -3, 2], Some(3)),
+        made(Comparison::Greater, &[10], Some(2)),
+        made(Comparison::AtLeast, &[2, 10], Some(2)),
     ]
 }
 
 // The accounts whose balances, 5, 0, 3 and 4, compare so with 3.
 fn by_balance() -> [Case; 6] {
     [
-        case(Comparison::Equal, &[2], Some(1)),
-        case(Comparison::Unequal, &[-20, -3, 10], None),
-        case(Comparison::Less, &[-3], Some(2)),
-        case(Comparison::AtMost, &[-3, 2], Some(2)),
-        case(Comparison::Greater, &[-20, 10], Some(3)),
-        case(Comparison::AtLeast, &[-20, 2, 10], Some(3)),
+        made(Comparison::Equal, &[2], Some(1)),
+        made(Comparison::Unequal, &[-20, -3, 10], None),
+        made(Comparison::Less, &[-3], Some(2)),
+        made(Comparison::AtMost, &[-3, 2], Some(2)),
+        made(Comparison::Greater, &[-20, 10], Some(3)),
+        made(Comparison::AtLeast, &[-20, 2, 10], Some(3)),
     ]
 }
 
@@ -340,11 +340,11 @@ fn texts_by_their_bytes(rt: HostRuntime) -> Result<(), Fail> {
         looks.put(alloc, 0, key, &named)?;
     }
     let cases = [
-        case(Comparison::Equal, &[2], Some(1)),
-        case(Comparison::Less, &[-3, 10], Some(3)),
-        case(Comparison::AtMost, &[-3, 2, 10], Some(3)),
-        case(Comparison::Greater, &[-20], Some(2)),
-        case(Comparison::AtLeast, &[-20, 2], Some(2)),
+        made(Comparison::Equal, &[2], Some(1)),
+        made(Comparison::Less, &[-3, 10], Some(3)),
+        made(Comparison::AtMost, &[-3, 2, 10], Some(3)),
+        made(Comparison::Greater, &[-20], Some(2)),
+        made(Comparison::AtLeast, &[-20, 2], Some(2)),
     ];
     for case in cases {
         for right in [false, true] {
