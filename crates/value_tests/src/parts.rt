@@ -23,7 +23,7 @@ struct Parts {
 }
 
 impl Look for Parts {
-    ghost use Rattle.std.specs.Prelude.{⊤, ⊥};
+    ghost use Rattle.std.specs.Prelude.{⊤};
 
     ghost allows = { λ look world. ⊥ };
 
