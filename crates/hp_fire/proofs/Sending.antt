@@ -49,7 +49,7 @@ use Rattle.hp_fire.specs.contracts.speculate.past.Effort as Effort
 use Rattle.hp_fire.specs.contracts.speculate.wave.Wave as Wave
 use Rattle.hp_fire.specs.contracts.speculate.pending.Tried as Tried
 use Rattle.hp_fire.specs.contracts.speculate.progress.Progress as Progress
-use Rattle.hp_fire.specs.contracts.speculate.line.Sent as Sent
+use Rattle.hp_fire.specs.contracts.speculate.channel.Sent as Sent
 use Rattle.hp_board.proofs.dealer.Seat.TheSendSync as seat
 use Rattle.rtrb.proofs.producer.Producer.TheSendSync as sender
 use Rattle.hp_fire.specs.contracts.speculate.wave.Job as Job

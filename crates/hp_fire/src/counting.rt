@@ -27,8 +27,8 @@ impl<'a> Counting<'a> {
         Counting { view, rows: 0 }
     }
 
-    /// Counts the rows that these queries were given, by the operators of their predicates.
-    pub(crate) fn tell(&self, queries: &[Query], effort: &Effort) {
+    /// Adds what it took to look at the rows for these queries, by the operators of their predicates.
+    pub(crate) fn add_queries(&self, queries: &[Query], effort: &Effort) {
         let mut longest = 0u64;
         for query in queries {
             longest = longest.max(operators(&query.predicate));
@@ -36,8 +36,8 @@ impl<'a> Counting<'a> {
         effort.add(self.rows.saturating_mul(longest.saturating_add(ROW)));
     }
 
-    /// The same of one predicate.
-    pub(crate) fn tell_of(&self, predicate: &Expr, effort: &Effort) {
+    /// Adds what it took to look at the rows for one predicate.
+    pub(crate) fn add_predicate(&self, predicate: &Expr, effort: &Effort) {
         let operators = operators(predicate);
         effort.add(self.rows.saturating_mul(operators.saturating_add(ROW)));
     }

@@ -50,11 +50,7 @@ impl<R: Threads + Sync> Runner<'_, R> {
     /// Tries a unit on a snapshot, which is dropped.
     ///
     /// An error means that memory ran out.
-    pub(crate) fn attempt_unit(
-        &self,
-        snapshot: Snapshot,
-        unit: &Unit,
-    ) -> Result<UnitAttempt, AllocError>
+    pub fn attempt_unit(&self, snapshot: Snapshot, unit: &Unit) -> Result<UnitAttempt, AllocError>
         ensures sound { IfOk result (λ a. IsSoundUnit (library self.now.engine.lib.now) (unit_of unit.now) a.reads (changes a.layer.value) (unit_report a.report)) }
         ensures so_it_was { IfOk result (λ a. Holds (cells_in snapshot) a.reads) }
     {
@@ -73,7 +69,7 @@ impl<R: Threads + Sync> Runner<'_, R> {
     /// The changes go into the store in place where nobody else holds a snapshot of it, and cost no more than what they change. A
     /// class that the unit read as a whole needn't be listed anew for the units after it, until one of its objects changes.
     /// An error means that memory ran out; the store is then as before.
-    pub(crate) fn run_unit(&self, store: &mut Store, unit: &Unit) -> Result<UnitReport, AllocError>
+    pub fn run_unit(&self, store: &mut Store, unit: &Unit) -> Result<UnitReport, AllocError>
         ensures ran { IfOk result (λ r. RanUnit (library self.now.engine.lib.now) (unit_of unit.now) (cells_in store.old) (cells_in store.new) (unit_report r)) }
         ensures replayed { IfOk result (λ r. IsReplayed (library self.now.engine.lib.now) (unit_of unit.now) (cells_in store.old) (unit_report r)) }
         ensures lawful { IfOk result (λ r. IsLawful (library self.now.engine.lib.now) (unit_of unit.now) (cells_in store.old) (unit_report r)) }
