@@ -13,7 +13,7 @@ use Rattle.hp_model.proofs.Faithful.{Grows}
 use Rattle.hp_value.specs.Mapped.{answers}
 use Rattle.hp_tree.specs.Mapped.{what}
 use Rattle.hp_attempt.specs.Mapped.{firing}
-use Rattle.hp_view.specs.Seeing.{Seeing, written, GoesOn}
+use Rattle.hp_view.specs.Seeing.{Seeing, written, GoesOn, OnlyReads}
 use Rattle.hp_fire.specs.declared.deciding.Decision.{Decision}
 use Rattle.hp_fire.specs.declared.deciding.Decision.TheVariants.{Over, Acts, ActsLater}
 use Rattle.hp_fire.specs.Runs.{RunsFiring}
@@ -38,6 +38,7 @@ Decides library t old new d = DecidesFor library (λ S. fire_task library S t) t
 abbrev pub Follows : Library → Task → Verdict → Decision → Type 0
 Follows library t v d = (view : Seeing) → DecidesFor library (decide v (level_at library t.depth) t) t view view d
 
--- the verdict on the condition is so in each state that agrees with what the view has read
-abbrev pub FindsVerdict : Library → Task → Seeing → Verdict → Type 0
-FindsVerdict library t view v = Finds library (λ S. verdict S.objects (task_environment t) (rule_at library t.rule).condition) view.reads (written view) v
+-- by reads alone the verdict on the condition was found: it is so in each state that agrees with them
+pub record FindsVerdict (library : Library) (t : Task) (old new : Seeing) (v : Verdict) : Type 0 where
+  pub only : OnlyReads old new
+  pub finds : Finds library (λ S. verdict S.objects (task_environment t) (rule_at library t.rule).condition) new.reads (written new) v

@@ -1,6 +1,6 @@
 //! What a task's firing does before its action runs.
 
-ghost use Rattle.std.specs.Prelude.{◌≡◌, ◌≤◌, IfOk, OnOk, map, [], ◌∷◌};
+ghost use Rattle.std.specs.Prelude.{◌≡◌, ◌≤◌, IfOk, map, [], ◌∷◌};
 ghost use Rattle.hp_model.specs.Rules.{rule_at};
 ghost use Rattle.hp_model.specs.Conditions.{satisfied};
 ghost use Rattle.hp_model.specs.Tree.{condition_step, fire_node, with_later_action};
@@ -12,7 +12,6 @@ ghost use Rattle.hp_query.specs.Mapped.{query, verdict as verdict_of};
 ghost use Rattle.hp_rule.specs.declared.stmt.Stmt.{size-Stmt};
 ghost use Rattle.hp_rule.specs.Mapped.{body_in, library, task as task_of};
 ghost use Rattle.hp_tree.specs.Mapped.{what as what_of, condition as condition_end};
-ghost use Rattle.hp_view.specs.Seeing.{OnlyReads};
 ghost use Rattle.hp_attempt.specs.Mapped.{firing};
 ghost use Rattle.hp_fire.specs.Decides.{Decides, FindsVerdict, Follows};
 ghost use Rattle.hp_fire.specs.Weights.{deepest};
@@ -81,9 +80,8 @@ impl<R> Engine<'_, R> {
     ///
     /// An error means that memory ran out.
     fn condition_verdict(&self, view: &mut View, task: &Task) -> Result<Verdict, AllocError>
-        ensures reads { OnOk result (OnlyReads view.old view.new) }
-        ensures finds { let t = task_of task.now in
-            IfOk result (λ v. FindsVerdict (library self.now.lib.now) t view.new (verdict_of v)) }
+        ensures { let t = task_of task.now in
+            IfOk result (λ v. FindsVerdict (library self.now.lib.now) t view.old view.new (verdict_of v)) }
     {
         let queries = condition_of(self.lib, task.rule);
         let mut look = Counting::new(view);

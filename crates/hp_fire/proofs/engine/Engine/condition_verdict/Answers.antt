@@ -10,17 +10,16 @@ use Rattle.hp_ops.proofs.Worlds.{finds_world}
 use Rattle.hp_fire.specs.Decides.{FindsVerdict}
 use Rattle.hp_fire.proofs.engine.Engine.condition_verdict.Goals as goal
 
-pub returns-clause-reads : goal.returns-clause-reads
-returns-clause-reads g c =
-    let new = c.evaluate_condition.new.look.view.now in
-    subst (λ (v : Seeing). OnlyReads c.args.view.now v) (search rules) (subst (λ (v : Seeing). OnlyReads v new) c.new-look.ensures.now c.evaluate_condition.ensures.goes_on.only)
-
-pub returns-clause-finds : goal.returns-clause-finds
-returns-clause-finds g c =
+pub returns : goal.returns
+returns g c =
     let lib = library c.args.self.now.lib.now in
     let t = task c.args.task.now in
     let found = query.verdict c.in_ok-verdict.verdict in
-    subst (λ (v : Seeing). FindsVerdict lib t v found) (search rules)
-    (finds_world lib (λ objects. verdict objects (task_environment t) (rule_at lib t.rule).condition) c.evaluate_condition.new.look.view.now found
-    (λ world rise allowed. sym (c.in_ok-verdict.ensures.verdict world rise allowed
-    ∙ (λ i. verdict world (record { occurrence = Some (occurrence (c.deref.ensures i)); rows = [] }) (c.condition_of-queries.ensures i)))))
+    let new = c.evaluate_condition.new.look.view.now in
+    subst (λ (v : Seeing). FindsVerdict lib t c.args.view.now v found) (search rules)
+    (record {
+      only = subst (λ (v : Seeing). OnlyReads v new) c.new-look.ensures.now c.evaluate_condition.ensures.goes_on.only;
+      finds = finds_world lib (λ objects. verdict objects (task_environment t) (rule_at lib t.rule).condition) new found
+          (λ world rise allowed. sym (c.in_ok-verdict.ensures.verdict world rise allowed
+          ∙ (λ i. verdict world (record { occurrence = Some (occurrence (c.deref.ensures i)); rows = [] }) (c.condition_of-queries.ensures i))));
+    })

@@ -7,4 +7,4 @@ pub returns : goal.returns
 returns g c =
     let found = c.in_ok-verdict.ensures in
     condition_decides (library c.args.self.now.lib.now) (task c.args.task.now) (verdict c.in_ok-verdict.verdict) c.args.view.now c.condition_verdict.new.view c.in_ok-decision.decision
-    c.requires found.reads found.finds (c.in_ok-decision.ensures c.condition_verdict.new.view)
+    c.requires found.only found.finds (c.in_ok-decision.ensures c.condition_verdict.new.view)

@@ -31,3 +31,16 @@ returns-after-loop-clause-channels c = c.loop.invariant.channels
 
 pub returns-after-loop-clause-comes : goal.returns-after-loop-clause-comes
 returns-after-loop-clause-comes c = c.loop.invariant.comes
+
+pub returns-then-not-lacks_next-clause-channels : goal.returns-then-not-lacks_next-clause-channels
+returns-then-not-lacks_next-clause-channels c = λ library all. c.receive_all.ensures.channels library (c.loop.invariant.channels library all)
+
+pub returns-then-not-lacks_next-clause-comes : goal.returns-then-not-lacks_next-clause-comes
+returns-then-not-lacks_next-clause-comes c = λ library all sound.
+    let before = c.loop.invariant.comes library all sound in
+    let here = c.receive_all.ensures.sound library (c.loop.invariant.channels library all) before.sound in
+    let put : Progress = record c.loop.self { pending = c.receive_all.new.self } in
+    let said = c.in_ok-settle.ensures in
+    comes_then c.args.self.now c.loop.self c.settle.new.self before
+    (comes_then c.loop.self put c.settle.new.self (comes_put c.loop.view c.loop.self put refl here)
+    (comes_settled put c.settle.new.self c.in_ok-settle.field-0 said.taken said.none (said.waves, said.marks) said.accepted said.retried (said.sound library here) (said.so_far library here)))

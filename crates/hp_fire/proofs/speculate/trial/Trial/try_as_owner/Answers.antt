@@ -7,6 +7,12 @@ use Rattle.hp_fire.proofs.speculate.trial.Trial.try_as_owner.Goals as goal
 pub returns-in_err-accept_sent-clause-channels : goal.returns-in_err-accept_sent-clause-channels
 returns-in_err-accept_sent-clause-channels g c = c.accept_sent.ensures.channels (library c.args.self.now.lib.now) c.loop.invariant.1
 
+pub returns-in_err-accept_sent-2-clause-channels : goal.returns-in_err-accept_sent-2-clause-channels
+returns-in_err-accept_sent-2-clause-channels g c = c.accept_sent-2.ensures.channels (library c.args.self.now.lib.now) c.loop.invariant.1
+
+pub returns-clause-channels : goal.returns-clause-channels
+returns-clause-channels g c = c.accept_sent-2.ensures.channels (library c.args.self.now.lib.now) c.loop.invariant.1
+
 pub returns-clause-comes : goal.returns-clause-comes
 returns-clause-comes g c =
     let so_far = c.loop.invariant in
