@@ -13,3 +13,4 @@ pub mod Keeping
 pub mod Covered
 pub mod Told
 pub mod Picked
+pub mod Indexed

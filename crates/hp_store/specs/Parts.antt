@@ -13,7 +13,7 @@ use Rattle.hp_value.specs.declared.cell.Cell.{Cell}
 use Rattle.hp_value.specs.declared.cell.Cell.TheVariants.{Object}
 use Rattle.hp_store.specs.declared.value.CellValue.{CellValue}
 use Rattle.hp_store.specs.declared.candidates.Candidates.{Candidates}
-use Rattle.hp_store.specs.declared.candidates.Candidates.TheVariants.{Nothing, OfTable, OfLayer}
+use Rattle.hp_store.specs.declared.candidates.Candidates.TheVariants.{Nothing, OfTable, OfIndex, OfLayer}
 
 -- the keys of the first objects, up to a cell of another kind
 abbrev pub object_keys : List (Cell × Option CellValue) → List ℤ
@@ -25,6 +25,7 @@ object_keys (e ∷ es) = []
 abbrev pub keys_left : Candidates → List ℤ
 keys_left Nothing = []
 keys_left (OfTable es) = map (λ (e : ℤ × CellValue). e.0) es
+keys_left (OfIndex es) = map (λ (e : (ℤ × ℤ) × Unit {0}). e.0.1) es
 keys_left (OfLayer es) = object_keys es
 
 -- a bound that is included, if there is one

@@ -22,6 +22,8 @@ pub(crate) enum Candidates<'a> {
     Nothing,
     /// Those in a part of a base's table.
     OfTable(Range<'a, Key, CellValue>),
+    /// Those of a part of an index.
+    OfIndex(Range<'a, (i64, Key), ()>),
     /// Those of objects that a layer names.
     OfLayer(Range<'a, Cell, Option<CellValue>>),
 }
@@ -35,6 +37,10 @@ impl Candidates<'_> {
             Candidates::Nothing => None,
             Candidates::OfTable(range) => match range.next() {
                 Some((key, _)) => Some(*key),
+                None => None,
+            },
+            Candidates::OfIndex(range) => match range.next() {
+                Some(((_, key), _)) => Some(*key),
                 None => None,
             },
             Candidates::OfLayer(range) => match range.next() {
