@@ -1,12 +1,11 @@
 -- Keys of a class among which a part's objects are.
 use Rattle.std.proofs.Common.{◌≡◌, refl, ap, ap₂, sym, ◌∙◌, subst, ℕ, ℤ, Bool, true, false, not, ◌&&◌, ◌||◌, cond, List, [], ◌∷◌, map, length, take, get_or, ◌+◌, ◌<◌, Option, Some, None, IsTrue, int_eq, int_lt, Ok}
 use Rattle.std.specs.Prelude.{◌==◌, option_map, if◌then◌else◌}
-use Rattle.std.specs.Option.{option_or}
 use Rattle.std.specs.declared.cmp.Ordering.{Ordering}
 use Rattle.std.specs.declared.cmp.Ordering.TheVariants.{Less, Equal, Greater}
 use Rattle.std.specs.declared.ops.Bound.{Bound}
-use Rattle.std.specs.declared.ops.Bound.TheVariants.{Included, Unbounded}
-use Rattle.std.specs.Ordering.{is_eq, is_lt, is_le, is_gt, nat_cmp, int_cmp, ordering_then, ordering_reverse}
+use Rattle.std.specs.declared.ops.Bound.TheVariants.{Included}
+use Rattle.std.specs.Ordering.{is_lt, is_le, nat_cmp, int_cmp, ordering_then, ordering_reverse}
 use Rattle.std.specs.BTreeMap.{is_at}
 use Rattle.std.specs.BTreeMap.Range.{range_contains, entries_between, is_from_start, is_past_end}
 use Rattle.std.specs.Map.{lookup}
@@ -16,9 +15,7 @@ use Rattle.hp_model.specs.Values.{KeyedRow, integer, fits_64}
 use Rattle.hp_model.specs.ClassParts.{ClassPart, belongs, lies_within}
 use Rattle.hp_model.specs.Cells as C
 use Rattle.hp_model.specs.Cells.{object_cell, row_value, Cells, Changes, changed, over, same_cell, belongs_in}
-use Rattle.hp_value.specs.declared.cell.Cell.{Cell}
 use Rattle.hp_value.specs.declared.cell.Cell.TheVariants.{Object, Rule, Detector}
-use Rattle.hp_value.specs.Mapped.{cell}
 use Rattle.hp_store.specs.declared.value.CellValue.{CellValue}
 use Rattle.hp_store.specs.Changes.{Entries, changes, changes_in, KeysFit}
 use Rattle.hp_store.specs.Mapped.{cell_value, change, entry}

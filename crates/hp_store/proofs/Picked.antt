@@ -1,9 +1,9 @@
 -- The objects of a part, found among some keys.
-use Rattle.std.proofs.Common.{◌≡◌, refl, ap, ap₂, sym, ◌∙◌, subst, ℕ, zero, suc, ◌<◌, ◌+◌, ℤ, pos, Bool, true, false, ◌||◌, List, [], ◌∷◌, ◌++◌, map, length, take, drop, get_or, append_assoc, Option, Some, None, int_eq, Result, Ok, arith}
+use Rattle.std.proofs.Common.{◌≡◌, refl, ap, ap₂, sym, ◌∙◌, subst, ℕ, ◌<◌, ◌+◌, ℤ, pos, Bool, true, false, ◌||◌, List, [], ◌∷◌, ◌++◌, length, drop, get_or, append_assoc, Option, Some, None, int_eq, Result, Ok}
 use Rattle.std.specs.Prelude.{All, IfOk}
 use Rattle.std.specs.Ordering.{is_eq, int_cmp}
 use Rattle.std.specs.declared.cmp.Ordering.TheVariants.{Less}
-use Rattle.std.specs.List.{AllByRecursion, list_any, dedup, Contains}
+use Rattle.std.specs.List.{AllByRecursion, dedup}
 use Rattle.std.specs.List.Sorted.{IsStrictlySortedBy, IsSorted, IsPermutation}
 use Rattle.std.proofs.lemmas.Bool.Decides.{Decides-int_eq}
 use Rattle.std.proofs.lemmas.Cmp.{int_cmp_total, int_eq_equiv}
@@ -14,13 +14,11 @@ use Rattle.std.proofs.lemmas.List.Kept.{Contains-dedup, IsStrictlySortedBy-dedup
 use Rattle.std.proofs.lemmas.List.Sorted.{Contains-permutation}
 use Rattle.std.proofs.lemmas.Map.Views.{Contains-from_any, list_any-from_Contains}
 use Rattle.hp_model.specs.Values.{Row, KeyedRow}
-use Rattle.hp_model.specs.ClassParts.{ClassPart, belongs}
-use Rattle.hp_model.specs.Cells.{object_cell, row_value, Cells, belongs_in, over, ArePart}
+use Rattle.hp_model.specs.ClassParts.{ClassPart}
+use Rattle.hp_model.specs.Cells.{object_cell, Cells, belongs_in, ArePart}
 use Rattle.hp_value.specs.Mapped.{keys_of}
-use Rattle.hp_store.specs.Changes.{Entries, changes, changes_in}
-use Rattle.hp_store.specs.Parts.{Covers, is_among, no_cells, IsMember, with_member}
+use Rattle.hp_store.specs.Parts.{Covers, is_among, IsMember, with_member}
 use Rattle.hp_store.proofs.Cells.{int_at}
-use Rattle.hp_store.proofs.Covered.{covers_more}
 use Rattle.hp_store.proofs.Told.{IsShown, shown_at}
 
 -- ---- more keys

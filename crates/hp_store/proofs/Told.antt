@@ -1,10 +1,10 @@
 -- Whether a list has the objects of a part of a class.
-use Rattle.std.proofs.Common.{◌≡◌, refl, ⊎_elim, ap, ap₂, sym, ◌∙◌, subst, ℕ, zero, suc, ◌<◌, ◌+◌, ℤ, pos, Bool, true, false, not, ◌&&◌, ◌||◌, cond, List, [], ◌∷◌, map, length, get_or, Option, Some, None, IsTrue, int_eq, Result, Ok, Err, arith}
+use Rattle.std.proofs.Common.{◌≡◌, refl, ⊎_elim, ap, ap₂, sym, ◌∙◌, subst, ℕ, zero, suc, ◌<◌, ◌+◌, ℤ, pos, Bool, true, false, ◌&&◌, ◌||◌, List, [], ◌∷◌, map, length, get_or, Option, Some, None, IsTrue, int_eq, Result, Ok, Err, arith}
 use Rattle.std.specs.Prelude.{All}
 use Rattle.std.specs.Ordering.{is_eq, is_lt, int_cmp, ordering_reverse}
 use Rattle.std.specs.Result.{is_ok}
 use Rattle.std.specs.declared.cmp.Ordering.TheVariants.{Less, Equal, Greater}
-use Rattle.std.specs.List.{list_all, list_any, AllWithin, HoldsAt, AllAdjacentBelow}
+use Rattle.std.specs.List.{list_all, AllWithin, HoldsAt, AllAdjacentBelow}
 use Rattle.std.specs.List.Sorted.{IsStrictlySortedBy, IsSortedBy, IsSearchInRange, IsBinarySearchResult}
 use Rattle.std.proofs.lemmas.Bool.{cases_lt}
 use Rattle.std.proofs.lemmas.Bool.Decides.{Decides-int_eq}
@@ -20,7 +20,7 @@ use Rattle.hp_model.specs.Cells as C
 use Rattle.hp_model.specs.Cells.{object_cell, row_value, Cells, belongs_in, ArePart}
 use Rattle.hp_value.specs.declared.row.KeyedRow.{KeyedRow as Object}
 use Rattle.hp_value.specs.Mapped.{keyed_row, keys_of}
-use Rattle.hp_value.specs.Same.{row_same, row_decides}
+use Rattle.hp_value.specs.Same.{row_decides}
 use Rattle.hp_store.specs.Parts.{Covers, is_among, says, is_told, holds_row, is_shown}
 use Rattle.hp_store.proofs.Cells.{int_at}
 use Rattle.hp_store.proofs.Based.{no_keys_rise}

@@ -138,7 +138,7 @@ impl Layer {
         self.changes.remove(&cell)
     }
 
-    /// Keeps an index of a field from now on, as `Store::keep_index`.
+    /// Tells that parts of a class by a field will be asked for, as `Store::keep_index`.
     ///
     /// An error means that memory ran out.
     pub fn keep_index(
@@ -155,9 +155,11 @@ impl Layer {
 
     /// Takes in the changes of a layer over this one. They are shared, and hold where both layers name a cell.
     ///
-    /// An error means that memory ran out; some of the upper layer's changes may have been taken in.
+    /// An error means that memory ran out; some of the upper layer's changes may have been taken in. What it doesn't name is
+    /// as before.
     pub fn take_in(&mut self, upper: &Layer) -> Result<(), AllocError>
-        ensures { OnOk result ((q : ModelCell) → changes self.new q ≡ option_or (changes upper.now q) (changes self.old q)) }
+        ensures ok { OnOk result ((q : ModelCell) → changes self.new q ≡ option_or (changes upper.now q) (changes self.old q)) }
+        ensures others { (q : ModelCell) → changes upper.now q ≡ None → changes self.new q ≡ changes self.old q }
     {
         for (cell, change) in upper.iter() {
             self.insert(*cell, change.clone()?)?;

@@ -21,8 +21,8 @@ use hp_value::{Cause, Cell, ClassNo, ClassPart, Key, KeyedRow, Row};
 use std::alloc::{AllocError, Global};
 
 impl Snapshot {
-    /// The objects of a part of a class with their rows, by rising keys. None where they can't be found without a look at
-    /// all objects of the class, or where it can't be told of each object whether it belongs to the part.
+    /// The objects of a part of a class with their rows, by rising keys. None where they can't be found without a look
+    /// at all objects of the class, or where it can't be told of each object whether it belongs to the part.
     ///
     /// An error means that memory ran out.
     pub fn part(
@@ -55,8 +55,8 @@ impl Snapshot {
         Ok(found)
     }
 
-    /// Whether these are the objects of a part of a class by rising keys, once a layer has been written over the cells. It
-    /// takes no memory.
+    /// Whether these are the objects of a part of a class by rising keys, once a layer has been written over the cells.
+    /// It takes no memory.
     pub fn has_part_over(
         &self,
         writes: &Layer,
@@ -163,13 +163,7 @@ impl Snapshot {
     }
 
     // Whether an object is there with this row and belongs to the part.
-    fn shows(
-        &self,
-        writes: &Layer,
-        class: ClassNo,
-        part: &ClassPart<'_>,
-        object: &KeyedRow,
-    ) -> bool
+    fn shows(&self, writes: &Layer, class: ClassNo, part: &ClassPart<'_>, object: &KeyedRow) -> bool
         ensures { result ≡ is_shown (over (cells_in self.now) (changes writes.now)) (mapped.class_part part.now) class (mapped.keyed_row object.now) }
     {
         let Some(CellValue::Row(row)) = self.under(writes, Cell::Object(class, object.key)) else {

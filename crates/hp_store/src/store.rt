@@ -85,8 +85,8 @@ impl Store {
         self.state.keep_list(class, objects)
     }
 
-    /// Keeps an index of a field from now on, so that the objects of the class whose numbers in it lie between two bounds are
-    /// found without a look at the others. Where one is kept already this costs nothing.
+    /// Tells that parts of a class by a field will be asked for. No index is kept of it: `Snapshot::part` answers None
+    /// for such a part.
     ///
     /// An error means that memory ran out.
     pub fn keep_index(

@@ -1,4 +1,4 @@
-use Rattle.std.proofs.Common.{◌≡◌, ◌-◌, get_or, pos, rules, arith}
+use Rattle.std.proofs.Common.{◌≡◌, ◌-◌, get_or, rules, arith}
 use Rattle.std.specs.declared.cmp.Ordering.TheVariants.{Less}
 use Rattle.std.specs.Ordering.{int_cmp}
 use Rattle.hp_store.proofs.Told.{adjacent_rise, rising_at}

@@ -1,4 +1,4 @@
-use Rattle.std.proofs.Common.{List, ap, subst, ◌∙◌, ◌++◌}
+use Rattle.std.proofs.Common.{List, subst}
 use Rattle.hp_model.specs.Cells.{over}
 use Rattle.hp_value.specs.Mapped.{class_part}
 use Rattle.hp_store.specs.declared.base.Base.{Base}
@@ -20,8 +20,8 @@ returns c =
     (subst (λ (b : Base). Covers (is_among all) part class (base_cells b)) c.deref.ensures
     (covers_wider (is_among (keys_left c.candidates.result)) (is_among all) part class (base_cells c.deref.result.now)
     (λ key out.
-        not_after c.new-keys.result.items (keys_left c.candidates.result) first c.in_ok-add.ensures key
-        (c.in_ok-add_layers.ensures.kept key (not_before second (keys_left c.candidates-2.result) all c.in_ok-add-2.ensures key out)))
+    not_after c.new-keys.result.items (keys_left c.candidates.result) first c.in_ok-add.ensures key
+    (c.in_ok-add_layers.ensures.kept key (not_before second (keys_left c.candidates-2.result) all c.in_ok-add-2.ensures key out)))
     c.candidates.ensures))
     (subst (λ (ls : List Entries). Covers (is_among all) part class (over no_cells (changes_in ls))) c.deref-2.ensures
     (covers_wider (is_among second) (is_among all) part class (over no_cells (changes_in c.deref-2.result.now)) (not_before second (keys_left c.candidates-2.result) all c.in_ok-add-2.ensures)
