@@ -1,13 +1,13 @@
 -- Indexes of fields.
 use Rattle.std.proofs.Common.{◌≡◌, refl, ap, ap₂, sym, ◌∙◌, subst, ℕ, ℤ, Bool, true, false, not, ◌&&◌, ◌||◌, cond, List, [], ◌∷◌, map, Option, Some, None, is_some, IsTrue, int_eq, Ok, Err, Result}
-use Rattle.std.specs.Prelude.{option_map, MatchOption, ⊤}
+use Rattle.std.specs.Prelude.{option_map, MatchOption, ⊤, string_bytes}
 use Rattle.std.specs.declared.cmp.Ordering.{Ordering}
 use Rattle.std.specs.declared.cmp.Ordering.TheVariants.{Less, Equal, Greater}
 use Rattle.std.specs.declared.ops.Bound.{Bound}
 use Rattle.std.specs.declared.ops.Bound.TheVariants.{Included}
 use Rattle.std.specs.Ordering.{is_eq, is_lt, is_le, int_cmp, ordering_then}
 use Rattle.std.specs.BTreeMap.{is_at, get}
-use Rattle.std.specs.BTreeMap.Range.{range_contains, entries_between}
+use Rattle.std.specs.BTreeMap.Range.{range_contains, entries_between, is_from_start, is_past_end}
 use Rattle.std.specs.Map.{lookup}
 use Rattle.std.proofs.lemmas.Bool.Decides.{Decides-int_eq}
 use Rattle.hp_model.specs.Values as V
@@ -16,8 +16,9 @@ use Rattle.hp_model.specs.Expressions.{field_in}
 use Rattle.hp_model.specs.ClassParts.{ClassPart, field_attribute, belongs, lies_within}
 use Rattle.hp_model.specs.Cells as C
 use Rattle.hp_model.specs.Cells.{object_cell, row_value, Cells, belongs_in}
-use Rattle.hp_store.specs.Indexed.{number_cmp, Numbers, number_of, number_in, Stands, IsIn}
-use Rattle.hp_store.specs.Parts.{lies_between, Covers, is_among}
+use Rattle.hp_store.specs.Indexed.{number_cmp, Numbers, number_of, number_in, Stands, IsIn, IsComplete}
+use Rattle.hp_store.specs.declared.index.Index.{Index}
+use Rattle.hp_store.specs.Parts.{bound_of, lies_between, Covers, is_among}
 use Rattle.hp_store.proofs.Cells.{then_both, int_at}
 use Rattle.hp_store.proofs.Covered.{outside}
 
@@ -163,3 +164,28 @@ covers_index m range field low high p class cells is found all key out = by (cel
     by (Some (row_value row)) there = ap (λ q. belongs q (record { key = key; row = row })) is ∙ values (field_in row field) there
     by (Some (C.status_value s)) there = refl
     by (Some (C.knowledge_value k)) there = refl
+
+-- ---- what a function gives
+
+from_bound_of : (a b : Bool) → (a && not b) ≡ true → a ≡ true
+from_bound_of true b h = refl
+from_bound_of false b h = h
+
+to_bound_of : (a b : Bool) → (a && not b) ≡ true → b ≡ false
+to_bound_of true true h = cc
+to_bound_of true false h = refl
+to_bound_of false b h = cc
+
+pub from_bound : (low high : Option ℤ) (n : ℤ) → lies_between low high n ≡ true → is_from_start int_cmp (bound_of low) n ≡ true
+from_bound low high n within = from_bound_of (is_from_start int_cmp (bound_of low) n) (is_past_end int_cmp (bound_of high) n) within
+
+pub to_bound : (low high : Option ℤ) (n : ℤ) → lies_between low high n ≡ true → is_past_end int_cmp (bound_of high) n ≡ false
+to_bound low high n within = to_bound_of (is_from_start int_cmp (bound_of low) n) (is_past_end int_cmp (bound_of high) n) within
+
+-- what stands in an index that hasn't been given up
+pub index_holds : (index : Index) (m : Numbers) (field : Name) (class : ℕ) (cells : Cells) → index.numbers ≡ Some m → index.class ≡ class → string_bytes index.field ≡ field → IsComplete cells index
+    → (key : ℤ) → IsIn field m key (cells (object_cell class key))
+index_holds index m field class cells is of by all key =
+    subst (λ c. IsIn field m key (cells (object_cell c key))) of
+    (subst (λ f. IsIn f m key (cells (object_cell index.class key))) by
+    (subst (λ o. MatchOption o ⊤ (λ n. IsIn (string_bytes index.field) n key (cells (object_cell index.class key)))) is (all key)))

@@ -31,8 +31,10 @@ pub(crate) struct Index {
 
 impl Index {
     /// Whether it is the index of a field, even if it has been given up.
-    pub(crate) fn is_of(&self, class: ClassNo, field: &str) -> bool {
-        self.class == class && self.field.as_str() == field
+    pub(crate) fn is_of(&self, class: ClassNo, field: &str) -> bool
+        ensures { IsTrue result → (self.now.class ≡ class) × (string_bytes self.now.field ≡ field.now) }
+    {
+        self.class == class && field == self.field.as_str()
     }
 
     /// Keys among which all objects of a part are, if this is the index of its field.
@@ -43,10 +45,7 @@ impl Index {
         else {
             return None;
         };
-        if self.class != class {
-            return None;
-        }
-        if self.field.as_str() != field {
+        if !self.is_of(class, field) {
             return None;
         }
         match &self.numbers {
@@ -84,7 +83,10 @@ impl Index {
     fn enter_at(&mut self, cell: Cell, value: Option<&CellValue>)
         ensures { (cells : Cells) → IsComplete cells self.old → IsComplete cells self.new × IsComplete (with_value cells (mapped.cell cell) (option_map (λ x. cell_value x.now) value.entry)) self.new }
     {
-        let (Cell::Object(class, key), Some(value)) = (cell, value) else {
+        let Some(value) = value else {
+            return;
+        };
+        let Cell::Object(class, key) = cell else {
             return;
         };
         if class == self.class {

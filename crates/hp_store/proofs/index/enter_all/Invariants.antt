@@ -10,6 +10,6 @@ use Rattle.hp_store.proofs.index.enter_all.Given as goal
 abbrev pub invariant-loop-i : goal.invariant-loop-i
 invariant-loop-i l = record {
   same : length l.indexes ≡ length l.initial.indexes;
-  done : (cells : Cells) → AreComplete cells l.initial.indexes → AllWithin (λ index. IsComplete cells index × IsComplete (with_value cells (cell l.cell) (option_map (λ x. cell_value x.now) l.value)) index) l.indexes 0 l.i;
-  rest : (cells : Cells) → AreComplete cells l.initial.indexes → AllWithin (IsComplete cells) l.indexes l.i (length l.indexes);
+  kept : (cells : Cells) → AreComplete cells l.initial.indexes → AreComplete cells l.indexes;
+  done : (cells : Cells) → AreComplete cells l.initial.indexes → AllWithin (IsComplete (with_value cells (cell l.cell) (option_map (λ x. cell_value x.now) l.value))) l.indexes 0 l.i;
 }
