@@ -77,8 +77,8 @@ fn have_keys(objects: &[KeyedRow], keys: &[Key]) -> bool {
 /// Keys 0, 10, .. 90 with their tenths as balances.
 fn store_of_ten(alloc: Global) -> Result<Store, AllocError> {
     let mut store = Store::empty(alloc)?;
-    for i in 0..10 {
-        write(alloc, &mut store, &[(i * 10, i)], &[])?;
+    for tenth in 0..10i64 {
+        write(alloc, &mut store, &[(tenth.wrapping_mul(10), tenth)], &[])?;
     }
     Ok(store)
 }
@@ -112,8 +112,9 @@ fn a_part_by_keys_is_found(rt: HostRuntime) -> Result<(), Fail> {
 
 /// Nine layers over a base that somebody else holds, so that the ninth is folded with the others.
 fn pile_nine(alloc: Global, store: &mut Store) -> Result<(), AllocError> {
-    for i in 0..9 {
-        write(alloc, store, &[(i * 10 + 1, i)], &[i * 10])?;
+    for tenth in 0..9i64 {
+        let key = tenth.wrapping_mul(10);
+        write(alloc, store, &[(key.wrapping_add(1), tenth)], &[key])?;
     }
     Ok(())
 }
