@@ -7,8 +7,12 @@ use std::sync::Arc;
 use std::test::Fail;
 
 /// A class, and a rule that fires at 7.
-const BASE: &str =
-    "{\"version\":1,\"classes\":[[\"acct\",[[\"bal\",\"int\"]]]],\"rules\":[[\"r\",[\"at\",7],\"immediate\",[],\"immediate\",[]]],\"items\":[[\"clock\",5]]}";
+const BASE: &str = r#"{
+  "version": 1,
+  "classes": [["acct", [["bal", "int"]]]],
+  "rules": [["r", ["at", 7], "immediate", [], "immediate", []]],
+  "items": [["clock", 5]]
+}"#;
 
 /// What is written for a refused line, without its line feed; or how many units it asks for, and the time after it.
 fn asked(alloc: Global, library: &Arc<Library>, clock: u64, line: &str) -> Result<String, Fail> {
@@ -36,17 +40,17 @@ fn reads_what_is_asked_of_a_rule_base(rt: HostRuntime) -> Result<(), Fail> {
     assert!(rt; clock == 5);
     for (line, want) in [
         (
-            "[\"tx\",[[\"install\",\"r\"],[\"delete\",\"acct\",1]]]",
+            r#"["tx", [["install", "r"], ["delete", "acct", 1]]]"#,
             "1 at 5",
         ),
-        (" [\"clock\",9]\r", "1 at 9"),
-        ("[\"clock\",5]", "0 at 5"),
-        ("[\"show\"]", "state"),
-        ("[\"clock\",4]", "refused S2 /1"),
-        ("[\"clock\",\"5\"]", "refused S2 /1"),
-        ("[\"tx\",[[\"install\",\"q\"]]]", "refused S4 /1/0/1"),
-        ("[\"tx\",[[\"delete\",\"acc\",1]]]", "refused S4 /1/0/1"),
-        ("[\"show\",1]", "refused S2 /"),
+        (" [\"clock\", 9]\r", "1 at 9"),
+        (r#"["clock", 5]"#, "0 at 5"),
+        (r#"["show"]"#, "state"),
+        (r#"["clock", 4]"#, "refused S2 /1"),
+        (r#"["clock", "5"]"#, "refused S2 /1"),
+        (r#"["tx", [["install", "q"]]]"#, "refused S4 /1/0/1"),
+        (r#"["tx", [["delete", "acc", 1]]]"#, "refused S4 /1/0/1"),
+        (r#"["show", 1]"#, "refused S2 /"),
         ("{}", "refused S2 /"),
         ("", "refused S1"),
     ] {
