@@ -84,12 +84,18 @@ same_then p q = record { base = q.base ∙ p.base; reads = q.reads ∙ p.reads; 
 -- a view that is the same has taken in the same
 pub takes_same : (n : ℕ) (attempts : List (Option Attempt)) (first : Seeing) {old new : Seeing} → TakesSome n attempts first old → IsSame old new → TakesSome n attempts first new
 takes_same zero attempts first taken same = same_then taken same
-takes_same (suc n) attempts first (a, rest, mid, at, before, takes) same =
-    (a, rest, mid, at, before, record {
-      base = same.base ∙ takes.base;
-      reads = subst (AddsReads (IsForAny (written mid) a.reads) mid.reads) (sym same.reads) takes.reads;
-      changes = same.changes ∙ takes.changes;
-    })
+takes_same (suc n) attempts first (a, rest, mid, at, before, takes) same = (
+  a,
+  rest,
+  mid,
+  at,
+  before,
+  record {
+    base = same.base ∙ takes.base;
+    reads = subst (AddsReads (IsForAny (written mid) a.reads) mid.reads) (sym same.reads) takes.reads;
+    changes = same.changes ∙ takes.changes;
+  },
+)
 
 -- one attempt more
 takes_more : (attempts : List (Option Attempt)) (outcomes : List Outcome) (o : Outcome) (t : Task) (left : List (Option Attempt)) (first : Seeing) {old new : Seeing}

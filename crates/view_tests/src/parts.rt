@@ -91,7 +91,10 @@ fn expect(
     keys: &[Key],
 ) -> Result<(), Fail> {
     let nothing = Layer::new(alloc);
-    assert!(rt; finds(alloc, &store.snapshot()?, &nothing, part, keys)?, "{keys:?}");
+    assert!(rt;
+        finds(alloc, &store.snapshot()?, &nothing, part, keys)?,
+        "{keys:?}"
+    );
     Ok(())
 }
 

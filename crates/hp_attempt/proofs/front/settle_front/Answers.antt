@@ -105,6 +105,6 @@ returns-in_err-push-clause-err c =
     on_err c.from_residual-in_err-push.result (
       length (outcomes ++ c.in-Some.outcome ∷ []),
       takes_unpushed c.args.attempts.items outcomes c.in_ok-outcome.field-0 c.in-Some.outcome (task c.task-item.result) c.loop-task.attempts.items c.settle_first.new.attempts.items
-      c.args.view.now c.loop-task.view c.settle_first.new.view
-      c.loop-task.invariant.taken c.loop-task.invariant.left c.in_ok-outcome.ensures.taken c.in-Some.is,
+          c.args.view.now c.loop-task.view c.settle_first.new.view
+          c.loop-task.invariant.taken c.loop-task.invariant.left c.in_ok-outcome.ensures.taken c.in-Some.is,
     )
