@@ -6,9 +6,7 @@ use crate::fixtures::{
 };
 use crate::seen::{Balances, Seen, all_shown, first_node, look, shown};
 use hp_attempt::{Settled, settle};
-use hp_fire::{
-    End, detached_after, end_transaction, ending, run_body, run_firing, run_signal, run_task,
-};
+use hp_fire::{End, Engine, Past, detached_after, end_transaction, ending, run_task};
 use hp_rule::{CheckError, Detached, Library, Rule, Stmt, Task};
 use hp_store::CellValue;
 use hp_tree::{ConditionEnd, Ending, What};
@@ -27,7 +25,8 @@ fn run_on(
     depth: u8,
 ) -> Result<Seen, AllocError> {
     let body = body?;
-    let course = run_body(rt, alloc, lib, view, &body, depth, 1)?;
+    let past = Past::new(alloc, lib, 1);
+    let course = Engine::new(rt, alloc, lib, 1, &past).run_body(view, &body, depth)?;
     Ok(look(view, &course))
 }
 
@@ -65,7 +64,8 @@ fn signal_on(
         name: text(alloc, "go")?,
         args: Vec::new(alloc),
     };
-    let course = run_signal(rt, alloc, lib, view, &signal, 0, 1)?;
+    let past = Past::new(alloc, lib, 1);
+    let course = Engine::new(rt, alloc, lib, 1, &past).run_signal(view, &signal, 0)?;
     Ok(look(view, &course))
 }
 
@@ -293,7 +293,8 @@ fn fire_on(
     view: &mut View,
 ) -> Result<(Option<RuleNo>, Option<(What, Ending)>, Balances), AllocError> {
     let task = task(alloc, 0, Coupling::Deferred)?;
-    let outcome = run_firing(rt, alloc, lib, view, &task, 1)?;
+    let past = Past::new(alloc, lib, 1);
+    let outcome = Engine::new(rt, alloc, lib, 1, &past).run_firing(view, &task)?;
     Ok((outcome.end, first_node(&outcome.tree), all_shown(view)))
 }
 

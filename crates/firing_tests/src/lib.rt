@@ -8,6 +8,8 @@ mod fixtures;
 #[cfg(test)]
 mod groups;
 #[cfg(test)]
+mod policy;
+#[cfg(test)]
 mod seen;
 #[cfg(test)]
 mod tops;
@@ -15,5 +17,3 @@ mod tops;
 mod units;
 #[cfg(test)]
 mod waves;
-#[cfg(test)]
-mod worth;

@@ -1,3 +1,2 @@
 pub mod Evaluated
 pub mod Longest
-pub mod TypedReads

@@ -5,14 +5,12 @@ mod fault;
 mod running;
 #[cfg(test)]
 mod tests;
-mod words;
 
 use fault::exit_code;
 use hp_report::Watched;
+use hp_words::{options_of, word_code};
 use running::run;
-use std::env;
 use std::process::ExitCode;
-use words::{Options, WordFault, parse_words, word_code};
 
 fn main(rt: HostRuntime) -> ExitCode {
     let options = match options_of(&rt) {
@@ -29,15 +27,4 @@ fn main(rt: HostRuntime) -> ExitCode {
         let _ = eprintln!(rt; "{fault}");
     }
     ExitCode::from(exit_code(&ended))
-}
-
-/// The options that the process was started with.
-fn options_of(rt: &HostRuntime) -> Result<Options, WordFault> {
-    let Ok(words) = env::args(rt) else {
-        return Err(WordFault::NoMemory);
-    };
-    let Ok(words) = words.collect::<Vec<String>>(rt.alloc()) else {
-        return Err(WordFault::NoMemory);
-    };
-    parse_words(rt.alloc(), words.as_slice())
 }

@@ -10,11 +10,11 @@ ghost use Rattle.hp_script.specs.Mapped.{script as script_of_model};
 ghost use Rattle.hipac.specs.Ends.{status_of};
 
 use crate::fault::{Fault, Status};
-use crate::words::Options;
 use hp_report::{Report, Sink, Source, final_state, read_up_to, write_report, write_text};
 use hp_script::{DecodeError, Script, decode, refusal_text};
 use hp_top::{Items, opening, run_items};
 use hp_tree::UnitReport;
+use hp_words::Options;
 use std::alloc::{AllocError, Global};
 use std::mem;
 use std::thread::Threads;

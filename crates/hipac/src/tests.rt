@@ -1,7 +1,7 @@
 use crate::fault::{Fault, Status, exit_code};
 use crate::running::run;
-use crate::words::{Options, WordFault, parse_words, word_code};
 use hp_report::Watched;
+use hp_words::{Options, WordFault, parse_words, word_code};
 use std::io;
 use std::io::{Read, Write};
 use std::process::Abort;

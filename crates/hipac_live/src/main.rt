@@ -3,17 +3,17 @@
 //! The first line is a script, each later one an item of it, or `["show"]`.
 #![tactic(auto)]
 
-mod words;
-
 use hp_live::{Options, exit_code, serve};
 use hp_report::Watched;
-use std::env;
+use hp_words::{options_of, word_code};
 use std::process::ExitCode;
-use words::{WordFault, parse_words, word_code};
 
 fn main(rt: HostRuntime) -> ExitCode {
     let options = match options_of(&rt) {
-        Ok(options) => options,
+        Ok(words) => Options {
+            workers: words.workers,
+            tree: words.tree,
+        },
         Err(fault) => {
             let _ = eprintln!(rt; "{fault}");
             return ExitCode::from(word_code(fault));
@@ -26,15 +26,4 @@ fn main(rt: HostRuntime) -> ExitCode {
         let _ = eprintln!(rt; "{fault}");
     }
     ExitCode::from(exit_code(&ended))
-}
-
-/// The options that the process was started with.
-fn options_of(rt: &HostRuntime) -> Result<Options, WordFault> {
-    let Ok(words) = env::args(rt) else {
-        return Err(WordFault::NoMemory);
-    };
-    let Ok(words) = words.collect::<Vec<String>>(rt.alloc()) else {
-        return Err(WordFault::NoMemory);
-    };
-    parse_words(rt.alloc(), words.as_slice())
 }

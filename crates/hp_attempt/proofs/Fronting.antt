@@ -1,5 +1,6 @@
 -- The front of a row of attempts.
 use Rattle.std.proofs.Common.{◌≡◌, refl, sym, ap, ◌∙◌, subst, ℕ, zero, suc, ◌+◌, Bool, true, false, List, [], ◌∷◌, ◌++◌, length, take, drop, map, Option, Some, None, append_assoc, append-nil, length-append, get_or, unwrap_or, ◌<◌, ◌↔◌, IfSome, IfNone, not, true≢false, arith}
+use Rattle.std.specs.Prelude.{Result, Ok, Err, OnErr}
 use Rattle.std.proofs.lemmas.List.{map-append}
 use Rattle.hp_model.specs.Rules.{Library}
 use Rattle.hp_model.specs.Tree.{Task}
@@ -9,14 +10,16 @@ use Rattle.hp_model.specs.Soundness.{IsSound}
 use Rattle.hp_model.specs.Answers.{FaithfulFiring, SiblingsAnswer, FaithfulSiblings}
 use Rattle.hp_model.proofs.Faithful.{Grows}
 use Rattle.hp_model.proofs.FaithfulFirings.{goes_on, GroupCompletes, group_more, group_end, group_vetoed}
-use Rattle.hp_view.specs.Seeing.{Seeing, GoesOn, written, now_in}
+use Rattle.hp_view.specs.Adding.{AddsReads}
+use Rattle.hp_view.specs.Seeing.{Seeing, GoesOn, IsSame, written, now_in}
+use Rattle.hp_attempt.specs.Holding.{IsForAny}
 use Rattle.hp_rule.specs.Mapped.{task}
 use Rattle.hp_attempt.specs.declared.settling.Settled.{Settled}
 use Rattle.hp_attempt.specs.declared.settling.Settled.TheVariants.{Accepted, Rejected}
 use Rattle.hp_attempt.specs.declared.outcome.Outcome.{Outcome}
 use Rattle.hp_attempt.specs.declared.outcome.Attempt.{Attempt}
 use Rattle.hp_attempt.specs.Mapped.{firing, attempt}
-use Rattle.hp_attempt.specs.Fronts.{AreSound, last_end, stopped_by, Stays, StopsAt, IsLongest, FrontIs, TakesFirst, LeavesFirst}
+use Rattle.hp_attempt.specs.Fronts.{AreSound, last_end, stopped_by, Stays, StopsAt, IsLongest, FrontIs, TakesAttempt, TakesSome, AreOutcomes, TakesFirst, LeavesFirst}
 
 -- ---- the next of a list
 
@@ -66,6 +69,60 @@ none_yet stops tasks attempts outcomes v is = subst (λ os. SoFar stops tasks at
     none : (stops : Bool) → stopped_by stops [] ≡ None
     none true = refl
     none false = refl
+
+-- ---- what the view has taken in so far
+
+pub takes_none : (attempts : List (Option Attempt)) (outcomes : List Outcome) (v : Seeing) → outcomes ≡ [] → TakesSome (length outcomes) attempts v v
+takes_none attempts outcomes v is = subst (λ os. TakesSome (length os) attempts v v) (sym is) (record { base = refl; reads = refl; changes = refl; undo = refl })
+
+pub no_outcomes : (attempts : List (Option Attempt)) (outcomes : List Outcome) → outcomes ≡ [] → AreOutcomes outcomes attempts
+no_outcomes attempts outcomes is = subst (λ os. AreOutcomes os attempts) (sym is) tt
+
+same_then : {first old new : Seeing} → IsSame first old → IsSame old new → IsSame first new
+same_then p q = record { base = q.base ∙ p.base; reads = q.reads ∙ p.reads; changes = q.changes ∙ p.changes; undo = q.undo ∙ p.undo }
+
+-- a view that is the same has taken in the same
+pub takes_same : (n : ℕ) (attempts : List (Option Attempt)) (first : Seeing) {old new : Seeing} → TakesSome n attempts first old → IsSame old new → TakesSome n attempts first new
+takes_same zero attempts first taken same = same_then taken same
+takes_same (suc n) attempts first (a, rest, mid, at, before, takes) same = (
+  a,
+  rest,
+  mid,
+  at,
+  before,
+  record {
+    base = same.base ∙ takes.base;
+    reads = subst (AddsReads (IsForAny (written mid) a.reads) mid.reads) (sym same.reads) takes.reads;
+    changes = same.changes ∙ takes.changes;
+  },
+)
+
+-- one attempt more
+takes_more : (attempts : List (Option Attempt)) (outcomes : List Outcome) (o : Outcome) (t : Task) (left : List (Option Attempt)) (first : Seeing) {old new : Seeing}
+    → TakesSome (length outcomes) attempts first old → TakesFirst t old new (drop (length outcomes) attempts) left o → TakesSome (length (outcomes ++ o ∷ [])) attempts first new
+takes_more attempts outcomes o t left first {old} {new} so_far takes =
+    let e : suc (length outcomes) ≡ length outcomes + 1 = omega arith in
+    subst (λ n. TakesSome n attempts first new) (e ∙ sym (length-append outcomes (o ∷ []))) (takes.taken, left, old, takes.first, so_far, takes.takes)
+
+outcomes_more : (outcomes : List Outcome) (attempts : List (Option Attempt)) (o : Outcome) (a : Attempt) (rest : List (Option Attempt)) → AreOutcomes outcomes attempts → drop (length outcomes) attempts ≡ Some a ∷ rest → a.outcome ≡ o
+    → AreOutcomes (outcomes ++ o ∷ []) attempts
+outcomes_more [] [] o a rest are at is = cc
+outcomes_more [] (None ∷ attempts) o a rest are at is = cc
+outcomes_more [] (Some b ∷ attempts) o a rest are at is = let same : a ≡ b = cc in (subst (λ (x : Attempt). x.outcome ≡ o) same is, tt)
+outcomes_more (p ∷ outcomes) [] o a rest are at is = absurd are
+outcomes_more (p ∷ outcomes) (None ∷ attempts) o a rest are at is = absurd are
+outcomes_more (p ∷ outcomes) (Some b ∷ attempts) o a rest are at is = (are.0, outcomes_more outcomes attempts o a rest are.1 at is)
+
+-- what is so where a call fails
+pub on_err : {X E P : Type 0} (r : Result X E) → P → OnErr r P
+on_err (Ok x) p = tt
+on_err (Err e) p = p
+
+-- the attempt was taken in, whose outcome found no room
+pub takes_unpushed : (attempts : List (Option Attempt)) (outcomes : List Outcome) (given : Option Outcome) (o : Outcome) (t : Task) (old_left left : List (Option Attempt)) (first old new : Seeing)
+    → TakesSome (length outcomes) attempts first old → old_left ≡ drop (length outcomes) attempts → IfSome given (λ o. TakesFirst t old new old_left left o) → given ≡ Some o → TakesSome (length (outcomes ++ o ∷ [])) attempts first new
+takes_unpushed attempts outcomes given o t old_left left first old new so_far was taken is =
+    takes_more attempts outcomes o t left first so_far (subst (λ l. TakesFirst t old new l left o) was (subst (λ p. IfSome p (λ o. TakesFirst t old new old_left left o)) is taken))
 
 -- one task and its attempt more
 module _ (stops : Bool) (tasks : List Task) (attempts : List (Option Attempt)) (outcomes : List Outcome) (o : Outcome) (t : Task) (ts : List Task) (left : List (Option Attempt)) {first old new : Seeing}
@@ -135,11 +192,12 @@ leaves_first t {old} {new} attempts a d r at is rejected accepted =
     }
 
 pub takes_first : (t : Task) {old new : Seeing} (before after : List (Option Attempt)) (a b : Attempt) (d : Option Attempt) → before ≡ Some b ∷ after → Some a ≡ get_or before 0 d
-    → ((library : Library) → IsSound library (attempt a) → FaithfulFiring library (λ S. fire_task library S t) new.reads (written old) (written new) (firing a.outcome)) → TakesFirst t old new before after b.outcome
-takes_first t {old} {new} before after a b d is at faithful = record {
+    → ((library : Library) → IsSound library (attempt a) → FaithfulFiring library (λ S. fire_task library S t) new.reads (written old) (written new) (firing a.outcome)) → TakesAttempt a old new → TakesFirst t old new before after b.outcome
+takes_first t {old} {new} before after a b d is at faithful takes = record {
   taken = b;
   first = is;
   gives = refl;
+  takes = subst (λ (x : Attempt). TakesAttempt x old new) (first_is before a b after d is at) takes;
   faithful = subst (λ (x : Attempt). (library : Library) → IsSound library (attempt x) → FaithfulFiring library (λ S. fire_task library S t) new.reads (written old) (written new) (firing x.outcome)) (first_is before a b after d is at) faithful;
 }
 
@@ -203,11 +261,13 @@ pub record Stepped (stops : Bool) (tasks : List Task) (attempts : List (Option A
   pub more : goes_on stops o.end ≡ true → SoFar stops tasks attempts outcomes first new
   pub last : goes_on stops o.end ≡ false → FrontIs stops tasks attempts outcomes first new
   pub longest : goes_on stops o.end ≡ false → (now : Cells) (ts : List Task) → IsLongest (stopped_by stops outcomes) now ts rest
+  pub taken : TakesSome (length outcomes) attempts first new
+  pub are : AreOutcomes outcomes attempts
 
 pub step : (stops : Bool) (tasks : List Task) (attempts : List (Option Attempt)) (before after : List Outcome) (given : Option Outcome) (o : Outcome) (t : Task) (ts : List Task) (old_left left : List (Option Attempt)) {first old new : Seeing}
-    → SoFar stops tasks attempts before first old → drop (length before) tasks ≡ t ∷ ts → old_left ≡ drop (length before) attempts
+    → SoFar stops tasks attempts before first old → TakesSome (length before) attempts first old → AreOutcomes before attempts → drop (length before) tasks ≡ t ∷ ts → old_left ≡ drop (length before) attempts
     → IfSome given (λ o. TakesFirst t old new old_left left o) → given ≡ Some o → GoesOn old new → after ≡ before ++ o ∷ [] → Stepped stops tasks attempts after o left first new
-step stops tasks attempts before after given o t ts old_left left {first} {old} {new} so_far next was taken is on all =
+step stops tasks attempts before after given o t ts old_left left {first} {old} {new} so_far taken_before are_before next was taken is on all =
     let takes : TakesFirst t old new (drop (length before) attempts) left o = subst (λ l. TakesFirst t old new l left o) was (subst (λ p. IfSome p (λ o. TakesFirst t old new old_left left o)) is taken) in
     subst (λ os. Stepped stops tasks attempts os o left first new) (sym all)
     (record {
@@ -215,6 +275,8 @@ step stops tasks attempts before after given o t ts old_left left {first} {old} 
       more = one_more stops tasks attempts before o t ts left so_far next takes on;
       last = λ halts. front_vetoed tasks attempts before o t ts left next takes on stops halts so_far;
       longest = λ halts now ts. longest_vetoed stops before o now ts left halts;
+      taken = takes_more attempts before o t left first taken_before takes;
+      are = outcomes_more before attempts o takes.taken left are_before takes.first takes.gives;
     })
 
 -- whether it stops, as a test says
@@ -231,12 +293,14 @@ not_halting false stopped is so = absurd (true≢false (sym is ∙ so))
 pub record Ended (stops : Bool) (tasks : List Task) (attempts : List (Option Attempt)) (outcomes : List Outcome) (rest : List (Option Attempt)) (first new : Seeing) : Type 0 where
   pub front : FrontIs stops tasks attempts outcomes first new
   pub longest : IsLongest (stopped_by stops outcomes) (now_in new) (drop (length outcomes) tasks) rest
+  pub taken : TakesSome (length outcomes) attempts first new
 
 pub ended : (stops : Bool) (tasks : List Task) (attempts : List (Option Attempt)) (outcomes : List Outcome) (given : Option Outcome) (t : Task) (ts : List Task) (old_left left : List (Option Attempt)) {first old new : Seeing}
-    → SoFar stops tasks attempts outcomes first old → drop (length outcomes) tasks ≡ t ∷ ts → IfNone given (LeavesFirst t old new old_left left) → given ≡ None → Ended stops tasks attempts outcomes left first new
-ended stops tasks attempts outcomes given t ts old_left left {first} {old} {new} so_far next stays none =
+    → SoFar stops tasks attempts outcomes first old → TakesSome (length outcomes) attempts first old → drop (length outcomes) tasks ≡ t ∷ ts → IfNone given (LeavesFirst t old new old_left left) → given ≡ None → Ended stops tasks attempts outcomes left first new
+ended stops tasks attempts outcomes given t ts old_left left {first} {old} {new} so_far taken next stays none =
     let leaves = subst (λ p. IfNone p (LeavesFirst t old new old_left left)) none stays in
     record {
       front = subst (FrontIs stops tasks attempts outcomes first) (sym leaves.view) (front_end so_far);
       longest = longest_stays (stopped_by stops outcomes) (now_in new) (drop (length outcomes) tasks) ts t left next leaves.stays;
+      taken = subst (TakesSome (length outcomes) attempts first) (sym leaves.view) taken;
     }

@@ -1,27 +1,30 @@
 -- Attempts that are taken in.
-use Rattle.std.proofs.Common.{◌≡◌, refl, sym, ap, ◌∙◌, subst, ℕ, ℤ, List, [], ◌∷◌}
-use Rattle.std.specs.Prelude.{Result, Ok, Err, OnOk}
+use Rattle.std.proofs.Common.{◌≡◌, refl, sym, ap, ◌∙◌, subst, ℕ, ℤ, List, [], ◌∷◌, ◌++◌, append-nil, length, take, drop, slice_index_or, inl, inr, arith}
+use Rattle.std.specs.Prelude.{Result, Ok, Err, OnOk, OnErr}
 use Rattle.hp_model.specs.Rules.{Library}
 use Rattle.hp_model.specs.Tree.{Task}
 use Rattle.hp_model.specs.Values.{KeyedRow}
-use Rattle.hp_model.specs.Cells.{Cells, cells, over, Read, keys_read, objects_read, IsTold, AllTold, Holds, AreKeys, AreObjects}
+use Rattle.hp_model.specs.ClassParts.{ClassPart}
+use Rattle.hp_model.specs.Cells.{Cells, cells, Changes, object_cell, belongs_in, over, Read, cell_read, keys_read, objects_read, part_read, IsTold, AllTold, Holds, AreKeys, AreObjects, ArePart}
 use Rattle.hp_model.specs.Firing.{fire_task}
 use Rattle.hp_model.specs.Soundness.{firing_answer, LeadsTo, Attempt, IsSound}
 use Rattle.hp_model.specs.Answers.{FaithfulFiring}
 use Rattle.hp_model.proofs.BridgesCells.{stacked, over-over, Holds-front}
 use Rattle.hp_store.specs.Changes.{Entries, changes}
 use Rattle.hp_store.specs.Stack.{cells_in}
-use Rattle.hp_view.specs.Seeing.{Seeing, written, now_in, Shows, ShowsKeys, ShowsObjects, TakesIn, OnlyReads, GoesOn}
+use Rattle.hp_view.specs.Seeing.{Seeing, written, now_in, Shows, ShowsKeys, ShowsObjects, ShowsPart, ReadsPart, IsSame, TakesIn, OnlyReads, GoesOn, Restores, undone}
 use Rattle.hp_view.specs.Looks.{only_reads_then}
 use Rattle.hp_view.proofs.Views.{GoesOn-then}
 use Rattle.hp_value.specs.declared.cell.Cell.{Cell as RustCell}
 use Rattle.hp_value.specs.Mapped.{cell}
 use Rattle.hp_view.specs.declared.reads.Found.{Found}
-use Rattle.hp_view.specs.declared.reads.Found.TheVariants.{Value, Keys, Objects}
+use Rattle.hp_view.specs.declared.reads.Found.TheVariants.{Value, Keys, Objects, Part}
 use Rattle.hp_view.specs.declared.reads.Seen.{Seen}
-use Rattle.hp_view.specs.declared.reads.Seen.TheVariants.{Cell as OfCell, Keys as OfKeys}
+use Rattle.hp_view.specs.declared.reads.Seen.TheVariants.{Cell as OfCell, Keys as OfKeys, Part as OfPart}
 use Rattle.hp_view.specs.Mapped.{read}
-use Rattle.hp_attempt.specs.Holding.{IsReadOf, IsReadAgain, Covers}
+use Rattle.hp_view.specs.Adding.{AddsReads, IsOfClass}
+use Rattle.hp_view.proofs.Adding.{adds_noted, adds_then, adds_more}
+use Rattle.hp_attempt.specs.Holding.{IsReadOf, IsReadAgain, IsFor, IsForAny, IsTakenIn, ReadsMore, Covers}
 
 -- ---- a view that only read
 
@@ -41,6 +44,8 @@ read_is_of (OfCell q) found = refl
 read_is_of (OfKeys n) (Value v) = refl
 read_is_of (OfKeys n) (Keys keys) = refl
 read_is_of (OfKeys n) (Objects objects) = refl
+read_is_of (OfKeys n) (Part part) = refl
+read_is_of (OfPart n number) found = refl
 
 pub again_cell : (old new : Seeing) (q : RustCell) (found : Found) → Shows new (cell q) (now_in old (cell q)) → IsReadAgain old new (read (OfCell q, found))
 again_cell old new q found shows = λ told base held. shows.everywhere base held ∙ told
@@ -50,6 +55,21 @@ again_keys old new n keys shows = λ told base held. (shows keys told).everywher
 
 pub again_objects : (old new : Seeing) (n : ℕ) (objects : List KeyedRow) → ((os : List KeyedRow) → AreObjects (now_in old) n os → ShowsObjects new n os) → IsReadAgain old new (objects_read n objects)
 again_objects old new n objects shows = λ told base held. (shows objects told).everywhere base held
+
+pub again_part : (old new : Seeing) (n : ℕ) (p : ClassPart) (objects : List KeyedRow) → ((os : List KeyedRow) → ArePart (now_in old) n p os → ShowsPart new n p os) → IsReadAgain old new (part_read n p objects)
+again_part old new n p objects shows = λ told base held. (shows objects told).everywhere base held
+
+-- a part is told in cells that are the same in its class
+part_moved : {A B : Cells} {n : ℕ} {p : ClassPart} {objects : List KeyedRow} → ((key : ℤ) → A (object_cell n key) ≡ B (object_cell n key)) → ArePart B n p objects → ArePart A n p objects
+part_moved {A} {B} {n} {p} {objects} same told = record {
+  rise = told.rise;
+  has = λ key. ap (belongs_in p key) (same key) ∙ told.has key;
+  rows = λ i d below. same (slice_index_or objects i d).key ∙ told.rows i d below;
+}
+
+-- it is shown where all cells of its class are
+pub again_class : (old new : Seeing) (n : ℕ) (p : ClassPart) (objects : List KeyedRow) → ((key : ℤ) → Shows new (object_cell n key) (now_in old (object_cell n key))) → IsReadAgain old new (part_read n p objects)
+again_class old new n p objects shows = λ told base held. part_moved (λ key. (shows key).everywhere base held) told
 
 -- what a call promises where it succeeds
 pub where_ok : {X E P Q : Type 0} (r : Result X E) → (P → Q) → OnOk r P → OnOk r Q
@@ -81,6 +101,82 @@ record_more {first} {old} {new} {left} {rest} {all} r is only on told covers onl
 -- all of them are read
 pub covers_all : {v : Seeing} {left all : List Read} → left ≡ [] → ((base : Cells) → Holds base v.reads → AllTold (over base (written v)) left → AllTold (over base (written v)) all) → Covers v all
 covers_all {v} none covers = record { everywhere = λ base held. record { told = covers base held (subst (AllTold (over base (written v))) (sym none) tt) } }
+
+-- ---- the reads that are added
+
+-- what a call gives, whether it succeeds or not
+pub either_way : {X E P Q R : Type 0} (r : Result X E) → (P → R) → (Q → R) → OnOk r P → OnErr r Q → R
+either_way (Ok x) f g p q = f p
+either_way (Err e) f g p q = g q
+
+-- a read more of the attempt was looked at
+pub adds_next : {first old : Seeing} (new : Seeing) {left rest : List Read} (all : List Read) (r : Read) → left ≡ r ∷ rest → OnlyReads first old → AddsReads (IsForAny (written first) all) first.reads old.reads
+    → ((x : Read) → IsForAny (written first) left x → IsForAny (written first) all x) → AddsReads (IsFor (written old) r) old.reads new.reads → AddsReads (IsForAny (written first) all) first.reads new.reads
+adds_next {first} {old} new all r is only so_far into adds =
+    adds_then so_far
+    (adds_more (λ x fits. into x (subst (λ rs. IsForAny (written first) rs x) (sym is) (inl fits))) (subst (λ w. AddsReads (IsFor w r) old.reads new.reads) (same_written only) adds))
+
+pub into_rest : (first : Seeing) {left rest : List Read} (all : List Read) (r : Read) → left ≡ r ∷ rest → ((x : Read) → IsForAny (written first) left x → IsForAny (written first) all x)
+    → (x : Read) → IsForAny (written first) rest x → IsForAny (written first) all x
+into_rest first all r is into x fits = into x (subst (λ rs. IsForAny (written first) rs x) (sym is) (inr fits))
+
+-- a part that is read adds its read
+pub adds_part : (P : Read → Type 0) {old new : Seeing} {n : ℕ} {p : ClassPart} → ((objects : List KeyedRow) → P (part_read n p objects)) → ReadsPart old new n p → AddsReads P old.reads new.reads
+adds_part P {old} {new} {n} {p} fits reads =
+    subst (AddsReads P old.reads) (sym (ap (λ (v : Seeing). v.reads) reads.part_is.2)) (adds_noted P old.reads (part_read n p reads.part_is.0) (fits reads.part_is.0))
+
+-- a read of the class may be added for a part of it
+pub class_for_part : (layer : Changes) (n : ℕ) (p : ClassPart) (objects : List KeyedRow) (r : Read) → IsOfClass layer n r → IsFor layer (part_read n p objects) r
+class_for_part layer n p objects (cell_read q value) fits = fits
+class_for_part layer n p objects (keys_read m keys) fits = fits
+class_for_part layer n p objects (objects_read m found) fits = fits
+class_for_part layer n p objects (part_read m q found) fits = absurd fits
+
+-- what an attempt that is taken in does
+pub taken_written : {old new : Seeing} {reads : List Read} {layer : Entries} → IsTakenIn old new reads layer → written new ≡ stacked (written old) (changes layer)
+taken_written {layer = layer} taken = taken.takes.changes ∙ ap (λ w. stacked w (changes layer)) (same_written taken.only)
+
+pub taken_adds : {old new : Seeing} {reads : List Read} {layer : Entries} → IsTakenIn old new reads layer → AddsReads (IsForAny (written old) reads) old.reads new.reads
+taken_adds {old} {reads = reads} taken = subst (AddsReads (IsForAny (written old) reads) old.reads) (sym taken.takes.reads) taken.adds
+
+-- where memory runs out: the reads, or the writes
+pub refused_reads : {old new : Seeing} → OnlyReads old new → ReadsMore old new
+refused_reads only = record { base = only.base; reads = only.reads; changes = same_written only; undo = only.undo }
+
+pub refused_writes : {old mid new : Seeing} → OnlyReads old mid → IsSame mid new → ReadsMore old new
+refused_writes only same = record {
+  base = same.base ∙ only.base;
+  reads = (only.reads.0, same.reads ∙ only.reads.1);
+  changes = same.changes ∙ same_written only;
+  undo = same.undo ∙ only.undo;
+}
+
+-- a view that is the same goes on
+pub same_goes_on : {old new : Seeing} → IsSame old new → GoesOn old new
+same_goes_on {old} same = record {
+  base = same.base;
+  reads = ([], same.reads ∙ sym (append-nil old.reads));
+  undo = omega (arith, ap length same.undo);
+  before = λ n within. (λ i. undone (drop n (same.undo i)) (same.changes i));
+}
+
+pub same_restores : {old new : Seeing} → IsSame old new → Restores old new
+same_restores same = record { cells = (λ i. over (cells_in (same.base i)) (same.changes i)); goes_on = same_goes_on same }
+
+take_front : {A : Type 0} (xs ys : List A) → take (length xs) (xs ++ ys) ≡ xs
+take_front [] ys = refl
+take_front (x ∷ xs) ys = ap (λ l. x ∷ l) (take_front xs ys)
+
+-- the reads that were added are forgotten again
+pub forgotten : {old more new : Seeing} (count : ℕ) → ReadsMore old more → count ≡ length old.reads → new ≡ record more { reads = take count more.reads } → IsSame old new
+forgotten {old} {more} count only is forgets =
+    subst (IsSame old) (sym forgets)
+    (record {
+      base = only.base;
+      reads = ap (λ n. take n more.reads) is ∙ ap (take (length old.reads)) only.reads.1 ∙ take_front old.reads only.reads.0;
+      changes = only.changes;
+      undo = only.undo;
+    })
 
 -- ---- an attempt
 

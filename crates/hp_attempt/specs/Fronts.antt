@@ -1,5 +1,5 @@
 -- What settling the front of a row of attempts does.
-use Rattle.std.specs.Prelude.{◌≡◌, ℕ, Bool, true, false, List, [], ◌∷◌, Option, Some, None, map, take, length}
+use Rattle.std.specs.Prelude.{◌≡◌, ℕ, zero, suc, Bool, true, false, List, [], ◌∷◌, Option, Some, None, map, take, drop, length}
 use Rattle.hp_model.specs.Rules.{Library}
 use Rattle.hp_model.specs.Tree.{Task}
 use Rattle.hp_model.specs.Cells.{Cells, Holds}
@@ -7,7 +7,11 @@ use Rattle.hp_model.specs.Firing.{siblings, fire_task}
 use Rattle.hp_model.specs.Soundness.{IsSound}
 use Rattle.hp_model.specs.Answers.{FaithfulFiring, FaithfulSiblings}
 use Rattle.hp_rule.specs.Mapped.{task}
-use Rattle.hp_view.specs.Seeing.{Seeing, written, now_in}
+use Rattle.hp_model.proofs.BridgesCells.{stacked}
+use Rattle.hp_store.specs.Changes.{changes}
+use Rattle.hp_view.specs.Adding.{AddsReads}
+use Rattle.hp_view.specs.Seeing.{Seeing, written, now_in, IsSame}
+use Rattle.hp_attempt.specs.Holding.{IsForAny}
 use Rattle.hp_attempt.specs.Mapped.{firing, attempt}
 use Rattle.hp_attempt.specs.declared.outcome.Outcome.{Outcome}
 use Rattle.hp_attempt.specs.declared.outcome.Attempt.{Attempt}
@@ -50,6 +54,28 @@ pub record FrontIs (stops : Bool) (tasks : List Task) (attempts : List (Option A
       → FaithfulSiblings library (siblings (fire_task library) stops (take (length outcomes) tasks)) new.reads (written old) (written new)
       (record { firings = map firing outcomes; vetoed_by = stopped_by stops outcomes })
 
+-- ---- what becomes of the view
+
+-- an attempt is taken in: of what it read, the view reads what its own writes up to then leave open, and nothing else; and the
+-- attempt's layer is written over these writes
+pub record TakesAttempt (a : Attempt) (old new : Seeing) : Type 0 where
+  pub base : new.base ≡ old.base
+  pub reads : AddsReads (IsForAny (written old) a.reads) old.reads new.reads
+  pub changes : written new ≡ stacked (written old) (changes a.layer.value)
+
+-- so are the first ones, as many as given, one after the other
+abbrev pub TakesSome : ℕ → List (Option Attempt) → Seeing → Seeing → Type 0
+TakesSome zero attempts old new = IsSame old new
+TakesSome (suc n) attempts old new =
+    (a : Attempt) × (rest : List (Option Attempt)) × (mid : Seeing) × (drop n attempts ≡ Some a ∷ rest) × TakesSome n attempts old mid × TakesAttempt a mid new
+
+-- outcomes are those of the first attempts
+abbrev pub AreOutcomes : List Outcome → List (Option Attempt) → Type 0
+AreOutcomes [] attempts = Unit {0}
+AreOutcomes (o ∷ outcomes) [] = ⊥
+AreOutcomes (o ∷ outcomes) (None ∷ attempts) = ⊥
+AreOutcomes (o ∷ outcomes) (Some a ∷ attempts) = (a.outcome ≡ o) × AreOutcomes outcomes attempts
+
 -- ---- one attempt
 
 -- the first attempt is taken in, and gives its outcome
@@ -57,6 +83,7 @@ pub record TakesFirst (t : Task) (old new : Seeing) (before after : List (Option
   pub taken : Attempt
   pub first : before ≡ Some taken ∷ after
   pub gives : taken.outcome ≡ outcome
+  pub takes : TakesAttempt taken old new
   pub faithful : (library : Library) → IsSound library (attempt taken) → FaithfulFiring library (λ S. fire_task library S t) new.reads (written old) (written new) (firing outcome)
 
 -- it is left

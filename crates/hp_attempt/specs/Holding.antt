@@ -1,19 +1,27 @@
 -- Reads that hold, and the first that doesn't.
-use Rattle.std.specs.Prelude.{◌≡◌, List, ◌∷◌, ◌++◌}
-use Rattle.hp_model.specs.Cells.{Cells, over, Read, cell_read, keys_read, objects_read, IsTold, Holds}
+use Rattle.std.specs.Prelude.{◌≡◌, List, [], ◌∷◌, ◌++◌, None, ◌⊎◌}
+use Rattle.hp_model.specs.Cells.{Cells, Changes, over, Read, cell_read, keys_read, objects_read, part_read, IsTold, Holds}
 use Rattle.hp_value.specs.Mapped.{cell}
 use Rattle.hp_view.specs.declared.reads.Seen.{Seen}
-use Rattle.hp_view.specs.declared.reads.Seen.TheVariants.{Cell as OfCell, Keys as OfKeys}
-use Rattle.hp_view.specs.Seeing.{Seeing, written, now_in}
+use Rattle.hp_view.specs.declared.reads.Seen.TheVariants.{Cell as OfCell, Keys as OfKeys, Part as OfPart}
+use Rattle.hp_store.specs.Changes.{Entries}
+use Rattle.hp_view.specs.Adding.{AddsReads, IsOfClass}
+use Rattle.hp_view.specs.Seeing.{Seeing, beneath, written, now_in, OnlyReads, TakesIn}
 
--- a read of this cell, or of this class's keys, alone or with the rows
+-- a read of this cell, of this class's keys, alone or with the rows, or of a part of this class
 abbrev pub IsReadOf : Seen → Read → Type 0
 IsReadOf (OfCell q) (cell_read c value) = c ≡ cell q
 IsReadOf (OfCell q) (keys_read class keys) = ⊥
 IsReadOf (OfCell q) (objects_read class objects) = ⊥
+IsReadOf (OfCell q) (part_read class part objects) = ⊥
 IsReadOf (OfKeys n) (cell_read c value) = ⊥
 IsReadOf (OfKeys n) (keys_read class keys) = class ≡ n
 IsReadOf (OfKeys n) (objects_read class objects) = class ≡ n
+IsReadOf (OfKeys n) (part_read class part objects) = ⊥
+IsReadOf (OfPart n number) (cell_read c value) = ⊥
+IsReadOf (OfPart n number) (keys_read class keys) = ⊥
+IsReadOf (OfPart n number) (objects_read class objects) = ⊥
+IsReadOf (OfPart n number) (part_read class part objects) = class ≡ n
 
 -- the first of the reads that doesn't hold looked there: those before it hold
 pub record FirstFailed (base : Cells) (reads : List Read) (seen : Seen) : Type 0 where
@@ -32,3 +40,39 @@ IsReadAgain old new r = IsTold (now_in old) r → (base : Cells) → Holds base 
 -- wherever the view's reads hold, these hold under its writes
 pub record Covers (v : Seeing) (reads : List Read) : Type 0 where
   pub everywhere : (base : Cells) → Holds base v.reads → Holds (over base (written v)) reads
+
+-- ---- the reads that settling adds
+
+-- a read that may be added for one that an attempt made: one of the same. Where the view can't read a part alone, it reads
+-- the class
+abbrev pub IsFor : Changes → (tried : Read) → Read → Type 0
+IsFor layer (cell_read q value) (cell_read c found) = (c ≡ q) × (layer q ≡ None)
+IsFor layer (cell_read q value) r = ⊥
+IsFor layer (keys_read n keys) (keys_read m found) = m ≡ n
+IsFor layer (keys_read n keys) r = ⊥
+IsFor layer (objects_read n objects) r = IsOfClass layer n r
+IsFor layer (part_read n part objects) (part_read m p found) = (m ≡ n) × (p ≡ part)
+IsFor layer (part_read n part objects) r = IsOfClass layer n r
+
+-- one that may be added for any of them
+abbrev pub IsForAny : Changes → (tried : List Read) → Read → Type 0
+IsForAny layer [] r = ⊥
+IsForAny layer (t ∷ ts) r = IsFor layer t r ⊎ IsForAny layer ts r
+
+-- ---- how an attempt is taken in
+
+-- what it read is read, and then its layer is written
+pub record IsTakenIn (old new : Seeing) (reads : List Read) (layer : Entries) : Type 0 where
+  pub recorded : Seeing
+  pub only : OnlyReads old recorded
+  pub covers : Covers recorded reads
+  pub adds : AddsReads (IsForAny (written old) reads) old.reads recorded.reads
+  pub takes : TakesIn recorded new layer
+  pub so_it_was : Holds (beneath new) new.reads
+
+-- more may have been read, and nothing else has changed
+pub record ReadsMore (old new : Seeing) : Type 0 where
+  pub base : new.base ≡ old.base
+  pub reads : (more : List Read) × (new.reads ≡ old.reads ++ more)
+  pub changes : written new ≡ written old
+  pub undo : new.undo ≡ old.undo

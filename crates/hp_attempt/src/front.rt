@@ -1,10 +1,10 @@
 //! How the front of a row of attempts is taken in.
 
-ghost use Rattle.std.specs.Prelude.{◌≡◌, not, IfOk, IfSome, IfNone, map, drop, length};
+ghost use Rattle.std.specs.Prelude.{◌≡◌, ℕ, not, IfOk, IfSome, IfNone, OnErr, map, drop, length};
 ghost use Rattle.hp_model.proofs.FaithfulFirings.{goes_on};
 ghost use Rattle.hp_rule.specs.Mapped.{task as task_of};
-ghost use Rattle.hp_view.specs.Seeing.{now_in, GoesOn};
-ghost use Rattle.hp_attempt.specs.Fronts.{stopped_by, IsLongest, FrontIs, TakesFirst, LeavesFirst};
+ghost use Rattle.hp_view.specs.Seeing.{now_in, GoesOn, IsSame};
+ghost use Rattle.hp_attempt.specs.Fronts.{stopped_by, IsLongest, FrontIs, TakesSome, AreOutcomes, TakesFirst, LeavesFirst};
 
 use crate::outcome::{Attempt, Outcome};
 use crate::settling::{Settled, settle};
@@ -20,7 +20,7 @@ use std::collections::VecDeque;
 /// looked at. The answer is the outcomes of the attempts taken in, and the places that are left, as they were: a
 /// rejected attempt stays in its place.
 ///
-/// An error means that memory ran out. The view may then have taken in the first attempts of the front.
+/// An error means that memory ran out. The view has then taken in some of the front's first attempts, and nothing else.
 pub fn settle_front(
     alloc: Global,
     view: &mut View,
@@ -31,7 +31,10 @@ pub fn settle_front(
     ensures left { IfOk result (λ r. r.1.items ≡ drop (length r.0.items) attempts.items) }
     ensures longest { IfOk result (λ r. IsLongest (stopped_by stop_at_veto r.0.items) (now_in view.new) (drop (length r.0.items) (map task_of tasks.now)) r.1.items) }
     ensures front { IfOk result (λ r. FrontIs stop_at_veto (map task_of tasks.now) attempts.items r.0.items view.old view.new) }
+    ensures taken { IfOk result (λ r. TakesSome (length r.0.items) attempts.items view.old view.new) }
+    ensures outcomes { IfOk result (λ r. AreOutcomes r.0.items attempts.items) }
     ensures goes_on { GoesOn view.old view.new }
+    ensures err { OnErr result ((n : ℕ) × TakesSome n attempts.items view.old view.new) }
 {
     let mut outcomes = Vec::new(alloc);
     for task in tasks {
@@ -64,6 +67,7 @@ fn settle_first(
     ensures taken { IfOk result (λ taken. IfSome taken (λ outcome. TakesFirst (task_of task.now) view.old view.new attempts.old.items attempts.new.items outcome)) }
     ensures left { IfOk result (λ taken. IfNone taken (LeavesFirst (task_of task.now) view.old view.new attempts.old.items attempts.new.items)) }
     ensures goes_on { GoesOn view.old view.new }
+    ensures err { OnErr result (IsSame view.old view.new) }
 {
     let Some(Some(attempt)) = attempts.front() else {
         return Ok(None);

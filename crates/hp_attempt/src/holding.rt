@@ -11,8 +11,8 @@ use hp_store::CellValue;
 use hp_value::ClassNo;
 use hp_view::{Found, Reads, Seen, View};
 
-/// Whether all reads hold in a view's cells: each cell has the value or the absence that was found, and each class the
-/// keys, or the objects with their rows where it was read as a whole.
+/// Whether all reads hold in a view's cells: each cell has the value or the absence that was found, each class the
+/// keys, or the objects with their rows where it was read as a whole, and each part of a class its objects with their rows.
 ///
 /// Nothing is recorded, and no memory is taken.
 pub fn holds(reads: &Reads, view: &View) -> bool
@@ -43,6 +43,7 @@ fn is_told(view: &View, seen: &Seen, found: &Found) -> bool
     match seen {
         Seen::Cell(cell) => are_same(view.peek(*cell), found.value()),
         Seen::Keys(class) => is_class_told(view, *class, found),
+        Seen::Part(class, _) => view.has_part(*class, &found.part(), found.objects()),
     }
 }
 
@@ -54,6 +55,7 @@ fn is_class_told(view: &View, class: ClassNo, found: &Found) -> bool
         Found::Objects(objects) => view.has_objects(class, objects),
         Found::Keys(keys) => view.has_keys(class, keys),
         Found::Value(_) => view.has_keys(class, &[]),
+        Found::Part(_) => view.has_keys(class, &[]),
     }
 }
 

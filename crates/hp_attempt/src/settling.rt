@@ -2,17 +2,18 @@
 
 ghost use Rattle.std.specs.Prelude.{◌≡◌, ◌↔◌, IsTrue, IsOk, IfOk, OnOk, OnErr};
 ghost use Rattle.hp_model.specs.Rules.{Library};
-ghost use Rattle.hp_model.specs.Cells.{Holds};
+ghost use Rattle.hp_model.specs.Cells.{Holds, part_read};
 ghost use Rattle.hp_model.specs.Firing.{fire_task};
 ghost use Rattle.hp_model.specs.Soundness.{IsSound};
 ghost use Rattle.hp_model.specs.Answers.{FaithfulFiring};
 ghost use Rattle.hp_model.proofs.BridgesCells.{stacked};
 ghost use Rattle.hp_rule.specs.Mapped.{task as task_of};
 ghost use Rattle.hp_store.specs.Changes.{changes};
-ghost use Rattle.hp_view.specs.Mapped.{read, class_read};
-ghost use Rattle.hp_view.specs.Seeing.{now_in, written, OnlyReads, GoesOn, Restores};
+ghost use Rattle.hp_view.specs.Mapped.{read, class_read, part_found, objects_found};
+ghost use Rattle.hp_view.specs.Adding.{AddsReads};
+ghost use Rattle.hp_view.specs.Seeing.{beneath, now_in, written, IsSame, OnlyReads, GoesOn, Restores};
 ghost use Rattle.hp_attempt.specs.Mapped.{firing, attempt as attempt_of};
-ghost use Rattle.hp_attempt.specs.Holding.{IsReadAgain, Covers};
+ghost use Rattle.hp_attempt.specs.Holding.{IsFor, IsForAny, IsReadAgain, IsTakenIn, ReadsMore, Covers};
 
 use crate::holding::holds;
 use crate::outcome::Attempt;
@@ -35,8 +36,7 @@ pub enum Settled {
 /// What an accepted attempt read is then read by the view, and what it wrote is written over the view's writes, so that
 /// the view is as if the task had fired on it.
 ///
-/// A rejection takes no memory. An error means that memory ran out as the attempt was taken in: no cell of the view has
-/// then changed, but reads that hold may have been recorded.
+/// A rejection takes no memory. An error means that memory ran out as the attempt was taken in; the view is then as before.
 pub fn settle(
     alloc: Global,
     view: &mut View,
@@ -48,15 +48,35 @@ pub fn settle(
     ensures spares { ((task_of attempt.now.task ≡ task_of task.now) × Holds (now_in view.old) attempt.now.reads → ⊥) → IsOk result }
     ensures faithful { IfOk result (λ r. r ≡ Settled.Accepted → (library : Library) → IsSound library (attempt_of attempt.now) → FaithfulFiring library (λ S. fire_task library S (task_of task.now)) view.new.reads (written view.old) (written view.new) (firing attempt.now.outcome)) }
     ensures takes { IfOk result (λ r. r ≡ Settled.Accepted → written view.new ≡ stacked (written view.old) (changes attempt.now.layer.value)) }
+    ensures reads { IfOk result (λ r. r ≡ Settled.Accepted → AddsReads (IsForAny (written view.old) attempt.now.reads) view.old.reads view.new.reads) }
+    ensures so_it_was { IfOk result (λ r. r ≡ Settled.Accepted → Holds (beneath view.new) view.new.reads) }
     ensures goes_on { GoesOn view.old view.new }
+    ensures unchanged { OnErr result (IsSame view.old view.new) }
     ensures err { OnErr result (Restores view.old view.new) }
 {
     if !may_stand(attempt, view, task) {
         return Ok(Settled::Rejected);
     }
+    let before = view.read_count();
+    match take_in(alloc, view, attempt) {
+        Ok(()) => Ok(Settled::Accepted),
+        Err(refused) => {
+            view.forget_reads(before);
+            Err(refused)
+        }
+    }
+}
+
+// Takes in an attempt whose reads hold. An error means that memory ran out; some of what it read may have been recorded.
+fn take_in(alloc: Global, view: &mut View, attempt: &Attempt) -> Result<(), AllocError>
+    requires { Holds (now_in view.old) attempt.now.reads }
+    ensures ok { OnOk result (IsTakenIn view.old view.new attempt.now.reads attempt.now.layer.value) }
+    ensures goes_on { GoesOn view.old view.new }
+    ensures err { OnErr result (ReadsMore view.old view.new) }
+{
     record(alloc, view, &attempt.reads)?;
     view.take_in(&attempt.layer)?;
-    Ok(Settled::Accepted)
+    Ok(())
 }
 
 // Whether an attempt may stand for the firing of this task on the view. It takes no memory.
@@ -69,6 +89,7 @@ fn may_stand(attempt: &Attempt, view: &View, task: &Task) -> bool
 // Reads what an attempt read, so that the attempt's reads hold under the view's writes wherever the view's reads hold.
 fn record(alloc: Global, view: &mut View, reads: &Reads) -> Result<(), AllocError>
     requires { Holds (now_in view.old) reads.now }
+    ensures reads { AddsReads (IsForAny (written view.old) reads.now) view.old.reads view.new.reads }
     ensures only { OnlyReads view.old view.new }
     ensures goes_on { GoesOn view.old view.new }
     ensures covers { OnOk result (Covers view.new reads.now) }
@@ -81,6 +102,7 @@ fn record(alloc: Global, view: &mut View, reads: &Reads) -> Result<(), AllocErro
 
 // Reads what was read there, in the same way.
 fn read_again(alloc: Global, view: &mut View, seen: &Seen, found: &Found) -> Result<(), AllocError>
+    ensures reads { AddsReads (IsFor (written view.old) (read (seen.now, found.now))) view.old.reads view.new.reads }
     ensures only { OnlyReads view.old view.new }
     ensures goes_on { GoesOn view.old view.new }
     ensures again { OnOk result (IsReadAgain view.old view.new (read (seen.now, found.now))) }
@@ -88,6 +110,7 @@ fn read_again(alloc: Global, view: &mut View, seen: &Seen, found: &Found) -> Res
     match seen {
         Seen::Cell(cell) => view.read(*cell),
         Seen::Keys(class) => read_class_again(alloc, view, *class, found),
+        Seen::Part(class, _) => read_part_again(alloc, view, *class, found),
     }
 }
 
@@ -98,6 +121,7 @@ fn read_class_again(
     class: ClassNo,
     found: &Found,
 ) -> Result<(), AllocError>
+    ensures reads { AddsReads (IsFor (written view.old) (class_read class found.now)) view.old.reads view.new.reads }
     ensures only { OnlyReads view.old view.new }
     ensures goes_on { GoesOn view.old view.new }
     ensures again { OnOk result (IsReadAgain view.old view.new (class_read class found.now)) }
@@ -106,5 +130,24 @@ fn read_class_again(
         Found::Objects(_) => view.read_objects(alloc, class),
         Found::Keys(_) => view.read_keys(alloc, class),
         Found::Value(_) => view.read_keys(alloc, class),
+        Found::Part(_) => view.read_keys(alloc, class),
     }
+}
+
+// The same of a part of a class. Where the view can't read the part alone, it reads all of the class.
+fn read_part_again(
+    alloc: Global,
+    view: &mut View,
+    class: ClassNo,
+    found: &Found,
+) -> Result<(), AllocError>
+    ensures reads { AddsReads (IsFor (written view.old) (part_read class (part_found found.now) (objects_found found.now))) view.old.reads view.new.reads }
+    ensures only { OnlyReads view.old view.new }
+    ensures goes_on { GoesOn view.old view.new }
+    ensures again { OnOk result (IsReadAgain view.old view.new (part_read class (part_found found.now) (objects_found found.now))) }
+{
+    if view.read_part(alloc, class, &found.part())? {
+        return Ok(());
+    }
+    view.read_objects(alloc, class)
 }

@@ -19,6 +19,9 @@ use std::sync::Arc;
 
 /// What one event's rule remembers of its past: an event, with what matters of a past for the event's later places.
 ///
+/// This is the reference that the specification asks for, and no product calls it: a store keeps a rule's `Knowledge`,
+/// since the rule has the event.
+///
 /// To a clause it is its event and what it knows (`specs/DetectorState.antt`). It keeps nothing else: for a sequence the
 /// occurrences that are not yet taken, for a closure what was gathered since its last end, and for a pure event nothing.
 #[derive(Debug, Drop)]

@@ -56,11 +56,7 @@ pub fn fresh(alloc: Global, expr: &EventExpr) -> Result<Arc<Known>, AllocError>
     let known = match expr {
         EventExpr::One(_) => Known::Nothing,
         EventExpr::Or(a, b) => Known::Either(fresh(alloc, a)?, fresh(alloc, b)?),
-        EventExpr::Seq(a, b) => Known::Sequence(
-            fresh(alloc, a)?,
-            fresh(alloc, b)?,
-            Queue::new(alloc)?,
-        ),
+        EventExpr::Seq(a, b) => Known::Sequence(fresh(alloc, a)?, fresh(alloc, b)?, Queue::new()),
         EventExpr::Closure(a, t) => Known::Closed(fresh(alloc, a)?, fresh(alloc, t)?, None),
     };
     Ok(Arc::new(alloc, known)?)

@@ -5,12 +5,14 @@
 //! is to a clause.
 #![tactic(auto)]
 
+mod chunk;
 mod detector;
 mod event;
 mod knowledge;
 mod known;
 mod parts;
 mod queue;
+mod rope;
 mod stepping;
 
 pub use detector::{Detector, detect};

@@ -1,27 +1,44 @@
 //! Occurrences that wait.
 
-ghost use Rattle.std.specs.Prelude.{◌≡◌, [], ◌++◌, drop, map, option_map, option_to_list, if◌then◌else◌, slice_get, IfOk};
+ghost use Rattle.std.specs.Prelude.{◌≡◌, [], ◌++◌, ◌∷◌, ◌<◌, ◌≤◌, ◌+◌, drop, length, map, option_map, option_to_list, if◌then◌else◌, slice_get, false, IfOk};
+ghost use lib.Pointwise.{pointwise};
 ghost use Rattle.hp_value.specs.Mapped.{occurrence};
+ghost use Rattle.hp_value.specs.Same.{occurrence_same};
+ghost use Rattle.hp_detect.specs.Ropes.{rest_laid_out, RestIsCounted, IsRun};
 
+use crate::chunk::Chunk;
+use crate::rope::{Rope, count, leaf, run, split_first, with};
 use hp_value::Occurrence;
 use std::alloc::{AllocError, Global};
 use std::marker::Model;
 use std::sync::Arc;
 
-/// Occurrences that wait to be taken, the oldest first. Queues share them, and the list where it doesn't change.
+/// How many occurrences a chunk has at most. Each that arrives costs a copy of fewer than that.
+const MOST_IN_CHUNK: usize = 8;
+
+/// Occurrences that wait to be taken, the oldest first.
+///
+/// A queue never changes: a step makes a new one, which shares nearly all that waits (`after`). They wait in the head
+/// behind those that are taken, then in the middle, then in the tail. What is taken is let go with its chunk.
 #[derive(Debug, Drop)]
 pub struct Queue {
-    waiting: Arc<Vec<Arc<Occurrence>>>,
+    count: usize,
+    taken: usize,
+    head: Chunk,
+    middle: Option<Arc<Rope>>,
+    tail: Chunk,
 }
 
 impl Model for Queue {
-    ghost use Rattle.std.specs.Prelude.{List, map};
+    ghost use Rattle.std.specs.Prelude.{List};
     ghost use Rattle.hp_model.specs.Occurrences as model;
-    ghost use Rattle.hp_value.specs.Mapped.{occurrence};
+    ghost use Rattle.hp_detect.specs.Waiting.{waiting, IsKept};
 
     ghost Value = { List model.Occurrence };
 
-    ghost view = { λ q. map (λ o. occurrence o.value) q.waiting.value.items };
+    ghost view = { λ q. waiting q.taken q.head q.middle q.tail };
+
+    ghost invariant = { λ q. IsKept q.count q.taken q.head q.middle q.tail };
 }
 
 impl PartialEq for Queue {
@@ -34,26 +51,45 @@ impl PartialEq for Queue {
 
     ghost laws = { partial_equiv_from_equiv waiting_equiv };
 
+    /// Whether the same waits in both. It takes no memory.
+    ///
+    /// Queues of different lengths, and those whose newest differ, are told apart at once. Others are compared from the
+    /// oldest on, up to the first that differ, however each has them in chunks. So where the queues are equal the time
+    /// goes with their length, and each chunk costs a way down both trees.
     fn eq(&self, other: &Queue) -> bool {
-        self.waiting == other.waiting
+        self.len() == other.len() && agree(self, other)
     }
 }
 
 impl Queue {
     /// A queue in which nothing waits.
-    pub fn new(alloc: Global) -> Result<Queue, AllocError>
-        ensures { IfOk result (λ q. q ≡ []) }
+    pub fn new() -> Queue
+        ensures { result ≡ [] }
     {
-        Ok(Queue {
-            waiting: Arc::new(alloc, Vec::new(alloc))?,
-        })
+        Queue {
+            count: 0,
+            taken: 0,
+            head: Chunk::empty(),
+            middle: None,
+            tail: Chunk::empty(),
+        }
+    }
+
+    /// How many wait.
+    fn len(&self) -> usize
+        ensures { result ≡ length self.now }
+    {
+        self.count
     }
 
     /// The one that has waited longest.
     pub fn first(&self) -> Option<&Occurrence>
         ensures { option_map (λ o. occurrence o.now) result ≡ slice_get self.now 0 }
     {
-        match self.waiting.first() {
+        if self.len() == 0 {
+            return None;
+        }
+        match self.run(0).first() {
             Some(first) => Some(first),
             None => None,
         }
@@ -62,7 +98,8 @@ impl Queue {
     /// The queue after one more place: without the one that has waited longest if it is taken, and with the one that
     /// arrives there, if one does.
     ///
-    /// An error means that memory ran out.
+    /// However many wait, it makes a few nodes and copies a part of one chunk. Where a chunk is used up or full, it also
+    /// makes nodes of the middle's tree, as many as its height. An error means that memory ran out.
     pub fn after(
         &self,
         alloc: Global,
@@ -71,36 +108,170 @@ impl Queue {
     ) -> Result<Queue, AllocError>
         ensures { IfOk result (λ q. q ≡ (if takes then drop 1 self.now else self.now) ++ option_to_list (option_map occurrence arriving)) }
     {
-        if !takes && arriving.is_none() {
+        let left = if takes {
+            self.without_first(alloc)?
+        } else {
+            self.shared()?
+        };
+        match arriving {
+            Some(last) => left.with(alloc, last),
+            None => Ok(left),
+        }
+    }
+
+    /// The same queue, shared.
+    fn shared(&self) -> Result<Queue, AllocError>
+        ensures { IfOk result (λ q. q ≡ self.now) }
+    {
+        Ok(Queue {
+            count: self.count,
+            taken: self.taken,
+            head: self.head.clone()?,
+            middle: shared(&self.middle)?,
+            tail: self.tail.clone()?,
+        })
+    }
+
+    /// The queue without the one that has waited longest.
+    fn without_first(&self, alloc: Global) -> Result<Queue, AllocError>
+        ensures { IfOk result (λ q. q ≡ drop 1 self.now) }
+    {
+        if self.count <= 1 {
+            return Ok(Queue::new());
+        }
+        if self.taken < self.head.len() {
             return Ok(Queue {
-                waiting: Arc::try_clone(&self.waiting)?,
+                count: self.count - 1,
+                taken: self.taken + 1,
+                head: self.head.clone()?,
+                middle: shared(&self.middle)?,
+                tail: self.tail.clone()?,
             });
         }
-        let kept = match self.waiting.split_first() {
-            Some((_, others)) if takes => others,
-            _ => &self.waiting,
+        let Some(middle) = &self.middle else {
+            return Ok(Queue {
+                count: self.count - 1,
+                taken: 1,
+                head: self.tail.clone()?,
+                middle: None,
+                tail: Chunk::empty(),
+            });
         };
-        let mut waiting = shared(alloc, kept, usize::from(arriving.is_some()))?;
-        if let Some(last) = arriving {
-            waiting.push(Arc::new(alloc, last)?)?;
-        }
+        let middle = split_first(alloc, middle)?;
         Ok(Queue {
-            waiting: Arc::new(alloc, waiting)?,
+            count: self.count - 1,
+            taken: 1,
+            head: middle.first,
+            middle: middle.rest,
+            tail: self.tail.clone()?,
         })
+    }
+
+    /// The queue with one more at its end. No memory can hold so many that they have no count.
+    fn with(self, alloc: Global, last: Occurrence) -> Result<Queue, AllocError>
+        ensures { IfOk result (λ q. q ≡ self ++ occurrence last ∷ []) }
+    {
+        let Some(count) = self.count.checked_add(1) else {
+            return Err(AllocError);
+        };
+        if self.tail.len() < MOST_IN_CHUNK {
+            return Ok(Queue {
+                count,
+                taken: self.taken,
+                head: self.head,
+                middle: self.middle,
+                tail: self.tail.with(alloc, last)?,
+            });
+        }
+        let full = self.tail;
+        let middle = match &self.middle {
+            Some(middle) => with(alloc, middle, full)?,
+            None => leaf(alloc, full)?,
+        };
+        Ok(Queue {
+            count,
+            taken: self.taken,
+            head: self.head,
+            middle: Some(middle),
+            tail: Chunk::empty().with(alloc, last)?,
+        })
+    }
+
+    /// What waits from a place on, as far as one chunk has it.
+    fn run(&self, at: usize) -> &[Arc<Occurrence>]
+        requires { at < length self.now }
+        ensures { IsRun (map (λ o. occurrence o.value) result.now) at self.now }
+    {
+        let ahead = self.head.len() - self.taken;
+        if at < ahead {
+            self.head.from(self.taken + at)
+        } else {
+            behind(&self.middle, &self.tail, at - ahead)
+        }
     }
 }
 
-/// A list that shares these occurrences, with room for more.
-fn shared(
-    alloc: Global,
-    waiting: &[Arc<Occurrence>],
-    more: usize,
-) -> Result<Vec<Arc<Occurrence>>, AllocError>
-    ensures { IfOk result (λ v. map (λ o. occurrence o.value) v.items ≡ map (λ o. occurrence o.value) waiting.now) }
+/// What waits behind the head, from a place on, as far as one chunk has it.
+fn behind<'a>(middle: &'a Option<Arc<Rope>>, tail: &'a Chunk, at: usize) -> &'a [Arc<Occurrence>]
+    requires counted { RestIsCounted middle.now }
+    requires within { at < length (rest_laid_out middle.now ++ tail.now) }
+    ensures { IsRun (map (λ o. occurrence o.value) result.now) at (rest_laid_out middle.now ++ tail.now) }
 {
-    let mut all = Vec::with_capacity(alloc, waiting.len().saturating_add(more))?;
-    for o in waiting {
-        all.push(Arc::try_clone(o)?)?;
+    let Some(middle) = middle else {
+        return tail.from(at);
+    };
+    let before = count(middle);
+    if at < before {
+        run(middle, at)
+    } else {
+        tail.from(at - before)
     }
-    Ok(all)
+}
+
+/// The same middle, shared.
+fn shared(middle: &Option<Arc<Rope>>) -> Result<Option<Arc<Rope>>, AllocError>
+    ensures { IfOk result (λ m. (rest_laid_out m ≡ rest_laid_out middle.now) × (RestIsCounted middle.now → RestIsCounted m)) }
+{
+    match middle {
+        Some(middle) => Ok(Some(Arc::try_clone(middle)?)),
+        None => Ok(None),
+    }
+}
+
+/// Whether the same waits in two queues of one length.
+fn agree(one: &Queue, other: &Queue) -> bool
+    requires { length one.now ≡ length other.now }
+    ensures { result ≡ pointwise occurrence_same one.now other.now }
+{
+    let count = one.len();
+    if count > 0 && alike_from(one, other, count - 1) == 0 {
+        return false;
+    }
+    let mut at = 0;
+    while at < count {
+        let alike = alike_from(one, other, at);
+        if alike == 0 {
+            return false;
+        }
+        at += alike;
+    }
+    true
+}
+
+/// How many from a place on are found to be alike in one go, which is none where the two differ.
+fn alike_from(one: &Queue, other: &Queue, at: usize) -> usize
+    requires within { at < length one.now }
+    requires within_other { at < length other.now }
+    ensures most { at + result ≤ length one.now }
+    ensures differ { result ≡ 0 → pointwise occurrence_same one.now other.now ≡ false }
+    ensures alike { pointwise occurrence_same (drop at one.now) (drop at other.now) ≡ pointwise occurrence_same (drop (at + result) one.now) (drop (at + result) other.now) }
+{
+    let here = one.run(at);
+    let there = other.run(at);
+    let both = here.len().min(there.len());
+    if here[..both] == there[..both] {
+        both
+    } else {
+        0
+    }
 }

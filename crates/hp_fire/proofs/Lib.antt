@@ -2,7 +2,7 @@ mod Attempting
 mod Coming
 mod Decisions
 mod Helping
-mod Lining
+mod OneLibrary
 pub mod Sending
 mod Making
 mod Immediate

@@ -14,7 +14,10 @@ use Rattle.hp_value.specs.contracts.expr.Expr as Expr
 use Rattle.hp_value.proofs.expr.Expr.TheLaws.TheKnot as expr
 use Rattle.hp_detect.specs.contracts.known.Known as Known
 use Rattle.hp_detect.proofs.known.Known.TheLaws.TheKnot as known
-use Rattle.hp_detect.proofs.queue.Queue.TheSendSync as queue
+use Rattle.hp_detect.proofs.chunk.Chunk.TheSendSync as chunk
+use Rattle.hp_detect.specs.contracts.rope.Rope as Rope
+use Rattle.hp_detect.proofs.rope.Rope.TheLaws.TheKnot as rope
+use Rattle.hp_detect.specs.contracts.queue.Queue as Queue
 use Rattle.hp_detect.specs.contracts.knowledge.Knowledge as Knowledge
 use Rattle.hp_detect.specs.contracts.event.EventExpr as EventExpr
 use Rattle.hp_detect.proofs.event.EventExpr.TheLaws.TheKnot as event
@@ -27,6 +30,7 @@ use Rattle.hp_store.specs.contracts.kept.KeptList as KeptList
 use Rattle.hp_store.specs.contracts.snapshot.Snapshot as Snapshot
 use Rattle.hp_view.specs.contracts.reads.Found as Found
 use Rattle.hp_view.proofs.reads.Seen.TheSendSync as seen
+use Rattle.hp_view.proofs.part.FoundPart.TheSendSync as found_part
 use Rattle.hp_view.specs.contracts.reads.Reads as Reads
 use Rattle.hp_view.specs.contracts.view.View as View
 use Rattle.hp_tree.specs.contracts.node.Item as Item
@@ -45,7 +49,7 @@ use Rattle.hp_fire.specs.contracts.speculate.past.Effort as Effort
 use Rattle.hp_fire.specs.contracts.speculate.wave.Wave as Wave
 use Rattle.hp_fire.specs.contracts.speculate.pending.Tried as Tried
 use Rattle.hp_fire.specs.contracts.speculate.progress.Progress as Progress
-use Rattle.hp_fire.specs.contracts.speculate.line.Sent as Sent
+use Rattle.hp_fire.specs.contracts.speculate.channel.Sent as Sent
 use Rattle.hp_board.proofs.dealer.Seat.TheSendSync as seat
 use Rattle.rtrb.proofs.producer.Producer.TheSendSync as sender
 use Rattle.hp_fire.specs.contracts.speculate.wave.Job as Job
@@ -65,6 +69,7 @@ use Rattle.hp_query.specs.contracts.query.Query as Query
 use Rattle.hp_rule.specs.contracts.rule.Rule as Rule
 use Rattle.hp_rule.specs.contracts.library.Library as Library
 use Rattle.hp_rule.proofs.index.Index.TheSendSync as index
+use Rattle.hp_rule.proofs.asked.AskedField.TheSendSync as asked
 use Rattle.smallvec.specs.contracts.small_vec.SmallVec as SmallVec
 use Rattle.smallvec.specs.contracts.storage.Data as Data
 use Rattle.arrayvec.specs.contracts.array_vec.ArrayVec as ArrayVec
@@ -72,7 +77,21 @@ use Rattle.arrayvec.specs.contracts.cells.Cells as Cells
 use Rattle.hp_attempt.specs.contracts.outcome.Outcome as Outcome
 use Rattle.hp_attempt.specs.contracts.outcome.Attempt as Attempt
 
-ruleset known_parts = (queue.the_send, queue.the_sync, occurrence.the_send, occurrence.the_sync, heap.crosses, sendable)
+rope_send : IsSend Rope.the_field.row
+rope_send = rope.both_send-Rope chunk.the_send chunk.the_sync (search sendable depth 4) (search sendable depth 4) heap.Arc-send heap.Arc-sync
+
+rope_sync : IsSync Rope.the_field.row
+rope_sync = rope.both_sync-Rope chunk.the_send chunk.the_sync (search sendable depth 4) (search sendable depth 4) heap.Arc-send heap.Arc-sync
+
+ruleset queue_parts = (chunk.the_send, chunk.the_sync, rope_send, rope_sync, heap.crosses, sendable)
+
+pub queue_send : IsSend Queue.the_field.row
+queue_send = search queue_parts depth 30 fits 20000
+
+pub queue_sync : IsSync Queue.the_field.row
+queue_sync = search queue_parts depth 30 fits 20000
+
+ruleset known_parts = (queue_send, queue_sync, occurrence.the_send, occurrence.the_sync, heap.crosses, sendable)
 
 pub known_send : IsSend Known.the_field.row
 known_send = known.both_send-Known heap.Arc-send heap.Arc-sync (search known_parts depth 12) (search known_parts depth 12) (search known_parts depth 12) (search known_parts depth 12)
@@ -150,7 +169,7 @@ pub snapshot_sync : IsSync Snapshot.the_field.row
 snapshot_sync = search (base_send, base_sync, shared_layer_sync, small_vec_sync, kept_list_sync, heap.crosses, sendable) depth 12
 
 pub found_send : IsSend Found.the_field.row
-found_send = search (cell_value_send, objects.the_send, objects.the_sync, heap.crosses, sendable) depth 12
+found_send = search (cell_value_send, objects.the_send, objects.the_sync, found_part.the_send, found_part.the_sync, heap.crosses, sendable) depth 20
 
 pub reads_send : IsSend Reads.the_field.row
 reads_send = search (found_send, seen.the_send, heap.crosses, sendable) depth 20
@@ -174,7 +193,7 @@ outcome_send = search (item_send, task.the_send, detached.the_send, heap.crosses
 pub attempt_send : IsSend Attempt.the_field.row
 attempt_send = search (outcome_send, task_send, reads_send, layer_send, layer_sync, heap.crosses, sendable) depth 12
 
-ruleset expression_parts = (value.the_sync, arithmetic.the_sync, comparison.the_sync, pattern.the_sync, class.the_sync, index.the_sync, coupling.the_sync, operation_word.the_sync, heap.crosses, maps.crosses, sendable)
+ruleset expression_parts = (value.the_sync, asked.the_sync, arithmetic.the_sync, comparison.the_sync, pattern.the_sync, class.the_sync, index.the_sync, coupling.the_sync, operation_word.the_sync, heap.crosses, maps.crosses, sendable)
 
 pub expr_sync : IsSync Expr.the_field.row
 expr_sync = expr.sync-Expr (search expression_parts depth 12) (search expression_parts depth 12) heap.Box-sync (search expression_parts depth 12) (search expression_parts depth 12) (search expression_parts depth 12)

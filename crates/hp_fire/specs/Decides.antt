@@ -2,18 +2,18 @@
 use Rattle.std.specs.Prelude.{List}
 use Rattle.hp_model.specs.Rules.{Library}
 use Rattle.hp_model.specs.State.{State}
-use Rattle.hp_model.specs.Conditions.{Answers}
+use Rattle.hp_model.specs.Conditions.{Answers, Verdict, verdict}
 use Rattle.hp_model.specs.Tree.{Task, Node}
-use Rattle.hp_model.specs.Firing.{Firing, level_at, follow, run_action, fire_task}
+use Rattle.hp_model.specs.Firing.{Firing, level_at, task_environment, decide, run_action, fire_task}
 use Rattle.hp_model.specs.Cells.{Read, Changes}
 use Rattle.hp_model.specs.Soundness.{FiringAnswer}
-use Rattle.hp_model.specs.Answers.{FaithfulFiring}
+use Rattle.hp_model.specs.Answers.{FaithfulFiring, Finds}
 use Rattle.hp_model.specs.Rules.{rule_at}
 use Rattle.hp_model.proofs.Faithful.{Grows}
 use Rattle.hp_value.specs.Mapped.{answers}
 use Rattle.hp_tree.specs.Mapped.{what}
 use Rattle.hp_attempt.specs.Mapped.{firing}
-use Rattle.hp_view.specs.Seeing.{Seeing, written, GoesOn}
+use Rattle.hp_view.specs.Seeing.{Seeing, written, GoesOn, OnlyReads}
 use Rattle.hp_fire.specs.declared.deciding.Decision.{Decision}
 use Rattle.hp_fire.specs.declared.deciding.Decision.TheVariants.{Over, Acts, ActsLater}
 use Rattle.hp_fire.specs.Runs.{RunsFiring}
@@ -34,6 +34,11 @@ DecidesFor library fire t old new (ActsLater node found) = ThenActs library fire
 abbrev pub Decides : Library → Task → Seeing → Seeing → Decision → Type 0
 Decides library t old new d = DecidesFor library (λ S. fire_task library S t) t old new d
 
--- of a satisfied condition with these answers, on each view
-abbrev pub Follows : Library → Task → Answers → Decision → Type 0
-Follows library t found d = (view : Seeing) → DecidesFor library (follow (rule_at library t.rule).action_coupling (level_at library t.depth) t found) t view view d
+-- by the verdict on the condition, on each view
+abbrev pub Follows : Library → Task → Verdict → Decision → Type 0
+Follows library t v d = (view : Seeing) → DecidesFor library (decide v (level_at library t.depth) t) t view view d
+
+-- by reads alone the verdict on the condition was found: it is so in each state that agrees with them
+pub record FindsVerdict (library : Library) (t : Task) (old new : Seeing) (v : Verdict) : Type 0 where
+  pub only : OnlyReads old new
+  pub finds : Finds library (λ S. verdict S.objects (task_environment t) (rule_at library t.rule).condition) new.reads (written new) v

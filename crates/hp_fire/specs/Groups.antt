@@ -7,19 +7,21 @@ use Rattle.hp_model.specs.Firing.{siblings, fire_task}
 use Rattle.hp_model.specs.Soundness.{IsSound}
 use Rattle.hp_model.specs.Answers.{FaithfulSiblings}
 use Rattle.hp_model.proofs.FaithfulFirings.{GroupCompletes}
+use Rattle.hp_rule.specs.Mapped.{task}
 use Rattle.hp_view.specs.Seeing.{Seeing, GoesOn, written}
 use Rattle.hp_attempt.specs.declared.outcome.Outcome.{Outcome}
 use Rattle.hp_attempt.specs.Mapped.{firing, attempt}
 use Rattle.hp_attempt.specs.Fronts.{AreSound}
 use Rattle.hp_fire.specs.declared.speculate.pending.Tried.{Tried}
+use Rattle.hp_fire.specs.declared.speculate.settled.Settled.{Settled}
 use Rattle.hp_fire.specs.declared.speculate.counts.Counts.{Counts}
 use Rattle.hp_fire.specs.declared.speculate.worker.Worker.{Worker}
 use Rattle.hp_fire.specs.declared.speculate.progress.Progress.{Progress}
 use Rattle.hp_fire.specs.declared.speculate.wave.Wave.{Wave}
 use Rattle.hp_fire.specs.declared.speculate.wave.Job.{Job}
-use Rattle.hp_fire.specs.declared.speculate.line.Sent.{Sent}
-use Rattle.hp_fire.specs.declared.speculate.line.Soundness.{Soundness}
-use Rattle.hp_fire.specs.Lines.{IsOf}
+use Rattle.hp_fire.specs.declared.speculate.channel.Sent.{Sent}
+use Rattle.hp_fire.specs.declared.speculate.channel.Soundness.{Soundness}
+use Rattle.hp_fire.specs.Channels.{IsOf}
 use Rattle.hp_board.specs.Deal.{Deal, IsSeatOf}
 use Rattle.hp_board.specs.Passes.{IsPassOf}
 use Rattle.rtrb.specs.Ring.{sent, received}
@@ -35,6 +37,14 @@ pub record IsSoFar (library : Library) (stops : Bool) (tasks : List Task) (first
   pub stopped : (r : ℕ) → end ≡ Some r
       → FaithfulSiblings library (siblings (fire_task library) stops tasks) now.reads (written first) (written now) (record { firings = map firing outcomes; vetoed_by = Some r })
 
+-- whatever the view at which the group began: it has come further with the view
+abbrev pub ComesFurther : Library → (stops : Bool) → List Task → Seeing → Settled → Seeing → Settled → Type 0
+ComesFurther library stops tasks view s view' s' = (first : Seeing) → IsSoFar library stops tasks first view s.outcomes.items s.end → IsSoFar library stops tasks first view' s'.outcomes.items s'.end
+
+-- no veto has stopped the group, and a task is left of so many
+abbrev pub GoesOnBelow : Settled → ℕ → Type 0
+GoesOnBelow s tasks = (s.end ≡ None) × (length s.outcomes.items < tasks)
+
 -- what a worker brings is sound
 abbrev pub AreSoundTries : Library → List Tried → Type 0
 AreSoundTries library tries = All (λ t. IsSound library (attempt t.attempt)) tries
@@ -43,15 +53,23 @@ AreSoundTries library tries = All (λ t. IsSound library (attempt t.attempt)) tr
 abbrev pub IsRetried : Counts → ℕ → Type 0
 IsRetried c number = slice_index_or c.retried.items number true ≡ true
 
+-- no more is accepted than is settled
+abbrev pub IsAcceptedWithin : Progress → Type 0
+IsAcceptedWithin p = p.counts.accepted ≤ length p.settled.outcomes.items
+
 -- no more is accepted than is settled, and each wave but the first has led to a rerun
 abbrev pub IsCounted : Progress → Type 0
-IsCounted p = (p.counts.accepted ≤ length p.settled.outcomes.items) × (p.counts.waves + p.counts.accepted ≤ length p.settled.outcomes.items + 1)
+IsCounted p = IsAcceptedWithin p × (p.counts.waves + p.counts.accepted ≤ length p.settled.outcomes.items + 1)
 
--- what a worker is given: a seat at the wave's board, and an end of a line for the library's attempts
+-- the same once the rerun that the last wave may lead to has taken place
+abbrev pub OwesOne : Progress → Type 0
+OwesOne p = IsAcceptedWithin p × (p.counts.waves + p.counts.accepted ≤ length p.settled.outcomes.items + 2)
+
+-- what a worker is given: a seat at the wave's board, and an end of a channel for the library's attempts
 abbrev pub IsJob : Library → Deal → Job → Type 0
 IsJob library deal job = IsSeatOf deal job.seat × IsOf library (sent job.sender)
 
--- the owner's ends of such lines
+-- the owner's ends of such channels
 abbrev pub AreOf : Library → List (Consumer Sent Global Soundness) → Type 0
 AreOf library receivers = All (λ r. IsOf library (received r)) receivers
 
@@ -68,7 +86,11 @@ pub record IsAhead (old new : Progress) : Type 0 where
 pub record Comes (library : Library) (stops : Bool) (tasks : List Task) (view : Seeing) (p : Progress) (view' : Seeing) (p' : Progress) : Type 0 where
   pub ahead : IsAhead p p'
   pub sound : AreSound library p'.pending.attempts.items
-  pub so_far : (first : Seeing) → IsSoFar library stops tasks first view p.settled.outcomes.items p.settled.end → IsSoFar library stops tasks first view' p'.settled.outcomes.items p'.settled.end
+  pub so_far : ComesFurther library stops tasks view p.settled view' p'.settled
+
+-- the same with the tasks of a wave
+abbrev pub ComesInWave : Library → Wave → Seeing → Progress → Seeing → Progress → Type 0
+ComesInWave library w view p view' p' = Comes library w.stop_at_veto (map task w.tasks.now) view p view' p'
 
 -- the board has a number for each task that isn't settled
 abbrev pub IsWave : Wave → Type 0

@@ -1,9 +1,11 @@
+pub mod Channels
 pub mod Counted
 pub mod Decides
+pub mod Given
 pub mod Groups
 pub mod Joined
-pub mod Lines
 pub mod Mapped
 pub mod Runs
 pub mod Signals
+pub mod Statements
 pub mod Weights

@@ -16,7 +16,3 @@ levels lib depth = lib.depth_limit - depth
 -- so many firings, and statements so deep: a firing counts for more than any action
 abbrev pub left : Library → ℕ → ℕ → ℕ
 left lib firings size = firings * (deepest lib + 2) + size
-
--- how many firings can still nest in those of a group
-abbrev pub group_levels : Library → List Task → ℕ
-group_levels lib tasks = most (λ t. levels lib t.depth) tasks

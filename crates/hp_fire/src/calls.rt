@@ -13,6 +13,7 @@ ghost use Rattle.hp_store.specs.Stack.{cells_in};
 ghost use Rattle.hp_attempt.specs.Mapped.{attempt as attempt_of, firing as firing_of};
 ghost use Rattle.hp_fire.specs.Mapped.{course, group as group_of};
 ghost use Rattle.hp_fire.specs.Runs.{Runs, RunsFiring, RunsGroup};
+ghost use Rattle.hp_fire.specs.Statements.{SiblingsFire, TaskFires};
 
 use crate::context::Context;
 use crate::course::{Course, GroupOutcome};
@@ -30,23 +31,26 @@ use std::thread::Threads;
 impl<R: Threads + Sync> Engine<'_, R> {
     /// Runs the body of a script in a transaction of a depth: its statements in order, up to the first that isn't done.
     ///
-    /// While a group of firings inside has workers, this thread sleeps. An error means that memory ran out; the view may then
-    /// hold a part of the effects.
+    /// While a group of firings inside has workers, this thread sleeps. An error means that memory ran out; the view
+    /// may then hold a part of the effects.
     pub fn run_body(&self, view: &mut View, body: &[Stmt], depth: u8) -> Result<Course, AllocError>
-        ensures { IfOk result (λ c. Runs (library self.now.lib.now) (model.run_body (body_in body.now) (level_at (library self.now.lib.now) depth) no_context) view.old view.new (course c)) }
+        ensures { IfOk result (λ c. Runs (library self.now.lib.now)
+            (model.run_body (body_in body.now) (level_at (library self.now.lib.now) depth) no_context)
+            view.old view.new (course c)) }
     {
         let context = Context::of_script(depth);
         let course = self.statements(view, body, &context)?;
         Ok(course)
     }
 
-    /// Signals an occurrence in a transaction of a depth: the rules that it triggers are placed, and the immediate ones fire as
-    /// siblings.
+    /// Signals an occurrence in a transaction of a depth: the rules that it triggers are placed, and the immediate ones
+    /// fire as siblings.
     ///
-    /// While a group of firings has workers, this thread sleeps. An error means that memory ran out; the view may then hold a
-    /// part of the effects.
+    /// While a group of firings has workers, this thread sleeps. An error means that memory ran out; the view may then
+    /// hold a part of the effects.
     pub fn run_signal(&self, view: &mut View, prim: &Prim, depth: u8) -> Result<Course, AllocError>
-        ensures { IfOk result (λ c. Runs (library self.now.lib.now) (signal_in (level_at (library self.now.lib.now) depth) (primitive prim.now)) view.old view.new (course c)) }
+        ensures { IfOk result (λ c. Runs (library self.now.lib.now)
+            (signal_in (level_at (library self.now.lib.now) depth) (primitive prim.now)) view.old view.new (course c)) }
     {
         let result = self.signal(view, prim, depth);
         let course = settled(self.alloc, result)?;
@@ -55,18 +59,20 @@ impl<R: Threads + Sync> Engine<'_, R> {
 
     /// Fires a task on the view, as a subtransaction.
     ///
-    /// While a group of firings inside has workers, this thread sleeps. An error means that memory ran out; the view may then
-    /// hold a part of the effects.
+    /// While a group of firings inside has workers, this thread sleeps. An error means that memory ran out; the view
+    /// may then hold a part of the effects.
     pub fn run_firing(&self, view: &mut View, task: &Task) -> Result<Outcome, AllocError>
-        ensures { IfOk result (λ o. RunsFiring (library self.now.lib.now) (λ S. fire_task (library self.now.lib.now) S (task_of task.now)) view.old view.new (firing_of o)) }
+        ensures { IfOk result (λ o. RunsFiring (library self.now.lib.now)
+            (λ S. fire_task (library self.now.lib.now) S (task_of task.now)) view.old view.new (firing_of o)) }
     {
         let outcome = self.firing(view, task)?;
         Ok(outcome)
     }
 
-    /// Fires the tasks of a group on the view, as siblings. Where `stop_at_veto` is set, nothing fires after a vetoed one.
+    /// Fires the tasks of a group on the view, as siblings. Where `stop_at_veto` is set, nothing fires after a vetoed
+    /// one.
     ///
-    /// Workers are started only where they are worth it. While there are any, this thread sleeps. An error means that memory ran
+    /// Workers are started only where they pay. While there are any, this thread sleeps. An error means that memory ran
     /// out; the view may then hold a part of the effects.
     pub fn run_siblings(
         &self,
@@ -74,14 +80,16 @@ impl<R: Threads + Sync> Engine<'_, R> {
         tasks: &[Task],
         stop_at_veto: bool,
     ) -> Result<GroupOutcome, AllocError>
-        ensures { IfOk result (λ g. RunsGroup (library self.now.lib.now) (siblings (fire_task (library self.now.lib.now)) stop_at_veto (map task_of tasks.now)) view.old view.new (group_of g)) }
+        ensures { IfOk result (λ g. RunsGroup (library self.now.lib.now)
+            (siblings (fire_task (library self.now.lib.now)) stop_at_veto (map task_of tasks.now))
+            view.old view.new (group_of g)) }
     {
         let outcome = self.run_with(view, tasks, stop_at_veto, &NoGate, false)?;
         Ok(outcome)
     }
 
-    /// The same with a gate, which is told of the tasks that workers try. An eager group starts workers in any case, for as many
-    /// tasks and threads as there are.
+    /// The same with a gate, which is notified of the tasks that workers try. An eager group starts workers in any
+    /// case, for as many tasks and threads as there are.
     fn run_with<G: Gate + Sync>(
         &self,
         view: &mut View,
@@ -90,13 +98,13 @@ impl<R: Threads + Sync> Engine<'_, R> {
         gate: &G,
         eager: bool,
     ) -> Result<GroupOutcome, AllocError>
-        ensures runs { IfOk result (λ g. RunsGroup (library self.now.lib.now) (siblings (fire_task (library self.now.lib.now)) stop_at_veto (map task_of tasks.now)) view.old view.new (group_of g)) }
+        ensures runs { IfOk result (SiblingsFire self.now.lib.now stop_at_veto tasks.now view.old view.new) }
         ensures counted { IfOk result (λ g. g.accepted + g.reran ≡ length g.outcomes.items) }
         ensures waves { IfOk result (λ g. g.waves ≤ g.reran + 1) }
         ensures alone { self.now.width < 2 → IfOk result (λ g. g.waves ≡ 0) }
     {
         let fire = |view: &mut View, task: &Task| -> Result<Outcome, AllocError>
-            ensures { IfOk result (λ o. RunsFiring (library self.entry.now.lib.now) (λ S. fire_task (library self.entry.now.lib.now) S (task_of task.now)) view.old view.new (firing_of o)) }
+            ensures { IfOk result (TaskFires self.entry.now.lib.now task.now view.old view.new) }
         { self.firing(view, task) };
         let attempt = |snapshot: Snapshot, task: &Task, effort: &Effort, width: usize| -> Result<
             Attempt,
@@ -124,74 +132,15 @@ impl<R: Threads + Sync> Engine<'_, R> {
     }
 }
 
-/// Runs the body of a script in a transaction of a depth: its statements in order, up to the first that isn't done.
-///
-/// A group of firings inside uses at most `width` threads, while this one sleeps. An error means that memory ran out; the view
-/// may then hold a part of the effects.
-pub fn run_body<R: Threads + Sync>(
-    rt: &R,
-    alloc: Global,
-    lib: &Library,
-    view: &mut View,
-    body: &[Stmt],
-    depth: u8,
-    width: usize,
-) -> Result<Course, AllocError>
-    ensures { IfOk result (λ c. Runs (library lib.now) (model.run_body (body_in body.now) (level_at (library lib.now) depth) no_context) view.old view.new (course c)) }
-{
-    let past = Past::new(alloc, lib, width);
-    let course = Engine::new(rt, alloc, lib, width, &past).run_body(view, body, depth)?;
-    Ok(course)
-}
-
-/// Signals an occurrence in a transaction of a depth: the rules that it triggers are placed, and the immediate ones fire as
-/// siblings.
-///
-/// A group of firings uses at most `width` threads, while this one sleeps. An error means that memory ran out; the view may then
-/// hold a part of the effects.
-pub fn run_signal<R: Threads + Sync>(
-    rt: &R,
-    alloc: Global,
-    lib: &Library,
-    view: &mut View,
-    prim: &Prim,
-    depth: u8,
-    width: usize,
-) -> Result<Course, AllocError>
-    ensures { IfOk result (λ c. Runs (library lib.now) (signal_in (level_at (library lib.now) depth) (primitive prim.now)) view.old view.new (course c)) }
-{
-    let past = Past::new(alloc, lib, width);
-    let course = Engine::new(rt, alloc, lib, width, &past).run_signal(view, prim, depth)?;
-    Ok(course)
-}
-
-/// Fires a task on the view, as a subtransaction.
-///
-/// A group of firings inside uses at most `width` threads, while this one sleeps. An error means that memory ran out; the view
-/// may then hold a part of the effects.
-pub fn run_firing<R: Threads + Sync>(
-    rt: &R,
-    alloc: Global,
-    lib: &Library,
-    view: &mut View,
-    task: &Task,
-    width: usize,
-) -> Result<Outcome, AllocError>
-    ensures { IfOk result (λ o. RunsFiring (library lib.now) (λ S. fire_task (library lib.now) S (task_of task.now)) view.old view.new (firing_of o)) }
-{
-    let past = Past::new(alloc, lib, width);
-    let outcome = Engine::new(rt, alloc, lib, width, &past).run_firing(view, task)?;
-    Ok(outcome)
-}
-
 /// Fires the tasks of a group on the view, as siblings. In HiPAC the rules that one event triggers fire as sibling
-/// subtransactions, whose effect is that of some serial order: here it is the order of the tasks. Where `stop_at_veto` is
-/// set, nothing fires after a vetoed one.
+/// subtransactions, whose effect is that of some serial order: here it is the order of the tasks. Where `stop_at_veto`
+/// is set, nothing fires after a vetoed one.
 ///
-/// Where there are two tasks and a width of two at least, up to `width` workers, at most 64, try the tasks ahead of their turn
-/// in threads of their own, while this one sleeps. What they bring is taken in where it still holds, and is tried again or run by
-/// the caller where it doesn't, so that no thread changes the outcome. The gate is told of each task that a worker starts and
-/// ends, by its place in the group. A worker for which memory runs out leaves a task to the caller.
+/// Where there are two tasks and a width of two at least, up to `width` workers, at most 64, try the tasks ahead of
+/// their turn in threads of their own, while this one sleeps. What they bring is accepted where it still holds, and is
+/// tried again or run by the caller where it doesn't, so that no thread changes the outcome. The gate is notified of
+/// each task that a worker starts and ends, by its place in the group. A worker for which memory runs out leaves a task
+/// to the caller.
 ///
 /// An error means that memory ran out; the view may then hold a part of the effects.
 pub fn run_group<R: Threads + Sync, G: Gate + Sync>(
@@ -204,7 +153,8 @@ pub fn run_group<R: Threads + Sync, G: Gate + Sync>(
     width: usize,
     gate: &G,
 ) -> Result<GroupOutcome, AllocError>
-    ensures runs { IfOk result (λ g. RunsGroup (library lib.now) (siblings (fire_task (library lib.now)) stop_at_veto (map task_of tasks.now)) view.old view.new (group_of g)) }
+    ensures runs { IfOk result (λ g. RunsGroup (library lib.now)
+        (siblings (fire_task (library lib.now)) stop_at_veto (map task_of tasks.now)) view.old view.new (group_of g)) }
     ensures counted { IfOk result (λ g. g.accepted + g.reran ≡ length g.outcomes.items) }
     ensures waves { IfOk result (λ g. g.waves ≤ g.reran + 1) }
     ensures alone { width < 2 → IfOk result (λ g. g.waves ≡ 0) }

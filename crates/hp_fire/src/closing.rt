@@ -25,12 +25,14 @@ use hp_value::{Cause, Coupling, RuleNo};
 use hp_view::{Mark, View};
 use std::alloc::{AllocError, Global};
 
-/// Ends the transaction that began at a mark: if it is done, what it wrote stays, and if it isn't, that is undone (Moss).
+/// Ends the transaction that began at a mark: if it is done, what it wrote stays, and if it isn't, that is undone
+/// (Moss).
 ///
 /// An error means that memory ran out; the view is then as before.
 pub fn end_transaction(view: &mut View, mark: Mark, how: End) -> Result<(), AllocError>
     requires { mark ≤ length view.old.undo }
-    ensures { OnOk result ((first : Seeing) → GoesOn first view.old → length first.undo ≡ mark → Closes first view.old view.new (mapped.end how)) }
+    ensures { OnOk result ((first : Seeing) → GoesOn first view.old → length first.undo ≡ mark
+        → Closes first view.old view.new (mapped.end how)) }
 {
     match how {
         End::Done => {
@@ -65,8 +67,8 @@ fn queued_after(alloc: Global, how: End, queued: Vec<Task>) -> Vec<Task>
     }
 }
 
-/// The tasks that a transaction leaves detached: where it is aborted, the separate ones, and the exclusive ones, which that
-/// releases.
+/// The tasks that a transaction leaves detached: where it is aborted, the separate ones, and the exclusive ones, which
+/// that releases.
 ///
 /// An error means that memory ran out.
 pub fn detached_after(
@@ -74,7 +76,8 @@ pub fn detached_after(
     how: End,
     detached: Vec<Detached>,
 ) -> Result<Vec<Detached>, AllocError>
-    ensures { IfOk result (λ ds. map detached_of ds.items ≡ detached_at (mapped.end how) (map detached_of detached.items)) }
+    ensures { IfOk result (λ ds. map detached_of ds.items
+        ≡ detached_at (mapped.end how) (map detached_of detached.items)) }
 {
     match how {
         End::Done => Ok(detached),
@@ -178,16 +181,17 @@ pub(crate) fn close_action(
     course: Course,
 ) -> Result<Outcome, AllocError>
     requires { mark ≤ length view.old.undo }
-    ensures { IfOk result (λ o. (library : Library) (level : Level) (t : ModelTask) (found : Answers) (first : Seeing) → Runs library (action_course level t found) first view.old (course_in course)
-        → length first.undo ≡ mark → RunsFiring library (run_action (what_of what) level t found) first view.new (firing o)) }
+    ensures { IfOk result (λ o. (library : Library) (level : Level) (t : ModelTask) (found : Answers) (first : Seeing)
+        → Runs library (action_course level t found) first view.old (course_in course) → length first.undo ≡ mark
+        → RunsFiring library (run_action (what_of what) level t found) first view.new (firing o)) }
 {
     end_transaction(view, mark, course.end)?;
     let outcome = as_firing(alloc, what, course)?;
     Ok(outcome)
 }
 
-/// Ends the body of a statement `sub`, which began at a mark and took this course. The answer also says whether it aborted,
-/// so that the other body is to follow; a veto goes on outward.
+/// Ends the body of a statement `sub`, which began at a mark and took this course. The answer also says whether it
+/// aborted, so that the other body is to follow; a veto goes on outward.
 ///
 /// An error means that memory ran out.
 pub(crate) fn close_sub(
@@ -197,7 +201,8 @@ pub(crate) fn close_sub(
     course: Course,
 ) -> Result<(Course, bool), AllocError>
     requires { mark ≤ length view.old.undo }
-    ensures { IfOk result (λ r. (library : Library) (f : Work) (first : Seeing) → Runs library f first view.old (course_in course)
+    ensures { IfOk result (λ r. (library : Library) (f : Work) (first : Seeing)
+        → Runs library f first view.old (course_in course)
         → length first.undo ≡ mark → SubRuns library f first view.new (course_in r.0) r.1) }
 {
     let how = course.end;

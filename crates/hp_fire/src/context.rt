@@ -52,7 +52,8 @@ impl<'a> Context<'a> {
 
     /// The same with a name for a row.
     pub(crate) fn bound<'b>(&'b self, name: &'b str, key: Key, row: &'b Row) -> Context<'b>
-        ensures context { mapped.context result ≡ with_row name.entry.now (record { key = key; row = row.entry.now }) (mapped.context self.entry.now) }
+        ensures context { mapped.context result
+            ≡ with_row name.entry.now (record { key = key; row = row.entry.now }) (mapped.context self.entry.now) }
         ensures depth { result.depth ≡ self.entry.now.depth }
     {
         Context {

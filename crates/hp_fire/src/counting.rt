@@ -5,7 +5,7 @@ ghost use Rattle.hp_view.specs.Seeing.{OnlyReads};
 
 use crate::speculate::{Effort, ROW};
 use hp_query::{Look, Query};
-use hp_value::{ClassNo, Expr, Key, ObjectList, Row};
+use hp_value::{ClassNo, ClassPart, Expr, Key, KeyedRow, ObjectList, Row};
 use hp_view::View;
 use std::alloc::{AllocError, Global};
 use std::sync::Arc;
@@ -27,8 +27,8 @@ impl<'a> Counting<'a> {
         Counting { view, rows: 0 }
     }
 
-    /// Counts the rows that these queries were given, by the operators of their predicates.
-    pub(crate) fn tell(&self, queries: &[Query], effort: &Effort) {
+    /// Adds what it took to look at the rows for these queries, by the operators of their predicates.
+    pub(crate) fn add_queries(&self, queries: &[Query], effort: &Effort) {
         let mut longest = 0u64;
         for query in queries {
             longest = longest.max(operators(&query.predicate));
@@ -36,8 +36,8 @@ impl<'a> Counting<'a> {
         effort.add(self.rows.saturating_mul(longest.saturating_add(ROW)));
     }
 
-    /// The same of one predicate.
-    pub(crate) fn tell_of(&self, predicate: &Expr, effort: &Effort) {
+    /// Adds what it took to look at the rows for one predicate.
+    pub(crate) fn add_predicate(&self, predicate: &Expr, effort: &Effort) {
         let operators = operators(predicate);
         effort.add(self.rows.saturating_mul(operators.saturating_add(ROW)));
     }
@@ -93,6 +93,19 @@ impl Look for Counting<'_> {
         let objects = Look::objects(self.view, alloc, class)?;
         if let Some(objects) = &objects {
             self.count(objects.rows().len());
+        }
+        Ok(objects)
+    }
+
+    fn part(
+        &mut self,
+        alloc: Global,
+        class: ClassNo,
+        part: &ClassPart<'_>,
+    ) -> Result<Option<Vec<KeyedRow>>, AllocError> {
+        let objects = Look::part(self.view, alloc, class, part)?;
+        if let Some(objects) = &objects {
+            self.count(objects.len());
         }
         Ok(objects)
     }

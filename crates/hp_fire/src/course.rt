@@ -55,7 +55,8 @@ pub struct GroupOutcome {
 impl GroupOutcome {
     /// A group whose owner ran each firing.
     pub(crate) fn of_owner(outcomes: Vec<Outcome>, end: Option<RuleNo>) -> GroupOutcome
-        ensures { result ≡ record { outcomes = outcomes; end = end; accepted = 0; reran = length outcomes.items; waves = 0 } }
+        ensures { let reran = length outcomes.items in
+            result ≡ record { outcomes = outcomes; end = end; accepted = 0; reran = reran; waves = 0 } }
     {
         let reran = outcomes.len();
         GroupOutcome {
@@ -85,7 +86,8 @@ impl Course {
     ///
     /// An error means that memory ran out.
     pub(crate) fn of_item(alloc: Global, item: Item, more: usize) -> Result<Course, AllocError>
-        ensures { IfOk result (λ c. course c ≡ record { end = end End.Done; queued = []; detached = []; items = before item no_items }) }
+        ensures { IfOk result (λ c. course c
+            ≡ record { end = end End.Done; queued = []; detached = []; items = before item no_items }) }
     {
         let mut items = Vec::with_capacity(alloc, more.saturating_add(1))?;
         items.push(item)?;
@@ -109,7 +111,8 @@ impl Course {
 
     /// Whether there is nothing in it but its end.
     fn is_blank(&self) -> bool
-        ensures { IsTrue result → (self.now.queued.items ≡ []) × (self.now.detached.items ≡ []) × (self.now.items.items ≡ []) }
+        ensures { IsTrue result → (self.now.queued.items ≡ []) × (self.now.detached.items ≡ [])
+            × (self.now.items.items ≡ []) }
     {
         self.queued.is_empty() && self.detached.is_empty() && self.items.is_empty()
     }

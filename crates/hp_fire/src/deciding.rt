@@ -2,23 +2,24 @@
 
 ghost use Rattle.std.specs.Prelude.{◌≡◌, ◌≤◌, IfOk, map, [], ◌∷◌};
 ghost use Rattle.hp_model.specs.Rules.{rule_at};
+ghost use Rattle.hp_model.specs.Conditions.{satisfied};
 ghost use Rattle.hp_model.specs.Tree.{condition_step, fire_node, with_later_action};
 ghost use Rattle.hp_model.specs.Firing.{action_task};
 ghost use Rattle.hp_model.specs.Answers.{handing_on};
 ghost use Rattle.hp_value.specs.Mapped as mapped;
 ghost use Rattle.hp_value.specs.Mapped.{coupling};
-ghost use Rattle.hp_query.specs.Mapped.{query};
+ghost use Rattle.hp_query.specs.Mapped.{query, verdict as verdict_of};
+ghost use Rattle.hp_rule.specs.declared.stmt.Stmt.{size-Stmt};
 ghost use Rattle.hp_rule.specs.Mapped.{body_in, library, task as task_of};
 ghost use Rattle.hp_tree.specs.Mapped.{what as what_of, condition as condition_end};
 ghost use Rattle.hp_attempt.specs.Mapped.{firing};
-ghost use Rattle.hp_fire.specs.Decides.{Decides, Follows};
-ghost use denote.Param.Weighed.{most};
-ghost use Rattle.hp_rule.specs.declared.stmt.Stmt.{size-Stmt};
+ghost use Rattle.hp_fire.specs.Decides.{Decides, FindsVerdict, Follows};
 ghost use Rattle.hp_fire.specs.Weights.{deepest};
+ghost use denote.Param.Weighed.{most};
 
 use crate::counting::Counting;
+use crate::engine::Engine;
 use crate::placing::place_tasks;
-use crate::speculate::Effort;
 use hp_attempt::Outcome;
 use hp_query::{Query, Verdict, evaluate_condition};
 use hp_rule::{Library, Step, Stmt, Task};
@@ -39,86 +40,96 @@ pub(crate) enum Decision {
     ActsLater(What, Arc<Vec<Answer>>),
 }
 
-/// Begins the firing of a task: a condition is evaluated, and where it is satisfied its action runs at once or is placed.
-///
-/// An error means that memory ran out.
-pub(crate) fn decide(
-    alloc: Global,
-    lib: &Library,
-    effort: &Effort,
-    view: &mut View,
-    task: &Task,
-) -> Result<Decision, AllocError>
-    ensures { IfOk result (λ d. Decides (library lib.now) (task_of task.now) view.old view.new d) }
-{
-    match &task.step {
-        Step::Condition => {
-            let decision = decide_condition(alloc, lib, effort, view, task)?;
-            Ok(decision)
-        }
-        Step::Action(answers) => {
-            let what = What::Act {
-                rule: task.rule,
-                place: task.place,
-            };
-            let answers = Arc::try_clone(answers)?;
-            Ok(Decision::ActsLater(what, answers))
+impl<R> Engine<'_, R> {
+    /// Begins the firing of a task: a condition is evaluated, and where it is satisfied its action runs at once or is
+    /// placed.
+    ///
+    /// An error means that memory ran out.
+    pub(crate) fn decide(&self, view: &mut View, task: &Task) -> Result<Decision, AllocError>
+        ensures { IfOk result (λ d. Decides (library self.now.lib.now) (task_of task.now) view.old view.new d) }
+    {
+        match &task.step {
+            Step::Condition => {
+                let decision = self.decide_condition(view, task)?;
+                Ok(decision)
+            }
+            Step::Action(answers) => {
+                let what = What::Act {
+                    rule: task.rule,
+                    place: task.place,
+                };
+                let answers = Arc::try_clone(answers)?;
+                Ok(Decision::ActsLater(what, answers))
+            }
         }
     }
-}
 
-/// Begins the firing of a condition.
-///
-/// An error means that memory ran out.
-fn decide_condition(
-    alloc: Global,
-    lib: &Library,
-    effort: &Effort,
-    view: &mut View,
-    task: &Task,
-) -> Result<Decision, AllocError>
-    requires { (task_of task.now).step ≡ condition_step }
-    ensures { IfOk result (λ d. Decides (library lib.now) (task_of task.now) view.old view.new d) }
-{
-    let queries = condition_of(lib, task.rule);
-    let mut look = Counting::new(view);
-    let verdict = evaluate_condition(alloc, queries, &task.occurrence, &mut look)?;
-    look.tell(queries, effort);
-    match verdict {
-        Verdict::Satisfied(answers) => {
-            let decision = follow(alloc, lib, task, answers)?;
-            Ok(decision)
-        }
-        Verdict::Unsatisfied => {
-            let outcome = quiet(alloc, fired(task, ConditionEnd::WithoutAction))?;
-            Ok(Decision::Over(outcome))
-        }
-        Verdict::Faulty(cause) => {
-            let outcome = quiet(alloc, fired(task, ConditionEnd::WithFault(cause)))?;
-            Ok(Decision::Over(outcome))
+    /// Begins the firing of a condition.
+    ///
+    /// An error means that memory ran out.
+    fn decide_condition(&self, view: &mut View, task: &Task) -> Result<Decision, AllocError>
+        requires { (task_of task.now).step ≡ condition_step }
+        ensures { IfOk result (λ d. Decides (library self.now.lib.now) (task_of task.now) view.old view.new d) }
+    {
+        let verdict = self.condition_verdict(view, task)?;
+        let decision = self.follow(task, verdict)?;
+        Ok(decision)
+    }
+
+    /// What the condition of a task's rule comes to.
+    ///
+    /// An error means that memory ran out.
+    fn condition_verdict(&self, view: &mut View, task: &Task) -> Result<Verdict, AllocError>
+        ensures { let t = task_of task.now in
+            IfOk result (λ v. FindsVerdict (library self.now.lib.now) t view.old view.new (verdict_of v)) }
+    {
+        let queries = condition_of(self.lib, task.rule);
+        let mut look = Counting::new(view);
+        let verdict = evaluate_condition(self.alloc, queries, &task.occurrence, &mut look)?;
+        look.add_queries(queries, self.effort);
+        Ok(verdict)
+    }
+
+    /// What comes of a condition.
+    ///
+    /// An error means that memory ran out.
+    fn follow(&self, task: &Task, verdict: Verdict) -> Result<Decision, AllocError>
+        ensures { IfOk result (Follows (library self.now.lib.now) (task_of task.now) (verdict_of verdict)) }
+    {
+        match verdict {
+            Verdict::Satisfied(answers) => {
+                let decision = self.follow_satisfied(task, answers)?;
+                Ok(decision)
+            }
+            Verdict::Unsatisfied => {
+                let what = fired(task, ConditionEnd::WithoutAction);
+                let outcome = without_effects(self.alloc, what)?;
+                Ok(Decision::Over(outcome))
+            }
+            Verdict::Faulty(cause) => {
+                let what = fired(task, ConditionEnd::WithFault(cause));
+                let outcome = without_effects(self.alloc, what)?;
+                Ok(Decision::Over(outcome))
+            }
         }
     }
-}
 
-/// What comes of a satisfied condition: its action at once, or the task of its action.
-///
-/// An error means that memory ran out.
-fn follow(
-    alloc: Global,
-    lib: &Library,
-    task: &Task,
-    answers: Vec<Answer>,
-) -> Result<Decision, AllocError>
-    ensures { IfOk result (Follows (library lib.now) (task_of task.now) (mapped.answers answers.items)) }
-{
-    match action_coupling(lib, task.rule) {
-        Coupling::Immediate => {
-            let what = fired(task, ConditionEnd::WithAction);
-            Ok(Decision::Acts(what, answers))
-        }
-        place => {
-            let outcome = later(alloc, task, place, answers)?;
-            Ok(Decision::Over(outcome))
+    /// What comes of a satisfied condition: its action at once, or the task of its action.
+    ///
+    /// An error means that memory ran out.
+    fn follow_satisfied(&self, task: &Task, answers: Vec<Answer>) -> Result<Decision, AllocError>
+        ensures { let found = mapped.answers answers.items in
+            IfOk result (Follows (library self.now.lib.now) (task_of task.now) (satisfied found)) }
+    {
+        match action_coupling(self.lib, task.rule) {
+            Coupling::Immediate => {
+                let what = fired(task, ConditionEnd::WithAction);
+                Ok(Decision::Acts(what, answers))
+            }
+            place => {
+                let outcome = later(self.alloc, task, place, answers)?;
+                Ok(Decision::Over(outcome))
+            }
         }
     }
 }
@@ -137,7 +148,7 @@ fn fired(task: &Task, condition: ConditionEnd) -> What
 /// A firing that does nothing but what its node says.
 ///
 /// An error means that memory ran out.
-fn quiet(alloc: Global, what: What) -> Result<Outcome, AllocError>
+fn without_effects(alloc: Global, what: What) -> Result<Outcome, AllocError>
     ensures { IfOk result (λ o. firing o ≡ handing_on (what_of what) []) }
 {
     let mut tree = Vec::with_capacity(alloc, 1)?;
@@ -163,7 +174,9 @@ fn later(
     place: Coupling,
     answers: Vec<Answer>,
 ) -> Result<Outcome, AllocError>
-    ensures { IfOk result (λ o. firing o ≡ handing_on (fire_node task.now.rule (coupling task.now.place) with_later_action) (action_task (coupling place) (task_of task.now) (mapped.answers answers.items) ∷ [])) }
+    ensures { let node = fire_node task.now.rule (coupling task.now.place) with_later_action in
+        let action = action_task (coupling place) (task_of task.now) (mapped.answers answers.items) in
+        IfOk result (λ o. firing o ≡ handing_on node (action ∷ [])) }
 {
     let answers = Arc::new(alloc, answers)?;
     let mut tasks = Vec::with_capacity(alloc, 1)?;
@@ -175,7 +188,7 @@ fn later(
         occurrence: Arc::try_clone(&task.occurrence)?,
     })?;
     let placed = place_tasks(alloc, tasks)?;
-    let mut outcome = quiet(alloc, fired(task, ConditionEnd::WithLaterAction))?;
+    let mut outcome = without_effects(alloc, fired(task, ConditionEnd::WithLaterAction))?;
     outcome.queued = placed.queued;
     outcome.detached = placed.detached;
     Ok(outcome)

@@ -24,8 +24,8 @@ pub struct Engine<'a, R> {
 }
 
 impl<'a, R> Engine<'a, R> {
-    /// An engine for a library, with so many threads for a group. What rules' firings take is noted in `past`, which may serve for
-    /// several units, one after the other.
+    /// An engine for a library, with so many threads for a group. What rules' firings take is noted in `past`, which
+    /// may serve for several units, one after the other.
     pub fn new(
         rt: &'a R,
         alloc: Global,

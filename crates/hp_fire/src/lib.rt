@@ -1,7 +1,7 @@
 //! Firings: statements, signals and groups of sibling firings on a view.
 //!
-//! The types stand for those of `hp_model`: `specs/Mapped.antt` has a function for each. `specs/Runs.antt` says what a call
-//! on a view promises.
+//! The types stand for those of `hp_model`: `specs/Mapped.antt` has a function for each. `specs/Runs.antt` says what a
+//! call on a view promises.
 #![tactic(auto)]
 
 mod calls;
@@ -18,7 +18,7 @@ mod settling;
 mod speculate;
 mod statement;
 
-pub use calls::{run_body, run_firing, run_group, run_signal, run_task};
+pub use calls::{run_group, run_task};
 pub use closing::{detached_after, end_transaction, ending};
 pub use course::{Course, End, GroupOutcome};
 pub use engine::Engine;

@@ -4,7 +4,7 @@ ghost use Rattle.std.specs.Prelude.{◌≡◌, IfOk, map};
 ghost use Rattle.hp_model.specs.Tree.{without_detachments};
 ghost use Rattle.hp_model.specs.Rules as rules;
 ghost use Rattle.hp_model.specs.Firing as model;
-ghost use Rattle.hp_model.specs.Firing.{Level, level_at, values_of, boolean_value};
+ghost use Rattle.hp_model.specs.Firing.{Level, values_of, boolean_value};
 ghost use Rattle.hp_model.specs.Conditions as conditions;
 ghost use Rattle.hp_model.specs.Answers.{tells};
 ghost use Rattle.hp_model.specs.Operations.{operation_items};
@@ -13,69 +13,153 @@ ghost use Rattle.hp_query.specs.Mapped.{keyed_rows};
 ghost use Rattle.hp_rule.specs.Mapped.{assignment, library};
 ghost use Rattle.hp_view.specs.Seeing.{Seeing};
 ghost use Rattle.hp_fire.specs.Mapped.{context as context_in, course as course_in};
-ghost use Rattle.hp_fire.specs.Runs.{Steps, Looks, Makes};
+ghost use Rattle.hp_fire.specs.Runs.{Steps, Looks};
 ghost use Rattle.hp_fire.specs.Signals.{signal_of};
+ghost use Rattle.hp_fire.specs.Statements.{OperationIsMade};
 
 use crate::context::Context;
 use crate::counting::Counting;
-use crate::course::Course;
-use crate::speculate::Effort;
+use crate::course::{Course, End};
+use crate::engine::Engine;
 use hp_ops::{create, delete, find_object, given_values, new_object, set_rule, update};
 use hp_query::selected_rows;
-use hp_rule::{Assignment, Library, RuleOperation};
+use hp_rule::{Assignment, RuleOperation};
 use hp_tree::{Item, Operation};
-use hp_value::{Cause, ClassNo, Env, Expr, Halt, KeyedRow, Prim, RuleNo, Value};
+use hp_value::{Cause, ClassNo, Env, Expr, Halt, KeyedRow, Prim, RuleNo};
 use hp_view::View;
 use std::alloc::{AllocError, Global};
 
-/// Makes the object of a statement `create`. The answer is the occurrence that is then signalled.
-pub(crate) fn created(
-    alloc: Global,
-    lib: &Library,
-    view: &mut View,
-    context: &Context<'_>,
-    class: ClassNo,
-    key: &Expr,
-    pairs: &[Assignment],
-) -> Result<Prim, Halt>
-    ensures { let level = level_at (library lib.now) context.now.depth in
-        Makes primitive (library lib.now) level (model.run_statement (rules.create class (expression key.now) (map assignment pairs.now)) level (context_in context.now)) view.old view.new result }
-{
-    let new = new_object(alloc, lib, class, &context.env, key, pairs)?;
-    create(alloc, view, class, new.key, new.row)
+/// What a statement `each` asks for.
+#[derive(Clone, Copy)]
+pub(crate) struct Selection<'a> {
+    /// The name of the row that is tested.
+    pub(crate) variable: &'a str,
+    /// The class whose objects are asked for.
+    pub(crate) class: ClassNo,
+    /// What is tested of each row.
+    pub(crate) predicate: &'a Expr,
 }
 
-/// Sets the fields of a statement `update`. The answer is the occurrence that is then signalled.
-pub(crate) fn updated(
-    alloc: Global,
-    lib: &Library,
-    view: &mut View,
-    context: &Context<'_>,
-    class: ClassNo,
-    key: &Expr,
-    pairs: &[Assignment],
-) -> Result<Prim, Halt>
-    ensures { let level = level_at (library lib.now) context.now.depth in
-        Makes primitive (library lib.now) level (model.run_statement (rules.update class (expression key.now) (map assignment pairs.now)) level (context_in context.now)) view.old view.new result }
-{
-    let (key, given) = given_values(alloc, lib, class, &context.env, key, pairs)?;
-    update(alloc, view, class, key, &given)
+/// What a statement `with` binds.
+#[derive(Clone, Copy)]
+pub(crate) struct Binding<'a> {
+    /// The name that the object's row has in the body.
+    pub(crate) variable: &'a str,
+    /// The class of the object.
+    pub(crate) class: ClassNo,
+    /// The key of the object.
+    pub(crate) key: &'a Expr,
 }
 
-/// Deletes the object of a statement `delete`. The answer is the occurrence that is then signalled.
-pub(crate) fn deleted(
-    alloc: Global,
-    lib: &Library,
-    view: &mut View,
-    context: &Context<'_>,
-    class: ClassNo,
-    key: &Expr,
-) -> Result<Prim, Halt>
-    ensures { let level = level_at (library lib.now) context.now.depth in
-        Makes primitive (library lib.now) level (model.run_statement (rules.delete class (expression key.now)) level (context_in context.now)) view.old view.new result }
-{
-    let key = integer(alloc, &context.env, key)?;
-    delete(alloc, view, class, key)
+impl<R> Engine<'_, R> {
+    /// Makes the object of a statement `create`. The answer is the occurrence that is then signalled.
+    pub(crate) fn created(
+        &self,
+        view: &mut View,
+        context: &Context<'_>,
+        class: ClassNo,
+        key: &Expr,
+        pairs: &[Assignment],
+    ) -> Result<Prim, Halt>
+        ensures { let statement = rules.create class (expression key.now) (map assignment pairs.now) in
+            OperationIsMade self.now.lib.now context.now statement view.old view.new result }
+    {
+        let new = new_object(self.alloc, self.lib, class, &context.env, key, pairs)?;
+        create(self.alloc, view, class, new.key, new.row)
+    }
+
+    /// Sets the fields of a statement `update`. The answer is the occurrence that is then signalled.
+    pub(crate) fn updated(
+        &self,
+        view: &mut View,
+        context: &Context<'_>,
+        class: ClassNo,
+        key: &Expr,
+        pairs: &[Assignment],
+    ) -> Result<Prim, Halt>
+        ensures { let statement = rules.update class (expression key.now) (map assignment pairs.now) in
+            OperationIsMade self.now.lib.now context.now statement view.old view.new result }
+    {
+        let (key, given) = given_values(self.alloc, self.lib, class, &context.env, key, pairs)?;
+        update(self.alloc, view, class, key, &given)
+    }
+
+    /// Deletes the object of a statement `delete`. The answer is the occurrence that is then signalled.
+    pub(crate) fn deleted(
+        &self,
+        view: &mut View,
+        context: &Context<'_>,
+        class: ClassNo,
+        key: &Expr,
+    ) -> Result<Prim, Halt>
+        ensures { let statement = rules.delete class (expression key.now) in
+            OperationIsMade self.now.lib.now context.now statement view.old view.new result }
+    {
+        let key = integer(self.alloc, &context.env, key)?;
+        delete(self.alloc, view, class, key)
+    }
+
+    /// Installs, enables, disables or removes a rule.
+    pub(crate) fn rule_changed(
+        &self,
+        view: &mut View,
+        operation: RuleOperation,
+        rule: RuleNo,
+    ) -> Result<Course, Halt>
+        ensures { (level : Level) (context : model.Context)
+            → let statement = rules.on_rule (rule_operation operation) rule in
+            Steps (library self.now.lib.now) (model.run_statement statement level context) view.old view.new result }
+    {
+        set_rule(self.alloc, view, self.lib, operation, rule)?;
+        let item = Item::Operation(Operation::OnRule { operation, rule });
+        let course = Course::of_item(self.alloc, item, 0)?;
+        Ok(course)
+    }
+
+    /// The rows of a statement `each`, found whole.
+    pub(crate) fn selected(
+        &self,
+        view: &mut View,
+        context: &Context<'_>,
+        selection: Selection<'_>,
+    ) -> Result<Vec<KeyedRow>, Halt>
+        ensures { let x = selection.entry.variable.now in
+            let predicate = expression selection.entry.predicate.now in
+            let environment = (context_in context.now).environment in
+            Looks keyed_rows (library self.now.lib.now)
+            (λ S. conditions.answer environment x selection.entry.class predicate S.objects) view.old view.new result }
+    {
+        let mut look = Counting::new(view);
+        let rows = selected_rows(
+            self.alloc,
+            selection.variable,
+            selection.class,
+            selection.predicate,
+            &context.env,
+            &mut look,
+        );
+        look.add_predicate(selection.predicate, self.effort);
+        rows
+    }
+
+    /// The object of a statement `with`, as it now is. `Missing` means that it isn't there.
+    pub(crate) fn named_object(
+        &self,
+        view: &mut View,
+        context: &Context<'_>,
+        class: ClassNo,
+        key: &Expr,
+    ) -> Result<KeyedRow, Halt>
+        ensures { let environment = (context_in context.now).environment in
+            Looks keyed_row (library self.now.lib.now)
+            (λ S. model.named_object S.objects environment class (expression key.now)) view.old view.new result }
+    {
+        let key = integer(self.alloc, &context.env, key)?;
+        match find_object(self.alloc, view, class, key)? {
+            Some(row) => Ok(KeyedRow { key, row }),
+            None => Err(Halt::Cause(Cause::Missing)),
+        }
+    }
 }
 
 /// The value of an expression that is a whole number.
@@ -101,7 +185,8 @@ pub(crate) fn signalled(
     name: &str,
     arguments: &[Expr],
 ) -> Result<Prim, Halt>
-    ensures { Meets primitive result (signal_of name.now (values_of (environment env.now) (map expression arguments.now))) }
+    ensures { let values = values_of (environment env.now) (map expression arguments.now) in
+        Meets primitive result (signal_of name.now values) }
 {
     let mut args = Vec::new(alloc);
     for argument in arguments {
@@ -114,83 +199,13 @@ pub(crate) fn signalled(
 
 /// Emits the value of a statement `emit`.
 pub(crate) fn emitted(alloc: Global, context: &Context<'_>, expr: &Expr) -> Result<Course, Halt>
-    ensures { (view : Seeing) (lib : rules.Library) (level : Level) → Steps lib (model.run_statement (rules.emit (expression expr.now)) level (context_in context.now)) view view result }
+    ensures { (view : Seeing) (lib : rules.Library) (level : Level)
+        → let statement = rules.emit (expression expr.now) in
+        Steps lib (model.run_statement statement level (context_in context.now)) view view result }
 {
     let value = expr.eval(alloc, &context.env)?;
     let course = Course::of_item(alloc, Item::Emit(value), 0)?;
     Ok(course)
-}
-
-/// Installs, enables, disables or removes a rule.
-pub(crate) fn rule_changed(
-    alloc: Global,
-    lib: &Library,
-    view: &mut View,
-    operation: RuleOperation,
-    rule: RuleNo,
-) -> Result<Course, Halt>
-    ensures { (level : Level) (context : model.Context) → Steps (library lib.now) (model.run_statement (rules.on_rule (rule_operation operation) rule) level context) view.old view.new result }
-{
-    set_rule(alloc, view, lib, operation, rule)?;
-    let course = Course::of_item(
-        alloc,
-        Item::Operation(Operation::OnRule { operation, rule }),
-        0,
-    )?;
-    Ok(course)
-}
-
-/// What a statement `each` asks for.
-#[derive(Clone, Copy)]
-pub(crate) struct Asked<'a> {
-    /// The name of the row that is tested.
-    pub(crate) variable: &'a str,
-    /// The class whose objects are asked for.
-    pub(crate) class: ClassNo,
-    /// What is tested of each row.
-    pub(crate) predicate: &'a Expr,
-}
-
-/// The rows of a statement `each`, found whole.
-pub(crate) fn selected(
-    alloc: Global,
-    lib: &Library,
-    effort: &Effort,
-    view: &mut View,
-    context: &Context<'_>,
-    asked: Asked<'_>,
-) -> Result<Vec<KeyedRow>, Halt>
-    ensures { Looks keyed_rows (library lib.now) (λ S. conditions.answer (context_in context.now).environment asked.entry.variable.now asked.entry.class (expression asked.entry.predicate.now) S.objects) view.old view.new result }
-{
-    let mut look = Counting::new(view);
-    let rows = selected_rows(
-        alloc,
-        asked.variable,
-        asked.class,
-        asked.predicate,
-        &context.env,
-        &mut look,
-    );
-    look.tell_of(asked.predicate, effort);
-    rows
-}
-
-/// The object of a statement `with`, as it now is. `Missing` means that it isn't there.
-pub(crate) fn named_object(
-    alloc: Global,
-    lib: &Library,
-    view: &mut View,
-    context: &Context<'_>,
-    class: ClassNo,
-    key: &Expr,
-) -> Result<KeyedRow, Halt>
-    ensures { Looks keyed_row (library lib.now) (λ S. model.named_object S.objects (context_in context.now).environment class (expression key.now)) view.old view.new result }
-{
-    let key = integer(alloc, &context.env, key)?;
-    match find_object(alloc, view, class, key)? {
-        Some(row) => Ok(KeyedRow { key, row }),
-        None => Err(Halt::Cause(Cause::Missing)),
-    }
 }
 
 /// An operation as what was done.
@@ -220,7 +235,7 @@ pub(crate) fn operation_course(alloc: Global, prim: &Prim) -> Result<Course, All
             key: *key,
         },
         Prim::Signal { .. } | Prim::Commit | Prim::Time(_) => {
-            return Ok(Course::ended(alloc, crate::course::End::Done));
+            return Ok(Course::ended(alloc, End::Done));
         }
     };
     // What follows an operation is mostly one firing, or none.

@@ -34,9 +34,11 @@ pub(crate) struct Placed {
 ///
 /// An error means that memory ran out.
 pub(crate) fn place_tasks(alloc: Global, tasks: Vec<Task>) -> Result<Placed, AllocError>
-    ensures immediate { IfOk result (λ p. map task_of p.immediate.items ≡ filter (λ (t : ModelTask). is_immediate t.place) (map task_of tasks.items)) }
+    ensures immediate { IfOk result (λ p. map task_of p.immediate.items
+        ≡ filter (λ (t : ModelTask). is_immediate t.place) (map task_of tasks.items)) }
     ensures queued { IfOk result (λ p. map task_of p.queued.items ≡ deferred_of (map task_of tasks.items)) }
-    ensures detached { IfOk result (λ p. map detached_of p.detached.items ≡ map unreleased (detached_tasks (map task_of tasks.items))) }
+    ensures detached { IfOk result (λ p. map detached_of p.detached.items
+        ≡ map unreleased (detached_tasks (map task_of tasks.items))) }
 {
     if !are_immediate(&tasks) {
         return sort_tasks(alloc, tasks);
@@ -52,9 +54,11 @@ pub(crate) fn place_tasks(alloc: Global, tasks: Vec<Task>) -> Result<Placed, All
 ///
 /// An error means that memory ran out.
 fn sort_tasks(alloc: Global, tasks: Vec<Task>) -> Result<Placed, AllocError>
-    ensures immediate { IfOk result (λ p. map task_of p.immediate.items ≡ filter (λ (t : ModelTask). is_immediate t.place) (map task_of tasks.items)) }
+    ensures immediate { IfOk result (λ p. map task_of p.immediate.items
+        ≡ filter (λ (t : ModelTask). is_immediate t.place) (map task_of tasks.items)) }
     ensures queued { IfOk result (λ p. map task_of p.queued.items ≡ deferred_of (map task_of tasks.items)) }
-    ensures detached { IfOk result (λ p. map detached_of p.detached.items ≡ map unreleased (detached_tasks (map task_of tasks.items))) }
+    ensures detached { IfOk result (λ p. map detached_of p.detached.items
+        ≡ map unreleased (detached_tasks (map task_of tasks.items))) }
 {
     let mut immediate = Vec::new(alloc);
     let mut queued = Vec::new(alloc);
@@ -90,8 +94,9 @@ fn are_immediate(tasks: &[Task]) -> bool
 /// The task of a list of one, if it fires at once; else the list, as it was.
 ///
 /// The list of one is freed, so that no memory is held for it while its task fires.
-pub(crate) fn lone(mut tasks: Vec<Task>) -> Result<Task, Vec<Task>>
-    ensures one { IfOk result (λ t. (tasks.items ≡ t ∷ []) × (list_all (λ (u : ModelTask). is_immediate u.place) (map task_of tasks.items) ≡ true)) }
+pub(crate) fn single_immediate(mut tasks: Vec<Task>) -> Result<Task, Vec<Task>>
+    ensures one { IfOk result (λ t. (tasks.items ≡ t ∷ [])
+        × (list_all (λ (u : ModelTask). is_immediate u.place) (map task_of tasks.items) ≡ true)) }
     ensures others { IfErr result (λ ts. ts.items ≡ tasks.items) }
 {
     if tasks.len() != 1 || !are_immediate(&tasks) {

@@ -4,23 +4,21 @@ ghost use Rattle.std.specs.Prelude.{◌≡◌, ◌+◌, true, IfOk, All, map};
 ghost use Rattle.std.specs.Thread.{IsSync};
 ghost use Rattle.hp_model.specs.Cells.{Holds};
 ghost use Rattle.hp_model.specs.Soundness.{IsSound};
-ghost use Rattle.hp_model.specs.Firing as model;
-ghost use Rattle.hp_model.specs.Firing.{level_at, siblings, fire_task, signal_in};
-ghost use Rattle.hp_value.specs.Mapped.{primitive};
+ghost use Rattle.hp_model.specs.Firing.{level_at, run_action};
 ghost use Rattle.hp_value.specs.Mapped as mapped;
 ghost use Rattle.hp_rule.specs.Mapped.{library, task as task_of};
 ghost use Rattle.hp_tree.specs.Mapped.{what as what_of};
 ghost use Rattle.hp_store.specs.Stack.{cells_in};
 ghost use Rattle.hp_attempt.specs.Mapped.{firing as firing_of, attempt as attempt_of};
-ghost use Rattle.hp_fire.specs.Mapped.{course as course_in, group as group_in};
-ghost use Rattle.hp_fire.specs.Runs.{Runs, RunsFiring, RunsGroup, Steps, AreReady};
+ghost use Rattle.hp_fire.specs.Runs.{RunsFiring, AreReady};
+ghost use Rattle.hp_fire.specs.Statements.{SignalRuns, TasksStart, SiblingsFire, TaskFires};
 
 use crate::closing::close_action;
 use crate::context::Context;
 use crate::course::{Course, End, GroupOutcome};
-use crate::deciding::{Decision, action_of, decide};
+use crate::deciding::{Decision, action_of};
 use crate::engine::Engine;
-use crate::placing::{Placed, firing_course, group_course, lone, place_tasks};
+use crate::placing::{Placed, firing_course, group_course, place_tasks, single_immediate};
 use crate::speculate::{Effort, FIRING, Group, NoGate};
 use hp_attempt::{Attempt, Outcome};
 use hp_ops::trigger;
@@ -36,15 +34,15 @@ impl<R: Threads + Sync> Engine<'_, R> {
     /// Signals an occurrence in a transaction of a depth.
     #[cycle(fire)]
     pub(crate) fn signal(&self, view: &mut View, prim: &Prim, depth: u8) -> Result<Course, Halt>
-        ensures { Steps (library self.now.lib.now) (signal_in (level_at (library self.now.lib.now) depth) (primitive prim.now)) view.old view.new result }
+        ensures { SignalRuns self.now.lib.now depth prim.now view.old view.new result }
     {
         let tasks = trigger(self.alloc, view, self.lib, prim, depth)?;
         let course = self.start(view, tasks, depth)?;
         Ok(course)
     }
 
-    /// Starts the tasks of a signal, or of a statement that fires a rule: they are placed, and the immediate ones fire as
-    /// siblings.
+    /// Starts the tasks of a signal, or of a statement that fires a rule: they are placed, and the immediate ones fire
+    /// as siblings.
     #[cycle(fire)]
     pub(crate) fn start(
         &self,
@@ -53,12 +51,12 @@ impl<R: Threads + Sync> Engine<'_, R> {
         depth: u8,
     ) -> Result<Course, AllocError>
         requires { AreReady (library self.now.lib.now) depth (map task_of tasks.items) }
-        ensures { IfOk result (λ c. Runs (library self.now.lib.now) (model.start (level_at (library self.now.lib.now) depth).below (map task_of tasks.items)) view.old view.new (course_in c)) }
+        ensures { IfOk result (TasksStart self.now.lib.now depth tasks.items view.old view.new) }
     {
         if tasks.is_empty() {
             return Ok(Course::ended(self.alloc, End::Done));
         }
-        let tasks = match lone(tasks) {
+        let tasks = match single_immediate(tasks) {
             Ok(task) => {
                 let outcome = self.firing(view, &task)?;
                 return Ok(firing_course(outcome));
@@ -81,16 +79,16 @@ impl<R: Threads + Sync> Engine<'_, R> {
         Ok(course)
     }
 
-    /// Fires tasks of a signal in a transaction of a depth as siblings. Where there are several tasks and threads, and enough to do
-    /// for them, workers try tasks ahead of their turn.
+    /// Fires tasks of a signal in a transaction of a depth as siblings. Where there are several tasks and threads, and
+    /// enough to do for them, workers try tasks ahead of their turn.
     #[cycle(fire)]
     fn group(&self, view: &mut View, tasks: &[Task], depth: u8) -> Result<GroupOutcome, AllocError>
         requires { All (λ t. t.depth ≡ depth + 1) tasks.now }
-        ensures { IfOk result (λ g. RunsGroup (library self.now.lib.now) (siblings (fire_task (library self.now.lib.now)) true (map task_of tasks.now)) view.old view.new (group_in g)) }
+        ensures { IfOk result (SiblingsFire self.now.lib.now true tasks.now view.old view.new) }
     {
         let fire = |view: &mut View, task: &Task| -> Result<Outcome, AllocError>
             requires { task.now.depth ≡ depth + 1 }
-            ensures { IfOk result (λ o. RunsFiring (library self.entry.now.lib.now) (λ S. fire_task (library self.entry.now.lib.now) S (task_of task.now)) view.old view.new (firing_of o)) }
+            ensures { IfOk result (TaskFires self.entry.now.lib.now task.now view.old view.new) }
         {
             let _depth = depth;
             self.firing(view, task)
@@ -144,10 +142,10 @@ impl<R: Threads + Sync> Engine<'_, R> {
     /// Fires a task.
     #[cycle(fire)]
     pub(crate) fn firing(&self, view: &mut View, task: &Task) -> Result<Outcome, AllocError>
-        ensures { IfOk result (λ o. RunsFiring (library self.now.lib.now) (λ S. fire_task (library self.now.lib.now) S (task_of task.now)) view.old view.new (firing_of o)) }
+        ensures { IfOk result (TaskFires self.now.lib.now task.now view.old view.new) }
     {
         self.effort.add(FIRING);
-        match decide(self.alloc, self.lib, self.effort, view, task)? {
+        match self.decide(view, task)? {
             Decision::Over(outcome) => Ok(outcome),
             Decision::Acts(what, answers) => {
                 let outcome = self.action(view, what, task, &answers)?;
@@ -169,7 +167,9 @@ impl<R: Threads + Sync> Engine<'_, R> {
         task: &Task,
         answers: &[Answer],
     ) -> Result<Outcome, AllocError>
-        ensures { IfOk result (λ o. RunsFiring (library self.now.lib.now) (model.run_action (what_of what) (level_at (library self.now.lib.now) task.now.depth) (task_of task.now) (mapped.answers answers.now)) view.old view.new (firing_of o)) }
+        ensures { let level = level_at (library self.now.lib.now) task.now.depth in
+            let action = run_action (what_of what) level (task_of task.now) (mapped.answers answers.now) in
+            IfOk result (λ o. RunsFiring (library self.now.lib.now) action view.old view.new (firing_of o)) }
     {
         let mark = view.enter();
         let context = Context::of_action(task, answers);

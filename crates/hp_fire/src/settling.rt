@@ -14,7 +14,8 @@ use std::alloc::{AllocError, Global};
 
 /// A course that ends at once, where a cause ended it before anything was done.
 pub(crate) fn settled(alloc: Global, given: Result<Course, Halt>) -> Result<Course, AllocError>
-    ensures { IfOk result (λ c. (library : Library) (work : Work) (old new : Seeing) → Steps library work old new given → Runs library work old new (course_in c)) }
+    ensures { IfOk result (λ c. (library : Library) (work : Work) (old new : Seeing)
+        → Steps library work old new given → Runs library work old new (course_in c)) }
 {
     match given {
         Ok(course) => Ok(course),

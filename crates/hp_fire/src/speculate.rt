@@ -1,14 +1,14 @@
 //! Groups of sibling firings, which workers try ahead of their turn.
 //!
-//! All that is speculation stands here, and it knows nothing of statements: a group is given what fires a task and what tries one
-//! on a snapshot. `README.md` of the crate has the words, and the life of one sibling.
+//! All that is speculation stands here, and it knows nothing of statements: a group is given what fires a task and what
+//! tries one on a snapshot. `README.md` of the crate has the words, and the life of one sibling.
 
+mod channel;
 mod counts;
-mod crew;
+mod extents;
+mod fork_join;
 mod gate;
 mod group;
-mod line;
-mod listing;
 mod past;
 mod pending;
 mod policy;

@@ -2,29 +2,26 @@
 
 ghost use Rattle.std.specs.Prelude.{IfOk, map};
 ghost use Rattle.hp_model.specs.Rules as rules;
-ghost use Rattle.hp_model.specs.Firing as model;
-ghost use Rattle.hp_model.specs.Firing.{level_at, with_row};
-ghost use Rattle.hp_model.specs.Transactions.{Work, for_each};
-ghost use Rattle.hp_value.specs.Mapped.{expression, keyed_row, primitive};
-ghost use Rattle.hp_rule.specs.Mapped.{assignment, body_in, library, statement as statement_of};
+ghost use Rattle.hp_model.specs.Transactions.{Work};
+ghost use Rattle.hp_model.specs.Firing.{level_at};
+ghost use Rattle.hp_value.specs.Mapped.{expression, primitive};
+ghost use Rattle.hp_rule.specs.Mapped.{body_in, library, statement as statement_of};
 ghost use Rattle.hp_view.specs.Seeing.{Seeing};
-ghost use Rattle.hp_fire.specs.Mapped.{context as context_in, course as course_in};
+ghost use Rattle.hp_fire.specs.Mapped.{course as course_in};
 ghost use Rattle.hp_fire.specs.Runs.{Runs, Steps, Makes, SubRuns};
+ghost use Rattle.hp_fire.specs.Statements.{StatementRuns, BodyRuns, body_work, body_for_each};
 
 use crate::closing::close_sub;
 use crate::context::Context;
 use crate::course::{Course, End};
 use crate::engine::Engine;
-use crate::operations::{
-    Asked, created, deleted, emitted, is_true, named_object, operation_course, rule_changed,
-    selected, signalled, updated,
-};
+use crate::operations::{Binding, Selection, emitted, is_true, operation_course, signalled};
 use crate::placing::one_task;
 use crate::settling::{settled, vetoed};
 use crate::speculate::STATEMENT;
 use hp_ops::fire;
 use hp_rule::Stmt;
-use hp_value::{Cause, ClassNo, Expr, Halt, KeyedRow, Prim, RuleNo};
+use hp_value::{Cause, Expr, Halt, KeyedRow, Prim, RuleNo};
 use hp_view::View;
 use std::alloc::AllocError;
 use std::thread::Threads;
@@ -38,7 +35,7 @@ impl<R: Threads + Sync> Engine<'_, R> {
         body: &[Stmt],
         context: &Context<'_>,
     ) -> Result<Course, AllocError>
-        ensures { IfOk result (λ c. Runs (library self.now.lib.now) (model.run_body (body_in body.now) (level_at (library self.now.lib.now) context.now.depth) (context_in context.now)) view.old view.new (course_in c)) }
+        ensures { IfOk result (λ c. BodyRuns self.now.lib.now context.now (body_in body.now) view.old view.new c) }
     {
         self.effort.add(STATEMENT.saturating_mul(body.len() as u64));
         let mut so_far = Course::ended(self.alloc, End::Done);
@@ -56,19 +53,19 @@ impl<R: Threads + Sync> Engine<'_, R> {
     /// Runs a statement. A cause ends it before it has done anything.
     #[cycle(fire)]
     fn statement(&self, view: &mut View, stmt: &Stmt, context: &Context<'_>) -> Result<Course, Halt>
-        ensures { Steps (library self.now.lib.now) (model.run_statement (statement_of stmt.now) (level_at (library self.now.lib.now) context.now.depth) (context_in context.now)) view.old view.new result }
+        ensures { StatementRuns self.now.lib.now context.now (statement_of stmt.now) view.old view.new result }
     {
         match stmt {
             Stmt::Create { class, key, pairs } => {
-                let made = created(self.alloc, self.lib, view, context, *class, key, pairs);
+                let made = self.created(view, context, *class, key, pairs);
                 self.operated(view, made, context.depth)
             }
             Stmt::Update { class, key, pairs } => {
-                let made = updated(self.alloc, self.lib, view, context, *class, key, pairs);
+                let made = self.updated(view, context, *class, key, pairs);
                 self.operated(view, made, context.depth)
             }
             Stmt::Delete { class, key } => {
-                let made = deleted(self.alloc, self.lib, view, context, *class, key);
+                let made = self.deleted(view, context, *class, key);
                 self.operated(view, made, context.depth)
             }
             Stmt::Signal { name, arguments } => self.give_signal(view, name, arguments, context),
@@ -83,26 +80,38 @@ impl<R: Threads + Sync> Engine<'_, R> {
                 class,
                 predicate,
                 body,
-            } => self.each_found(view, variable, *class, predicate, body, context),
+            } => {
+                let selection = Selection {
+                    variable,
+                    class: *class,
+                    predicate,
+                };
+                self.each_found(view, selection, body, context)
+            }
             Stmt::For { query, body } => self.each_kept(view, query, body, context),
             Stmt::With {
                 variable,
                 class,
                 key,
                 body,
-            } => self.with_object(view, variable, *class, key, body, context),
+            } => {
+                let binding = Binding {
+                    variable,
+                    class: *class,
+                    key,
+                };
+                self.with_object(view, binding, body, context)
+            }
             Stmt::Sub { body, otherwise } => self.sub_or_otherwise(view, body, otherwise, context),
             Stmt::Abort => Ok(Course::ended(self.alloc, End::Abort(Cause::Asked))),
             Stmt::Veto => Ok(vetoed(self.alloc, context.rule)),
-            Stmt::OnRule { operation, rule } => {
-                rule_changed(self.alloc, self.lib, view, *operation, *rule)
-            }
+            Stmt::OnRule { operation, rule } => self.rule_changed(view, *operation, *rule),
             Stmt::Fire(rule) => self.fire_rule(view, *rule, context),
         }
     }
 
-    // Statements of most kinds have functions of their own, so that a level of statements is small on the stack: all places for
-    // results are cleared on entry, those of arms that aren't taken too.
+    // Statements of most kinds have functions of their own, so that a level of statements is small on the stack: all
+    // places for results are cleared on entry, those of arms that aren't taken too.
 
     /// Runs a statement `signal`.
     #[cycle(fire)]
@@ -113,7 +122,8 @@ impl<R: Threads + Sync> Engine<'_, R> {
         arguments: &[Expr],
         context: &Context<'_>,
     ) -> Result<Course, Halt>
-        ensures { Steps (library self.now.lib.now) (model.run_statement (rules.signal name.now (map expression arguments.now)) (level_at (library self.now.lib.now) context.now.depth) (context_in context.now)) view.old view.new result }
+        ensures { let statement = rules.signal name.now (map expression arguments.now) in
+            StatementRuns self.now.lib.now context.now statement view.old view.new result }
     {
         let prim = signalled(self.alloc, &context.env, name, arguments)?;
         self.signal(view, &prim, context.depth)
@@ -129,7 +139,9 @@ impl<R: Threads + Sync> Engine<'_, R> {
         else_body: &[Stmt],
         context: &Context<'_>,
     ) -> Result<Course, Halt>
-        ensures { Steps (library self.now.lib.now) (model.run_statement (rules.when (expression condition.now) (body_in then_body.now) (body_in else_body.now)) (level_at (library self.now.lib.now) context.now.depth) (context_in context.now)) view.old view.new result }
+        ensures { let condition = expression condition.now in
+            let statement = rules.when condition (body_in then_body.now) (body_in else_body.now) in
+            StatementRuns self.now.lib.now context.now statement view.old view.new result }
     {
         if is_true(self.alloc, &context.env, condition)? {
             let course = self.statements(view, then_body, context)?;
@@ -145,21 +157,17 @@ impl<R: Threads + Sync> Engine<'_, R> {
     fn each_found(
         &self,
         view: &mut View,
-        variable: &str,
-        class: ClassNo,
-        predicate: &Expr,
+        selection: Selection<'_>,
         body: &[Stmt],
         context: &Context<'_>,
     ) -> Result<Course, Halt>
-        ensures { Steps (library self.now.lib.now) (model.run_statement (rules.each variable.now class (expression predicate.now) (body_in body.now)) (level_at (library self.now.lib.now) context.now.depth) (context_in context.now)) view.old view.new result }
+        ensures { let x = selection.entry.variable.now in
+            let predicate = expression selection.entry.predicate.now in
+            let statement = rules.each x selection.entry.class predicate (body_in body.now) in
+            StatementRuns self.now.lib.now context.now statement view.old view.new result }
     {
-        let asked = Asked {
-            variable,
-            class,
-            predicate,
-        };
-        let rows = selected(self.alloc, self.lib, self.effort, view, context, asked)?;
-        let course = self.each_row(view, body, variable, &rows, context)?;
+        let rows = self.selected(view, context, selection)?;
+        let course = self.each_row(view, body, selection.variable, &rows, context)?;
         Ok(course)
     }
 
@@ -172,7 +180,8 @@ impl<R: Threads + Sync> Engine<'_, R> {
         body: &[Stmt],
         context: &Context<'_>,
     ) -> Result<Course, Halt>
-        ensures { Steps (library self.now.lib.now) (model.run_statement (rules.for_answer query.now (body_in body.now)) (level_at (library self.now.lib.now) context.now.depth) (context_in context.now)) view.old view.new result }
+        ensures { let statement = rules.for_answer query.now (body_in body.now) in
+            StatementRuns self.now.lib.now context.now statement view.old view.new result }
     {
         let rows = (&*context).kept(query);
         let course = self.each_row(view, body, query, rows, context)?;
@@ -184,16 +193,17 @@ impl<R: Threads + Sync> Engine<'_, R> {
     fn with_object(
         &self,
         view: &mut View,
-        variable: &str,
-        class: ClassNo,
-        key: &Expr,
+        binding: Binding<'_>,
         body: &[Stmt],
         context: &Context<'_>,
     ) -> Result<Course, Halt>
-        ensures { Steps (library self.now.lib.now) (model.run_statement (rules.with_object variable.now class (expression key.now) (body_in body.now)) (level_at (library self.now.lib.now) context.now.depth) (context_in context.now)) view.old view.new result }
+        ensures { let x = binding.entry.variable.now in
+            let key = expression binding.entry.key.now in
+            let statement = rules.with_object x binding.entry.class key (body_in body.now) in
+            StatementRuns self.now.lib.now context.now statement view.old view.new result }
     {
-        let row = named_object(self.alloc, self.lib, view, context, class, key)?;
-        let inner = (&*context).bound(variable, row.key, &row.row);
+        let row = self.named_object(view, context, binding.class, binding.key)?;
+        let inner = (&*context).bound(binding.variable, row.key, &row.row);
         let course = self.statements(view, body, &inner)?;
         Ok(course)
     }
@@ -207,7 +217,8 @@ impl<R: Threads + Sync> Engine<'_, R> {
         otherwise: &[Stmt],
         context: &Context<'_>,
     ) -> Result<Course, Halt>
-        ensures { Steps (library self.now.lib.now) (model.run_statement (rules.subtransaction (body_in body.now) (body_in otherwise.now)) (level_at (library self.now.lib.now) context.now.depth) (context_in context.now)) view.old view.new result }
+        ensures { let statement = rules.subtransaction (body_in body.now) (body_in otherwise.now) in
+            StatementRuns self.now.lib.now context.now statement view.old view.new result }
     {
         let (mut course, aborted) = self.sub(view, body, context)?;
         if !aborted {
@@ -226,7 +237,7 @@ impl<R: Threads + Sync> Engine<'_, R> {
         rule: RuleNo,
         context: &Context<'_>,
     ) -> Result<Course, Halt>
-        ensures { Steps (library self.now.lib.now) (model.run_statement (rules.fire rule) (level_at (library self.now.lib.now) context.now.depth) (context_in context.now)) view.old view.new result }
+        ensures { StatementRuns self.now.lib.now context.now (rules.fire rule) view.old view.new result }
     {
         let task = fire(self.alloc, view, self.lib, rule, context.depth)?;
         let tasks = one_task(self.alloc, task)?;
@@ -244,8 +255,8 @@ impl<R: Threads + Sync> Engine<'_, R> {
         rows: &[KeyedRow],
         context: &Context<'_>,
     ) -> Result<Course, AllocError>
-        ensures { IfOk result (λ c. Runs (library self.now.lib.now)
-            (for_each (map keyed_row rows.now) (λ r. model.run_body (body_in body.now) (level_at (library self.now.lib.now) context.now.depth) (with_row variable.now r (context_in context.now)))) view.old view.new (course_in c)) }
+        ensures { let work = body_for_each self.now.lib.now context.now variable.now rows.now (body_in body.now) in
+            IfOk result (λ c. Runs (library self.now.lib.now) work view.old view.new (course_in c)) }
     {
         let mut so_far = Course::ended(self.alloc, End::Done);
         for row in rows {
@@ -267,7 +278,8 @@ impl<R: Threads + Sync> Engine<'_, R> {
         body: &[Stmt],
         context: &Context<'_>,
     ) -> Result<(Course, bool), AllocError>
-        ensures { IfOk result (λ r. SubRuns (library self.now.lib.now) (model.run_body (body_in body.now) (level_at (library self.now.lib.now) context.now.depth) (context_in context.now)) view.old view.new (course_in r.0) r.1) }
+        ensures { let work = body_work self.now.lib.now context.now (body_in body.now) in
+            IfOk result (λ r. SubRuns (library self.now.lib.now) work view.old view.new (course_in r.0) r.1) }
     {
         let mark = view.enter();
         let course = self.statements(view, body, context)?;
@@ -278,7 +290,9 @@ impl<R: Threads + Sync> Engine<'_, R> {
     /// Signals the event of an operation, if it was made. A cause for which it wasn't ends the statement.
     #[cycle(fire)]
     fn operated(&self, view: &mut View, made: Result<Prim, Halt>, depth: u8) -> Result<Course, Halt>
-        ensures { (work : Work) (before : Seeing) → Makes primitive (library self.now.lib.now) (level_at (library self.now.lib.now) depth) work before view.old made
+        ensures { (work : Work) (before : Seeing)
+            → Makes primitive (library self.now.lib.now) (level_at (library self.now.lib.now) depth)
+            work before view.old made
             → Steps (library self.now.lib.now) work before view.new result }
     {
         let prim = made?;

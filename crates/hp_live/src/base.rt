@@ -12,11 +12,12 @@ ghost use Rattle.hp_live.specs.Kept.{StandsFor};
 ghost use Rattle.hp_live.specs.Running.{with_state, ran_base};
 
 use crate::options::Options;
+use hp_fire::Past;
 use hp_report::{final_statuses, replay_units, state_text, units_text};
 use hp_rule::{Library, Unit};
 use hp_script::Schedule;
 use hp_store::Store;
-use hp_top::{Items, opening, run_items};
+use hp_top::{Items, Runner, opening};
 use hp_tree::{Objects, UnitReport};
 use std::alloc::{AllocError, Global};
 use std::fmt::Write;
@@ -35,16 +36,23 @@ pub(crate) struct RuleBase {
     pub objects: Objects,
     pub clock: u64,
     pub units: usize,
+    // What the rules' last firings took, which tells later lines where workers pay.
+    past: Past,
 }
 
 impl RuleBase {
-    /// The rule base of a library, before its first unit.
+    /// The rule base of a library, before its first unit, for so many workers.
     ///
     /// An error means that memory ran out.
-    pub(crate) fn new(alloc: Global, library: Arc<Library>) -> Result<RuleBase, AllocError>
+    pub(crate) fn new(
+        alloc: Global,
+        library: Arc<Library>,
+        workers: usize,
+    ) -> Result<RuleBase, AllocError>
         ensures { IfOk result (λ base. StandsFor base (L.new_base (model_library library.value))) }
     {
         Ok(RuleBase {
+            past: Past::new(alloc, &library, workers),
             library,
             store: opening(alloc)?,
             objects: Objects::new(alloc),
@@ -68,7 +76,8 @@ impl RuleBase {
         ensures state { OnOk result ((base : L.RuleBase) → StandsFor self.old base →
             StandsFor self.new (with_state base (run_units base.library (map model_unit units.now) base.state).state)) }
     {
-        let ran = run_items(rt, alloc, &self.library, &mut self.store, units, workers);
+        let runner = Runner::new(rt, alloc, &self.library, workers, &self.past);
+        let ran = runner.run_items(&mut self.store, units);
         let reports = whole(ran)?;
         let objects = mem::replace(&mut self.objects, Objects::new(alloc));
         self.objects = replay_units(objects, &reports)?;

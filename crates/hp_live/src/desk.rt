@@ -54,7 +54,7 @@ fn open_by<T: Threads + Sync>(
     ensures { IfOk result (λ opened. (line : List ℕ) → timed_script_of line ≡ Ok (timed_script script) →
         Answers opened.0 opened.1 (L.answer options.tree L.unopened line)) }
 {
-    let mut base = RuleBase::new(alloc, script.library)?;
+    let mut base = RuleBase::new(alloc, script.library, options.workers)?;
     let schedule = Schedule {
         units: script.items,
         clock: script.clock,

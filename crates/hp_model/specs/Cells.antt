@@ -1,9 +1,10 @@
 -- What of a state a program keeps in cells, layers of changes over cells, and the reads that hold in cells.
-use Rattle.std.specs.Prelude.{◌≡◌, ℕ, ℤ, Bool, false, ◌&&◌, ◌==◌, List, [], ◌∷◌, map, All, Option, Some, None, option_map, is_some, if◌then◌else◌}
+use Rattle.std.specs.Prelude.{◌≡◌, ℕ, ℤ, Bool, false, ◌&&◌, ◌==◌, List, [], ◌∷◌, map, All, Option, Some, None, option_map, is_some, Ok, if◌then◌else◌}
 use Rattle.std.specs.Ordering.{int_eq, int_cmp}
 use Rattle.std.specs.List.{list_any}
 use Rattle.std.specs.List.Sorted.{IsStrictlySortedBy}
-use Rattle.hp_model.specs.Values.{Row, KeyedRow}
+use Rattle.hp_model.specs.Values.{Row, KeyedRow, Outcome}
+use Rattle.hp_model.specs.ClassParts.{ClassPart, belongs}
 use Rattle.hp_model.specs.Events.{is_pure}
 use Rattle.hp_model.specs.Knowledge.{Knowledge, knowledge}
 use Rattle.hp_model.specs.Rules.{Rule, Library, rule_at}
@@ -78,22 +79,37 @@ pub record AreObjects (base : Cells) (class : ℕ) (objects : List KeyedRow) : T
   pub keys : AreKeys base class (map (λ (o : KeyedRow). o.key) objects)
   pub rows : All (λ (o : KeyedRow). base (object_cell class o.key) ≡ Some (row_value o.row)) objects
 
--- what was read: a cell with its value or its absence, a class with its keys, or a class with all of its objects
+-- whether the object in a cell belongs to a part of its class; where there is none it doesn't
+abbrev pub belongs_in : ClassPart → ℤ → Option CellValue → Outcome Bool
+belongs_in p key (Some (row_value row)) = belongs p (record { key = key; row = row })
+belongs_in p key value = Ok false
+
+-- the objects of a part of a class with their rows, by rising keys. Of each other object of the class it can be told,
+-- without a fault, that it doesn't belong to the part
+pub record ArePart (base : Cells) (class : ℕ) (p : ClassPart) (objects : List KeyedRow) : Type 0 where
+  pub rise : IsStrictlySortedBy int_cmp (map (λ (o : KeyedRow). o.key) objects)
+  pub has : (key : ℤ) → belongs_in p key (base (object_cell class key)) ≡ Ok (list_any (int_eq key) (map (λ (o : KeyedRow). o.key) objects))
+  pub rows : All (λ (o : KeyedRow). base (object_cell class o.key) ≡ Some (row_value o.row)) objects
+
+-- what was read: a cell with its value or its absence, a class with its keys, a class with all of its objects, or a part of
+-- a class with the part's objects
 pub data Read : Type 0 where
   cell_read : Cell → Option CellValue → Read
   keys_read : (class : ℕ) → List ℤ → Read
   objects_read : (class : ℕ) → List KeyedRow → Read
+  part_read : (class : ℕ) → ClassPart → List KeyedRow → Read
 
 abbrev pub IsTold : Cells → Read → Type 0
 IsTold base (cell_read cell value) = base cell ≡ value
 IsTold base (keys_read class keys) = AreKeys base class keys
 IsTold base (objects_read class objects) = AreObjects base class objects
+IsTold base (part_read class p objects) = ArePart base class p objects
 
 abbrev pub AllTold : Cells → List Read → Type 0
 AllTold base [] = Unit {0}
 AllTold base (r ∷ rs) = IsTold base r × AllTold base rs
 
 -- the reads hold in these cells: each recorded cell has the recorded value or absence, each recorded class the recorded keys
--- or objects
+-- or objects, each recorded part of a class the recorded objects
 pub record Holds (base : Cells) (reads : List Read) : Type 0 where
   pub told : AllTold base reads

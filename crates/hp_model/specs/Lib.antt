@@ -21,6 +21,7 @@ pub mod StatementGrammar
 pub mod RuleHeads
 pub mod Decode
 pub mod Output
+pub mod ClassParts
 pub mod Cells
 pub mod Soundness
 pub mod Answers

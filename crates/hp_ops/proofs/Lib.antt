@@ -1,4 +1,5 @@
 pub mod Worlds
+mod Adding
 mod GivenRows
 mod Operating
 mod Ruling

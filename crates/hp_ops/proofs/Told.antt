@@ -10,7 +10,7 @@ use Rattle.hp_model.specs.Knowledge.{Knowledge}
 use Rattle.hp_model.specs.Rules.{Rule, Library, rule_at}
 use Rattle.hp_model.specs.State.{Status, enabled}
 use Rattle.hp_model.specs.Tree.{Task}
-use Rattle.hp_model.specs.Cells.{rule_cell, detector_cell, CellValue, knowledge_value, Cells, Changes, over, with_change, Holds}
+use Rattle.hp_model.specs.Cells.{object_cell, rule_cell, detector_cell, CellValue, knowledge_value, Cells, Changes, over, with_change, Holds}
 use Rattle.hp_model.specs.Firing.{level_at, triggered_by}
 use Rattle.hp_model.specs.Mentions.{mentioning}
 use Rattle.hp_model.proofs.BridgesReads.{status_at, knowledge_at}
@@ -20,7 +20,7 @@ use Rattle.hp_model.proofs.Hearing.{is_in, mentioned_once, Heard, heard_none, he
 use Rattle.hp_store.specs.Changes.{changes}
 use Rattle.hp_rule.specs.Mentions.{is_mentioned}
 use Rattle.hp_view.specs.Seeing.{Seeing, written, now_in, OnlyReads, GoesOn, Shows, Writes}
-use Rattle.hp_ops.specs.Hears.{GoesOnePlace, StepsOn, HearsOccurrence, Hears, AllHear, condition_task, at_depth}
+use Rattle.hp_ops.specs.Hears.{GoesOnePlace, OnlySteps, StepsOn, HearsOccurrence, Hears, AllHear, condition_task, at_depth}
 use Rattle.hp_ops.proofs.Worlds.{shown_now}
 use Rattle.hp_ops.proofs.Ruling.{past_end}
 
@@ -29,6 +29,23 @@ grows_only only = record { others = only.reads.0; are = only.reads.1 }
 
 grows_on : {v w : Seeing} → GoesOn v w → Grows v.reads w.reads
 grows_on on = record { others = on.reads.0; are = on.reads.1 }
+
+-- ---- what is written
+
+pub steps_none : {v w : Seeing} → OnlyReads v w → OnlySteps v w
+steps_none only = record {
+  objects = λ class key. ap (λ es. changes es (object_cell class key)) only.writes;
+  rules = λ n. ap (λ es. changes es (rule_cell n)) only.writes;
+}
+
+pub steps_then : {v w z : Seeing} → OnlySteps v w → OnlySteps w z → OnlySteps v z
+steps_then one two = record { objects = λ class key. two.objects class key ∙ one.objects class key; rules = λ n. two.rules n ∙ one.rules n }
+
+pub steps_on : {event : Event} {p : Primitive} {n : ℕ} {v z : Seeing} {o : Option Occurrence} → StepsOn event p n v z o → OnlySteps v z
+steps_on stepped = record {
+  objects = λ class key. ap (λ (c : Changes). c (object_cell class key)) stepped.writes;
+  rules = λ n. ap (λ (c : Changes). c (rule_cell n)) stepped.writes;
+}
 
 -- ---- one detector
 

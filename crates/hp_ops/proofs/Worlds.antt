@@ -1,14 +1,15 @@
 -- What a view shows, as what a step finds.
-use Rattle.std.proofs.Common.{arith, ◌≡◌, ◌+◌, ◌<◌, refl, ap, sym, ◌∙◌, subst, length, get_or, drop, drop-cons, ℕ, zero, suc, List, [], ◌∷◌, Option, None}
+use Rattle.std.proofs.Common.{arith, ◌≡◌, ◌+◌, ◌<◌, refl, ap, sym, ◌∙◌, subst, length, get_or, drop, drop-cons, ℕ, ℤ, zero, suc, List, [], ◌∷◌, Option, None}
 use Rattle.std.specs.Prelude.{slice_get}
 use Rattle.std.specs.List.{slice_index_or}
 use Rattle.hp_model.specs.Rules.{Library}
-use Rattle.hp_model.specs.State.{Objects, Status, rule_state}
+use Rattle.hp_model.specs.Values.{Row}
+use Rattle.hp_model.specs.State.{Objects, Status, find_object, rule_state}
 use Rattle.hp_model.specs.Cells.{Cell, CellValue, object_cell, rule_cell, Cells, over, Holds}
 use Rattle.hp_model.specs.Answers.{Finds}
 use Rattle.hp_model.proofs.BridgesKeys.{ObjectsRise}
-use Rattle.hp_model.proofs.BridgesReads.{status_at}
-use Rattle.hp_model.proofs.FaithfulOperations.{finds_status}
+use Rattle.hp_model.proofs.BridgesReads.{row_at, status_at}
+use Rattle.hp_model.proofs.FaithfulOperations.{finds_object, finds_status}
 use Rattle.hp_store.specs.Changes.{changes}
 use Rattle.hp_store.specs.Stack.{cells_in}
 use Rattle.hp_view.specs.Seeing.{Seeing, written, now_in, OnlyReads, Shows}
@@ -30,6 +31,13 @@ index_none (y ∷ ys) (suc n) d is = index_none ys n d is
 -- a cell that was read is shown as it now is
 pub shown_now : {v w : Seeing} {cell : Cell} → OnlyReads v w → Shows w cell (now_in v cell) → (base : Cells) → Holds base w.reads → over base (written w) cell ≡ now_in w cell
 shown_now {v} {w} {cell} on shows base held = shows.everywhere base held ∙ (λ i. over (cells_in (sym on.base i)) (changes (sym on.writes i)) cell)
+
+-- what is found of an object
+pub object_found : (library : Library) (class : ℕ) (key : ℤ) (v w : Seeing) (value : Option CellValue) (row : Option Row) → OnlyReads v w → Shows w (object_cell class key) (now_in v (object_cell class key))
+    → value ≡ now_in w (object_cell class key) → row ≡ row_at value → Finds library (λ S. find_object S.objects class key) w.reads (written w) row
+object_found library class key v w value row on shows is found =
+    subst (λ r. Finds library (λ S. find_object S.objects class key) w.reads (written w) r) (sym (found ∙ ap row_at is))
+    (finds_object library class key (shown_now on shows))
 
 -- the same of a rule's status
 pub status_found : (library : Library) (n : ℕ) (v w : Seeing) (value : Option CellValue) (s : Status) → OnlyReads v w → Shows w (rule_cell n) (now_in v (rule_cell n)) → value ≡ now_in w (rule_cell n) → s ≡ status_at value

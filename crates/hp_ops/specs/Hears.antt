@@ -1,12 +1,12 @@
 -- What telling rules of an occurrence promises.
-use Rattle.std.specs.Prelude.{◌≡◌, ℕ, suc, List, [], ◌∷◌, ◌++◌, map, false, Option, Some, IfSome, option_map, option_to_list}
+use Rattle.std.specs.Prelude.{◌≡◌, ℕ, ℤ, suc, List, [], ◌∷◌, ◌++◌, map, false, Option, Some, IfSome, option_map, option_to_list}
 use Rattle.hp_model.specs.Occurrences.{Primitive, History, Occurrence, primitive_occurrence}
 use Rattle.hp_model.specs.Events.{Event, occurrence_of}
 use Rattle.hp_model.specs.Knowledge.{Knowledge, knowledge}
 use Rattle.hp_model.specs.Rules.{Coupling, Library, rule_at}
 use Rattle.hp_model.specs.State.{enabled, extended}
 use Rattle.hp_model.specs.Tree.{Task, condition_step}
-use Rattle.hp_model.specs.Cells.{rule_cell, detector_cell, CellValue, knowledge_value, Cells, Changes, over, with_change, Read, Holds}
+use Rattle.hp_model.specs.Cells.{object_cell, rule_cell, detector_cell, CellValue, knowledge_value, Cells, Changes, over, with_change, Read, Holds}
 use Rattle.hp_model.specs.Firing.{level_at, triggered, triggered_by}
 use Rattle.hp_model.specs.Soundness.{Faithful}
 use Rattle.hp_model.proofs.BridgesReads.{status_at, knowledge_at}
@@ -33,6 +33,11 @@ pub record StepsOn (event : Event) (p : Primitive) (n : ℕ) (old new : Seeing) 
   pub shows : (base : Cells) → Holds base new.reads → over base (written old) (detector_cell n) ≡ found
   pub steps : GoesOnePlace event p found o next
   pub writes : written new ≡ with_change (written old) (detector_cell n) (Some (Some (knowledge_value next)))
+
+-- nothing was written but detectors
+pub record OnlySteps (old new : Seeing) : Type 0 where
+  pub objects : (class : ℕ) → (key : ℤ) → written new (object_cell class key) ≡ written old (object_cell class key)
+  pub rules : (n : ℕ) → written new (rule_cell n) ≡ written old (rule_cell n)
 
 -- what events share that don't look back, if it has been made: the primitive occurrence alone
 abbrev pub Shares : Primitive → Option Occurrence → Type 0

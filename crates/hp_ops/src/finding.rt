@@ -1,16 +1,16 @@
 //! What a view shows of objects and rules.
 
-ghost use Rattle.std.specs.Prelude.{◌≡◌, IfOk, option_map};
+ghost use Rattle.std.specs.Prelude.{◌≡◌, IfOk, OnOk, OnErr, option_map};
 ghost use Rattle.hp_model.specs.Rules.{Library};
 ghost use Rattle.hp_model.specs.State as model;
-ghost use Rattle.hp_model.specs.Cells.{Cells, rule_cell, over, Holds};
+ghost use Rattle.hp_model.specs.Cells.{Cells, object_cell, rule_cell, over, Holds};
 ghost use Rattle.hp_model.specs.Answers.{Finds};
-ghost use Rattle.hp_model.proofs.BridgesReads.{status_at};
+ghost use Rattle.hp_model.proofs.BridgesReads.{row_at, status_at};
 ghost use Rattle.hp_store.specs.Mapped.{cell_value};
-ghost use Rattle.hp_view.specs.Seeing.{written, GoesOn, OnlyReads};
+ghost use Rattle.hp_view.specs.Seeing.{written, read_cell, GoesOn, OnlyReads};
 ghost use Rattle.hp_ops.specs.Performs.{status_of};
+ghost use Rattle.hp_ops.specs.Reading.{AddsReads, IsReadOf};
 
-use hp_query::Look;
 use hp_store::{CellValue, Status};
 use hp_value::{Cell, ClassNo, Key, Row, RuleNo};
 use hp_view::View;
@@ -18,7 +18,7 @@ use std::alloc::{AllocError, Global};
 
 /// The row of an object, or none where it isn't there. The row is shared.
 ///
-/// An error means that memory ran out; the view may then have recorded the read.
+/// Only the object's cell is read. An error means that memory ran out; the read may then have been recorded.
 pub fn find_object(
     alloc: Global,
     view: &mut View,
@@ -26,19 +26,35 @@ pub fn find_object(
     key: Key,
 ) -> Result<Option<Row>, AllocError>
     ensures finds { IfOk result (λ row. (lib : Library) → Finds lib (λ S. model.find_object S.objects class key) view.new.reads (written view.new) row) }
+    ensures reads { AddsReads (IsReadOf (object_cell class key)) view.old.reads view.new.reads }
     ensures only { OnlyReads view.old view.new }
     ensures goes_on { GoesOn view.old view.new }
 {
-    let row = view.row(alloc, class, key)?;
+    view.read(Cell::Object(class, key))?;
+    let row = row_in(view.peek(Cell::Object(class, key)))?;
     Ok(row)
+}
+
+/// The row that an object's cell holds. It is shared.
+///
+/// An error means that memory ran out.
+fn row_in(value: Option<&CellValue>) -> Result<Option<Row>, AllocError>
+    ensures { IfOk result (λ row. row ≡ row_at (option_map (λ v. cell_value v.now) value.entry)) }
+{
+    match value {
+        Some(CellValue::Row(row)) => Ok(Some(row.clone()?)),
+        _ => Ok(None),
+    }
 }
 
 /// The status of a rule, or none where it is absent.
 ///
-/// An error means that memory ran out; the view is then as before.
+/// Only the rule's cell is read. An error means that memory ran out; the view is then as before.
 pub fn find_status(view: &mut View, rule: RuleNo) -> Result<Option<Status>, AllocError>
     ensures finds { IfOk result (λ status. (lib : Library) → Finds lib (λ S. (model.rule_state S rule).status) view.new.reads (written view.new) (status_of status)) }
     ensures shows { IfOk result (λ status. (base : Cells) → Holds base view.new.reads → status_at (over base (written view.new) (rule_cell rule)) ≡ status_of status) }
+    ensures reads { OnOk result (view.new ≡ record view.old { reads = read_cell view.old (rule_cell rule) }) }
+    ensures err { OnErr result (view.new ≡ view.old) }
     ensures only { OnlyReads view.old view.new }
     ensures goes_on { GoesOn view.old view.new }
 {

@@ -3,10 +3,12 @@
 ghost use Rattle.std.specs.Prelude.{OnErr};
 ghost use Rattle.hp_model.specs.Rules.{Library};
 ghost use Rattle.hp_model.specs.Operations.{create_object, update_object, delete_object};
+ghost use Rattle.hp_model.specs.Cells.{object_cell};
 ghost use Rattle.hp_value.specs.Mapped.{primitive};
 ghost use Rattle.hp_view.specs.Seeing.{GoesOn, OnlyReads};
 ghost use Rattle.hp_ops.specs.Given.{given_in};
 ghost use Rattle.hp_ops.specs.Performs.{Performs};
+ghost use Rattle.hp_ops.specs.Reading.{AddsReads, IsReadOf};
 
 use crate::finding::find_object;
 use crate::rows::{Given, changed_row};
@@ -27,6 +29,7 @@ pub fn create(
     new: Row,
 ) -> Result<Prim, Halt>
     ensures operation { (lib : Library) → Performs primitive lib (create_object class key new) view.old view.new result }
+    ensures reads { AddsReads (IsReadOf (object_cell class key)) view.old.reads view.new.reads }
     ensures goes_on { GoesOn view.old view.new }
     ensures refused { OnErr result (OnlyReads view.old view.new) }
 {
@@ -40,8 +43,8 @@ pub fn create(
 
 /// Writes the given values over an object's. The answer is the occurrence that is to be signalled.
 ///
-/// `Missing` means that the object isn't there; then nothing is written. `Memory` means that memory ran out; then nothing
-/// is written.
+/// `Missing` means that the object isn't there; then nothing is written. Only the object's cell is read. `Memory` means
+/// that memory ran out; then nothing is written.
 pub fn update(
     alloc: Global,
     view: &mut View,
@@ -50,6 +53,7 @@ pub fn update(
     given: &[Given<'_>],
 ) -> Result<Prim, Halt>
     ensures operation { (lib : Library) → Performs primitive lib (update_object class key (given_in given.now)) view.old view.new result }
+    ensures reads { AddsReads (IsReadOf (object_cell class key)) view.old.reads view.new.reads }
     ensures goes_on { GoesOn view.old view.new }
     ensures refused { OnErr result (OnlyReads view.old view.new) }
 {
@@ -69,10 +73,11 @@ pub fn update(
 
 /// Deletes an object. The answer is the occurrence that is to be signalled.
 ///
-/// `Missing` means that the object isn't there; then nothing is written. `Memory` means that memory ran out; then nothing
-/// is written.
+/// `Missing` means that the object isn't there; then nothing is written. Only the object's cell is read. `Memory` means
+/// that memory ran out; then nothing is written.
 pub fn delete(alloc: Global, view: &mut View, class: ClassNo, key: Key) -> Result<Prim, Halt>
     ensures operation { (lib : Library) → Performs primitive lib (delete_object class key) view.old view.new result }
+    ensures reads { AddsReads (IsReadOf (object_cell class key)) view.old.reads view.new.reads }
     ensures goes_on { GoesOn view.old view.new }
     ensures refused { OnErr result (OnlyReads view.old view.new) }
 {

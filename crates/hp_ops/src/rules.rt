@@ -1,7 +1,7 @@
 //! Operations on rules.
 
 ghost use Rattle.std.specs.Prelude.{◌≡◌, IfOk, OnErr};
-ghost use Rattle.hp_model.specs.Cells.{status_in};
+ghost use Rattle.hp_model.specs.Cells.{rule_cell, status_in};
 ghost use Rattle.hp_model.specs.Operations as model;
 ghost use Rattle.hp_detect.specs.Mapped.{event as event_of};
 ghost use Rattle.hp_store.specs.Changes.{changes};
@@ -9,6 +9,7 @@ ghost use Rattle.hp_store.specs.Mapped.{change};
 ghost use Rattle.hp_rule.specs.Mapped.{library, rule as rule_of, rule_operation};
 ghost use Rattle.hp_view.specs.Seeing.{GoesOn, Restores};
 ghost use Rattle.hp_ops.specs.Performs.{Performs, status_of, new_status, rule_changes, new_knowledge};
+ghost use Rattle.hp_ops.specs.Reading.{AddsReads, IsReadOf};
 
 use crate::finding::find_status;
 use hp_detect::{EventExpr, Knowledge, is_pure};
@@ -20,8 +21,8 @@ use std::alloc::{AllocError, Global};
 
 /// Installs, enables, disables or removes a rule. A rule that is thereby enabled begins with an empty past.
 ///
-/// `Missing` means that an absent rule is to be enabled or disabled. `Memory` means that memory ran out. In both cases no
-/// cell has changed.
+/// Only the rule's status is read. `Missing` means that an absent rule is to be enabled or disabled. `Memory` means that
+/// memory ran out. In both cases no cell has changed.
 pub fn set_rule(
     alloc: Global,
     view: &mut View,
@@ -30,6 +31,7 @@ pub fn set_rule(
     rule: RuleNo,
 ) -> Result<(), Halt>
     ensures operation { Performs (λ _. tt) (library lib.now) (model.set_rule (rule_operation operation) rule) view.old view.new result }
+    ensures reads { AddsReads (IsReadOf (rule_cell rule)) view.old.reads view.new.reads }
     ensures goes_on { GoesOn view.old view.new }
     ensures refused { OnErr result (Restores view.old view.new) }
 {

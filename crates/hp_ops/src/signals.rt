@@ -1,10 +1,12 @@
 //! What a signal triggers, and the statement that fires a rule.
 
 ghost use Rattle.std.specs.Prelude.{◌≡◌, IfOk};
+ghost use Rattle.hp_model.specs.Cells.{rule_cell};
 ghost use Rattle.hp_model.specs.Occurrences.{no_occurrence};
 ghost use Rattle.hp_value.specs.Mapped.{occurrence as occurrence_of, primitive};
 ghost use Rattle.hp_rule.specs.Mapped.{library};
 ghost use Rattle.hp_view.specs.Seeing.{GoesOn, OnlyReads};
+ghost use Rattle.hp_ops.specs.Reading.{AddsReads, IsReadOf};
 ghost use Rattle.hp_ops.specs.Triggers.{Triggers, Fires};
 
 use crate::finding::find_status;
@@ -19,7 +21,7 @@ use std::sync::Arc;
 /// The answer is the tasks of those whose event occurs, in rule order.
 ///
 /// `Depth` means that a rule is triggered, and that its firing would be too deep. `Memory` means that memory ran out; some
-/// of the detectors may then have gone on.
+/// of the detectors may then have gone on, and nothing else is written.
 pub fn trigger(
     alloc: Global,
     view: &mut View,
@@ -43,7 +45,7 @@ pub fn trigger(
 /// The task of a rule that a statement fires, in a transaction of a depth, without an occurrence of its event.
 ///
 /// `Missing` means that the rule is absent, `Depth` that its firing would be too deep; `Missing` comes first. `Memory` means
-/// that memory ran out. Nothing is written.
+/// that memory ran out. Nothing is written, and only the rule's status is read.
 pub fn fire(
     alloc: Global,
     view: &mut View,
@@ -52,6 +54,7 @@ pub fn fire(
     depth: u8,
 ) -> Result<Task, Halt>
     ensures fires { Fires (library lib.now) depth rule view.new result }
+    ensures reads { AddsReads (IsReadOf (rule_cell rule)) view.old.reads view.new.reads }
     ensures only { OnlyReads view.old view.new }
     ensures goes_on { GoesOn view.old view.new }
 {

@@ -1,6 +1,6 @@
 //! Telling rules of an occurrence.
 
-ghost use Rattle.std.specs.Prelude.{◌≡◌, ◌↔◌, [], ◌∷◌, ◌++◌, true, Some, IsTrue, IfOk, OnOk, map, option_map};
+ghost use Rattle.std.specs.Prelude.{◌≡◌, ◌↔◌, [], ◌∷◌, ◌++◌, true, Some, IsTrue, IfOk, OnOk, OnErr, map, option_map};
 ghost use Rattle.hp_model.specs.Events.{is_pure as model_is_pure, occurrence_of as model_occurrence};
 ghost use Rattle.hp_model.specs.Occurrences.{History};
 ghost use Rattle.hp_model.specs.Rules.{Library as ModelLibrary, rule_at};
@@ -11,9 +11,9 @@ ghost use Rattle.hp_detect.specs.Mapped.{event as event_of};
 ghost use Rattle.hp_store.specs.Mapped.{cell_value};
 ghost use Rattle.hp_rule.specs.declared.task.Task.{Task as AnyTask};
 ghost use Rattle.hp_rule.specs.Mapped.{library, rule as rule_of, task as task_of};
-ghost use Rattle.hp_view.specs.Seeing.{GoesOn};
+ghost use Rattle.hp_view.specs.Seeing.{GoesOn, OnlyReads};
 ghost use Rattle.hp_ops.specs.Performs.{status_of};
-ghost use Rattle.hp_ops.specs.Hears.{AllHear, GoesOnePlace, Hears, HearsOccurrence, Shares, StepsOn, condition_task};
+ghost use Rattle.hp_ops.specs.Hears.{AllHear, GoesOnePlace, Hears, HearsOccurrence, OnlySteps, Shares, StepsOn, condition_task};
 
 use crate::finding::find_status;
 use hp_detect::{EventExpr, Knowledge, is_pure, occurs_now};
@@ -27,7 +27,7 @@ use std::sync::Arc;
 /// Tells all rules of an occurrence that it concerns. The answer is the tasks, of this depth, of those that are enabled and
 /// whose event occurs, in rule order.
 ///
-/// An error means that memory ran out; some of the rules may have been told.
+/// Nothing is written but detectors. An error means that memory ran out; some of the rules may have been told.
 pub(crate) fn tell_all(
     alloc: Global,
     view: &mut View,
@@ -37,6 +37,7 @@ pub(crate) fn tell_all(
 ) -> Result<Vec<Task>, AllocError>
     ensures heard { IfOk result (λ tasks. AllHear (library lib.now) (primitive prim.now) view.old view.new (map task_of tasks.items)) }
     ensures depth { IfOk result (λ tasks. AreAt depth (map task_of tasks.items)) }
+    ensures writes { OnlySteps view.old view.new }
     ensures goes_on { GoesOn view.old view.new }
 {
     let mut tasks = Vec::new(alloc);
@@ -83,6 +84,8 @@ fn tell(
     ensures shared { Shares (primitive prim.now) (option_map (λ o. occurrence_of o.value) shared.new) }
     ensures hears { IfOk result (λ task. Hears (library lib.now) (primitive prim.now) number view.old view.new (option_map task_of task)) }
     ensures depth { IfOk result (λ task. (t : AnyTask) → task ≡ Some t → t.depth ≡ depth) }
+    ensures err { OnErr result (OnlyReads view.old view.new) }
+    ensures writes { OnlySteps view.old view.new }
     ensures goes_on { GoesOn view.old view.new }
 {
     let status = find_status(view, number)?;
@@ -119,6 +122,8 @@ fn hear(
     requires shared { Shares (primitive prim.now) (option_map (λ o. occurrence_of o.value) shared.old) }
     ensures shared { Shares (primitive prim.now) (option_map (λ o. occurrence_of o.value) shared.new) }
     ensures hears { IfOk result (λ o. (lib : ModelLibrary) → rule_at lib number ≡ rule_of rule.now → HearsOccurrence lib (primitive prim.now) number view.old view.new (option_map (λ a. occurrence_of a.value) o)) }
+    ensures err { OnErr result (OnlyReads view.old view.new) }
+    ensures writes { OnlySteps view.old view.new }
     ensures goes_on { GoesOn view.old view.new }
 {
     if is_pure(&rule.event) {
@@ -126,11 +131,7 @@ fn hear(
         return Ok(occurrence);
     }
     let stepped = step_detector(alloc, view, number, &rule.event, prim)?;
-    let Some(occurrence) = stepped else {
-        return Ok(None);
-    };
-    let made = Arc::new(alloc, occurrence)?;
-    Ok(Some(made))
+    Ok(stepped)
 }
 
 /// The occurrence of an event that doesn't look back, if it occurs: the one that is shared, or a new one, which is shared then.
@@ -171,15 +172,34 @@ fn step_detector(
     number: RuleNo,
     event: &EventExpr,
     prim: &Prim,
-) -> Result<Option<Occurrence>, AllocError>
-    ensures steps { IfOk result (λ o. StepsOn (event_of event.now) (primitive prim.now) number view.old view.new (option_map occurrence_of o)) }
+) -> Result<Option<Arc<Occurrence>>, AllocError>
+    ensures steps { IfOk result (λ o. StepsOn (event_of event.now) (primitive prim.now) number view.old view.new (option_map (λ a. occurrence_of a.value) o)) }
+    ensures err { OnErr result (OnlyReads view.old view.new) }
+    ensures writes { OnlySteps view.old view.new }
     ensures goes_on { GoesOn view.old view.new }
 {
     view.read(Cell::Detector(number))?;
     let known = view.peek(Cell::Detector(number));
     let (occurrence, next) = stepped(alloc, known, event, prim)?;
+    // Before the detector is written, so that a refusal leaves it as it was.
+    let made = to_share(alloc, occurrence)?;
     view.put(Cell::Detector(number), CellValue::Detector(next))?;
-    Ok(occurrence)
+    Ok(made)
+}
+
+/// An occurrence, if there is one, as tasks share it.
+///
+/// An error means that memory ran out.
+fn to_share(
+    alloc: Global,
+    occurrence: Option<Occurrence>,
+) -> Result<Option<Arc<Occurrence>>, AllocError>
+    ensures { IfOk result (λ o. option_map (λ a. occurrence_of a.value) o ≡ option_map occurrence_of occurrence) }
+{
+    match occurrence {
+        Some(occurrence) => Ok(Some(Arc::new(alloc, occurrence)?)),
+        None => Ok(None),
+    }
 }
 
 /// One step of what a detector's cell knows: the occurrence of its event, if it occurs, and what is known then. A cell that

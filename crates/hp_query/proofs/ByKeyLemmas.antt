@@ -86,9 +86,13 @@ module _ (env : Environment) (x : Name) (r : KeyedRow) (c : Cause) (free : row_n
 
 -- ---- which predicates ask for a key
 
+-- the name means the row that was bound
+pub own_row : (env : Environment) (x : Name) (r : KeyedRow) → row_named (bound x r env) x ≡ Ok r
+own_row env x r = ap (λ b. or_cause (cond b (Some r) (lookup (bytes_eq x) env.rows)) wrong_kind) ((bytes_decides x x).1 refl)
+
 own_key : (env : Environment) (x : Name) (r : KeyedRow) → value_of (bound x r env) (key_of x) ≡ Ok (integer r.key)
 own_key env x r =
-    ap (λ b. or_cause (cond b (Some r) (lookup (bytes_eq x) env.rows)) wrong_kind >>= λ (q : KeyedRow). Ok (integer q.key)) ((bytes_decides x x).1 refl)
+    ap (λ (o : Outcome KeyedRow). o >>= λ q. Ok (integer q.key)) (own_row env x r)
 
 -- whether two values are the same, as an equation tells it
 abbrev equated : Outcome Value → Outcome Value → Outcome Bool
@@ -110,7 +114,7 @@ asks_second x a = record {
 }
 
 -- what follows after a false first part isn't looked at
-no_more : (o next : Outcome Value) → (o >>= λ v. as_boolean v) ≡ Ok false
+pub no_more : (o next : Outcome Value) → (o >>= λ v. as_boolean v) ≡ Ok false
     → ((o >>= λ v. as_boolean v >>= λ t. (if t then next else Ok (boolean false)) >>= λ w. as_boolean w >>= λ y. Ok (boolean y)) >>= λ v. as_boolean v) ≡ Ok false
 no_more (Ok (integer z)) next h = cc
 no_more (Ok (boolean true)) next h = cc

@@ -5,3 +5,5 @@ mod CollectLemmas
 pub mod PlainLemmas
 pub mod VerdictLemmas
 pub mod ByKeyLemmas
+pub mod PartLemmas
+pub mod AskedLemmas

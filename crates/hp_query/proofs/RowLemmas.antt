@@ -161,7 +161,7 @@ class_keys_has class k (o ∷ os) =
     by false rest = rest
 
 -- lists of keys in rising order with the same keys are one
-same_keys : (xs ys : List ℤ) → IsStrictlySortedBy int_cmp xs → IsStrictlySortedBy int_cmp ys → ((k : ℤ) → list_any (int_eq k) xs ≡ list_any (int_eq k) ys) → xs ≡ ys
+pub same_keys : (xs ys : List ℤ) → IsStrictlySortedBy int_cmp xs → IsStrictlySortedBy int_cmp ys → ((k : ℤ) → list_any (int_eq k) xs ≡ list_any (int_eq k) ys) → xs ≡ ys
 same_keys xs ys rise_x rise_y same =
     btree_set_from_contains int_cmp_total (record { keys = xs }) (record { keys = ys }) rise_x rise_y same exact_signed
 

@@ -2,3 +2,4 @@ pub mod ByKey
 pub mod Looks
 pub mod Mapped
 pub mod Plain
+pub mod Parts

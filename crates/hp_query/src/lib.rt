@@ -8,10 +8,12 @@ mod by_key;
 mod collect;
 mod condition;
 mod look;
+mod part;
 mod plain;
 mod query;
 
 pub use condition::{Verdict, evaluate_condition};
 pub use look::Look;
+pub use part::asked_field;
 pub use plain::{ObjectName, PlainObjects};
 pub use query::{Query, answer, selected_rows};

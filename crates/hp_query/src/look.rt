@@ -1,10 +1,13 @@
 //! What a query reads.
 
-ghost use Rattle.std.specs.Prelude.{◌≡◌, IfOk, IfSome};
+ghost use Rattle.std.specs.Prelude.{◌≡◌, Ok, IfOk, IfSome};
 ghost use Rattle.hp_model.specs.State.{Objects, find_object, rows_of};
+ghost use Rattle.hp_model.specs.ClassParts.{picked};
+ghost use Rattle.hp_value.specs.Mapped.{class_part};
 ghost use Rattle.hp_query.specs.Looks.{ObjectsRise, class_keys};
+ghost use Rattle.hp_query.specs.Mapped.{keyed_rows};
 
-use hp_value::{ClassNo, Key, ObjectList, Row};
+use hp_value::{ClassNo, ClassPart, Key, KeyedRow, ObjectList, Row};
 use std::alloc::{AllocError, Global};
 use std::sync::Arc;
 
@@ -46,6 +49,19 @@ pub trait Look {
     ) -> Result<Option<Arc<ObjectList>>, AllocError>
         ensures goes_on { goes_on self.old self.new }
         ensures listed { IfOk result (λ found. IfSome found (λ objects. (world : Objects) → ObjectsRise world → allows self.new world → objects.value ≡ rows_of class world)) };
+
+    /// The objects of a part of a class with their rows, by rising keys, where the look finds them without looking at
+    /// the others, and can tell of each other object that it isn't of the part. None where the look can't.
+    ///
+    /// An error means that memory ran out.
+    fn part(
+        &mut self,
+        alloc: Global,
+        class: ClassNo,
+        part: &ClassPart<'_>,
+    ) -> Result<Option<Vec<KeyedRow>>, AllocError>
+        ensures goes_on { goes_on self.old self.new }
+        ensures listed { IfOk result (λ found. IfSome found (λ objects. (world : Objects) → ObjectsRise world → allows self.new world → picked (class_part part.now) (rows_of class world) ≡ Ok (keyed_rows objects))) };
 
     ghost goes_on_same: { (look : Self) → goes_on look look };
 

@@ -7,7 +7,7 @@ ghost use Rattle.hp_query.specs.Looks.{ObjectsRise, class_keys};
 ghost use Rattle.hp_query.specs.Plain.{objects_in, KeysFit};
 
 use crate::look::Look;
-use hp_value::{ClassNo, Key, ObjectList, Row};
+use hp_value::{ClassNo, ClassPart, Key, KeyedRow, ObjectList, Row};
 use std::alloc::{AllocError, Global};
 use std::collections::BTreeMap;
 use std::marker::Model;
@@ -122,6 +122,15 @@ impl Look for PlainObjects {
         alloc: Global,
         class: ClassNo,
     ) -> Result<Option<Arc<ObjectList>>, AllocError> {
+        Ok(None)
+    }
+
+    fn part(
+        &mut self,
+        alloc: Global,
+        class: ClassNo,
+        part: &ClassPart<'_>,
+    ) -> Result<Option<Vec<KeyedRow>>, AllocError> {
         Ok(None)
     }
 }

@@ -1,6 +1,6 @@
 //! Queries and their answers.
 
-ghost use Rattle.std.specs.Prelude.{map};
+ghost use Rattle.std.specs.Prelude.{◌≡◌, map, IfOk, IfSome};
 ghost use Rattle.hp_model.specs.Expressions.{bound};
 ghost use Rattle.hp_model.specs.State.{Objects};
 ghost use Rattle.hp_model.specs.Firing.{boolean_value};
@@ -14,6 +14,7 @@ ghost use Rattle.hp_query.specs.Mapped.{keyed_rows};
 use crate::by_key::{asked_key, asks_key};
 use crate::collect::objects_of;
 use crate::look::Look;
+use crate::part::{asked_field, asked_part};
 use hp_value::{ClassNo, Env, Expr, Halt, Key, KeyedRow, Row};
 use std::alloc::{AllocError, Global};
 
@@ -33,6 +34,11 @@ impl Query {
     /// answer depends on it.
     pub fn asks_key(&self) -> bool {
         asks_key(self.name.as_str(), &self.predicate)
+    }
+
+    /// The field whose index serves the query ([`asked_field`]). No answer depends on it.
+    pub fn asked_field(&self) -> Option<&str> {
+        asked_field(self.name.as_str(), &self.predicate)
     }
 }
 
@@ -64,8 +70,8 @@ pub fn answer<L: Look>(
 
 /// The rows of a class, by rising keys, for which a predicate is true, each tested under a name.
 ///
-/// This is what [`answer`] does, for a caller that has no [`Query`]. Where the predicate begins by asking for one key, the
-/// row with that key alone is looked at.
+/// This is what [`answer`] does, for a caller that has no [`Query`]. Where the predicate begins by asking for one key,
+/// or for a part of the class that the look finds, the rows asked for are looked at and no others.
 pub fn selected_rows<L: Look>(
     alloc: Global,
     name: &str,
@@ -79,35 +85,73 @@ pub fn selected_rows<L: Look>(
     ensures answer { (world : Objects) → ObjectsRise world → L.allows look.new world
         → Meets keyed_rows result (model.answer (environment env.now) name.now class (expression predicate.now) world) }
 {
+    let asked = Asked {
+        name,
+        class,
+        predicate,
+        env,
+    };
     if let Some(key) = asked_key(alloc, name, predicate, env)? {
-        return selected_at(alloc, name, class, key, predicate, env, look);
+        return selected_at(alloc, &asked, key, look);
+    }
+    if let Some(objects) = part_rows(alloc, &asked, look)? {
+        return selected(alloc, name, &objects, predicate, env);
     }
     let objects = objects_of(alloc, look, class)?;
     selected(alloc, name, objects.rows(), predicate, env)
 }
 
+/// What is asked for: the rows of a class for which a predicate is true, each tested under a name.
+#[derive(Clone, Copy)]
+struct Asked<'a> {
+    name: &'a str,
+    class: ClassNo,
+    predicate: &'a Expr,
+    env: &'a Env<'a>,
+}
+
 /// The same where the predicate is false of all rows but those with one key.
 fn selected_at<L: Look>(
     alloc: Global,
-    name: &str,
-    class: ClassNo,
+    asked: &Asked<'_>,
     key: Key,
-    predicate: &Expr,
-    env: &Env,
     look: &mut L,
 ) -> Result<Vec<KeyedRow>, Halt>
-    requires { IsFalseElsewhere (environment env.now) name.now (expression predicate.now) key }
+    requires { IsFalseElsewhere (environment asked.now.env.now) asked.now.name.now (expression asked.now.predicate.now) key }
     ensures goes_on { L.goes_on look.old look.new }
     ensures narrows { (world : Objects) → L.allows look.new world → L.allows look.old world }
     ensures answer { (world : Objects) → ObjectsRise world → L.allows look.new world
-        → Meets keyed_rows result (model.answer (environment env.now) name.now class (expression predicate.now) world) }
+        → Meets keyed_rows result (model.answer (environment asked.now.env.now) asked.now.name.now asked.now.class (expression asked.now.predicate.now) world) }
 {
-    match look.row(alloc, class, key)? {
+    match look.row(alloc, asked.class, key)? {
         Some(row) => {
             let objects = [KeyedRow { key, row }];
-            selected(alloc, name, &objects, predicate, env)
+            selected(alloc, asked.name, &objects, asked.predicate, asked.env)
         }
         None => Ok(Vec::new(alloc)),
+    }
+}
+
+/// The rows of a part of the class outside which the predicate is false. None where the predicate asks for no part, or
+/// the look doesn't find it.
+fn part_rows<L: Look>(
+    alloc: Global,
+    asked: &Asked<'_>,
+    look: &mut L,
+) -> Result<Option<Vec<KeyedRow>>, AllocError>
+    ensures goes_on { L.goes_on look.old look.new }
+    ensures narrows { (world : Objects) → L.allows look.new world → L.allows look.old world }
+    ensures answer { let env = environment asked.now.env.now in
+        let predicate = expression asked.now.predicate.now in
+        IfOk result (λ found. IfSome found (λ objects. (world : Objects) → ObjectsRise world → L.allows look.new world
+        → model.selected env asked.now.name.now predicate (keyed_rows objects) ≡ model.answer env asked.now.name.now asked.now.class predicate world)) }
+{
+    let Some(compared) = asked_part(alloc, asked.name, asked.predicate, asked.env)? else {
+        return Ok(None);
+    };
+    match compared.class_part() {
+        Some(part) => look.part(alloc, asked.class, &part),
+        None => Ok(None),
     }
 }
 

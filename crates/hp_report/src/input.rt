@@ -2,6 +2,7 @@
 
 ghost use Rattle.std.specs.Prelude.{◌≡◌, ◌↔◌, ◌≤◌, take, vec_len, IfOk, IfSome, true, false};
 ghost use Rattle.std.specs.Io.KnownBytes.{Consumes};
+ghost use Rattle.hp_report.specs.Device.{TakesAtMost, TakesFewer};
 ghost use Rattle.hp_report.specs.declared.input.ReadFault.TheVariants.{NoMemory};
 
 use crate::device::Source;
@@ -29,8 +30,8 @@ impl From<AllocError> for ReadFault {
 
 /// Reads the bytes of a device up to its end, or the first `limit` of them.
 ///
-/// No more than `limit` bytes are taken from the device. It ends at the first read that fails. After a
-/// fault some bytes may have been read, and are lost.
+/// However it ends, no more than `limit` bytes are taken from the device. It ends at the first read that fails, and a read
+/// fails only where fewer than `limit` bytes were there before. After a fault some bytes may have been read, and are lost.
 pub fn read_up_to<R: Source>(
     alloc: Global,
     reader: &mut R,
@@ -42,6 +43,8 @@ pub fn read_up_to<R: Source>(
     ensures taken { IfOk result (λ input.
         Consumes (R.remaining reader.old) (R.remaining reader.new) input.items) }
     ensures limit { IfOk result (λ input. vec_len input ≤ limit) }
+    ensures most { TakesAtMost limit (R.remaining reader.old) (R.remaining reader.new) }
+    ensures needed { result ≡ Err ReadFault.Read → TakesFewer limit (R.remaining reader.old) (R.remaining reader.new) }
     ensures read { result ≡ Err ReadFault.Read ↔ (R.has_failed reader.new ≡ true) }
 {
     let mut input = Vec::new(alloc);

@@ -3,6 +3,7 @@
 //! `specs/Mapped.antt` says what each type stands for in `hp_model`.
 #![tactic(auto)]
 
+mod asked;
 mod body;
 mod check;
 mod fault;
@@ -14,6 +15,7 @@ mod stmt;
 mod task;
 mod unit;
 
+pub use asked::AskedField;
 pub use body::Body;
 pub use check::name::is_name;
 pub use fault::{CheckError, CheckFault, Limit, Member, PathStep};

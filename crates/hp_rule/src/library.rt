@@ -6,6 +6,7 @@ ghost use Rattle.hp_rule.specs.Statements.{rule, library_of};
 ghost use Rattle.hp_model.specs.Checked.{library_check};
 ghost use Rattle.hp_rule.specs.Index.{listed, candidates};
 
+use crate::asked::{AskedField, asked_fields};
 use crate::check::rules::check_library;
 use crate::fault::CheckError;
 use crate::index::Index;
@@ -23,6 +24,7 @@ pub struct Library {
     rules: Vec<Rule>,
     depth_limit: u8,
     index: Index,
+    asked_fields: Vec<AskedField>,
     // What the index lists is what may concern an occurrence.
     ghost indexed: { (p : Primitive) → listed index p ≡ candidates (map rule rules.items) p },
     // The library is well formed.
@@ -70,11 +72,13 @@ impl Library {
         ensures well_named { IfOk result (λ l. IsWellNamed (library l)) }
     {
         let index = Index::of(alloc, &rules)?;
+        let asked_fields = asked_fields(alloc, &rules)?;
         Ok(Library {
             classes,
             rules,
             depth_limit,
             index,
+            asked_fields,
         })
     }
 
@@ -90,6 +94,13 @@ impl Library {
         ensures { map rule result.now ≡ (library self.now).rules }
     {
         &self.rules
+    }
+
+    /// The fields by which the rules' queries find rows, each once: those of conditions, and of statements `each` in
+    /// actions. With an index of such a field a query costs what it finds. What the bodies of transactions ask for isn't
+    /// among them, since the library doesn't know them. No answer depends on it.
+    pub fn asked_fields(&self) -> &[AskedField] {
+        &self.asked_fields
     }
 
     /// How deep firings go, at most: a firing caused by a firing of this depth doesn't take place.

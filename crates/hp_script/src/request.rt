@@ -1,6 +1,6 @@
 //! What is asked of a rule base that is up.
 
-ghost use Rattle.std.specs.Prelude.{◌≡◌, [], IfOk};
+ghost use Rattle.std.specs.Prelude.{◌≡◌, ◌<◌, [], IfOk, length};
 ghost use Rattle.serde_json.specs.View.{view};
 ghost use Rattle.hp_rule.specs.Mapped.{library as model_library};
 ghost use Rattle.hp_model.specs.Decode.{unit_at};
@@ -112,6 +112,7 @@ pub fn decode_request(
 ) -> Result<Request, DecodeError>
     ensures reads { Gives request result (request_of (model_library library.now.value) clock bytes.now) }
     ensures own { IfOk result (λ r. IsRequestOf library.now.value r) }
+    ensures too_long { 1048576 < length bytes.now → result ≡ Err (DecodeError.Refused (Refusal.S5 Limit.Size)) }
 {
     if bytes.len() > MAX_BYTES {
         return Err(DecodeError::Refused(Refusal::S5(Limit::Size)));

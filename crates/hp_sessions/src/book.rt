@@ -21,6 +21,7 @@ use crate::telling::{Token, Words, append, recall, tell};
 use crate::unit::Unit;
 use hp_rule::{Body, Library};
 use hp_store::{Snapshot, Store};
+use hp_top::keep_indexes;
 use hp_tree::UnitReport;
 use std::alloc::{AllocError, Global};
 use std::marker::{Brand, Model, PhantomData};
@@ -69,10 +70,16 @@ impl Book<Brand> {
     /// that is empty.
     ///
     /// An error means that memory ran out, or that std refused a copy of an `Arc`; the store is then dropped.
-    pub fn begin(alloc: Global, library: Arc<Library>, store: Store) -> Result<Blank, AllocError>
+    pub fn begin(
+        alloc: Global,
+        library: Arc<Library>,
+        mut store: Store,
+    ) -> Result<Blank, AllocError>
         requires { HasFitState (rules.library library.value) (cells_in store) }
         ensures { IfOk result (λ b. (b.library ≡ library.value) × (b.opening ≡ store)) }
     {
+        // The opening snapshot holds the store's base from then on, so that no index of it could be made later.
+        keep_indexes(alloc, &mut store, &library)?;
         let opening = store.snapshot()?;
         let (words, token) = Words::of_words(alloc, &[0], &())?;
         Ok(Blank {

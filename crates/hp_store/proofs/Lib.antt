@@ -9,4 +9,7 @@ pub mod Held
 pub mod Stacked
 pub mod Listing
 pub mod Wholes
-mod Keeping
+pub mod Keeping
+pub mod Covered
+pub mod Told
+pub mod Picked

@@ -26,10 +26,10 @@ use Rattle.hp_store.proofs.Entered.{Kept}
 
 -- ---- the range
 
-abbrev least : ℤ
+abbrev pub least : ℤ
 least = negsuc (2 ^ 63 - 1)
 
-abbrev greatest : ℤ
+abbrev pub greatest : ℤ
 greatest = pos (2 ^ 63 - 1)
 
 le_choice : (b c : Bool) → c ≡ false → is_le (cond b Less (cond c Greater Equal)) ≡ true
@@ -43,11 +43,11 @@ lt_choice b false is = ap (λ d. is_lt (cond d Less Equal)) is
 at_most : (n : ℕ) → IsTrue (nat_lt n (2 ^ 63)) → nat_lt (2 ^ 63 - 1) n ≡ false
 at_most n fit = le-ltb (2 ^ 63 - 1) n (omega (arith, ltb-true n (2 ^ 63) fit))
 
-above_least : (k : ℤ) → IsTrue (fits_64 k) → is_le (int_cmp least k) ≡ true
+pub above_least : (k : ℤ) → IsTrue (fits_64 k) → is_le (int_cmp least k) ≡ true
 above_least (pos n) fit = refl
 above_least (negsuc n) fit = le_choice (nat_lt n (2 ^ 63 - 1)) (nat_lt (2 ^ 63 - 1) n) (at_most n fit)
 
-below_greatest : (k : ℤ) → IsTrue (fits_64 k) → is_lt (int_cmp greatest k) ≡ false
+pub below_greatest : (k : ℤ) → IsTrue (fits_64 k) → is_lt (int_cmp greatest k) ≡ false
 below_greatest (pos n) fit = lt_choice (nat_lt (2 ^ 63 - 1) n) (nat_lt n (2 ^ 63 - 1)) (at_most n fit)
 below_greatest (negsuc n) fit = refl
 

@@ -1,7 +1,24 @@
 -- Lists of classes' objects that are true of cells.
-use Rattle.std.specs.Prelude.{List, All}
-use Rattle.hp_model.specs.Cells.{Cells, AreObjects}
+use Rattle.std.specs.Prelude.{◌≡◌, ℕ, ℤ, true, ⊤, List, All, Option, Some, None}
+use Rattle.std.specs.Ordering.{int_eq}
+use Rattle.std.specs.List.{list_any}
+use Rattle.hp_model.specs.Cells.{Cells, CellValue, object_cell, row_value, AreObjects}
 use Rattle.hp_store.specs.declared.kept.KeptList.{KeptList}
+
+-- a cell holds no row
+abbrev pub HoldsNoRow : Option CellValue → Type 0
+HoldsNoRow (Some (row_value row)) = ⊥
+HoldsNoRow v = ⊤
+
+-- it holds something else
+abbrev pub HoldsOther : Option CellValue → Type 0
+HoldsOther (Some (row_value row)) = ⊥
+HoldsOther None = ⊥
+HoldsOther v = ⊤
+
+-- the cell of one of some objects holds no row
+abbrev pub OneLacks : Cells → ℕ → List ℤ → Type 0
+OneLacks base class keys = (key : ℤ) × (list_any (int_eq key) keys ≡ true) × HoldsNoRow (base (object_cell class key))
 
 -- each of them has the objects of its class
 abbrev pub AreKept : Cells → List KeptList → Type 0

@@ -4,6 +4,7 @@ pub mod Kept
 pub mod Keys
 pub mod Listed
 pub mod Mapped
+pub mod Parts
 pub mod Same
 pub mod Stack
 pub mod Tables

@@ -6,9 +6,10 @@ ghost use Rattle.std.specs.List.Sorted.{IsStrictlySortedBy};
 ghost use Rattle.std.specs.Ordering.{int_cmp};
 ghost use Rattle.hp_store.specs.Tables.{table_at};
 
+use crate::candidates::{Candidates, are_crossed, included, key_bounds};
 use crate::layer::Layer;
 use crate::value::CellValue;
-use hp_value::{Cell, ClassNo, Key, RuleNo};
+use hp_value::{Attribute, Bounds, Cell, ClassNo, ClassPart, Key, RuleNo};
 use std::alloc::{AllocError, Global};
 use std::collections::BTreeMap;
 
@@ -24,12 +25,13 @@ pub(crate) struct Base {
 }
 
 impl Base {
-    ghost use Rattle.std.specs.Prelude.{◌≡◌, [], None, IfOk, OnOk, OnErr, MatchOption, option_map, if◌then◌else◌};
+    ghost use Rattle.std.specs.Prelude.{◌≡◌, ℤ, true, false, [], None, IfOk, OnOk, OnErr, MatchOption, option_map, if◌then◌else◌};
     ghost use Rattle.hp_store.specs.Tables.{table_at};
     ghost use Rattle.hp_model.specs.Cells.{Cell as ModelCell, object_cell, AreKeys, over, same_cell};
     ghost use Rattle.hp_value.specs.Mapped as mapped;
     ghost use Rattle.hp_store.specs.Changes.{changes};
     ghost use Rattle.hp_store.specs.Mapped as here;
+    ghost use Rattle.hp_store.specs.Parts.{keys_left, is_among, lies_between, Covers};
     ghost use Rattle.hp_store.specs.Tables.{base_cells};
 
     /// Empty cells.
@@ -86,6 +88,35 @@ impl Base {
                 Ok(list)
             }
             None => Ok(Vec::new(alloc)),
+        }
+    }
+
+    /// Keys of a class among which all objects of a part are. They go up to the part's bounds, if it is one by keys.
+    pub(crate) fn candidates(&self, class: ClassNo, part: &ClassPart<'_>) -> Candidates<'_>
+        ensures { Covers (is_among (keys_left result)) (mapped.class_part part.now) class (base_cells self.now) }
+    {
+        let (low, high) = key_bounds(part);
+        self.between(class, low, high)
+    }
+
+    /// Whether these keys go up to the part's bounds, so that it doesn't take a look at the whole class.
+    pub(crate) fn finds(&self, part: &ClassPart<'_>) -> bool {
+        matches!(
+            (part.attribute, part.bounds),
+            (Attribute::Key, Bounds::Numbers(_, _))
+        )
+    }
+
+    // The keys of a class between two bounds.
+    fn between(&self, class: ClassNo, low: Option<Key>, high: Option<Key>) -> Candidates<'_>
+        ensures { (key : ℤ) → lies_between low high key ≡ true → is_among (keys_left result) key ≡ false → base_cells self.now (object_cell class key) ≡ None }
+    {
+        if are_crossed(low, high) {
+            return Candidates::Nothing;
+        }
+        match self.table(class) {
+            Some(table) => Candidates::OfTable(table.range((included(low), included(high)))),
+            None => Candidates::Nothing,
         }
     }
 

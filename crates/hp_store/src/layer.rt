@@ -5,8 +5,9 @@ ghost use Rattle.std.specs.List.Sorted.{IsStrictlySortedBy};
 ghost use Rattle.std.specs.Ordering.{int_cmp};
 ghost use Rattle.hp_store.specs.Keys.{below, above};
 
+use crate::candidates::{Candidates, greatest_up_to, key_bounds, least_from};
 use crate::value::CellValue;
-use hp_value::{Cell, ClassNo, Key};
+use hp_value::{Cell, ClassNo, ClassPart, Key};
 use std::alloc::{AllocError, Global};
 use std::collections::BTreeMap;
 use std::collections::btree_map::{Iter, Range};
@@ -137,11 +138,28 @@ impl Layer {
         self.changes.remove(&cell)
     }
 
+    /// Tells that parts of a class by a field will be asked for, as `Store::keep_index`.
+    ///
+    /// An error means that memory ran out.
+    pub fn keep_index(
+        &mut self,
+        _alloc: Global,
+        _class: ClassNo,
+        _field: &str,
+    ) -> Result<(), AllocError>
+        ensures changes { changes self.new ≡ changes self.old }
+        ensures entries { self.new ≡ self.old }
+    {
+        Ok(())
+    }
+
     /// Takes in the changes of a layer over this one. They are shared, and hold where both layers name a cell.
     ///
-    /// An error means that memory ran out; some of the upper layer's changes may have been taken in.
+    /// An error means that memory ran out; some of the upper layer's changes may have been taken in. What it doesn't name is
+    /// as before.
     pub fn take_in(&mut self, upper: &Layer) -> Result<(), AllocError>
-        ensures { OnOk result ((q : ModelCell) → changes self.new q ≡ option_or (changes upper.now q) (changes self.old q)) }
+        ensures ok { OnOk result ((q : ModelCell) → changes self.new q ≡ option_or (changes upper.now q) (changes self.old q)) }
+        ensures others { (q : ModelCell) → changes upper.now q ≡ None → changes self.new q ≡ changes self.old q }
     {
         for (cell, change) in upper.iter() {
             self.insert(*cell, change.clone()?)?;
@@ -156,8 +174,10 @@ impl Layer {
     ghost use Rattle.std.specs.Ordering.{int_cmp};
     ghost use Rattle.hp_model.specs.Cells.{Cells, AreKeys, object_cell, over};
     ghost use Rattle.hp_store.specs.Changes.{changes, class_entries, KeysFit};
+    ghost use Rattle.hp_value.specs.Mapped as mapped;
     ghost use Rattle.hp_store.specs.Keys.{KeysRise};
     ghost use Rattle.hp_store.specs.Mapped.{entry};
+    ghost use Rattle.hp_store.specs.Parts.{keys_left, no_cells, is_among, Covers};
 
     // The changes of a class's objects, by their keys.
     pub(crate) fn of_class(&self, class: ClassNo) -> Range<'_, Cell, Option<CellValue>>
@@ -166,6 +186,19 @@ impl Layer {
         ensures fit { KeysFit (class_entries class self.now) }
     {
         self.changes.range(Cell::Object(class, Key::MIN)..=Cell::Object(class, Key::MAX))
+    }
+
+    /// Keys among which all objects of a part of a class are to which the layer gives a row. They go up to the part's
+    /// bounds, if it is one by keys.
+    pub(crate) fn candidates(&self, class: ClassNo, part: &ClassPart<'_>) -> Candidates<'_>
+        ensures { Covers (is_among (keys_left result)) (mapped.class_part part.now) class (over no_cells (changes self.now)) }
+    {
+        let (low, high) = key_bounds(part);
+        let least = least_from(low);
+        let greatest = greatest_up_to(least, high);
+        let first = Cell::Object(class, least);
+        let last = Cell::Object(class, greatest);
+        Candidates::OfLayer(self.changes.range(first..=last))
     }
 
     /// Whether the layer names an object of a class.

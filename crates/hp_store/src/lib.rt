@@ -4,8 +4,10 @@
 #![tactic(auto)]
 
 mod base;
+mod candidates;
 mod kept;
 mod layer;
+mod parts;
 mod shared;
 mod snapshot;
 mod store;

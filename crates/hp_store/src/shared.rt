@@ -2,14 +2,16 @@
 
 ghost use Rattle.std.specs.Prelude.{◌≡◌, ◌≤◌, ◌<◌, ◌++◌, ◌∷◌, [], length, IfOk, IfSome, OnOk, None, option_map, MatchOption};
 ghost use Rattle.std.specs.Option.{option_or};
-ghost use Rattle.hp_model.specs.Cells.{Cell as ModelCell};
+ghost use Rattle.hp_model.specs.Cells.{Cell as ModelCell, over};
 ghost use Rattle.hp_value.specs.Mapped as mapped;
 ghost use Rattle.hp_store.specs.Changes.{changes, changes_in};
 ghost use Rattle.hp_store.specs.Mapped as here;
+ghost use Rattle.hp_store.specs.Parts.{keys_left, no_cells, is_among, Covers};
 
+use crate::candidates::Candidates;
 use crate::layer::Layer;
 use crate::value::CellValue;
-use hp_value::Cell;
+use hp_value::{Cell, ClassNo, ClassPart};
 use smallvec::SmallVec;
 use std::alloc::{AllocError, Global};
 use std::marker::Model;
@@ -48,6 +50,16 @@ impl SharedLayer {
         match &self.layer {
             Some(layer) => Some(layer),
             None => None,
+        }
+    }
+
+    /// Keys among which all objects of a part of a class are to which the layer gives a row.
+    pub(crate) fn candidates(&self, class: ClassNo, part: &ClassPart<'_>) -> Candidates<'_>
+        ensures { Covers (is_among (keys_left result)) (mapped.class_part part.now) class (over no_cells (changes self.now)) }
+    {
+        match self.layer() {
+            Some(layer) => layer.candidates(class, part),
+            None => Candidates::Nothing,
         }
     }
 }

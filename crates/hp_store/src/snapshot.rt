@@ -1,10 +1,12 @@
 //! Snapshots of a state's cells.
 
-ghost use Rattle.std.specs.Prelude.{◌≡◌, ◌≤◌, ◌↔◌, None, IsTrue, IfOk, OnOk, length};
+ghost use Rattle.std.specs.Prelude.{◌≡◌, ◌≤◌, ◌↔◌, None, Some, MatchOption, IsTrue, IfOk, OnOk, option_map, length};
 ghost use Rattle.std.specs.List.Sorted.{IsStrictlySortedBy};
 ghost use Rattle.std.specs.Ordering.{int_cmp};
-ghost use Rattle.hp_model.specs.Cells.{Cell as ModelCell, AreKeys, over};
+ghost use Rattle.hp_model.specs.Cells.{Cell as ModelCell, AreKeys, row_value, over};
 ghost use Rattle.hp_store.specs.Changes.{changes_in};
+ghost use Rattle.hp_store.specs.Kept.{HoldsNoRow};
+ghost use Rattle.hp_store.specs.Mapped as here;
 ghost use Rattle.hp_store.specs.Tables.{base_cells};
 
 use crate::base::Base;
@@ -12,7 +14,7 @@ use crate::kept::{KeptList, still_kept};
 use crate::layer::Layer;
 use crate::shared::{Layers, SharedLayer, copied, newest, piled};
 use crate::value::CellValue;
-use hp_value::{Cell, ClassNo, Key, ObjectList};
+use hp_value::{Cell, ClassNo, Key, ObjectList, Row};
 use smallvec::SmallVec;
 use std::alloc::{AllocError, Global};
 use std::collections::BTreeMap;
@@ -25,9 +27,9 @@ use std::sync::Arc;
 /// written later changes it.
 #[derive(Debug, Drop)]
 pub struct Snapshot {
-    base: Arc<Base>,
+    pub(crate) base: Arc<Base>,
     // The newest last.
-    layers: Layers,
+    pub(crate) layers: Layers,
     // Classes that were listed ahead, for all who start from the snapshot.
     lists: Vec<KeptList>,
 }
@@ -46,6 +48,8 @@ impl Model for Snapshot {
 
     ghost use Rattle.hp_model.specs.Cells.{over};
     ghost use Rattle.hp_store.specs.Changes.{changes_in};
+    ghost use Rattle.hp_store.specs.Kept.{HoldsNoRow};
+    ghost use Rattle.hp_store.specs.Mapped as here;
     ghost use Rattle.hp_store.specs.Kept.{AreKept};
     ghost use Rattle.hp_store.specs.Tables.{base_cells};
 
@@ -53,11 +57,12 @@ impl Model for Snapshot {
 }
 
 impl Snapshot {
-    ghost use Rattle.std.specs.Prelude.{◌≡◌, ◌≤◌, ◌↔◌, None, Some, All, IfOk, IfSome, OnOk, OnErr, IsTrue, option_map, length};
+    ghost use Rattle.std.specs.Prelude.{◌≡◌, ◌≤◌, ◌↔◌, ℤ, ⊤, None, Some, All, IfOk, IfSome, MatchOption, OnOk, OnErr, IsTrue, option_map, length};
     ghost use Rattle.hp_model.specs.Values as model;
     ghost use Rattle.hp_model.specs.Cells.{Cell as ModelCell, AreKeys, AreObjects, object_cell, row_value, over};
     ghost use Rattle.hp_value.specs.Mapped as mapped;
     ghost use Rattle.hp_store.specs.Changes.{changes};
+    ghost use Rattle.hp_store.specs.Kept.{HoldsOther, OneLacks};
     ghost use Rattle.hp_store.specs.Mapped as here;
     ghost use Rattle.hp_store.specs.Stack.{cells_in};
 
@@ -113,7 +118,8 @@ impl Snapshot {
         alloc: Global,
         class: ClassNo,
     ) -> Result<Option<Arc<ObjectList>>, AllocError>
-        ensures { IfOk result (λ found. IfSome found (λ objects. AreObjects (cells_in self.now) class objects.value)) }
+        ensures objects { IfOk result (λ found. IfSome found (λ objects. AreObjects (cells_in self.now) class objects.value)) }
+        ensures none { IfOk result (λ found. MatchOption found ((key : ℤ) × HoldsOther (cells_in self.now (object_cell class key))) (λ objects. ⊤)) }
     {
         if let Some(kept) = self.kept_objects(class) {
             return Ok(Some(Arc::try_clone(kept)?));
@@ -180,10 +186,11 @@ impl Snapshot {
     ) -> Result<Option<ObjectList>, AllocError>
         ensures keys { IfOk result (λ found. IfSome found (λ objects. mapped.keys_of objects ≡ keys.now)) }
         ensures rows { IfOk result (λ found. IfSome found (λ objects. All (λ (o : model.KeyedRow). cells_in self.now (object_cell class o.key) ≡ Some (row_value o.row)) objects)) }
+        ensures none { IfOk result (λ found. MatchOption found (OneLacks (cells_in self.now) class keys.now) (λ objects. ⊤)) }
     {
         let mut objects = ObjectList::new(alloc);
         for key in keys {
-            let Some(CellValue::Row(row)) = self.get(Cell::Object(class, *key)) else {
+            let Some(row) = row_in(self.get(Cell::Object(class, *key))) else {
                 return Ok(None);
             };
             objects.push(*key, row.clone()?)?;
@@ -364,6 +371,16 @@ impl Snapshot {
         self.lists_base(writes, keys, class)
             && self.lists_layers(writes, keys, class, &self.layers)
             && self.lists_layer(writes, keys, class, writes)
+    }
+}
+
+// The row that a cell holds, if it holds one.
+fn row_in(value: Option<&CellValue>) -> Option<&Row>
+    ensures { MatchOption result (HoldsNoRow (option_map (λ v. here.cell_value v.now) value.entry)) (λ row. option_map (λ v. here.cell_value v.now) value.entry ≡ Some (row_value row.now)) }
+{
+    match value {
+        Some(CellValue::Row(row)) => Some(row),
+        _ => None,
     }
 }
 

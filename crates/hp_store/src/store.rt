@@ -85,6 +85,21 @@ impl Store {
         self.state.keep_list(class, objects)
     }
 
+    /// Tells that parts of a class by a field will be asked for. No index is kept of it: `Snapshot::part` answers None
+    /// for such a part.
+    ///
+    /// An error means that memory ran out.
+    pub fn keep_index(
+        &mut self,
+        _alloc: Global,
+        _class: ClassNo,
+        _field: &str,
+    ) -> Result<(), AllocError>
+        ensures { self.new ≡ self.old }
+    {
+        Ok(())
+    }
+
     /// Overwrites the cells by a layer. Where no snapshot of the store is left, the changes go into the cells in place, and
     /// cost no more than what they change.
     ///

@@ -13,7 +13,7 @@ use std::alloc::{AllocError, Global};
 /// Ends a top-level transaction that began at the mark: where its course is done, what it wrote stays; else that goes, and
 /// so do the tasks that it detached but the separate ones, and the exclusive ones, which are released.
 ///
-/// An error means that memory ran out; the view may then hold a part of the effects.
+/// An error means that memory ran out; the view may then hold a part of the effects, and is only to be dropped.
 pub(crate) fn close(
     alloc: Global,
     view: &mut View,

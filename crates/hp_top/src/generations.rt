@@ -22,8 +22,8 @@ impl<R: Threads + Sync> Runner<'_, R> {
     /// Runs the cascade of detached tasks on the view: each as a top-level transaction of its own, in order, and then those
     /// that they detached and that are due, generation by generation. It gives what is reported of each.
     ///
-    /// HiPAC: separate firings run in transactions of their own. An error means that memory ran out; the view may then hold a
-    /// part of the effects.
+    /// HiPAC: separate firings run in transactions of their own. An error means that memory ran out; the view may then
+    /// hold a part of the effects, and is only to be dropped.
     pub(crate) fn cascade(
         &self,
         view: &mut View,
@@ -76,8 +76,8 @@ pub(crate) struct Generation {
 /// Runs the cascade of detached tasks on the view: each as a top-level transaction of its own, in order, and then those
 /// that they detached and that are due, generation by generation. It gives what is reported of each.
 ///
-/// HiPAC: separate firings run in transactions of their own. An error means that memory ran out; the view may then hold a
-/// part of the effects.
+/// HiPAC: separate firings run in transactions of their own. An error means that memory ran out; the view may then hold
+/// a part of the effects, and is only to be dropped.
 pub fn cascade<R: Threads + Sync>(
     rt: &R,
     alloc: Global,

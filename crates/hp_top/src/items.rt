@@ -21,7 +21,7 @@ impl<R: Threads + Sync> Runner<'_, R> {
     /// out.
     ///
     /// What ran before that is reported, and the store is as the last unit left it that is reported.
-    pub(crate) fn run_items(&self, store: &mut Store, items: &[Unit]) -> Items
+    pub fn run_items(&self, store: &mut Store, items: &[Unit]) -> Items
         ensures ran { RanUnits (library self.now.engine.lib.now) (map unit_of items.now) (cells_in store.old) (cells_in store.new) (map unit_report result.reports.items) }
         ensures replayed { AreReplayed (library self.now.engine.lib.now) (map unit_of items.now) (cells_in store.old) (map unit_report result.reports.items) }
         ensures fit { AllByRecursion (λ u. IsUnitOf (library self.now.engine.lib.now) u) (map unit_of items.now) → HasFitState (library self.now.engine.lib.now) (cells_in store.old) → HasFitState (library self.now.engine.lib.now) (cells_in store.new) }

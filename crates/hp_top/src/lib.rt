@@ -14,5 +14,6 @@ mod unit;
 
 pub use generations::cascade;
 pub use items::{Items, opening, run_items};
+pub use runner::Runner;
 pub use top::{Top, run_detached, run_top};
-pub use unit::{UnitAttempt, attempt_unit, run_unit, run_unit_on};
+pub use unit::{UnitAttempt, attempt_unit, keep_indexes, run_unit, run_unit_on};

@@ -8,14 +8,15 @@ use std::alloc::Global;
 
 /// What runs units and their transactions: the engine, which has all that they are handed.
 #[derive_where(Clone, Copy)]
-pub(crate) struct Runner<'a, R> {
+pub struct Runner<'a, R> {
     /// The engine.
-    pub(crate) engine: Engine<'a, R>,
+    pub engine: Engine<'a, R>,
 }
 
 impl<'a, R> Runner<'a, R> {
-    /// A runner with so many threads for a group. What rules' firings take is noted in `past`.
-    pub(crate) fn new(
+    /// A runner with so many threads for a group. What rules' firings take is noted in `past`. Where one past serves for
+    /// several calls, the first long group of one tells for all that follow. Nothing that a unit gives depends on it.
+    pub fn new(
         rt: &'a R,
         alloc: Global,
         lib: &'a Library,

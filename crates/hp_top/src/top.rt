@@ -24,8 +24,8 @@ impl<R: Threads + Sync> Runner<'_, R> {
     /// Runs a unit's own transaction on the view: the script's body, or the signal of the moment, then the commit event and
     /// the deferred rounds.
     ///
-    /// Groups of firings inside get so much width. An error means that memory ran out; the view may then hold a part of the
-    /// effects.
+    /// Groups of firings inside get so much width. An error means that memory ran out; the view may then hold a part of
+    /// the effects, and is only to be dropped.
     pub(crate) fn run_top(&self, view: &mut View, unit: &Unit) -> Result<Top, AllocError>
         ensures { IfOk result (λ t. RunsTop (library self.now.engine.lib.now) (top (library self.now.engine.lib.now) 0 (unit_work (library self.now.engine.lib.now) (unit_of unit.now))) view.old view.new (top_of t)) }
     {
@@ -46,8 +46,8 @@ impl<R: Threads + Sync> Runner<'_, R> {
 
     /// Runs a detached task on the view as a top-level transaction of its own.
     ///
-    /// A veto of the task aborts the transaction. An error means that memory ran out; the view may then hold a part of the
-    /// effects.
+    /// A veto of the task aborts the transaction. An error means that memory ran out; the view may then hold a part of
+    /// the effects, and is only to be dropped.
     pub(crate) fn run_detached(&self, view: &mut View, task: &Task) -> Result<Top, AllocError>
         ensures { IfOk result (λ t. RunsTop (library self.now.engine.lib.now) (top (library self.now.engine.lib.now) (task_of task.now).depth (task_work (library self.now.engine.lib.now) (task_of task.now))) view.old view.new (top_of t)) }
     {
@@ -90,7 +90,7 @@ pub struct Top {
 /// the deferred rounds.
 ///
 /// Groups of firings inside get so much width. An error means that memory ran out; the view may then hold a part of the
-/// effects.
+/// effects, and is only to be dropped.
 pub fn run_top<R: Threads + Sync>(
     rt: &R,
     alloc: Global,
@@ -109,7 +109,7 @@ pub fn run_top<R: Threads + Sync>(
 /// Runs a detached task on the view as a top-level transaction of its own.
 ///
 /// A veto of the task aborts the transaction. An error means that memory ran out; the view may then hold a part of the
-/// effects.
+/// effects, and is only to be dropped.
 pub fn run_detached<R: Threads + Sync>(
     rt: &R,
     alloc: Global,

@@ -26,8 +26,8 @@ use std::thread::Threads;
 impl<R: Threads + Sync> Runner<'_, R> {
     /// Runs a unit on the view: its own transaction, and the cascade of what that detaches. It gives what is reported of it.
     ///
-    /// Groups of firings inside get so much width. An error means that memory ran out; the view may then hold a part of the
-    /// effects.
+    /// Groups of firings inside get so much width. An error means that memory ran out; the view may then hold a part of
+    /// the effects, and is only to be dropped.
     pub(crate) fn run_unit_on(&self, view: &mut View, unit: &Unit) -> Result<UnitReport, AllocError>
         ensures { IfOk result (λ r. RunsUnit (library self.now.engine.lib.now) (unit_of unit.now) view.old view.new (unit_report r)) }
     {
@@ -50,11 +50,7 @@ impl<R: Threads + Sync> Runner<'_, R> {
     /// Tries a unit on a snapshot, which is dropped.
     ///
     /// An error means that memory ran out.
-    pub(crate) fn attempt_unit(
-        &self,
-        snapshot: Snapshot,
-        unit: &Unit,
-    ) -> Result<UnitAttempt, AllocError>
+    pub fn attempt_unit(&self, snapshot: Snapshot, unit: &Unit) -> Result<UnitAttempt, AllocError>
         ensures sound { IfOk result (λ a. IsSoundUnit (library self.now.engine.lib.now) (unit_of unit.now) a.reads (changes a.layer.value) (unit_report a.report)) }
         ensures so_it_was { IfOk result (λ a. Holds (cells_in snapshot) a.reads) }
     {
@@ -73,13 +69,14 @@ impl<R: Threads + Sync> Runner<'_, R> {
     /// The changes go into the store in place where nobody else holds a snapshot of it, and cost no more than what they change. A
     /// class that the unit read as a whole needn't be listed anew for the units after it, until one of its objects changes.
     /// An error means that memory ran out; the store is then as before.
-    pub(crate) fn run_unit(&self, store: &mut Store, unit: &Unit) -> Result<UnitReport, AllocError>
+    pub fn run_unit(&self, store: &mut Store, unit: &Unit) -> Result<UnitReport, AllocError>
         ensures ran { IfOk result (λ r. RanUnit (library self.now.engine.lib.now) (unit_of unit.now) (cells_in store.old) (cells_in store.new) (unit_report r)) }
         ensures replayed { IfOk result (λ r. IsReplayed (library self.now.engine.lib.now) (unit_of unit.now) (cells_in store.old) (unit_report r)) }
         ensures lawful { IfOk result (λ r. IsLawful (library self.now.engine.lib.now) (unit_of unit.now) (cells_in store.old) (unit_report r)) }
         ensures fit { IfOk result (λ r. IsUnitOf (library self.now.engine.lib.now) (unit_of unit.now) → HasFitState (library self.now.engine.lib.now) (cells_in store.old) → HasFitState (library self.now.engine.lib.now) (cells_in store.new)) }
         ensures err { OnErr result (store.new ≡ store.old) }
     {
+        keep_indexes(self.alloc(), store, self.engine.lib)?;
         let snapshot = store.snapshot()?;
         let attempt = self.attempt_unit(snapshot, unit)?;
         keep_lists(store, &attempt.reads)?;
@@ -91,7 +88,7 @@ impl<R: Threads + Sync> Runner<'_, R> {
 /// Runs a unit on the view: its own transaction, and the cascade of what that detaches. It gives what is reported of it.
 ///
 /// Groups of firings inside get so much width. An error means that memory ran out; the view may then hold a part of the
-/// effects.
+/// effects, and is only to be dropped.
 pub fn run_unit_on<R: Threads + Sync>(
     rt: &R,
     alloc: Global,
@@ -169,6 +166,19 @@ pub fn run_unit<R: Threads + Sync>(
     let past = Past::new(alloc, lib, width);
     let report = Runner::new(rt, alloc, lib, width, &past).run_unit(store, unit)?;
     Ok(report)
+}
+
+/// Has the store keep an index of each field by which queries of the library's rules find the objects of a class. Where it does
+/// so already this costs nothing but a look.
+///
+/// An error means that memory ran out; the store then keeps some of them.
+pub fn keep_indexes(alloc: Global, store: &mut Store, lib: &Library) -> Result<(), AllocError>
+    ensures { store.new ≡ store.old }
+{
+    for asked in lib.asked_fields() {
+        store.keep_index(alloc, asked.class, asked.field.as_str())?;
+    }
+    Ok(())
 }
 
 // Keeps the lists of the classes that were read as a whole.

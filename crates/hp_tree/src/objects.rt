@@ -33,7 +33,7 @@ impl Model for Objects {
 }
 
 impl Objects {
-    ghost use Rattle.std.specs.Prelude.{◌≡◌, [], OnOk, option_map, length, IsTrue, ◌↔◌};
+    ghost use Rattle.std.specs.Prelude.{◌≡◌, [], OnOk, OnErr, option_map, length, IsTrue, ◌↔◌};
     ghost use Rattle.hp_model.specs.State.{find_object, write_object, remove_object};
     ghost use Rattle.hp_tree.specs.Names.{objects_of};
 
@@ -78,7 +78,8 @@ impl Objects {
     ///
     /// An error means that memory ran out, and then nothing changes.
     pub fn insert(&mut self, class: ClassNo, key: Key, row: Row) -> Result<(), AllocError>
-        ensures { OnOk result (self.new ≡ write_object self.old class key row) }
+        ensures ok { OnOk result (self.new ≡ write_object self.old class key row) }
+        ensures err { OnErr result (self.new ≡ self.old) }
     {
         self.rows.insert(ObjectName { class, key }, row)?;
         Ok(())

@@ -6,6 +6,7 @@ use Rattle.hp_model.specs.Expressions as E
 use Rattle.hp_model.specs.Rules as R
 use Rattle.hp_model.specs.Cells as S
 use Rattle.hp_model.specs.Conditions as C
+use Rattle.hp_model.specs.ClassParts as P
 pub use Rattle.hp_value.specs.Rows.{value, kind, field, row_of}
 use Rattle.hp_value.specs.declared.halt.Cause.{Cause}
 use Rattle.hp_value.specs.declared.halt.Cause.TheVariants.{Exists, Missing, Kind, Overflow, DivideByZero, NoParameter, Depth, Asked, Vetoed}
@@ -13,6 +14,11 @@ use Rattle.hp_value.specs.declared.halt.Halt.{Halt}
 use Rattle.hp_value.specs.declared.halt.Halt.TheVariants.{Cause as ByCause, Memory}
 use Rattle.hp_value.specs.declared.cell.Cell.{Cell}
 use Rattle.hp_value.specs.declared.cell.Cell.TheVariants.{Object, Rule, Detector}
+use Rattle.hp_value.specs.declared.class_part.Attribute.{Attribute}
+use Rattle.hp_value.specs.declared.class_part.Attribute.TheVariants.{Key, Field as FieldNamed}
+use Rattle.hp_value.specs.declared.class_part.Bounds.{Bounds}
+use Rattle.hp_value.specs.declared.class_part.Bounds.TheVariants.{Numbers, Texts}
+use Rattle.hp_value.specs.declared.class_part.ClassPart.{ClassPart}
 use Rattle.hp_value.specs.declared.row.ClassDef.{ClassDef}
 use Rattle.hp_value.specs.declared.row.KeyedRow.{KeyedRow}
 use Rattle.hp_value.specs.declared.occurrence.Primitive.{Primitive}
@@ -151,3 +157,18 @@ rows_in = fold-Names (List (V.Name × V.KeyedRow)) rows_step
 
 abbrev pub environment : Env → E.Environment
 environment env = record { occurrence = option_map (λ o. occurrence o.now) env.occurrence; rows = rows_in env.rows }
+
+abbrev pub attribute : Attribute → P.Attribute
+attribute Key = P.key_attribute
+attribute (FieldNamed f) = P.field_attribute f.now
+
+abbrev pub low : Bounds → Option V.Value
+low (Numbers l h) = option_map V.integer l
+low (Texts l h) = option_map (λ s. V.text s.now) l
+
+abbrev pub high : Bounds → Option V.Value
+high (Numbers l h) = option_map V.integer h
+high (Texts l h) = option_map (λ s. V.text s.now) h
+
+abbrev pub class_part : ClassPart → P.ClassPart
+class_part p = record { attribute = attribute p.attribute; low = low p.bounds; high = high p.bounds }

@@ -4,6 +4,7 @@
 #![tactic(auto)]
 
 mod cell;
+mod class_part;
 mod constant;
 mod env;
 mod eval;
@@ -17,6 +18,7 @@ mod rule_operation;
 mod value;
 
 pub use cell::Cell;
+pub use class_part::{Attribute, Bounds, ClassPart};
 pub use constant::Constant;
 pub use env::{Answer, Env, Names};
 pub use expr::{Arithmetic, Comparison, Expr};

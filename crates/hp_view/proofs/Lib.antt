@@ -1,6 +1,9 @@
 pub mod Reading
+mod PartsApart
 mod Noting
 mod Undoing
 mod Looking
 mod Wholes
+pub mod Adding
+mod PartsRead
 pub mod Views

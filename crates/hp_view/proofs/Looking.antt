@@ -1,15 +1,17 @@
 -- What a view shows to a query.
-use Rattle.std.proofs.Common.{◌≡◌, refl, sym, ap, ◌∙◌, ℕ, ℤ, List, slice_index_or, Option, Some, None, is_some}
+use Rattle.std.proofs.Common.{◌≡◌, refl, sym, ap, ◌∙◌, ℕ, ℤ, List, slice_index_or, Option, Some, None, is_some, Ok}
 use Rattle.std.specs.Prelude.{option_map}
 use Rattle.hp_model.specs.Values.{Row, KeyedRow}
+use Rattle.hp_model.specs.ClassParts.{ClassPart, picked}
 use Rattle.hp_model.specs.State.{Objects, find_object, rows_of}
 use Rattle.hp_model.specs.Cells.{object_cell, CellValue, row_value, over, AreKeys, AreObjects}
 use Rattle.hp_model.proofs.BridgesReads.{row_at}
 use Rattle.hp_model.proofs.BridgesKeys.{ObjectsRise, class_keys, keys_are_class_keys, rows_found}
 use Rattle.hp_value.specs.Mapped.{keys_of}
-use Rattle.hp_view.specs.Seeing.{Seeing, written, Shows, ShowsKeys, ShowsObjects}
+use Rattle.hp_view.specs.Seeing.{Seeing, written, Shows, ShowsKeys, ShowsObjects, ShowsPart}
 use Rattle.hp_view.proofs.Wholes.{same_rows}
 use Rattle.hp_view.specs.Looks.{Allows}
+use Rattle.hp_query.proofs.PartLemmas.{part_picked}
 
 row_back : (o : Option Row) → row_at (option_map row_value o) ≡ o
 row_back None = refl
@@ -39,3 +41,8 @@ objects_shown {v} {class} {objects} shows world rise allowed =
     keys_are_class_keys class world (keys_of objects) rise are.keys.rise (λ key. are.keys.has key ∙ ap is_some (allowed.objects class key) ∙ some_row (find_object world class key)) in
     same_rows base class objects (rows_of class world) keys are.rows
     (λ i d below. allowed.objects class (slice_index_or (rows_of class world) i d).key ∙ ap (option_map row_value) (rows_found class world rise i d below))
+
+-- a part of a class that was read is picked from the objects in each world
+pub part_shown : {v : Seeing} {class : ℕ} {p : ClassPart} {objects : List KeyedRow} → ShowsPart v class p objects → (world : Objects) → ObjectsRise world → Allows v world → picked p (rows_of class world) ≡ Ok objects
+part_shown {v} {class} {p} {objects} shows world rise allowed =
+    part_picked (over allowed.base (written v)) class p objects world rise (shows.everywhere allowed.base allowed.held) (allowed.objects class)

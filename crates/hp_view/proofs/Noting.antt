@@ -1,5 +1,5 @@
 -- Recorded reads, found by what was looked at.
-use Rattle.std.proofs.Common.{◌≡◌, refl, sym, ap, ◌∙◌, subst, ℕ, Bool, true, false, ◌||◌, ◌==◌, cond, List, [], ◌∷◌, map, Option, Some, None, is_some}
+use Rattle.std.proofs.Common.{◌≡◌, refl, sym, ap, ap₂, ◌∙◌, subst, ℕ, zero, suc, take, Bool, true, false, ◌&&◌, ◌||◌, ◌==◌, cond, List, [], ◌∷◌, ◌++◌, map, Option, Some, None, is_some}
 use Rattle.std.specs.List.{list_any}
 use Rattle.std.specs.Map.{lookup}
 use Rattle.std.specs.Prelude.{IfSome}
@@ -8,64 +8,78 @@ use Rattle.std.specs.Borrow.{Bor}
 use Rattle.std.proofs.lemmas.Bool.Decides.{Decides-eqb}
 use Rattle.std.specs.declared.sync.Arc.{Arc}
 use Rattle.std.specs.declared.alloc.Global.{Global}
-use Rattle.hp_model.specs.Cells.{Cells, Read, IsTold, AllTold, Holds, AreKeys, AreObjects}
+use Rattle.hp_model.specs.ClassParts.{ClassPart}
+use Rattle.hp_model.specs.Cells.{Cells, IsTold, AllTold, Holds, AreKeys, AreObjects}
 use Rattle.hp_model.proofs.BridgesCells.{exact_cell}
 use Rattle.hp_value.specs.declared.cell.Cell.{Cell}
 use Rattle.hp_value.specs.declared.objects.ObjectList.{ObjectList}
 use Rattle.hp_value.specs.declared.cell.Cell.TheVariants.{Object, Rule, Detector}
 use Rattle.hp_value.specs.Mapped.{cell}
 use Rattle.hp_view.specs.declared.reads.Seen.{Seen}
-use Rattle.hp_view.specs.declared.reads.Seen.TheVariants.{Cell as OfCell, Keys as OfKeys}
+use Rattle.hp_view.specs.declared.reads.Seen.TheVariants.{Cell as OfCell, Keys as OfKeys, Part as OfPart}
 use Rattle.hp_view.specs.declared.reads.Found.{Found}
-use Rattle.hp_view.specs.declared.reads.Found.TheVariants.{Value, Keys, Objects}
+use Rattle.hp_view.specs.declared.reads.Found.TheVariants.{Value, Keys, Objects, Part}
+use Rattle.hp_view.specs.declared.reads.PartState.{PartState}
+use Rattle.hp_view.specs.declared.reads.PartState.TheVariants.{WasRead, IsTaken}
 use Rattle.hp_view.specs.contracts.reads.SeenPartialEq.TheImpl as seeing
-use Rattle.hp_view.specs.Mapped.{read, value_found, keys_found, class_read}
-use Rattle.hp_view.specs.Seeing.{reads_cell, reads_keys, was_read}
+use Rattle.hp_view.specs.Mapped.{read, value_found, keys_found, part_found, class_read}
+use Rattle.hp_view.specs.Numbered.{IsNumbered, AreNumbered, is_read_of, IsStateOf}
+use Rattle.hp_view.specs.Parts.{same_part}
+use Rattle.hp_view.specs.Seeing.{part_was_read}
+use Rattle.hp_view.proofs.PartsApart.{same_part_itself, part_decides, either_true}
 
--- a read of what was looked at
-abbrev pub is_read_of : Seen → Read → Bool
-is_read_of (OfCell q) = reads_cell (cell q)
-is_read_of (OfKeys class) = reads_keys class
-
-told_apart : (s : Seen) (e : Seen × Found) → seeing.ghosts.eq s e.0 ≡ is_read_of s (read e)
-told_apart (OfCell (Object c k)) (OfCell (Object d l), found) = refl
-told_apart (OfCell (Object c k)) (OfCell (Rule n), found) = refl
-told_apart (OfCell (Object c k)) (OfCell (Detector n), found) = refl
-told_apart (OfCell (Rule m)) (OfCell (Object d l), found) = refl
-told_apart (OfCell (Rule m)) (OfCell (Rule n), found) = refl
-told_apart (OfCell (Rule m)) (OfCell (Detector n), found) = refl
-told_apart (OfCell (Detector m)) (OfCell (Object d l), found) = refl
-told_apart (OfCell (Detector m)) (OfCell (Rule n), found) = refl
-told_apart (OfCell (Detector m)) (OfCell (Detector n), found) = refl
-told_apart (OfCell q) (OfKeys class, Value v) = refl
-told_apart (OfCell q) (OfKeys class, Keys keys) = refl
-told_apart (OfCell q) (OfKeys class, Objects objects) = refl
-told_apart (OfKeys class) (OfCell q, found) = refl
-told_apart (OfKeys class) (OfKeys n, Value v) = refl
-told_apart (OfKeys class) (OfKeys n, Keys keys) = refl
-told_apart (OfKeys class) (OfKeys n, Objects objects) = refl
+-- where a look-up stops is where the read is one of what is looked up
+told_apart : (s : Seen) (e : Seen × Found) → IsNumbered e → seeing.ghosts.eq s e.0 ≡ is_read_of s (read e)
+told_apart (OfCell (Object c k)) (OfCell (Object d l), found) n = refl
+told_apart (OfCell (Object c k)) (OfCell (Rule m), found) n = refl
+told_apart (OfCell (Object c k)) (OfCell (Detector m), found) n = refl
+told_apart (OfCell (Rule m)) (OfCell (Object d l), found) n = refl
+told_apart (OfCell (Rule m)) (OfCell (Rule o), found) n = refl
+told_apart (OfCell (Rule m)) (OfCell (Detector o), found) n = refl
+told_apart (OfCell (Detector m)) (OfCell (Object d l), found) n = refl
+told_apart (OfCell (Detector m)) (OfCell (Rule o), found) n = refl
+told_apart (OfCell (Detector m)) (OfCell (Detector o), found) n = refl
+told_apart (OfCell q) (OfKeys class, Value v) n = refl
+told_apart (OfCell q) (OfKeys class, Keys keys) n = refl
+told_apart (OfCell q) (OfKeys class, Objects objects) n = refl
+told_apart (OfCell q) (OfKeys class, Part part) n = refl
+told_apart (OfCell q) (OfPart class m, found) n = refl
+told_apart (OfKeys class) (OfCell q, found) n = refl
+told_apart (OfKeys class) (OfKeys m, Value v) n = refl
+told_apart (OfKeys class) (OfKeys m, Keys keys) n = refl
+told_apart (OfKeys class) (OfKeys m, Objects objects) n = refl
+told_apart (OfKeys class) (OfKeys m, Part part) n = refl
+told_apart (OfKeys class) (OfPart m o, found) n = refl
+told_apart (OfPart class m) (OfCell q, found) n = refl
+told_apart (OfPart class m) (OfKeys d, Value v) n = refl
+told_apart (OfPart class m) (OfKeys d, Keys keys) n = refl
+told_apart (OfPart class m) (OfKeys d, Objects objects) n = refl
+told_apart (OfPart class m) (OfKeys d, Part part) n = refl
+told_apart (OfPart class m) (OfPart d o, found) n = ap (λ k. class == d && m == k) n
 
 some_or : (b : Bool) (found : Found) (rest : Option Found) → is_some (cond b (Some found) rest) ≡ (b || is_some rest)
 some_or true found rest = refl
 some_or false found rest = refl
 
 -- something is recorded where it was read
-pub recorded : (s : Seen) (es : List (Seen × Found)) → is_some (lookup (seeing.ghosts.eq s) es) ≡ list_any (is_read_of s) (map read es)
-recorded s [] = refl
-recorded s (e ∷ es) =
+pub recorded : (s : Seen) (es : List (Seen × Found)) → AreNumbered es → is_some (lookup (seeing.ghosts.eq s) es) ≡ list_any (is_read_of s) (map read es)
+recorded s [] n = refl
+recorded s (e ∷ es) n =
     some_or (seeing.ghosts.eq s e.0) e.1 (lookup (seeing.ghosts.eq s) es)
-    ∙ (λ i. told_apart s e i || recorded s es i)
+    ∙ (λ i. told_apart s e n.0 i || recorded s es n.1 i)
 
 -- what is recorded for a class tells its keys
 class_told : (base : Cells) (class : ℕ) (found : Found) → IsTold base (class_read class found) → AreKeys base class (keys_found found)
 class_told base class (Value v) told = told
 class_told base class (Keys keys) told = told
 class_told base class (Objects objects) told = told.keys
+class_told base class (Part part) told = told
 
 -- the keys that are recorded for a class are told
 pub told_keys : (class : ℕ) (found : Found) (base : Cells) (es : List (Seen × Found)) → lookup (seeing.ghosts.eq (OfKeys class)) es ≡ Some found → AllTold base (map read es) → AreKeys base class (keys_found found)
 told_keys class found base [] h told = cc
 told_keys class found base ((OfCell q, other) ∷ es) h told = told_keys class found base es h told.1
+told_keys class found base ((OfPart n m, other) ∷ es) h told = told_keys class found base es h told.1
 told_keys class found base ((OfKeys n, other) ∷ es) h told = by (class == n) refl h (λ g. told_keys class found base es g told.1)
   where
     by : (b : Bool) → (class == n) ≡ b → cond b (Some other) (lookup (seeing.ghosts.eq (OfKeys class)) es) ≡ Some found → (lookup (seeing.ghosts.eq (OfKeys class)) es ≡ Some found → AreKeys base class (keys_found found)) → AreKeys base class (keys_found found)
@@ -78,6 +92,7 @@ told_keys class found base ((OfKeys n, other) ∷ es) h told = by (class == n) r
 pub told_objects : (class : ℕ) (objects : Arc ObjectList Global) (base : Cells) (es : List (Seen × Found)) → lookup (seeing.ghosts.eq (OfKeys class)) es ≡ Some (Objects objects) → AllTold base (map read es) → AreObjects base class objects.value
 told_objects class objects base [] h told = cc
 told_objects class objects base ((OfCell q, other) ∷ es) h told = told_objects class objects base es h told.1
+told_objects class objects base ((OfPart n m, other) ∷ es) h told = told_objects class objects base es h told.1
 told_objects class objects base ((OfKeys n, other) ∷ es) h told = by (class == n) refl h (λ g. told_objects class objects base es g told.1)
   where
     by : (b : Bool) → (class == n) ≡ b → cond b (Some other) (lookup (seeing.ghosts.eq (OfKeys class)) es) ≡ Some (Objects objects) → (lookup (seeing.ghosts.eq (OfKeys class)) es ≡ Some (Objects objects) → AreObjects base class objects.value) → AreObjects base class objects.value
@@ -90,12 +105,13 @@ told_objects class objects base ((OfKeys n, other) ∷ es) h told = by (class ==
 pub told_value : (q : Cell) (found : Found) (base : Cells) (es : List (Seen × Found)) → lookup (seeing.ghosts.eq (OfCell q)) es ≡ Some found → AllTold base (map read es) → value_found found ≡ base (cell q)
 told_value q found base [] h told = cc
 told_value q found base ((OfKeys n, other) ∷ es) h told = told_value q found base es h told.1
+told_value q found base ((OfPart n m, other) ∷ es) h told = told_value q found base es h told.1
 told_value q found base ((OfCell p, other) ∷ es) h told = by (seeing.ghosts.eq (OfCell q) (OfCell p)) refl h (λ g. told_value q found base es g told.1)
   where
     by : (b : Bool) → seeing.ghosts.eq (OfCell q) (OfCell p) ≡ b → cond b (Some other) (lookup (seeing.ghosts.eq (OfCell q)) es) ≡ Some found → (lookup (seeing.ghosts.eq (OfCell q)) es ≡ Some found → value_found found ≡ base (cell q)) → value_found found ≡ base (cell q)
     by true e h rest =
         let same : other ≡ found = cc in
-        ap value_found (sym same) ∙ sym told.0 ∙ sym (ap base (exact_cell (cell q) (cell p) (sym (told_apart (OfCell q) (OfCell p, other)) ∙ e)))
+        ap value_found (sym same) ∙ sym told.0 ∙ sym (ap base (exact_cell (cell q) (cell p) (sym (told_apart (OfCell q) (OfCell p, other) tt) ∙ e)))
     by false e h rest = rest h
 
 pub value_told : (q : Cell) (r : Option (Bor Found)) (es : List (Seen × Found)) → option_copied r ≡ lookup (seeing.ghosts.eq (OfCell q)) es
@@ -103,12 +119,47 @@ pub value_told : (q : Cell) (r : Option (Bor Found)) (es : List (Seen × Found))
 value_told q None es is = tt
 value_told q (Some found) es is = λ base held. told_value q found.now base es (sym is) held.told
 
--- the same of a read, as `noted` asks
-pub was_recorded : (s : Seen) (found : Found) (es : List (Seen × Found)) → is_some (lookup (seeing.ghosts.eq s) es) ≡ was_read (map read es) (read (s, found))
-was_recorded (OfCell q) found es = recorded (OfCell q) es
-was_recorded (OfKeys class) (Value v) es = recorded (OfKeys class) es
-was_recorded (OfKeys class) (Keys keys) es = recorded (OfKeys class) es
-was_recorded (OfKeys class) (Objects objects) es = recorded (OfKeys class) es
+-- one entry more
+pub numbered_more : (es : List (Seen × Found)) (e : Seen × Found) → AreNumbered es → IsNumbered e → AreNumbered (es ++ e ∷ [])
+numbered_more [] e n fits = (fits, tt)
+numbered_more (f ∷ fs) e n fits = (n.0, numbered_more fs e n.1 fits)
+
+-- the first ones
+pub numbered_first : (n : ℕ) (es : List (Seen × Found)) → AreNumbered es → AreNumbered (take n es)
+numbered_first zero es all = tt
+numbered_first (suc n) [] all = tt
+numbered_first (suc n) (e ∷ es) all = (all.0, numbered_first n es all.1)
+
+-- ---- parts
+
+-- the part under its number is read
+pub told_number : (class n : ℕ) (found : Found) (es : List (Seen × Found)) → lookup (seeing.ghosts.eq (OfPart class n)) es ≡ Some found → part_was_read (map read es) class (part_found found) ≡ true
+told_number class n found [] h = cc
+told_number class n found ((OfCell q, other) ∷ es) h = told_number class n found es h
+told_number class n found ((OfKeys d, Value v) ∷ es) h = told_number class n found es h
+told_number class n found ((OfKeys d, Keys keys) ∷ es) h = told_number class n found es h
+told_number class n found ((OfKeys d, Objects objects) ∷ es) h = told_number class n found es h
+told_number class n found ((OfKeys d, Part part) ∷ es) h = told_number class n found es h
+told_number class n found ((OfPart d m, other) ∷ es) h = by (class == d) (n == m) refl h (λ g. told_number class n found es g)
+  where
+    by : (b c : Bool) → (class == d) ≡ b → cond (b && c) (Some other) (lookup (seeing.ghosts.eq (OfPart class n)) es) ≡ Some found
+        → (lookup (seeing.ghosts.eq (OfPart class n)) es ≡ Some found → part_was_read (map read es) class (part_found found) ≡ true)
+        → (class == d && same_part (part_found found) (part_found other) || part_was_read (map read es) class (part_found found)) ≡ true
+    by true true e h rest = ap₂ (λ x y. x && y || part_was_read (map read es) class (part_found found)) e (subst (λ f. same_part (part_found found) (part_found f) ≡ true) (sym (the_same h)) (same_part_itself (part_found found)))
+      where
+        the_same : Some other ≡ Some found → other ≡ found
+        the_same g = cc
+    by true false e h rest = either_true (class == d && same_part (part_found found) (part_found other)) (rest h)
+    by false c e h rest = either_true (class == d && same_part (part_found found) (part_found other)) (rest h)
+
+-- what a comparison with it says
+pub compared_state : (class n : ℕ) (found : Found) (part : ClassPart) (state : PartState) (es : List (Seen × Found)) → lookup (seeing.ghosts.eq (OfPart class n)) es ≡ Some found
+    → state ≡ cond (same_part (part_found found) part) WasRead IsTaken → IsStateOf (map read es) class part state
+compared_state class n found part state es h is = subst (IsStateOf (map read es) class part) (sym is) (by (same_part (part_found found) part) refl)
+  where
+    by : (b : Bool) → same_part (part_found found) part ≡ b → IsStateOf (map read es) class part (cond b WasRead IsTaken)
+    by true e = subst (λ p. part_was_read (map read es) class p ≡ true) ((part_decides (part_found found) part).0 e) (told_number class n found es h)
+    by false e = tt
 
 pub none_there : {A : Type 0} (o : Option A) → is_some o ≡ false → o ≡ None
 none_there None h = refl

@@ -2,7 +2,7 @@
 use Rattle.std.proofs.Common.{◌≡◌, refl, sym, ap, ◌∙◌, subst, ℕ, ℤ, Bool, true, false, true≢false, ◌||◌, ◌==◌, List, [], ◌∷◌, ◌++◌, append-nil, length, drop, Option, Some, None, is_some, if◌then◌else◌, arith}
 use Rattle.std.specs.Prelude.{IfSome, option_map}
 use Rattle.std.proofs.lemmas.Bool.Decides.{Decides-eqb}
-use Rattle.hp_model.specs.Cells.{Cell, CellValue, Cells, Changes, object_cell, changed, over, same_cell, Read, cell_read, keys_read, objects_read, IsTold, AllTold, Holds, AreKeys}
+use Rattle.hp_model.specs.Cells.{Cell, CellValue, Cells, Changes, object_cell, changed, over, same_cell, Read, cell_read, keys_read, objects_read, part_read, IsTold, AllTold, Holds, AreKeys}
 use Rattle.hp_model.proofs.BridgesCells.{exact_cell, Holds-push, Holds-last}
 use Rattle.hp_model.proofs.BridgesKeys.{one_list}
 use Rattle.hp_value.specs.Mapped.{keys_of}
@@ -45,6 +45,7 @@ cell_again B C cell (cell_read q value ∷ rs) b c h = by (same_cell cell q) ref
     by false e h rest = rest h
 cell_again B C cell (keys_read class keys ∷ rs) b c h = cell_again B C cell rs b.1 c.1 h
 cell_again B C cell (objects_read class objects ∷ rs) b c h = cell_again B C cell rs b.1 c.1 h
+cell_again B C cell (part_read class part objects ∷ rs) b c h = cell_again B C cell rs b.1 c.1 h
 
 keys_again : (B C : Cells) (class : ℕ) (keys : List ℤ) (reads : List Read) → AllTold B reads → AllTold C reads → AreKeys C class keys → keys_were_read reads class ≡ true → AreKeys B class keys
 keys_again B C class keys [] b c are h = absurd (true≢false (sym h))
@@ -63,6 +64,7 @@ keys_again B C class keys (objects_read n found ∷ rs) b c are h = by (class ==
         let here : n ≡ class = sym ((Decides-eqb class n).0 e) in
         subst (AreKeys B class) (one_list (subst (λ k. AreKeys C k (keys_of found)) here c.0.keys) are) (subst (λ k. AreKeys B k (keys_of found)) here b.0.keys)
     by false e h rest = rest h
+keys_again B C class keys (part_read n part objects ∷ rs) b c are h = keys_again B C class keys rs b.1 c.1 are h
 
 -- a cell once it is noted, and the keys of a class
 pub cell_noted : (B C : Cells) (cell : Cell) (reads : List Read) → Holds C reads → Holds B (noted reads (cell_read cell (C cell))) → B cell ≡ C cell

@@ -1,34 +1,77 @@
 -- What the crate's types stand for in the model: a function for each.
-use Rattle.std.specs.Prelude.{ℕ, ℤ, List, [], Option, None, option_map}
+use Rattle.std.specs.Prelude.{ℕ, ℤ, List, [], map, Option, Some, None, option_map, string_bytes}
+use Rattle.std.specs.declared.string.String.{String}
+use Rattle.std.specs.declared.alloc.Global.{Global}
+use Rattle.hp_model.specs.Values as V
+use Rattle.hp_model.specs.ClassParts as P
 use Rattle.hp_model.specs.Cells as C
 use Rattle.hp_value.specs.declared.cell.Cell.{Cell}
-use Rattle.hp_value.specs.Mapped.{cell, keys_of}
+use Rattle.hp_value.specs.Mapped.{cell, keyed_row, keys_of}
 use Rattle.hp_store.specs.declared.value.CellValue.{CellValue}
 use Rattle.hp_store.specs.Mapped.{change}
+use Rattle.hp_view.specs.declared.part.FoundBounds.{FoundBounds}
+use Rattle.hp_view.specs.declared.part.FoundBounds.TheVariants.{Numbers, Texts}
+use Rattle.hp_view.specs.declared.part.FoundPart.{FoundPart}
 use Rattle.hp_view.specs.declared.reads.Seen.{Seen}
-use Rattle.hp_view.specs.declared.reads.Seen.TheVariants.{Cell as OfCell, Keys as OfKeys}
+use Rattle.hp_view.specs.declared.reads.Seen.TheVariants.{Cell as OfCell, Keys as OfKeys, Part as OfPart}
 use Rattle.hp_view.specs.declared.reads.Found.{Found}
-use Rattle.hp_view.specs.declared.reads.Found.TheVariants.{Value, Keys, Objects}
+use Rattle.hp_view.specs.declared.reads.Found.TheVariants.{Value, Keys, Objects, Part}
 
--- the value that was found, the keys, and what was read of a class
+-- a part that was found: what it compares, and its bounds
+abbrev pub attribute_found : Option (String Global) → P.Attribute
+attribute_found None = P.key_attribute
+attribute_found (Some name) = P.field_attribute (string_bytes name)
+
+abbrev pub low_found : FoundBounds → Option V.Value
+low_found (Numbers l h) = option_map V.integer l
+low_found (Texts l h) = option_map (λ s. V.text (string_bytes s)) l
+
+abbrev pub high_found : FoundBounds → Option V.Value
+high_found (Numbers l h) = option_map V.integer h
+high_found (Texts l h) = option_map (λ s. V.text (string_bytes s)) h
+
+abbrev pub part_of : FoundPart → P.ClassPart
+part_of f = record { attribute = attribute_found f.field; low = low_found f.bounds; high = high_found f.bounds }
+
+-- the part of which no bound is known
+abbrev pub whole_class : P.ClassPart
+whole_class = record { attribute = P.key_attribute; low = None; high = None }
+
+-- the value that was found, the keys, the part and its objects, and what was read of a class
 abbrev pub value_found : Found → Option C.CellValue
 value_found (Value v) = change v
 value_found (Keys keys) = None
 value_found (Objects objects) = None
+value_found (Part part) = None
 
 abbrev pub keys_found : Found → List ℤ
 keys_found (Value v) = []
 keys_found (Keys keys) = keys.items
 keys_found (Objects objects) = keys_of objects.value
+keys_found (Part part) = []
+
+abbrev pub part_found : Found → P.ClassPart
+part_found (Value v) = whole_class
+part_found (Keys keys) = whole_class
+part_found (Objects objects) = whole_class
+part_found (Part part) = part_of part.value
+
+abbrev pub objects_found : Found → List V.KeyedRow
+objects_found (Value v) = []
+objects_found (Keys keys) = []
+objects_found (Objects objects) = []
+objects_found (Part part) = map keyed_row part.value.objects.items
 
 abbrev pub class_read : ℕ → Found → C.Read
 class_read class (Value v) = C.keys_read class []
 class_read class (Keys keys) = C.keys_read class keys.items
 class_read class (Objects objects) = C.objects_read class objects.value
+class_read class (Part part) = C.keys_read class []
 
 abbrev pub read : Seen × Found → C.Read
 read (OfCell q, found) = C.cell_read (cell q) (value_found found)
 read (OfKeys class, found) = class_read class found
+read (OfPart class n, found) = C.part_read class (part_found found) (objects_found found)
 
 -- what a write replaced
 abbrev pub replaced : Cell × Option (Option CellValue) → C.Cell × Option (Option C.CellValue)

@@ -1,11 +1,13 @@
 -- What a view is to a contract.
-use Rattle.std.specs.Prelude.{◌≡◌, ℕ, ℤ, ◌≤◌, ◌==◌, length, Bool, true, false, List, [], ◌∷◌, ◌++◌, Option, Some, None, IsSome, drop, take, if◌then◌else◌}
+use Rattle.std.specs.Prelude.{◌≡◌, ℕ, ℤ, ◌≤◌, ◌==◌, length, Bool, true, false, ◌&&◌, List, [], ◌∷◌, ◌++◌, Option, Some, None, IsSome, drop, take, if◌then◌else◌}
 use Rattle.std.specs.List.{list_any}
 use Rattle.hp_model.specs.Values.{KeyedRow}
-use Rattle.hp_model.specs.Cells.{Cell, CellValue, Cells, Changes, over, same_cell, with_change, Read, cell_read, keys_read, objects_read, Holds, AreKeys, AreObjects}
+use Rattle.hp_model.specs.ClassParts.{ClassPart}
+use Rattle.hp_model.specs.Cells.{Cell, CellValue, Cells, Changes, over, same_cell, with_change, Read, cell_read, keys_read, objects_read, part_read, Holds, AreKeys, AreObjects, ArePart}
 use Rattle.hp_model.proofs.BridgesCells.{stacked}
 use Rattle.hp_store.specs.Changes.{Entries, changes}
 use Rattle.hp_store.specs.Stack.{Stack, cells_in}
+use Rattle.hp_view.specs.Parts.{same_part, number_of}
 
 -- cells that were written, each with what the layer made of it before
 abbrev pub Undo : Type 0
@@ -53,16 +55,31 @@ pub record CanGoBack (before : Undo) (earlier : Changes) (after : Undo) (later :
 
 -- ---- reads
 
--- a read of this cell, and one of this class's keys, alone or with the rows
+-- a read of this cell, one of this class's keys, alone or with the rows, and one of this part of the class
 abbrev pub reads_cell : Cell → Read → Bool
 reads_cell cell (cell_read q value) = same_cell cell q
 reads_cell cell (keys_read class keys) = false
 reads_cell cell (objects_read class objects) = false
+reads_cell cell (part_read class part objects) = false
 
 abbrev pub reads_keys : ℕ → Read → Bool
 reads_keys class (cell_read q value) = false
 reads_keys class (keys_read n keys) = class == n
 reads_keys class (objects_read n objects) = class == n
+reads_keys class (part_read n part objects) = false
+
+abbrev pub reads_part : ℕ → ClassPart → Read → Bool
+reads_part class part (cell_read q value) = false
+reads_part class part (keys_read n keys) = false
+reads_part class part (objects_read n objects) = false
+reads_part class part (part_read n q objects) = class == n && same_part part q
+
+-- one of a part with this number
+abbrev pub reads_number : ℕ → (number : ℕ) → Read → Bool
+reads_number class number (cell_read q value) = false
+reads_number class number (keys_read n keys) = false
+reads_number class number (objects_read n objects) = false
+reads_number class number (part_read n q objects) = class == n && number == number_of q
 
 -- whether they were read before
 abbrev pub cell_was_read : List Read → Cell → Bool
@@ -71,10 +88,17 @@ cell_was_read reads cell = list_any (reads_cell cell) reads
 abbrev pub keys_were_read : List Read → ℕ → Bool
 keys_were_read reads class = list_any (reads_keys class) reads
 
+abbrev pub part_was_read : List Read → ℕ → ClassPart → Bool
+part_was_read reads class part = list_any (reads_part class part) reads
+
+abbrev pub number_was_read : List Read → ℕ → (number : ℕ) → Bool
+number_was_read reads class number = list_any (reads_number class number) reads
+
 abbrev pub was_read : List Read → Read → Bool
 was_read reads (cell_read cell value) = cell_was_read reads cell
 was_read reads (keys_read class keys) = keys_were_read reads class
 was_read reads (objects_read class objects) = keys_were_read reads class
+was_read reads (part_read class part objects) = part_was_read reads class part
 
 -- the reads, and this one if it is the first of its kind
 abbrev pub noted : List Read → Read → List Read
@@ -108,6 +132,10 @@ pub record ShowsKeys (v : Seeing) (class : ℕ) (keys : List ℤ) : Type 0 where
 -- the same of a class's objects
 pub record ShowsObjects (v : Seeing) (class : ℕ) (objects : List KeyedRow) : Type 0 where
   pub everywhere : (base : Cells) → Holds base v.reads → AreObjects (over base (written v)) class objects
+
+-- the same of a part of a class
+pub record ShowsPart (v : Seeing) (class : ℕ) (part : ClassPart) (objects : List KeyedRow) : Type 0 where
+  pub everywhere : (base : Cells) → Holds base v.reads → ArePart (over base (written v)) class part objects
 
 -- ---- what calls do
 
@@ -169,3 +197,7 @@ pub record ReadsCell (old new : Seeing) (cell : Cell) (done : Bool) : Type 0 whe
 -- only the keys of a class are read, as they stand beneath the writes
 pub record ReadsKeys (old new : Seeing) (class : ℕ) : Type 0 where
   pub keys : (keys : List ℤ) × (AreKeys (beneath old) class keys) × (new ≡ record old { reads = noted old.reads (keys_read class keys) })
+
+-- only a part of a class is read, as it stands beneath the writes
+pub record ReadsPart (old new : Seeing) (class : ℕ) (part : ClassPart) : Type 0 where
+  pub part_is : (objects : List KeyedRow) × (ArePart (beneath old) class part objects) × (new ≡ record old { reads = noted old.reads (part_read class part objects) })

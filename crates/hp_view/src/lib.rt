@@ -5,9 +5,11 @@
 #![tactic(auto)]
 
 mod look;
+mod part;
 mod reads;
 mod undo;
 mod view;
 
+pub use part::FoundPart;
 pub use reads::{Found, Reads, Seen};
 pub use view::{Mark, View};

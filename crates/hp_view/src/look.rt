@@ -3,7 +3,7 @@
 use crate::view::View;
 use hp_query::Look;
 use hp_store::CellValue;
-use hp_value::{Cell, ClassNo, Key, ObjectList, Row};
+use hp_value::{Cell, ClassNo, ClassPart, Key, KeyedRow, ObjectList, Row};
 use std::alloc::{AllocError, Global};
 use std::sync::Arc;
 
@@ -40,6 +40,17 @@ impl Look for View {
         class: ClassNo,
     ) -> Result<Option<Arc<ObjectList>>, AllocError> {
         let objects = View::objects(self, alloc, class)?;
+        Ok(objects)
+    }
+
+    fn part(
+        &mut self,
+        alloc: Global,
+        class: ClassNo,
+        part: &ClassPart<'_>,
+    ) -> Result<Option<Vec<KeyedRow>>, AllocError> {
+        self.keep_index(alloc, class, part);
+        let objects = View::part(self, alloc, class, part)?;
         Ok(objects)
     }
 }

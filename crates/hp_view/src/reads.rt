@@ -2,11 +2,16 @@
 
 ghost use Rattle.std.specs.Prelude.{◌≡◌, false, IfOk, OnOk, OnErr, map, option_map};
 ghost use Rattle.hp_store.specs.Mapped.{cell_value};
-ghost use Rattle.hp_view.specs.Mapped.{read};
-ghost use Rattle.hp_view.specs.Seeing.{noted, was_read};
+ghost use Rattle.std.specs.Prelude.{cond, ◌++◌, ◌∷◌, []};
+ghost use Rattle.std.specs.List.{list_any};
+ghost use Rattle.hp_value.specs.Mapped as mapped;
+ghost use Rattle.hp_view.specs.Mapped.{read, part_found};
+ghost use Rattle.hp_view.specs.Numbered.{AreNumbered, IsNumbered, is_read_of};
+ghost use Rattle.hp_view.specs.Parts.{same_part};
 
+use crate::part::{FoundPart, is_same, number};
 use hp_store::CellValue;
-use hp_value::{Cell, ClassNo, Key, ObjectList};
+use hp_value::{Attribute, Bounds, Cell, ClassNo, ClassPart, Key, KeyedRow, ObjectList};
 use indexmap::IndexMap;
 use indexmap::map::Iter;
 use std::alloc::{AllocError, Global};
@@ -20,6 +25,8 @@ pub enum Seen {
     Cell(Cell),
     /// The keys of a class's objects, alone or with their rows.
     Keys(ClassNo),
+    /// A part of a class, by a number that is computed of it: `Found` has the part itself.
+    Part(ClassNo, u64),
 }
 
 /// What was found there.
@@ -31,12 +38,16 @@ pub enum Found {
     Keys(Vec<Key>),
     /// All objects of a class with their rows, by rising keys. Others may share the list.
     Objects(Arc<ObjectList>),
+    /// A part of a class with its objects. They stand elsewhere, so that what is found in a cell takes little room.
+    Part(Arc<FoundPart>),
 }
 
 impl Found {
     ghost use Rattle.std.specs.Prelude.{option_map};
     ghost use Rattle.hp_store.specs.Mapped.{cell_value};
-    ghost use Rattle.hp_view.specs.Mapped.{value_found, keys_found};
+    ghost use Rattle.std.specs.Prelude.{map};
+    ghost use Rattle.hp_value.specs.Mapped.{class_part, keyed_row};
+    ghost use Rattle.hp_view.specs.Mapped.{value_found, keys_found, part_found, objects_found};
 
     /// The value that was found in a cell. In a class none is found.
     pub fn value(&self) -> Option<&CellValue>
@@ -44,7 +55,7 @@ impl Found {
     {
         match self {
             Found::Value(value) => value.as_ref(),
-            Found::Keys(_) | Found::Objects(_) => None,
+            Found::Keys(_) | Found::Objects(_) | Found::Part(_) => None,
         }
     }
 
@@ -53,15 +64,50 @@ impl Found {
         ensures { result.now ≡ keys_found self.now }
     {
         match self {
-            Found::Value(_) => &[],
+            Found::Value(_) | Found::Part(_) => &[],
             Found::Keys(keys) => keys,
             Found::Objects(objects) => objects.keys(),
         }
     }
+
+    /// The part that was found, if it is a part. Else it is a part that has all objects.
+    pub fn part(&self) -> ClassPart<'_>
+        ensures { class_part result ≡ part_found self.now }
+    {
+        match self {
+            Found::Part(found) => found.part(),
+            Found::Value(_) | Found::Keys(_) | Found::Objects(_) => ClassPart {
+                attribute: Attribute::Key,
+                bounds: Bounds::Numbers(None, None),
+            },
+        }
+    }
+
+    /// The objects that were found in a part. Elsewhere there are none.
+    pub fn objects(&self) -> &[KeyedRow]
+        ensures { map keyed_row result.now ≡ objects_found self.now }
+    {
+        match self {
+            Found::Part(found) => found.objects(),
+            Found::Value(_) | Found::Keys(_) | Found::Objects(_) => &[],
+        }
+    }
+}
+
+/// How a part of a class stands among the reads.
+#[derive(Clone, Copy, Debug)]
+pub(crate) enum PartState {
+    /// It was read.
+    WasRead,
+    /// Neither it nor another part with its number was read.
+    IsFree,
+    /// Another part with its number was read.
+    IsTaken,
 }
 
 /// What was read of a snapshot, in the order of the first reads: each cell with the value or the absence that was found,
-/// each class with its keys, or with all of its objects where it was read as a whole.
+/// each class with its keys, or with all of its objects where it was read as a whole, each part of a class with its
+/// objects.
 #[derive(Debug, Drop)]
 pub struct Reads {
     entries: IndexMap<Seen, Found>,
@@ -79,15 +125,21 @@ impl Model for Reads {
     ghost use Rattle.hp_view.specs.Mapped.{read};
 
     ghost view = { λ r. map read r.entries.entries };
+
+    ghost use Rattle.hp_view.specs.Numbered.{AreNumbered};
+
+    ghost invariant = { λ r. AreNumbered r.entries.entries };
 }
 
 impl Reads {
-    ghost use Rattle.std.specs.Prelude.{◌≡◌, ◌↔◌, true, false, [], Some, IsTrue, IsSome, IfOk, IfSome, OnOk, OnErr, is_some, map, option_map, length};
-    ghost use Rattle.hp_model.specs.Cells.{Cells, AreKeys, AreObjects, Holds, cell_read, keys_read, objects_read};
+    ghost use Rattle.std.specs.Prelude.{◌≡◌, ◌↔◌, true, false, [], Some, IsTrue, IsSome, IfOk, IfSome, OnOk, OnErr, is_some, map, option_map, length, take};
+    ghost use Rattle.hp_model.specs.Cells.{Cells, AreKeys, AreObjects, Holds, cell_read, keys_read, objects_read, part_read};
     ghost use Rattle.hp_value.specs.Mapped as mapped;
     ghost use Rattle.hp_store.specs.Mapped.{cell_value};
     ghost use Rattle.hp_view.specs.Mapped.{read, value_found};
-    ghost use Rattle.hp_view.specs.Seeing.{noted, cell_was_read, keys_were_read};
+    ghost use Rattle.hp_view.specs.Numbered.{IsStateOf};
+    ghost use Rattle.hp_view.specs.Parts.{number_of};
+    ghost use Rattle.hp_view.specs.Seeing.{noted, cell_was_read, keys_were_read, number_was_read};
 
     /// No reads.
     pub fn new(alloc: Global) -> Reads
@@ -105,6 +157,13 @@ impl Reads {
         ensures { self.new ≡ self.old }
     {
         self.entries.reserve(more)
+    }
+
+    /// Forgets the reads after the first ones, as many as given.
+    pub(crate) fn truncate(&mut self, len: usize)
+        ensures { self.new ≡ take len self.old }
+    {
+        self.entries.truncate(len);
     }
 
     /// How many reads there are.
@@ -164,6 +223,16 @@ impl Reads {
         self.entries.contains_key(&Seen::Cell(cell))
     }
 
+    /// How a part of a class stands among the reads.
+    pub(crate) fn part_state(&self, class: ClassNo, part: &ClassPart<'_>) -> PartState
+        ensures { IsStateOf self.now class (mapped.class_part part.now) result }
+    {
+        match self.entries.get(&Seen::Part(class, number(part))) {
+            Some(found) => compared(found, part),
+            None => PartState::IsFree,
+        }
+    }
+
     /// Notes what was found in a cell that wasn't read before. The value is shared.
     ///
     /// An error means that memory ran out; the reads are then as before.
@@ -212,6 +281,40 @@ impl Reads {
         )?;
         Ok(())
     }
+
+    /// Notes what objects were found in a part of a class whose number is free.
+    ///
+    /// An error means that memory ran out; the reads are then as before.
+    pub(crate) fn note_part(
+        &mut self,
+        alloc: Global,
+        class: ClassNo,
+        part: &ClassPart<'_>,
+        objects: Vec<KeyedRow>,
+    ) -> Result<(), AllocError>
+        requires { number_was_read self.old class (number_of (mapped.class_part part.now)) ≡ false }
+        ensures ok { OnOk result (self.new ≡ noted self.old (part_read class (mapped.class_part part.now) (map mapped.keyed_row objects.items))) }
+        ensures err { OnErr result (self.new ≡ self.old) }
+    {
+        let found = Arc::new(alloc, FoundPart::new(alloc, part, objects)?)?;
+        note(
+            &mut self.entries,
+            Seen::Part(class, number(part)),
+            Found::Part(found),
+        )?;
+        Ok(())
+    }
+}
+
+// Whether the part that was found under a number is this one.
+fn compared(found: &Found, part: &ClassPart<'_>) -> PartState
+    ensures { result ≡ cond (same_part (part_found found.now) (mapped.class_part part.now)) PartState.WasRead PartState.IsTaken }
+{
+    if is_same(&found.part(), part) {
+        PartState::WasRead
+    } else {
+        PartState::IsTaken
+    }
 }
 
 // The same value, shared.
@@ -226,9 +329,12 @@ fn shared(value: Option<&CellValue>) -> Result<Option<CellValue>, AllocError>
 
 // Notes what was found where nothing was looked at before.
 fn note(entries: &mut IndexMap<Seen, Found>, seen: Seen, found: Found) -> Result<(), AllocError>
-    requires { was_read (map read entries.old.entries) (read (seen, found)) ≡ false }
-    ensures ok { OnOk result (map read entries.new.entries ≡ noted (map read entries.old.entries) (read (seen, found))) }
+    requires numbered { AreNumbered entries.old.entries }
+    requires fits { IsNumbered (seen, found) }
+    requires new { list_any (is_read_of seen) (map read entries.old.entries) ≡ false }
+    ensures ok { OnOk result (map read entries.new.entries ≡ map read entries.old.entries ++ read (seen, found) ∷ []) }
     ensures err { OnErr result (map read entries.new.entries ≡ map read entries.old.entries) }
+    ensures numbered { AreNumbered entries.new.entries }
 {
     entries.insert(seen, found)?;
     Ok(())

@@ -1,20 +1,21 @@
 //! A view: a snapshot, what was read of it, and what is written over it.
 
-ghost use Rattle.std.specs.Prelude.{◌≡◌, ◌↔◌, ℕ, ℤ, List, All, ◌≤◌, [], length, map, None, Some, is_some, IsTrue, IsOk, IsSome, IfOk, IfSome, IfNone, OnOk, OnErr, option_map};
+ghost use Rattle.std.specs.Prelude.{◌≡◌, ◌↔◌, ℕ, ℤ, List, All, ◌≤◌, [], true, false, length, take, map, None, Some, is_some, IsTrue, IsOk, IsSome, IfOk, IfSome, IfNone, OnOk, OnErr, option_map};
 ghost use Rattle.std.specs.List.{list_all};
 ghost use Rattle.hp_model.specs.Values as model;
-ghost use Rattle.hp_model.specs.Cells.{AreKeys, AreObjects, Holds, object_cell, objects_read};
+ghost use Rattle.hp_model.specs.Cells.{AreKeys, AreObjects, ArePart, Holds, object_cell, objects_read};
 ghost use Rattle.hp_value.specs.Mapped as mapped;
 ghost use Rattle.hp_store.specs.Mapped.{cell_value};
 ghost use Rattle.hp_store.specs.Stack.{cells_in};
+ghost use Rattle.hp_view.specs.Adding.{AddsReads, IsOfClass};
 ghost use Rattle.hp_view.specs.Keeping.{KeepsObject};
-ghost use Rattle.hp_view.specs.Seeing.{Seeing as Seen, beneath, written, now_in, noted, read_cell, cell_was_read, keys_were_read, Writes, TakesIn, IsSame, GoesBack, GoesOn, Restores, OnlyReads, Shows, ShowsKeys, ShowsObjects, ReadsKeys};
+ghost use Rattle.hp_view.specs.Seeing.{Seeing as Seen, beneath, written, now_in, noted, read_cell, cell_was_read, keys_were_read, Writes, TakesIn, IsSame, GoesBack, GoesOn, Restores, OnlyReads, Shows, ShowsKeys, ShowsObjects, ShowsPart, ReadsKeys, ReadsPart};
 ghost use Rattle.hp_view.specs.Wholes.{is_row};
 
-use crate::reads::Reads;
+use crate::reads::{PartState, Reads};
 use crate::undo::{Replaced, take_back, write, write_all};
 use hp_store::{CellValue, Layer, Snapshot};
-use hp_value::{Cell, ClassNo, Key, KeyedRow, ObjectList};
+use hp_value::{Attribute, Cell, ClassNo, ClassPart, Key, KeyedRow, ObjectList};
 use std::alloc::{AllocError, Global};
 use std::marker::Model;
 use std::sync::Arc;
@@ -182,6 +183,7 @@ impl View {
     pub fn take_in(&mut self, layer: &Layer) -> Result<(), AllocError>
         ensures ok { OnOk result (TakesIn self.old self.new layer.now) }
         ensures goes_on { GoesOn self.old self.new }
+        ensures so_it_was { OnOk result (Holds (beneath self.new) self.new.reads) }
         ensures err { OnErr result (IsSame self.old self.new) }
     {
         write_all(&mut self.writes, &mut self.undo, layer)?;
@@ -310,6 +312,8 @@ impl View {
     ///
     /// An error means that memory ran out; some of it may have been read.
     pub fn read_objects(&mut self, alloc: Global, class: ClassNo) -> Result<(), AllocError>
+        ensures reads { AddsReads (IsOfClass (written self.old) class) self.old.reads self.new.reads }
+        ensures cells { OnOk result ((key : ℤ) → Shows self.new (object_cell class key) (now_in self.old (object_cell class key))) }
         ensures shows { OnOk result ((objects : List model.KeyedRow) → AreObjects (now_in self.old) class objects → ShowsObjects self.new class objects) }
         ensures only { OnlyReads self.old self.new }
         ensures goes_on { GoesOn self.old self.new }
@@ -324,6 +328,7 @@ impl View {
 
     // Reads the cells of the objects of a class that have these keys.
     fn read_rows(&mut self, class: ClassNo, keys: &[Key]) -> Result<(), AllocError>
+        ensures reads { AddsReads (IsOfClass (written self.old) class) self.old.reads self.new.reads }
         ensures shows { OnOk result (All (λ key. Shows self.new (object_cell class key) (now_in self.old (object_cell class key))) keys.now) }
         ensures only { OnlyReads self.old self.new }
         ensures goes_on { GoesOn self.old self.new }
@@ -332,6 +337,74 @@ impl View {
             self.read(Cell::Object(class, *key))?;
         }
         Ok(())
+    }
+
+    /// Whether these are the objects of a part of a class, by rising keys and with the rows that they have, and it can be told
+    /// of each other object that it doesn't belong to the part. Nothing is recorded, and no memory is taken.
+    pub fn has_part(&self, class: ClassNo, part: &ClassPart<'_>, objects: &[KeyedRow]) -> bool
+        ensures { IsTrue result ↔ ArePart (now_in self.now) class (mapped.class_part part.now) (map mapped.keyed_row objects.now) }
+    {
+        self.base.has_part_over(&self.writes, class, part, objects)
+    }
+
+    /// Reads a part of a class, whose objects are then those that `has_part` takes. The answer is no where nothing is read:
+    /// the part can't be found without a look at all objects of the class, or it can't be recorded.
+    ///
+    /// It is recorded as it stands beneath the view's own writes, unless it was read before: then it takes no memory. An
+    /// error means that memory ran out; the view is then as before.
+    pub fn read_part(
+        &mut self,
+        alloc: Global,
+        class: ClassNo,
+        part: &ClassPart<'_>,
+    ) -> Result<bool, AllocError>
+        ensures reads { IfOk result (λ is_read. is_read ≡ true → ReadsPart self.old self.new class (mapped.class_part part.now)) }
+        ensures none { IfOk result (λ is_read. is_read ≡ false → self.new ≡ self.old) }
+        ensures err { OnErr result (self.new ≡ self.old) }
+        ensures shows { IfOk result (λ is_read. is_read ≡ true → (objects : List model.KeyedRow) → ArePart (now_in self.old) class (mapped.class_part part.now) objects → ShowsPart self.new class (mapped.class_part part.now) objects) }
+        ensures only { OnlyReads self.old self.new }
+        ensures goes_on { GoesOn self.old self.new }
+        ensures so_it_was { OnOk result (Holds (beneath self.new) self.new.reads) }
+    {
+        match self.reads.part_state(class, part) {
+            PartState::WasRead => return Ok(true),
+            PartState::IsTaken => return Ok(false),
+            PartState::IsFree => {}
+        }
+        let Some(objects) = self.base.part(alloc, class, part)? else {
+            return Ok(false);
+        };
+        self.reads.note_part(alloc, class, part, objects)?;
+        Ok(true)
+    }
+
+    /// The objects of a part of a class with their rows, by rising keys. None where nothing is read: the part can't be found
+    /// without a look at all objects of the class, or it can't be recorded.
+    ///
+    /// It is recorded as it stands beneath the view's own writes, unless it was read before. An error means that memory ran
+    /// out; the view is then as before.
+    pub fn part(
+        &mut self,
+        alloc: Global,
+        class: ClassNo,
+        part: &ClassPart<'_>,
+    ) -> Result<Option<Vec<KeyedRow>>, AllocError>
+        ensures reads { IfOk result (λ found. IsSome found → ReadsPart self.old self.new class (mapped.class_part part.now)) }
+        ensures none { IfOk result (λ found. IfNone found (self.new ≡ self.old)) }
+        ensures err { OnErr result (self.new ≡ self.old) }
+        ensures shows { IfOk result (λ found. IfSome found (λ objects. ShowsPart self.new class (mapped.class_part part.now) (map mapped.keyed_row objects.items))) }
+        ensures only { OnlyReads self.old self.new }
+        ensures goes_on { GoesOn self.old self.new }
+        ensures so_it_was { OnOk result (Holds (beneath self.new) self.new.reads) }
+    {
+        let Some(objects) = self.base.part_over(alloc, &self.writes, class, part)? else {
+            return Ok(None);
+        };
+        if self.read_part(alloc, class, part)? {
+            Ok(Some(objects))
+        } else {
+            Ok(None)
+        }
     }
 
     /// Lists the objects of a class beneath the view's own writes, unless these name one of them, so that snapshots which are
@@ -345,6 +418,16 @@ impl View {
             self.base.keep_objects(alloc, class)?;
         }
         Ok(())
+    }
+
+    /// Keeps an index of the field of a part in the view's own writes from now on, so that they are looked at less where the
+    /// part is asked for. It is not kept where a frozen snapshot shares the writes, or where memory runs out.
+    pub fn keep_index(&mut self, alloc: Global, class: ClassNo, part: &ClassPart<'_>)
+        ensures { self.new ≡ self.old }
+    {
+        if let Attribute::Field(name) = part.attribute {
+            index(alloc, &mut self.writes, class, name);
+        }
     }
 
     // The objects of a class beneath the view's own writes, if they were read as a whole or are listed.
@@ -421,6 +504,20 @@ impl View {
         self.base.has_keys_over(&self.writes, class, keys)
     }
 
+    /// How many reads are recorded.
+    pub fn read_count(&self) -> usize
+        ensures { result ≡ length self.now.reads }
+    {
+        self.reads.len()
+    }
+
+    /// Forgets the reads after the first ones, as many as given. Whoever does so has to forget, too, what they showed.
+    pub fn forget_reads(&mut self, count: usize)
+        ensures { self.new ≡ record self.old { reads = take count self.old.reads } }
+    {
+        self.reads.truncate(count);
+    }
+
     /// What was read, and what was written.
     pub fn into_parts(self) -> (Reads, Arc<Layer>)
         ensures reads { result.0 ≡ self.reads }
@@ -434,6 +531,15 @@ impl View {
             undo: _,
         } = self;
         (reads, writes)
+    }
+}
+
+// Keeps an index of a field in a layer, if nobody shares the layer and memory doesn't run out.
+fn index(alloc: Global, writes: &mut Arc<Layer>, class: ClassNo, field: &str)
+    ensures { writes.new.value ≡ writes.old.value }
+{
+    if let Some(layer) = Arc::get_mut(writes) {
+        let _ = layer.keep_index(alloc, class, field);
     }
 }
 

@@ -244,3 +244,79 @@ fn knowledge_goes_on_by_itself(rt: HostRuntime) -> Result<(), Fail> {
     assert_eq!(rt; shown(alloc, &last)?.as_str(), "2:a1b3");
     Ok(())
 }
+
+/// What is known after more signals of `a`, with these arguments in order. Each waits in a sequence for a `b`.
+fn waiting(
+    alloc: Global,
+    expr: &EventExpr,
+    before: &Knowledge,
+    first: i64,
+    end: i64,
+) -> Result<Knowledge, AllocError> {
+    let mut known = before.clone()?;
+    for argument in first..end {
+        let (_, next) = known.step(alloc, expr, &signal(alloc, 'a', argument)?)?;
+        known = next;
+    }
+    Ok(known)
+}
+
+/// What is known after a `b` for each of these arguments, and whether each took the `a` with its argument, in order.
+fn taken(
+    alloc: Global,
+    expr: &EventExpr,
+    before: &Knowledge,
+    first: i64,
+    end: i64,
+) -> Result<(Knowledge, bool), AllocError> {
+    let mut known = before.clone()?;
+    let mut in_order = true;
+    for argument in first..end {
+        let (answer, next) = known.step(alloc, expr, &signal(alloc, 'b', 0)?)?;
+        let wanted = format!(in alloc; "2:a{argument}b0")?;
+        in_order = in_order && shown(alloc, &answer)? == wanted;
+        known = next;
+    }
+    Ok((known, in_order))
+}
+
+/// All that waits is taken, the oldest first, and what was known before stays as it was.
+#[test]
+fn many_wait_and_are_taken_in_order(rt: HostRuntime) -> Result<(), Fail> {
+    let alloc = rt.alloc();
+    let expr = event(alloc, "ab;")?;
+    let none = Knowledge::fresh(alloc, &expr)?;
+    let former = waiting(alloc, &expr, &none, 0, 3000)?;
+    let (left, in_order) = taken(alloc, &expr, &former, 0, 3000)?;
+    assert!(rt; in_order);
+    assert!(rt; left == none);
+    assert!(rt; former == waiting(alloc, &expr, &none, 0, 3000)?);
+    let (_, again) = taken(alloc, &expr, &former, 0, 3000)?;
+    assert!(rt; again);
+    Ok(())
+}
+
+/// Queues are the same where the same waits, however many stood before it, and else not.
+#[test]
+fn queues_are_compared_by_what_waits(rt: HostRuntime) -> Result<(), Fail> {
+    let alloc = rt.alloc();
+    let expr = event(alloc, "ab;")?;
+    let none = Knowledge::fresh(alloc, &expr)?;
+    let known = waiting(alloc, &expr, &none, 0, 100)?;
+    for more in [1, 3, 8, 13, 100] {
+        let longer = waiting(alloc, &expr, &none, -more, 100)?;
+        assert!(rt; known != longer);
+        let (same, _) = taken(alloc, &expr, &longer, -more, 0)?;
+        assert!(rt; known == same);
+        let (shorter, _) = taken(alloc, &expr, &same, 0, 1)?;
+        assert!(rt; known != shorter);
+        assert!(rt; known != waiting(alloc, &expr, &shorter, 100, 101)?);
+    }
+    for changed in [0, 7, 50, 99] {
+        let start = waiting(alloc, &expr, &none, 0, changed)?;
+        let other = waiting(alloc, &expr, &start, -1, 0)?;
+        let rest = waiting(alloc, &expr, &other, changed + 1, 100)?;
+        assert!(rt; known != rest);
+    }
+    Ok(())
+}

@@ -8,6 +8,8 @@ mod expressions;
 #[cfg(test)]
 mod fixtures;
 #[cfg(test)]
+mod parts;
+#[cfg(test)]
 mod patterns;
 #[cfg(test)]
 mod queries;

@@ -10,11 +10,11 @@ use std::alloc::{AllocError, Global};
 use std::process::Abort;
 use std::test::Fail;
 
-fn number(alloc: Global, z: i64) -> Result<Box<Expr>, AllocError> {
+pub(crate) fn number(alloc: Global, z: i64) -> Result<Box<Expr>, AllocError> {
     Ok(Box::new(alloc, Expr::literal(Value::Int(z)))?)
 }
 
-fn balance_of(alloc: Global, variable: &str) -> Result<Box<Expr>, AllocError> {
+pub(crate) fn balance_of(alloc: Global, variable: &str) -> Result<Box<Expr>, AllocError> {
     let field = Expr::FieldOf {
         variable: text(alloc, variable)?,
         field: text(alloc, "bal")?,
@@ -22,7 +22,7 @@ fn balance_of(alloc: Global, variable: &str) -> Result<Box<Expr>, AllocError> {
     Ok(Box::new(alloc, field)?)
 }
 
-fn compared(
+pub(crate) fn compared(
     alloc: Global,
     left: Box<Expr>,
     how: Comparison,
@@ -32,13 +32,13 @@ fn compared(
 }
 
 // The row's balance is above a number.
-fn is_above(alloc: Global, variable: &str, z: i64) -> Result<Box<Expr>, AllocError> {
+pub(crate) fn is_above(alloc: Global, variable: &str, z: i64) -> Result<Box<Expr>, AllocError> {
     let balance = balance_of(alloc, variable)?;
     let limit = number(alloc, z)?;
     compared(alloc, balance, Comparison::Greater, limit)
 }
 
-fn query(
+pub(crate) fn query(
     alloc: Global,
     name: &str,
     class: ClassNo,
@@ -62,7 +62,7 @@ fn put(
 }
 
 // Class 0 with the keys -20, -3, 2, 10, and class 1 with the keys 2 and 5, between them in the map.
-fn accounts(alloc: Global) -> Result<PlainObjects, AllocError> {
+pub(crate) fn accounts(alloc: Global) -> Result<PlainObjects, AllocError> {
     let mut objects = PlainObjects::new(alloc);
     put(alloc, &mut objects, 1, 5, 7)?;
     put(alloc, &mut objects, 0, 10, 4)?;
@@ -73,14 +73,14 @@ fn accounts(alloc: Global) -> Result<PlainObjects, AllocError> {
     Ok(objects)
 }
 
-fn assert_keys(rt: &impl Abort, rows: &[KeyedRow], wanted: &[Key]) {
+pub(crate) fn assert_keys(rt: &impl Abort, rows: &[KeyedRow], wanted: &[Key]) {
     assert_eq!(rt; rows.len(), wanted.len());
     for (row, key) in rows.iter().zip(wanted) {
         assert_eq!(rt; row.key, *key);
     }
 }
 
-fn assert_fault(rt: &impl Abort, found: Result<Vec<KeyedRow>, Halt>, wanted: Cause) {
+pub(crate) fn assert_fault(rt: &impl Abort, found: Result<Vec<KeyedRow>, Halt>, wanted: Cause) {
     match found {
         Err(halt) => assert_eq!(rt; halt, Halt::Cause(wanted)),
         Ok(_) => panic!(rt; "an answer in place of {wanted:?}"),
@@ -159,12 +159,16 @@ fn a_predicate_without_truth_value(rt: HostRuntime) -> Result<(), Fail> {
     Ok(())
 }
 
-fn key_of(alloc: Global, variable: &str) -> Result<Box<Expr>, AllocError> {
+pub(crate) fn key_of(alloc: Global, variable: &str) -> Result<Box<Expr>, AllocError> {
     let variable = text(alloc, variable)?;
     Ok(Box::new(alloc, Expr::KeyOf { variable })?)
 }
 
-fn both(alloc: Global, first: Box<Expr>, second: Box<Expr>) -> Result<Box<Expr>, AllocError> {
+pub(crate) fn both(
+    alloc: Global,
+    first: Box<Expr>,
+    second: Box<Expr>,
+) -> Result<Box<Expr>, AllocError> {
     Ok(Box::new(alloc, Expr::And(first, second))?)
 }
 

@@ -8,6 +8,10 @@ mod boards;
 #[cfg(test)]
 mod fixtures;
 #[cfg(test)]
+mod parts;
+#[cfg(test)]
+mod read_parts;
+#[cfg(test)]
 mod stores;
 #[cfg(test)]
 mod views;

@@ -43,10 +43,12 @@ impl Counts {
         })
     }
 
-    /// A wave begins, for the tasks after so many. Those without an attempt are tried, and the first of them in any case.
+    /// A wave begins, for the tasks after so many. Those without an attempt are tried, and the first of them in any
+    /// case.
     pub(crate) fn begin_wave(&mut self, done: usize, attempts: &VecDeque<Option<Attempt>>)
         requires { self.old.waves + 1 < 2 ^ 64 }
-        ensures same { self.new ≡ record self.old { retried = self.new.retried; waves = self.old.waves + 1; tried = self.new.tried } }
+        ensures same { let waves = self.old.waves + 1 in
+            self.new ≡ record self.old { retried = self.new.retried; waves = waves; tried = self.new.tried } }
         ensures retried { 0 < self.old.waves → IsRetried self.new done }
     {
         if self.waves > 0 {

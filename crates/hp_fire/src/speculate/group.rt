@@ -1,22 +1,19 @@
 //! Groups of sibling firings.
 
-ghost use Rattle.std.specs.Prelude.{◌≡◌, ◌+◌, ◌<◌, ◌≤◌, ◌^◌, None, false, IfOk, OnOk, All, map, length};
-ghost use Rattle.hp_model.specs.Soundness.{IsSound};
-ghost use Rattle.hp_model.specs.Firing.{siblings, fire_task};
+ghost use Rattle.std.specs.Prelude.{◌≡◌, ◌+◌, ◌<◌, ◌≤◌, None, false, IfOk, OnOk, All, map, length};
 ghost use Rattle.hp_rule.specs.Mapped.{library, task as task_of};
-ghost use Rattle.hp_view.specs.Seeing.{Seeing};
-ghost use Rattle.hp_attempt.specs.Fronts.{AreSound};
-ghost use Rattle.hp_attempt.specs.Mapped.{firing as firing_of, attempt as attempt_of};
-ghost use Rattle.hp_fire.specs.Mapped.{group as group_in};
 ghost use Rattle.hp_board.specs.Deal.{IsSeatOf};
-ghost use Rattle.hp_fire.specs.Groups.{IsSoFar, IsCounted, IsWave, IsJob, AreOf, Comes};
-ghost use Rattle.hp_fire.specs.Runs.{RunsFiring, RunsGroup};
+ghost use Rattle.hp_attempt.specs.Fronts.{AreSound};
+ghost use Rattle.hp_fire.specs.Given.{MayFire, Fires, MayTry, TriesSoundly};
+ghost use Rattle.hp_fire.specs.Groups.{IsSoFar, ComesFurther, GoesOnBelow, IsAcceptedWithin, IsCounted, OwesOne};
+ghost use Rattle.hp_fire.specs.Groups.{IsWave, IsJob, AreOf, ComesInWave};
+ghost use Rattle.hp_fire.specs.Statements.{SiblingsFire, TaskFires};
 
 use crate::course::GroupOutcome;
+use crate::speculate::extents::share_beneath;
 use crate::speculate::gate::Gate;
-use crate::speculate::listing::list_beneath;
 use crate::speculate::past::{Effort, Past};
-use crate::speculate::policy::{are_worth_workers, is_time_to_ask};
+use crate::speculate::policy::{do_workers_pay, is_time_to_ask};
 use crate::speculate::progress::Progress;
 use crate::speculate::settled::Settled;
 use crate::speculate::start::{Plan, Start, prepare};
@@ -45,9 +42,9 @@ pub(crate) struct Group<'a, R, G, F, T> {
     pub(crate) stop_at_veto: bool,
     /// How many threads the group may use.
     pub(crate) width: usize,
-    /// Whether workers are started in any case, and not only where they are worth it.
+    /// Whether workers are started in any case, and not only where they pay.
     pub(crate) eager: bool,
-    /// What is told of the tasks that workers try.
+    /// What is notified of the tasks that workers try.
     pub(crate) gate: &'a G,
     /// What fires a task on the owner's view.
     pub(crate) fire: &'a F,
@@ -65,16 +62,17 @@ impl<
     F: Fn(&mut View, &Task) -> Result<Outcome, AllocError>,
     T: Fn(Snapshot, &Task, &Effort, usize) -> Result<Attempt, AllocError> + Sync,
 > Group<'_, R, G, F, T> {
-    /// Fires the tasks as siblings, in their order. The owner begins alone. Where there are several tasks and threads, and enough
-    /// is left to do, workers try the others ahead of their turn.
+    /// Fires the tasks as siblings, in their order. The owner begins alone. Where there are several tasks and threads,
+    /// and enough is left to do, workers try the others ahead of their turn.
     ///
     /// An error means that memory ran out.
     pub(crate) fn run(&self, view: &mut View) -> Result<GroupOutcome, AllocError>
-        requires fires { All (λ t. (v p : _) → p.now ≡ t → F.pre self.now.fire.now v p) self.now.tasks.now }
-        requires tries { All (λ t. (s p e w : _) → p.now ≡ t → T.pre self.now.attempt.now s p e w) self.now.tasks.now }
-        requires firings { (v p r v' : _) → F.post self.now.fire.now v p r v' → IfOk r (λ o. RunsFiring (library self.now.lib.now) (λ S. fire_task (library self.now.lib.now) S (task_of p.now)) v.now v'.now (firing_of o)) }
-        requires faithful { (s p e w r : _) → w < 2 ^ 64 → T.post self.now.attempt.now s p e w r → IfOk r (λ a. IsSound (library self.now.lib.now) (attempt_of a)) }
-        ensures runs { IfOk result (λ g. RunsGroup (library self.now.lib.now) (siblings (fire_task (library self.now.lib.now)) self.now.stop_at_veto (map task_of self.now.tasks.now)) view.old view.new (group_in g)) }
+        requires fires { All (MayFire F.Fn self.now.fire.now) self.now.tasks.now }
+        requires tries { All (MayTry T.Fn self.now.attempt.now) self.now.tasks.now }
+        requires firings { Fires F.Fn self.now.fire.now (library self.now.lib.now) }
+        requires faithful { TriesSoundly T.Fn self.now.attempt.now (library self.now.lib.now) }
+        ensures runs { let stops = self.now.stop_at_veto in
+            IfOk result (SiblingsFire self.now.lib.now stops self.now.tasks.now view.old view.new) }
         ensures counted { IfOk result (λ g. g.accepted + g.reran ≡ length g.outcomes.items) }
         ensures waves { IfOk result (λ g. g.waves ≤ g.reran + 1) }
         ensures alone { self.now.width < 2 → IfOk result (λ g. g.waves ≡ 0) }
@@ -95,15 +93,17 @@ impl<
 
     /// Fires tasks in the owner's thread, in their order, until workers are to try the others.
     fn fire_alone(&self, view: &mut View) -> Result<Settled, AllocError>
-        requires fires { All (λ t. (v p : _) → p.now ≡ t → F.pre self.now.fire.now v p) self.now.tasks.now }
-        requires firings { (v p r v' : _) → F.post self.now.fire.now v p r v' → IfOk r (λ o. RunsFiring (library self.now.lib.now) (λ S. fire_task (library self.now.lib.now) S (task_of p.now)) v.now v'.now (firing_of o)) }
-        ensures so_far { IfOk result (λ s. IsSoFar (library self.now.lib.now) self.now.stop_at_veto (map task_of self.now.tasks.now) view.old view.new s.outcomes.items s.end) }
-        ensures alone { self.now.width < 2 → IfOk result (λ s. s.end ≡ None → length self.now.tasks.now ≤ length s.outcomes.items) }
+        requires fires { All (MayFire F.Fn self.now.fire.now) self.now.tasks.now }
+        requires firings { Fires F.Fn self.now.fire.now (library self.now.lib.now) }
+        ensures so_far { let stops = self.now.stop_at_veto in let tasks = map task_of self.now.tasks.now in
+            IfOk result (λ s. IsSoFar (library self.now.lib.now) stops tasks view.old view.new s.outcomes.items s.end) }
+        ensures alone { self.now.width < 2 → IfOk result (λ s. s.end ≡ None
+            → length self.now.tasks.now ≤ length s.outcomes.items) }
     {
         let before = self.effort.so_far();
         let mut settled = Settled::new(self.alloc, self.tasks.len())?;
         for task in self.tasks {
-            if self.is_worth_workers(settled.outcomes.len(), self.effort.since(before)) {
+            if self.starts_workers(settled.outcomes.len(), self.effort.since(before)) {
                 return Ok(settled);
             }
             let outcome = self.fire_counted(view, task)?;
@@ -116,28 +116,28 @@ impl<
     }
 
     /// Whether workers are to try what is left, after the owner has fired so many tasks, which took so much.
-    fn is_worth_workers(&self, fired: usize, taken: u64) -> bool
+    fn starts_workers(&self, fired: usize, taken: u64) -> bool
         ensures { self.now.width < 2 → result ≡ false }
     {
         let left = self.tasks.len().saturating_sub(fired);
         if self.width < 2 || left < 2 {
             return false;
         }
-        self.eager || self.are_left_long(fired, taken)
+        self.eager || self.is_enough_left(fired, taken)
     }
 
     /// Whether what is left is long, where it is time to ask.
-    fn are_left_long(&self, fired: usize, taken: u64) -> bool {
+    fn is_enough_left(&self, fired: usize, taken: u64) -> bool {
         let mean = taken / (fired as u64).max(1);
         is_time_to_ask(fired)
-            && are_worth_workers(self.past, &self.tasks[fired.min(self.tasks.len())..], mean)
+            && do_workers_pay(self.past, &self.tasks[fired.min(self.tasks.len())..], mean)
     }
 
     /// Fires a task in the owner's thread, and notes what its rule took.
     fn fire_counted(&self, view: &mut View, task: &Task) -> Result<Outcome, AllocError>
-        requires fires { (v p : _) → p.now ≡ task.now → F.pre self.now.fire.now v p }
-        requires firings { (v p r v' : _) → F.post self.now.fire.now v p r v' → IfOk r (λ o. RunsFiring (library self.now.lib.now) (λ S. fire_task (library self.now.lib.now) S (task_of p.now)) v.now v'.now (firing_of o)) }
-        ensures { IfOk result (λ o. RunsFiring (library self.now.lib.now) (λ S. fire_task (library self.now.lib.now) S (task_of task.now)) view.old view.new (firing_of o)) }
+        requires fires { MayFire F.Fn self.now.fire.now task.now }
+        requires firings { Fires F.Fn self.now.fire.now (library self.now.lib.now) }
+        ensures { IfOk result (TaskFires self.now.lib.now task.now view.old view.new) }
     {
         let before = self.effort.so_far();
         let outcome = (self.fire)(view, task)?;
@@ -145,22 +145,23 @@ impl<
         Ok(outcome)
     }
 
-    /// Settles one task at least: from its attempt in a wave, where one is due, or else by a run in the owner's thread. Then
-    /// comes the longest front of the attempts after it.
+    /// Settles one task at least: from its attempt in a wave, where one is due, or else by a run in the owner's thread.
+    /// Then it accepts the longest front of the attempts after it.
     fn advance(&self, view: &mut View, progress: &mut Progress) -> Result<(), AllocError>
-        requires fires { All (λ t. (v p : _) → p.now ≡ t → F.pre self.now.fire.now v p) self.now.tasks.now }
-        requires tries { All (λ t. (s p e w : _) → p.now ≡ t → T.pre self.now.attempt.now s p e w) self.now.tasks.now }
-        requires firings { (v p r v' : _) → F.post self.now.fire.now v p r v' → IfOk r (λ o. RunsFiring (library self.now.lib.now) (λ S. fire_task (library self.now.lib.now) S (task_of p.now)) v.now v'.now (firing_of o)) }
-        requires faithful { (s p e w r : _) → w < 2 ^ 64 → T.post self.now.attempt.now s p e w r → IfOk r (λ a. IsSound (library self.now.lib.now) (attempt_of a)) }
-        requires going { (progress.old.settled.end ≡ None) × (length progress.old.settled.outcomes.items < length self.now.tasks.now) }
+        requires fires { All (MayFire F.Fn self.now.fire.now) self.now.tasks.now }
+        requires tries { All (MayTry T.Fn self.now.attempt.now) self.now.tasks.now }
+        requires firings { Fires F.Fn self.now.fire.now (library self.now.lib.now) }
+        requires faithful { TriesSoundly T.Fn self.now.attempt.now (library self.now.lib.now) }
+        requires going { GoesOnBelow progress.old.settled (length self.now.tasks.now) }
         requires counted { IsCounted progress.old }
         requires sound { AreSound (library self.now.lib.now) progress.old.pending.attempts.items }
-        ensures more { OnOk result (length progress.old.settled.outcomes.items < length progress.new.settled.outcomes.items) }
+        ensures more { let before = length progress.old.settled.outcomes.items in
+            OnOk result (before < length progress.new.settled.outcomes.items) }
         ensures counted { OnOk result (IsCounted progress.new) }
         ensures sound { OnOk result (AreSound (library self.now.lib.now) progress.new.pending.attempts.items) }
-        ensures so_far { OnOk result ((first : Seeing)
-            → IsSoFar (library self.now.lib.now) self.now.stop_at_veto (map task_of self.now.tasks.now) first view.old progress.old.settled.outcomes.items progress.old.settled.end
-            → IsSoFar (library self.now.lib.now) self.now.stop_at_veto (map task_of self.now.tasks.now) first view.new progress.new.settled.outcomes.items progress.new.settled.end) }
+        ensures so_far { let tasks = map task_of self.now.tasks.now in
+            OnOk result (ComesFurther (library self.now.lib.now) self.now.stop_at_veto tasks
+            view.old progress.old.settled view.new progress.new.settled) }
     {
         let taken = self.settle_by_wave(view, progress)?;
         if taken > 0 {
@@ -173,27 +174,28 @@ impl<
         Ok(())
     }
 
-    /// Has a wave run where one is due, and then takes in the longest front of the attempts. It tells how many they were.
+    /// Has a wave run where one is due, which settles tasks from their attempts. The answer is how many.
     fn settle_by_wave(&self, view: &mut View, progress: &mut Progress) -> Result<usize, AllocError>
-        requires tries { All (λ t. (s p e w : _) → p.now ≡ t → T.pre self.now.attempt.now s p e w) self.now.tasks.now }
-        requires faithful { (s p e w r : _) → w < 2 ^ 64 → T.post self.now.attempt.now s p e w r → IfOk r (λ a. IsSound (library self.now.lib.now) (attempt_of a)) }
-        requires going { (progress.old.settled.end ≡ None) × (length progress.old.settled.outcomes.items < length self.now.tasks.now) }
+        requires tries { All (MayTry T.Fn self.now.attempt.now) self.now.tasks.now }
+        requires faithful { TriesSoundly T.Fn self.now.attempt.now (library self.now.lib.now) }
+        requires going { GoesOnBelow progress.old.settled (length self.now.tasks.now) }
         requires counted { IsCounted progress.old }
         requires sound { AreSound (library self.now.lib.now) progress.old.pending.attempts.items }
-        ensures taken { IfOk result (λ taken. length progress.new.settled.outcomes.items ≡ length progress.old.settled.outcomes.items + taken) }
+        ensures taken { let before = length progress.old.settled.outcomes.items in
+            IfOk result (λ taken. length progress.new.settled.outcomes.items ≡ before + taken) }
         ensures none { IfOk result (λ taken. taken ≡ 0 → progress.new.settled.end ≡ None) }
         ensures counted { IfOk result (λ taken. 0 < taken → IsCounted progress.new) }
-        ensures owes { OnOk result ((progress.new.counts.accepted ≤ length progress.new.settled.outcomes.items) × (progress.new.counts.waves + progress.new.counts.accepted ≤ length progress.new.settled.outcomes.items + 2)) }
+        ensures owes { OnOk result (OwesOne progress.new) }
         ensures sound { OnOk result (AreSound (library self.now.lib.now) progress.new.pending.attempts.items) }
-        ensures so_far { OnOk result ((first : Seeing)
-            → IsSoFar (library self.now.lib.now) self.now.stop_at_veto (map task_of self.now.tasks.now) first view.old progress.old.settled.outcomes.items progress.old.settled.end
-            → IsSoFar (library self.now.lib.now) self.now.stop_at_veto (map task_of self.now.tasks.now) first view.new progress.new.settled.outcomes.items progress.new.settled.end) }
+        ensures so_far { let tasks = map task_of self.now.tasks.now in
+            OnOk result (ComesFurther (library self.now.lib.now) self.now.stop_at_veto tasks
+            view.old progress.old.settled view.new progress.new.settled) }
     {
         if !progress.is_wave_due(view, self.width) {
             return Ok(0);
         }
         let done = progress.settled.outcomes.len();
-        list_beneath(self.alloc, self.lib, &self.tasks[done..], view)?;
+        share_beneath(self.alloc, self.lib, &self.tasks[done..], view)?;
         let plan = Plan {
             lib: self.lib,
             tasks: self.tasks,
@@ -211,25 +213,26 @@ impl<
         Ok(progress.settled.outcomes.len() - done)
     }
 
-    /// Has workers try the tasks that are left, together with the owner, who meanwhile takes in the longest front of the
+    /// Has workers try the tasks that are left, together with the owner, who meanwhile accepts the longest front of the
     /// attempts.
     ///
-    /// An error means that memory ran out as the owner took attempts in.
+    /// An error means that memory ran out as the owner accepted attempts.
     fn wave(
         &self,
         start: Start<'_>,
         view: &mut View,
         progress: &mut Progress,
     ) -> Result<(), AllocError>
-        requires tries { All (λ t. (s p e w : _) → p.now ≡ t → T.pre self.now.attempt.now s p e w) start.wave.tasks.now }
-        requires faithful { (s p e w r : _) → w < 2 ^ 64 → T.post self.now.attempt.now s p e w r → IfOk r (λ a. IsSound (library self.now.lib.now) (attempt_of a)) }
+        requires tries { All (MayTry T.Fn self.now.attempt.now) start.wave.tasks.now }
+        requires faithful { TriesSoundly T.Fn self.now.attempt.now (library self.now.lib.now) }
         requires wave { IsWave start.wave }
         requires seat { IsSeatOf start.wave.board.deal start.seat }
         requires jobs { All (IsJob (library self.now.lib.now) start.wave.board.deal) start.jobs.items }
-        requires lines { AreOf (library self.now.lib.now) start.receivers.items }
-        requires accepted { progress.old.counts.accepted ≤ length progress.old.settled.outcomes.items }
+        requires channels { AreOf (library self.now.lib.now) start.receivers.items }
+        requires accepted { IsAcceptedWithin progress.old }
         requires sound { AreSound (library self.now.lib.now) progress.old.pending.attempts.items }
-        ensures { OnOk result (Comes (library self.now.lib.now) start.entry.wave.stop_at_veto (map task_of start.entry.wave.tasks.now) view.old progress.old view.new progress.new) }
+        ensures { let wave = start.entry.wave in
+            OnOk result (ComesInWave (library self.now.lib.now) wave view.old progress.old view.new progress.new) }
     {
         let Start {
             wave,
@@ -245,12 +248,10 @@ impl<
             attempt: self.attempt,
             width: (self.width / (jobs.len() + 1)).max(1),
         };
-        let (found, led) = trial.try_all(&wave, (seat, jobs), view, progress, &mut receivers);
-        led?;
-        if let Ok(found) = found {
-            progress.pending.put_all(found);
-        }
-        progress.take_stock(self.alloc, &wave, view, &mut receivers)?;
+        let (found, accepted) = trial.try_all(&wave, (seat, jobs), view, progress, &mut receivers);
+        accepted?;
+        progress.pending.put_brought(found);
+        progress.accept_sent(self.alloc, &wave, view, &mut receivers, 1)?;
         Ok(())
     }
 }

@@ -50,7 +50,8 @@ pub struct Past {
 }
 
 impl Past {
-    /// No rule of this library has fired. Where memory runs out, or no group may have several workers, nothing is ever noted.
+    /// No rule of this library has fired. Where memory runs out, or no group may have several workers, nothing is ever
+    /// noted.
     pub fn new(alloc: Global, lib: &Library, width: usize) -> Past {
         let rules = if width < 2 { 0 } else { lib.rules().len() };
         Past {

@@ -36,7 +36,8 @@ impl Predecessors {
         })
     }
 
-    /// What a task starts from: the wave's snapshot, and over it in order what predecessors of the task have posted so far.
+    /// What a task starts from: the wave's snapshot, and over it in order what predecessors of the task have posted so
+    /// far.
     ///
     /// An error means that memory ran out.
     pub(crate) fn start_of(
@@ -64,13 +65,14 @@ impl Predecessors {
         (self.over(alloc, &wave.snapshot, later), pass)
     }
 
-    /// Whether the worker's last attempts were in conflict with their predecessors, so that more are likely to be in vain.
+    /// Whether the worker's last attempts were in conflict with their predecessors, so that more are likely to be in
+    /// vain.
     pub(crate) fn are_in_conflict(&self) -> bool {
         self.conflicts >= CONFLICTS
     }
 
-    /// Notes whether the attempt at a task is in conflict with a slow predecessor, or one after that: whether it read what this
-    /// one wrote.
+    /// Notes whether the attempt at a task is in conflict with a slow predecessor, or one after that: whether it read
+    /// what this one wrote.
     pub(crate) fn note(
         &mut self,
         wave: &Wave<'_>,
@@ -94,8 +96,8 @@ impl Predecessors {
         pass
     }
 
-    // Takes in what a predecessor has posted: over the others, where it is the next of them, and else over those that were found
-    // later.
+    // Takes in what a predecessor has posted: over the others, where it is the next of them, and else over those that
+    // were found later.
     fn take_in_next(
         &mut self,
         predecessor: usize,

@@ -1,17 +1,16 @@
 //! How far a group has come that workers help with.
 
-ghost use Rattle.std.specs.Prelude.{◌≡◌, ◌+◌, ◌-◌, ◌^◌, ◌<◌, ◌≤◌, [], ◌∷◌, ◌++◌, None, IfOk, OnOk, All, length, drop, map};
+ghost use Rattle.std.specs.Prelude.{◌≡◌, ◌+◌, ◌-◌, ◌^◌, ◌<◌, ◌≤◌, [], ◌∷◌, ◌++◌, None, IfOk, OnOk, length, drop, map};
 ghost use Rattle.hp_model.specs.Rules.{Library as ModelLibrary};
 ghost use Rattle.hp_rule.specs.Mapped.{task as task_of};
-ghost use Rattle.hp_view.specs.Seeing.{Seeing};
 ghost use Rattle.hp_attempt.specs.Fronts.{AreSound, stopped_by};
-ghost use Rattle.hp_fire.specs.Groups.{IsSoFar, AreSoundTries, AreOf, Comes, IsRetried};
+ghost use Rattle.hp_fire.specs.Groups.{ComesFurther, IsAcceptedWithin, IsRetried};
 
 use crate::course::GroupOutcome;
+use crate::speculate::channel::Receiver;
 use crate::speculate::counts::Counts;
-use crate::speculate::line::Receiver;
 use crate::speculate::pending::Pending;
-use crate::speculate::policy::{POLLS, do_waves_pay};
+use crate::speculate::policy::do_waves_pay;
 use crate::speculate::settled::Settled;
 use crate::speculate::wave::Wave;
 use hp_attempt::{Outcome, settle_front};
@@ -53,7 +52,7 @@ impl Progress {
     }
 
     /// Whether workers are to try the tasks that are left: there are several workers, and several tasks without an
-    /// attempt that may stand for them in the view's cells, and the waves before this one were worth their work.
+    /// attempt that may stand for them in the view's cells, and the waves before this one paid.
     pub(crate) fn is_wave_due(&self, view: &View, width: usize) -> bool {
         width >= 2
             && do_waves_pay(self.counts.tried, self.counts.kept)
@@ -64,14 +63,16 @@ impl Progress {
     pub(crate) fn begin_wave(&mut self)
         requires { self.old.counts.waves + 1 < 2 ^ 64 }
         ensures same { self.new ≡ record self.old { counts = self.new.counts } }
-        ensures counts { self.new.counts ≡ record self.old.counts { retried = self.new.counts.retried; waves = self.old.counts.waves + 1; tried = self.new.counts.tried } }
-        ensures retried { 0 < self.old.counts.waves → IsRetried self.new.counts (length self.old.settled.outcomes.items) }
+        ensures counts { let new = self.new.counts in let waves = self.old.counts.waves + 1 in
+            new ≡ record self.old.counts { retried = new.retried; waves = waves; tried = new.tried } }
+        ensures retried { 0 < self.old.counts.waves
+            → IsRetried self.new.counts (length self.old.settled.outcomes.items) }
     {
         let done = self.settled.outcomes.len();
         self.counts.begin_wave(done, &self.pending.attempts);
     }
 
-    /// Takes in the longest front of the attempts, and tells how many they were.
+    /// Accepts the longest front of the attempts. The answer is how many they were.
     ///
     /// An error means that memory ran out.
     pub(crate) fn settle(
@@ -81,16 +82,21 @@ impl Progress {
         tasks: &[Task],
         stop_at_veto: bool,
     ) -> Result<usize, AllocError>
-        requires { self.old.counts.accepted ≤ length self.old.settled.outcomes.items }
-        ensures taken { IfOk result (λ taken. length self.new.settled.outcomes.items ≡ length self.old.settled.outcomes.items + taken) }
+        requires { IsAcceptedWithin self.old }
+        ensures taken { let before = length self.old.settled.outcomes.items in
+            IfOk result (λ taken. length self.new.settled.outcomes.items ≡ before + taken) }
         ensures none { IfOk result (λ taken. taken ≡ 0 → self.old.settled.end ≡ None → self.new.settled.end ≡ None) }
-        ensures same { OnOk result ((self.new.counts.waves ≡ self.old.counts.waves) × (self.new.counts.retried ≡ self.old.counts.retried)) }
+        ensures waves { OnOk result (self.new.counts.waves ≡ self.old.counts.waves) }
+        ensures marks { OnOk result (self.new.counts.retried ≡ self.old.counts.retried) }
         ensures accepted { IfOk result (λ taken. self.new.counts.accepted ≤ self.old.counts.accepted + taken) }
-        ensures retried { IfOk result (λ taken. 0 < taken → IsRetried self.old.counts (length self.old.settled.outcomes.items) → self.new.counts.accepted < self.old.counts.accepted + taken) }
-        ensures sound { OnOk result ((library : ModelLibrary) → AreSound library self.old.pending.attempts.items → AreSound library self.new.pending.attempts.items) }
-        ensures so_far { OnOk result ((library : ModelLibrary) (first : Seeing) → AreSound library self.old.pending.attempts.items
-            → IsSoFar library stop_at_veto (map task_of tasks.now) first view.old self.old.settled.outcomes.items self.old.settled.end
-            → IsSoFar library stop_at_veto (map task_of tasks.now) first view.new self.new.settled.outcomes.items self.new.settled.end) }
+        ensures retried { IfOk result (λ taken. 0 < taken
+            → IsRetried self.old.counts (length self.old.settled.outcomes.items)
+            → self.new.counts.accepted < self.old.counts.accepted + taken) }
+        ensures sound { OnOk result ((library : ModelLibrary) → AreSound library self.old.pending.attempts.items
+            → AreSound library self.new.pending.attempts.items) }
+        ensures so_far { OnOk result ((library : ModelLibrary) → AreSound library self.old.pending.attempts.items
+            → ComesFurther library stop_at_veto (map task_of tasks.now)
+            view.old self.old.settled view.new self.new.settled) }
     {
         if self.settled.end.is_some() {
             return Ok(0);
@@ -110,10 +116,12 @@ impl Progress {
     ///
     /// An error means that memory ran out.
     pub(crate) fn add(&mut self, outcome: Outcome, stop_at_veto: bool) -> Result<(), AllocError>
-        ensures outcomes { OnOk result (self.new.settled.outcomes.items ≡ self.old.settled.outcomes.items ++ outcome ∷ []) }
+        ensures outcomes { OnOk result (self.new.settled.outcomes.items
+            ≡ self.old.settled.outcomes.items ++ outcome ∷ []) }
         ensures end { OnOk result (self.new.settled.end ≡ stopped_by stop_at_veto (outcome ∷ [])) }
         ensures counts { self.new.counts ≡ self.old.counts }
-        ensures sound { OnOk result ((library : ModelLibrary) → AreSound library self.old.pending.attempts.items → AreSound library self.new.pending.attempts.items) }
+        ensures sound { OnOk result ((library : ModelLibrary) → AreSound library self.old.pending.attempts.items
+            → AreSound library self.new.pending.attempts.items) }
     {
         self.pending.drop_first();
         self.settled.add(outcome, stop_at_veto)?;
@@ -122,8 +130,16 @@ impl Progress {
 
     /// What the group gives.
     pub(crate) fn into_outcome(self) -> GroupOutcome
-        requires { self.counts.accepted ≤ length self.settled.outcomes.items }
-        ensures { result ≡ record { outcomes = self.settled.outcomes; end = self.settled.end; accepted = self.counts.accepted; reran = length self.settled.outcomes.items - self.counts.accepted; waves = self.counts.waves } }
+        requires { IsAcceptedWithin self }
+        ensures { let reran = length self.settled.outcomes.items - self.counts.accepted in
+            let accepted = self.counts.accepted in let waves = self.counts.waves in
+            result ≡ record {
+              outcomes = self.settled.outcomes;
+              end = self.settled.end;
+              accepted = accepted;
+              reran = reran;
+              waves = waves;
+            } }
     {
         let Progress {
             settled: Settled { outcomes, end },
@@ -142,86 +158,45 @@ impl Progress {
 }
 
 impl Progress {
-    ghost use Rattle.std.specs.Prelude.{◌≡◌, ◌≤◌, OnOk, length, map};
+    ghost use Rattle.std.specs.Prelude.{OnOk};
     ghost use Rattle.hp_model.specs.Rules.{Library as ModelLibrary};
-    ghost use Rattle.hp_rule.specs.Mapped.{task as task_of};
     ghost use Rattle.hp_attempt.specs.Fronts.{AreSound};
-    ghost use Rattle.hp_fire.specs.Groups.{AreOf, Comes};
+    ghost use Rattle.hp_fire.specs.Groups.{AreOf, ComesInWave, IsAcceptedWithin};
 
-    /// Takes stock in the course of a wave, where that is cheap.
+    /// Accepts what the workers of a wave have sent: puts it into the places of its tasks, and then accepts the longest
+    /// front of the attempts. Goes on so while the attempt at the next task is still to come, but polls at most so
+    /// often.
     ///
     /// An error means that memory ran out.
-    pub(crate) fn keep_up(
+    pub(crate) fn accept_sent(
         &mut self,
         alloc: Global,
         wave: &Wave<'_>,
         view: &mut View,
         receivers: &mut Vec<Receiver<'_>>,
+        polls: usize,
     ) -> Result<(), AllocError>
-        requires { self.old.counts.accepted ≤ length self.old.settled.outcomes.items }
-        ensures lines { (library : ModelLibrary) → AreOf library receivers.old.items → AreOf library receivers.new.items }
-        ensures comes { OnOk result ((library : ModelLibrary) → AreOf library receivers.old.items → AreSound library self.old.pending.attempts.items
-            → Comes library wave.now.stop_at_veto (map task_of wave.now.tasks.now) view.old self.old view.new self.new) }
+        requires { IsAcceptedWithin self.old }
+        ensures channels { (l : ModelLibrary) → AreOf l receivers.old.items → AreOf l receivers.new.items }
+        ensures comes { OnOk result ((l : ModelLibrary) → AreOf l receivers.old.items
+            → AreSound l self.old.pending.attempts.items
+            → ComesInWave l wave.now view.old self.old view.new self.new) }
     {
-        if !wave.early {
-            return Ok(());
-        }
-        self.take_stock(alloc, wave, view, receivers)?;
-        Ok(())
-    }
-
-    /// Takes stock at the end of a wave's tasks, so long as the attempt at the next of them is still to come from a worker. It
-    /// isn't awaited for longer than a short task takes.
-    ///
-    /// An error means that memory ran out.
-    pub(crate) fn see_out(
-        &mut self,
-        alloc: Global,
-        wave: &Wave<'_>,
-        view: &mut View,
-        receivers: &mut Vec<Receiver<'_>>,
-    ) -> Result<(), AllocError>
-        requires { self.old.counts.accepted ≤ length self.old.settled.outcomes.items }
-        ensures lines { (library : ModelLibrary) → AreOf library receivers.old.items → AreOf library receivers.new.items }
-        ensures comes { OnOk result ((library : ModelLibrary) → AreOf library receivers.old.items → AreSound library self.old.pending.attempts.items
-            → Comes library wave.now.stop_at_veto (map task_of wave.now.tasks.now) view.old self.old view.new self.new) }
-    {
-        for _ in 0..POLLS {
+        for _ in 0..polls {
+            self.pending.receive_all(receivers);
+            self.settle(alloc, view, wave.tasks, wave.stop_at_veto)?;
             if !self.lacks_next(wave) {
                 break;
             }
-            self.take_stock(alloc, wave, view, receivers)?;
             spin_loop();
         }
         Ok(())
     }
 
-    // Whether attempts are taken in early, and the one at the next task that is left isn't there.
+    // Whether the attempt at the next task that is left isn't there.
     fn lacks_next(&self, wave: &Wave<'_>) -> bool {
         let is_missing = matches!(self.pending.attempts.front(), Some(None));
-        wave.early && is_missing && self.settled.goes_on(wave.tasks.len())
-    }
-
-    /// Puts what the workers of a wave have sent into the places of their tasks, and then takes in the longest front of the
-    /// attempts.
-    ///
-    /// An error means that memory ran out.
-    pub(crate) fn take_stock(
-        &mut self,
-        alloc: Global,
-        wave: &Wave<'_>,
-        view: &mut View,
-        receivers: &mut Vec<Receiver<'_>>,
-    ) -> Result<(), AllocError>
-        requires { self.old.counts.accepted ≤ length self.old.settled.outcomes.items }
-        ensures counted { OnOk result (self.new.counts.accepted ≤ length self.new.settled.outcomes.items) }
-        ensures lines { (library : ModelLibrary) → AreOf library receivers.old.items → AreOf library receivers.new.items }
-        ensures comes { OnOk result ((library : ModelLibrary) → AreOf library receivers.old.items → AreSound library self.old.pending.attempts.items
-            → Comes library wave.now.stop_at_veto (map task_of wave.now.tasks.now) view.old self.old view.new self.new) }
-    {
-        self.pending.receive_all(receivers);
-        self.settle(alloc, view, wave.tasks, wave.stop_at_veto)?;
-        Ok(())
+        is_missing && self.settled.goes_on(wave.tasks.len())
     }
 }
 

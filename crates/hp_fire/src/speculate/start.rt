@@ -5,8 +5,8 @@ ghost use Rattle.hp_rule.specs.Mapped.{library};
 ghost use Rattle.hp_board.specs.Deal.{IsSeatOf};
 ghost use Rattle.hp_fire.specs.Groups.{IsWave, IsJob, AreOf};
 
-use crate::speculate::line::Receiver;
-use crate::speculate::listing::list_classes;
+use crate::speculate::channel::Receiver;
+use crate::speculate::extents::share_in;
 use crate::speculate::pending::Pending;
 use crate::speculate::policy::COPIES;
 use crate::speculate::wave::{Job, Wave, jobs_for, kept_layers};
@@ -39,11 +39,12 @@ pub(crate) struct Start<'a> {
     pub(crate) seat: Seat,
     /// What each worker is given.
     pub(crate) jobs: Vec<Job<'a>>,
-    /// The owner's ends of the lines.
+    /// The owner's ends of the channels.
     pub(crate) receivers: Vec<Receiver<'a>>,
 }
 
-/// Prepares a wave over the tasks that are left: for as many workers as there are threads for, the owner's part counted.
+/// Prepares a wave over the tasks that are left: for as many workers as there are threads for, the owner's part
+/// counted.
 ///
 /// An error means that memory ran out.
 pub(crate) fn prepare<'a>(
@@ -53,14 +54,15 @@ pub(crate) fn prepare<'a>(
     pending: &Pending,
 ) -> Result<Start<'a>, AllocError>
     requires { plan.done < length plan.tasks.now }
-    ensures wave { IfOk result (λ s. IsWave s.wave × (s.wave.tasks.now ≡ plan.entry.tasks.now) × (s.wave.stop_at_veto ≡ plan.entry.stop_at_veto)) }
+    ensures wave { IfOk result (λ s. IsWave s.wave × (s.wave.tasks.now ≡ plan.entry.tasks.now)
+        × (s.wave.stop_at_veto ≡ plan.entry.stop_at_veto)) }
     ensures seat { IfOk result (λ s. IsSeatOf s.wave.board.deal s.seat) }
     ensures jobs { IfOk result (λ s. All (IsJob (library plan.entry.lib.now) s.wave.board.deal) s.jobs.items) }
-    ensures lines { IfOk result (λ s. AreOf (library plan.entry.lib.now) s.receivers.items) }
+    ensures channels { IfOk result (λ s. AreOf (library plan.entry.lib.now) s.receivers.items) }
 {
     let left = plan.tasks.len() - plan.done;
     let mut snapshot = view.freeze(alloc)?;
-    list_classes(alloc, plan.lib, &plan.tasks[plan.done..], &mut snapshot)?;
+    share_in(alloc, plan.lib, &plan.tasks[plan.done..], &mut snapshot)?;
     let workers = plan.width.clamp(1, 64).min(left);
     let (board, mut seats) = Board::new(alloc, left, workers)?;
     let Some(seat) = seats.pop() else {

@@ -8,10 +8,10 @@ ghost use Rattle.hp_rule.specs.Mapped.{library};
 ghost use Rattle.hp_board.specs.Deal.{IsSeatOf};
 ghost use Rattle.hp_board.specs.Passes.{IsPassOf};
 ghost use Rattle.hp_attempt.specs.Mapped.{attempt as attempt_of};
-ghost use Rattle.hp_fire.specs.Lines.{IsOf};
+ghost use Rattle.hp_fire.specs.Channels.{IsOf};
 ghost use Rattle.hp_fire.specs.Groups.{AreSoundTries, IsJob, AreOf};
 
-use crate::speculate::line::{Receiver, Sender, line, send};
+use crate::speculate::channel::{Receiver, Sender, channel, send};
 use crate::speculate::pending::Tried;
 use hp_attempt::Attempt;
 use hp_board::{Board, Pass, Posted, Seat};
@@ -36,8 +36,16 @@ pub(crate) struct Wave<'a> {
     pub(crate) snapshot: Snapshot,
     /// Where they draw numbers and post layers.
     pub(crate) board: Board<Arc<Layer>>,
-    /// Whether the owner takes in attempts while others are tried. Its view's writes are then copied, which the snapshot shares.
+    /// Whether the owner accepts attempts while others are tried. Its view's writes are then copied, which the snapshot
+    /// shares.
     pub(crate) early: bool,
+}
+
+impl Wave<'_> {
+    /// How often the owner polls for attempts while others are tried: so often, or never where that isn't cheap.
+    pub(crate) fn polls(&self, often: usize) -> usize {
+        if self.early { often } else { 0 }
+    }
 }
 
 /// What one worker is given.
@@ -49,7 +57,7 @@ pub(crate) struct Job<'a> {
     pub(crate) sender: Sender<'a>,
 }
 
-/// A job for each seat, and the owner's ends of the lines.
+/// A job for each seat, and the owner's ends of the channels.
 ///
 /// An error means that memory ran out.
 pub(crate) fn jobs_for<'a>(
@@ -65,7 +73,7 @@ pub(crate) fn jobs_for<'a>(
     let mut jobs = Vec::new(alloc);
     let mut receivers = Vec::new(alloc);
     for seat in seats {
-        let (sender, receiver) = line(alloc, lib)?;
+        let (sender, receiver) = channel(alloc, lib)?;
         jobs.push(Job { seat, sender })?;
         receivers.push(receiver)?;
     }
@@ -126,11 +134,12 @@ fn boxed(alloc: Global, layer: &Arc<Layer>) -> Result<Posted<Arc<Layer>>, AllocE
     Posted::new(alloc, Arc::try_clone(layer)?)
 }
 
-/// Hands an attempt to the owner: it is sent, or, where the line has no room, kept until the worker ends.
+/// Hands an attempt to the owner: it is sent, or, where the channel has no room, kept until the worker ends.
 pub(crate) fn hand_over(sender: &mut Sender<'_>, found: &mut Vec<Tried>, tried: Tried)
     requires { (l : ModelLibrary) → IsOf l (sent sender.old) → IsSound l (attempt_of tried.attempt) }
-    ensures line { (l : ModelLibrary) → IsOf l (sent sender.old) → IsOf l (sent sender.new) }
-    ensures found { (l : ModelLibrary) → IsOf l (sent sender.old) → AreSoundTries l found.old.items → AreSoundTries l found.new.items }
+    ensures channel { (l : ModelLibrary) → IsOf l (sent sender.old) → IsOf l (sent sender.new) }
+    ensures found { (l : ModelLibrary) → IsOf l (sent sender.old) → AreSoundTries l found.old.items
+        → AreSoundTries l found.new.items }
 {
     let Some(back) = send(sender, tried) else {
         return;

@@ -9,11 +9,12 @@ use crate::speculate::wave::{Wave, post_layer};
 use hp_attempt::Attempt;
 use hp_board::{Pass, Seat};
 use hp_store::{Layer, Snapshot};
+use hp_value::RuleNo;
 use std::alloc::{AllocError, Global};
 use std::sync::Arc;
 
-/// A worker of a wave, or the owner's part of it: where it draws numbers, what it knows of the board, and what it has seen of
-/// its tasks' predecessors.
+/// A worker of a wave, or the owner's part of it: where it draws numbers, what it knows of the board, and what it has
+/// seen of its tasks' predecessors.
 #[derive(Drop)]
 pub(crate) struct Worker<'a> {
     /// What all workers share.
@@ -23,6 +24,8 @@ pub(crate) struct Worker<'a> {
     seat: Option<Seat>,
     pass: Option<Pass<Arc<Layer>>>,
     predecessors: Predecessors,
+    // Whether a veto has stopped the group.
+    is_stopped: bool,
 }
 
 impl<'a> Worker<'a> {
@@ -44,6 +47,7 @@ impl<'a> Worker<'a> {
             seat: Some(seat),
             pass: Some(wave.board.pass(alloc)?),
             predecessors: Predecessors::new(alloc)?,
+            is_stopped: false,
         })
     }
 
@@ -60,12 +64,23 @@ impl<'a> Worker<'a> {
         drawn
     }
 
-    /// Whether the worker's last attempts were in conflict with their predecessors, so that more are likely to be in vain.
-    pub(crate) fn is_in_conflict(&self) -> bool {
-        self.predecessors.are_in_conflict()
+    /// Whether more attempts would be in vain, or are likely to be: a veto has stopped the group, or the worker's last
+    /// attempts were in conflict with their predecessors.
+    pub(crate) fn has_given_up(&self) -> bool {
+        self.is_stopped || self.predecessors.are_in_conflict()
     }
 
-    /// What a task starts from: the wave's snapshot, and over it in order what predecessors of the task have posted so far.
+    /// Notes the rule whose veto has stopped the group, if one has. No attempt is accepted past a veto.
+    pub(crate) fn note_veto(&mut self, veto: Option<RuleNo>)
+        requires { IsWorker self.old }
+        ensures worker { IsWorker self.new }
+        ensures wave { self.new.wave ≡ self.old.wave }
+    {
+        self.is_stopped = veto.is_some();
+    }
+
+    /// What a task starts from: the wave's snapshot, and over it in order what predecessors of the task have posted so
+    /// far.
     ///
     /// An error means that memory ran out.
     pub(crate) fn start_of(&mut self, number: usize) -> Result<Snapshot, AllocError>
@@ -84,7 +99,7 @@ impl<'a> Worker<'a> {
         start
     }
 
-    /// Posts what a task wrote, and says whether it did.
+    /// Posts what a task wrote. The answer is whether it did.
     pub(crate) fn post(&mut self, number: usize, layer: &Arc<Layer>) -> bool
         requires worker { IsWorker self.old }
         requires number { number < length self.old.wave.now.board.cells }

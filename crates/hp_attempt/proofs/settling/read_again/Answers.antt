@@ -1,7 +1,12 @@
-use Rattle.std.proofs.Common.{subst, sym}
+use Rattle.std.proofs.Common.{◌≡◌, refl, ap, subst, sym}
+use Rattle.hp_value.specs.Mapped.{cell}
+use Rattle.hp_view.specs.declared.reads.Seen.TheVariants.{Cell as OfCell}
+use Rattle.hp_view.specs.Adding.{AddsReads}
+use Rattle.hp_view.specs.Seeing.{Seeing, written}
+use Rattle.hp_view.proofs.Adding.{adds_cell, adds_none}
 use Rattle.hp_view.specs.Mapped.{read}
-use Rattle.hp_attempt.specs.Holding.{IsReadAgain}
-use Rattle.hp_attempt.proofs.Taking.{again_cell, where_ok}
+use Rattle.hp_attempt.specs.Holding.{IsReadAgain, IsFor}
+use Rattle.hp_attempt.proofs.Taking.{again_cell, where_ok, either_way}
 use Rattle.hp_attempt.proofs.settling.read_again.Goals as goal
 
 pub returns-in-Cell-clause-again : goal.returns-in-Cell-clause-again
@@ -14,3 +19,23 @@ returns-in-Cell-clause-again c =
 pub returns-in-Keys-clause-again : goal.returns-in-Keys-clause-again
 returns-in-Keys-clause-again c =
     where_ok c.read_class_again.result (λ again. subst (λ s. IsReadAgain c.args.view.now c.read_class_again.new.view (read (s, c.args.found.now))) (sym c.in-Keys.is) again) c.read_class_again.ensures.again
+
+pub returns-in-Part-clause-again : goal.returns-in-Part-clause-again
+returns-in-Part-clause-again c =
+    where_ok c.read_part_again.result (λ again. subst (λ s. IsReadAgain c.args.view.now c.read_part_again.new.view (read (s, c.args.found.now))) (sym c.in-Part.is) again) c.read_part_again.ensures.again
+
+pub returns-in-Cell-clause-reads : goal.returns-in-Cell-clause-reads
+returns-in-Cell-clause-reads c =
+    let w = written c.args.view.now in
+    let q = cell c.in-Cell.cell in
+    let r = read (OfCell c.in-Cell.cell, c.args.found.now) in
+    subst (λ s. AddsReads (IsFor w (read (s, c.args.found.now))) c.args.view.now.reads c.read.new.self.reads) (sym c.in-Cell.is)
+    (either_way c.read.result (adds_cell (IsFor w r) q (λ e. (refl, e))) (λ (same : c.read.new.self ≡ c.args.view.now). adds_none (IsFor w r) (ap (λ (v : Seeing). v.reads) same)) c.read.ensures.reads c.read.ensures.err)
+
+pub returns-in-Keys-clause-reads : goal.returns-in-Keys-clause-reads
+returns-in-Keys-clause-reads c =
+    subst (λ s. AddsReads (IsFor (written c.args.view.now) (read (s, c.args.found.now))) c.args.view.now.reads c.read_class_again.new.view.reads) (sym c.in-Keys.is) c.read_class_again.ensures.reads
+
+pub returns-in-Part-clause-reads : goal.returns-in-Part-clause-reads
+returns-in-Part-clause-reads c =
+    subst (λ s. AddsReads (IsFor (written c.args.view.now) (read (s, c.args.found.now))) c.args.view.now.reads c.read_part_again.new.view.reads) (sym c.in-Part.is) c.read_part_again.ensures.reads

@@ -1,7 +1,11 @@
-use Rattle.std.proofs.Common.{subst, sym, []}
+use Rattle.std.proofs.Common.{◌≡◌, refl, ap, subst, sym, []}
+use Rattle.hp_model.specs.Cells.{keys_read}
+use Rattle.hp_view.specs.Adding.{AddsReads}
+use Rattle.hp_view.specs.Seeing.{Seeing, written}
+use Rattle.hp_view.proofs.Adding.{adds_keys, adds_none}
 use Rattle.hp_view.specs.Mapped.{class_read}
-use Rattle.hp_attempt.specs.Holding.{IsReadAgain}
-use Rattle.hp_attempt.proofs.Taking.{again_keys, again_objects, where_ok}
+use Rattle.hp_attempt.specs.Holding.{IsReadAgain, IsFor}
+use Rattle.hp_attempt.proofs.Taking.{again_keys, again_objects, where_ok, either_way}
 use Rattle.hp_attempt.proofs.settling.read_class_again.Goals as goal
 
 pub returns-in-Objects-clause-again : goal.returns-in-Objects-clause-again
@@ -24,3 +28,35 @@ returns-in-Value-clause-again c =
     (λ shows. subst (λ f. IsReadAgain c.args.view.now c.read_keys-in-Value.new.self (class_read c.args.class f)) (sym c.in-Value.is)
     (again_keys c.args.view.now c.read_keys-in-Value.new.self c.args.class [] shows))
     c.read_keys-in-Value.ensures.shows
+
+pub returns-in-Part-clause-again : goal.returns-in-Part-clause-again
+returns-in-Part-clause-again c =
+    where_ok c.read_keys-in-Part.result
+    (λ shows. subst (λ f. IsReadAgain c.args.view.now c.read_keys-in-Part.new.self (class_read c.args.class f)) (sym c.in-Part.is)
+    (again_keys c.args.view.now c.read_keys-in-Part.new.self c.args.class [] shows))
+    c.read_keys-in-Part.ensures.shows
+
+pub returns-in-Objects-clause-reads : goal.returns-in-Objects-clause-reads
+returns-in-Objects-clause-reads c =
+    subst (λ f. AddsReads (IsFor (written c.args.view.now) (class_read c.args.class f)) c.args.view.now.reads c.read_objects.new.self.reads) (sym c.in-Objects.is) c.read_objects.ensures.reads
+
+pub returns-in-Keys-clause-reads : goal.returns-in-Keys-clause-reads
+returns-in-Keys-clause-reads c =
+    let w = written c.args.view.now in
+    let r = keys_read c.args.class c.in-Keys.field-0.items in
+    subst (λ f. AddsReads (IsFor w (class_read c.args.class f)) c.args.view.now.reads c.read_keys.new.self.reads) (sym c.in-Keys.is)
+    (either_way c.read_keys.result (adds_keys (IsFor w r) (λ keys. refl)) (λ (same : c.read_keys.new.self ≡ c.args.view.now). adds_none (IsFor w r) (ap (λ (v : Seeing). v.reads) same)) c.read_keys.ensures.reads c.read_keys.ensures.err)
+
+pub returns-in-Value-clause-reads : goal.returns-in-Value-clause-reads
+returns-in-Value-clause-reads c =
+    let w = written c.args.view.now in
+    let r = keys_read c.args.class [] in
+    subst (λ f. AddsReads (IsFor w (class_read c.args.class f)) c.args.view.now.reads c.read_keys-in-Value.new.self.reads) (sym c.in-Value.is)
+    (either_way c.read_keys-in-Value.result (adds_keys (IsFor w r) (λ keys. refl)) (λ (same : c.read_keys-in-Value.new.self ≡ c.args.view.now). adds_none (IsFor w r) (ap (λ (v : Seeing). v.reads) same)) c.read_keys-in-Value.ensures.reads c.read_keys-in-Value.ensures.err)
+
+pub returns-in-Part-clause-reads : goal.returns-in-Part-clause-reads
+returns-in-Part-clause-reads c =
+    let w = written c.args.view.now in
+    let r = keys_read c.args.class [] in
+    subst (λ f. AddsReads (IsFor w (class_read c.args.class f)) c.args.view.now.reads c.read_keys-in-Part.new.self.reads) (sym c.in-Part.is)
+    (either_way c.read_keys-in-Part.result (adds_keys (IsFor w r) (λ keys. refl)) (λ (same : c.read_keys-in-Part.new.self ≡ c.args.view.now). adds_none (IsFor w r) (ap (λ (v : Seeing). v.reads) same)) c.read_keys-in-Part.ensures.reads c.read_keys-in-Part.ensures.err)

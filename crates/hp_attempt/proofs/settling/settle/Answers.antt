@@ -1,11 +1,29 @@
-use Rattle.std.proofs.Common.{ap}
-use Rattle.hp_store.specs.Changes.{changes}
+use Rattle.std.proofs.Common.{refl}
 use Rattle.hp_attempt.specs.Mapped.{attempt}
 use Rattle.hp_rule.specs.Mapped.{task}
-use Rattle.hp_attempt.proofs.Taking.{faithful_settled}
+use Rattle.hp_attempt.proofs.Taking.{faithful_settled, taken_written, taken_adds, forgotten, same_goes_on, same_restores}
 use Rattle.hp_attempt.proofs.settling.settle.Goals as goal
 
-pub returns-clause-faithful : goal.returns-clause-faithful
-returns-clause-faithful c = λ accepted library sound.
-    faithful_settled library (attempt c.args.attempt.now) (task c.args.task.now) c.deref.result.now sound (c.may_stand.ensures.0 c.if-not-may_stand.false).0 (ap changes c.deref.ensures)
-    c.record.ensures.only c.in_ok-record.ensures.covers c.in_ok-take_in.ensures.ok
+pub returns-in-Ok-clause-faithful : goal.returns-in-Ok-clause-faithful
+returns-in-Ok-clause-faithful c = λ accepted library sound.
+    let taken = c.in-Ok.ensures.ok in
+    faithful_settled library (attempt c.args.attempt.now) (task c.args.task.now) c.args.attempt.now.layer.value sound (c.may_stand.ensures.0 c.if-not-may_stand.false).0 refl
+    taken.only taken.covers taken.takes
+
+pub returns-in-Ok-clause-takes : goal.returns-in-Ok-clause-takes
+returns-in-Ok-clause-takes c = λ accepted. taken_written c.in-Ok.ensures.ok
+
+pub returns-in-Ok-clause-reads : goal.returns-in-Ok-clause-reads
+returns-in-Ok-clause-reads c = λ accepted. taken_adds c.in-Ok.ensures.ok
+
+pub returns-in-Ok-clause-so_it_was : goal.returns-in-Ok-clause-so_it_was
+returns-in-Ok-clause-so_it_was c = λ accepted. c.in-Ok.ensures.ok.so_it_was
+
+pub returns-in-Err-clause-goes_on : goal.returns-in-Err-clause-goes_on
+returns-in-Err-clause-goes_on c = same_goes_on (forgotten c.read_count-before.result c.in-Err.ensures.err c.read_count-before.ensures c.forget_reads.ensures)
+
+pub returns-in-Err-clause-unchanged : goal.returns-in-Err-clause-unchanged
+returns-in-Err-clause-unchanged c = forgotten c.read_count-before.result c.in-Err.ensures.err c.read_count-before.ensures c.forget_reads.ensures
+
+pub returns-in-Err-clause-err : goal.returns-in-Err-clause-err
+returns-in-Err-clause-err c = same_restores (forgotten c.read_count-before.result c.in-Err.ensures.err c.read_count-before.ensures c.forget_reads.ensures)

@@ -280,14 +280,14 @@ pub Engine::each_found-returns-in_err-rows : goal.Engine::each_found-returns-in_
 Engine::each_found-returns-in_err-rows g t c =
     let p = err_from_is_err_and c.from_residual.result c.from_residual.ensures.1 in
     rw (p.1, p.2)
-    (found_halt keyed_rows (λ rows. for_each rows (λ r. run_body (body_in c.args.body.now) (level_at (library c.args.self.now.lib.now) c.args.context.now.depth) (with_row c.args.variable.now r (context c.args.context.now))))
-    (λ S. answer (context c.args.context.now).environment c.args.variable.now c.args.class (expression c.args.predicate.now) S.objects) c.in_err-rows.field-0.0
+    (found_halt keyed_rows (λ rows. for_each rows (λ r. run_body (body_in c.args.body.now) (level_at (library c.args.self.now.lib.now) c.args.context.now.depth) (with_row c.args.selection.variable.now r (context c.args.context.now))))
+    (λ S. answer (context c.args.context.now).environment c.args.selection.variable.now c.args.selection.class (expression c.args.selection.predicate.now) S.objects) c.in_err-rows.field-0.0
     (library c.args.self.now.lib.now) c.args.view.now c.selected.new.view c.in_err-rows.ensures)
 
 pub Engine::each_found-returns : goal.Engine::each_found-returns
 Engine::each_found-returns g t c =
-    found_value (λ rs. for_each rs (λ r. run_body (body_in c.args.body.now) (level_at (library c.args.self.now.lib.now) c.args.context.now.depth) (with_row c.args.variable.now r (context c.args.context.now)))) c.in_ok-rows.ensures
-    (subst (λ rs. Runs (library c.args.self.now.lib.now) (for_each (map keyed_row rs) (λ r. run_body (body_in c.args.body.now) (level_at (library c.args.self.now.lib.now) c.args.context.now.depth) (with_row c.args.variable.now r (context c.args.context.now)))) c.selected.new.view c.each_row.new.view (course c.in_ok-course.course)) c.deref.ensures.value
+    found_value (λ rs. for_each rs (λ r. run_body (body_in c.args.body.now) (level_at (library c.args.self.now.lib.now) c.args.context.now.depth) (with_row c.args.selection.variable.now r (context c.args.context.now)))) c.in_ok-rows.ensures
+    (subst (λ rs. Runs (library c.args.self.now.lib.now) (for_each (map keyed_row rs) (λ r. run_body (body_in c.args.body.now) (level_at (library c.args.self.now.lib.now) c.args.context.now.depth) (with_row c.args.selection.variable.now r (context c.args.context.now)))) c.selected.new.view c.each_row.new.view (course c.in_ok-course.course)) c.deref.ensures.value
     c.in_ok-course.ensures)
 
 pub Engine::each_kept-returns : goal.Engine::each_kept-returns
@@ -299,13 +299,13 @@ pub Engine::with_object-returns-in_err-row : goal.Engine::with_object-returns-in
 Engine::with_object-returns-in_err-row g t c =
     let p = err_from_is_err_and c.from_residual.result c.from_residual.ensures.1 in
     rw (p.1, p.2)
-    (found_halt keyed_row (λ r. run_body (body_in c.args.body.now) (level_at (library c.args.self.now.lib.now) c.args.context.now.depth) (with_row c.args.variable.now r (context c.args.context.now)))
-    (λ S. named_object S.objects (context c.args.context.now).environment c.args.class (expression c.args.key.now)) c.in_err-row.field-0.0
+    (found_halt keyed_row (λ r. run_body (body_in c.args.body.now) (level_at (library c.args.self.now.lib.now) c.args.context.now.depth) (with_row c.args.binding.variable.now r (context c.args.context.now)))
+    (λ S. named_object S.objects (context c.args.context.now).environment c.args.binding.class (expression c.args.binding.key.now)) c.in_err-row.field-0.0
     (library c.args.self.now.lib.now) c.args.view.now c.named_object.new.view c.in_err-row.ensures)
 
 pub Engine::with_object-returns : goal.Engine::with_object-returns
 Engine::with_object-returns g t c =
-    let x = c.args.variable.now in
+    let x = c.args.binding.variable.now in
     let fits : SFits w64 c.in_ok-row.row.key = search rules in
     let back : to_z w64 (of_z w64 c.in_ok-row.row.key) ≡ c.in_ok-row.row.key = to_z-of_z w64 c.in_ok-row.row.key fits in
     found_value (λ r. run_body (body_in c.args.body.now) (level_at (library c.args.self.now.lib.now) c.args.context.now.depth) (with_row x r (context c.args.context.now))) c.in_ok-row.ensures

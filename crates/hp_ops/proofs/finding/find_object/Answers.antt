@@ -1,12 +1,24 @@
-use Rattle.std.proofs.Common.{◌≡◌, ap, sym, ◌∙◌, SFits, w64, of_z, to_z, rules}
+use Rattle.std.proofs.Common.{◌≡◌, SFits, w64, of_z, to_z, rules, subst}
 use Rattle.std.proofs.lemmas.Int.{to_z-of_z}
+use Rattle.hp_model.specs.Cells.{object_cell}
 use Rattle.hp_model.specs.State.{find_object}
-use Rattle.hp_ops.proofs.Worlds.{finds_world}
+use Rattle.hp_model.specs.Answers.{Finds}
+use Rattle.hp_view.specs.Seeing.{written}
+use Rattle.hp_ops.specs.Reading.{AddsReads, IsReadOf}
+use Rattle.hp_ops.proofs.Adding.{adds_in, adds_read}
+use Rattle.hp_ops.proofs.Worlds.{object_found}
 use Rattle.hp_ops.proofs.finding.find_object.Goals as goal
 
 pub returns-clause-finds : goal.returns-clause-finds
 returns-clause-finds c = λ lib.
     let fits : SFits w64 c.args.key = search rules in
     let back : to_z w64 (of_z w64 c.args.key) ≡ c.args.key = to_z-of_z w64 c.args.key fits in
-    finds_world lib (λ world. find_object world c.args.class c.args.key) c.row.new.self c.in_ok-row.row
-    (λ world rise allowed. ap (λ k. find_object world c.args.class k) (sym back) ∙ sym (c.in_ok-row.ensures.found world rise allowed))
+    subst (λ k. Finds lib (λ S. find_object S.objects c.args.class k) c.read.new.self.reads (written c.read.new.self) c.in_ok-row.row) back
+    (object_found lib c.args.class (to_z w64 (of_z w64 c.args.key)) c.args.view.now c.read.new.self _ _ c.in_ok-read.ensures.only c.in_ok-read.ensures.shows c.peek.ensures c.in_ok-row.ensures)
+
+pub returns-clause-reads : goal.returns-clause-reads
+returns-clause-reads c =
+    let fits : SFits w64 c.args.key = search rules in
+    let back : to_z w64 (of_z w64 c.args.key) ≡ c.args.key = to_z-of_z w64 c.args.key fits in
+    subst (λ k. AddsReads (IsReadOf (object_cell c.args.class k)) c.args.view.now.reads c.read.new.self.reads) back
+    (adds_in c.in_ok-read.ensures.reads (adds_read c.args.view.now (object_cell c.args.class (to_z w64 (of_z w64 c.args.key)))))

@@ -1,4 +1,4 @@
-use Rattle.std.proofs.Common.{rules, ◌≡◌, ap, ◌∙◌, subst, ◌∷◌, true, false, Some, None}
+use Rattle.std.proofs.Common.{rules, ◌≡◌, ap, ◌∙◌, subst, ◌∷◌, true, false}
 use Rattle.std.specs.Prelude.{option_map}
 use Rattle.hp_model.specs.Events.{is_pure, occurrence_of as model_occurrence}
 use Rattle.hp_value.specs.Mapped.{occurrence as occurrence_of, primitive}
@@ -15,20 +15,9 @@ returns-then-is_pure-clause-hears c = λ lib at.
     hears_pure lib (primitive c.args.prim.now) c.args.number (rule_of c.args.rule.now) at c.args.view.now (option_map (λ a. occurrence_of a.value) c.in_ok-occurrence.occurrence) pure
     (λ past. c.in_ok-occurrence.ensures.occurs past ∙ ap (λ e. model_occurrence (event_of e) (primitive c.args.prim.now ∷ past)) event)
 
-pub returns-in_default-clause-hears : goal.returns-in_default-clause-hears
-returns-in_default-clause-hears c = λ lib at.
-    let impure : is_pure (event_of c.args.rule.now.event.value) ≡ false = search rules in
-    let event : c.deref-2.result.now ≡ c.args.rule.now.event.value = search rules in
-    let none : option_map occurrence_of c.in_ok-stepped.stepped ≡ None = search rules in
-    hears_stepped lib (primitive c.args.prim.now) c.args.number (rule_of c.args.rule.now) at c.args.view.now c.step_detector.new.view None impure c.in_ok-stepped.ensures.goes_on
-    (subst (λ o. StepsOn (event_of c.args.rule.now.event.value) (primitive c.args.prim.now) c.args.number c.args.view.now c.step_detector.new.view o) none
-    (subst (λ e. StepsOn (event_of e) (primitive c.args.prim.now) c.args.number c.args.view.now c.step_detector.new.view (option_map occurrence_of c.in_ok-stepped.stepped)) event c.in_ok-stepped.ensures.steps))
-
 pub returns-clause-hears : goal.returns-clause-hears
 returns-clause-hears c = λ lib at.
     let impure : is_pure (event_of c.args.rule.now.event.value) ≡ false = search rules in
     let event : c.deref-2.result.now ≡ c.args.rule.now.event.value = search rules in
-    let some : option_map occurrence_of c.in_ok-stepped.stepped ≡ Some (occurrence_of c.in_ok-made.made.value) = search rules in
-    hears_stepped lib (primitive c.args.prim.now) c.args.number (rule_of c.args.rule.now) at c.args.view.now c.step_detector.new.view (Some (occurrence_of c.in_ok-made.made.value)) impure c.in_ok-stepped.ensures.goes_on
-    (subst (λ o. StepsOn (event_of c.args.rule.now.event.value) (primitive c.args.prim.now) c.args.number c.args.view.now c.step_detector.new.view o) some
-    (subst (λ e. StepsOn (event_of e) (primitive c.args.prim.now) c.args.number c.args.view.now c.step_detector.new.view (option_map occurrence_of c.in_ok-stepped.stepped)) event c.in_ok-stepped.ensures.steps))
+    hears_stepped lib (primitive c.args.prim.now) c.args.number (rule_of c.args.rule.now) at c.args.view.now c.step_detector.new.view (option_map (λ a. occurrence_of a.value) c.in_ok-stepped.stepped) impure c.in_ok-stepped.ensures.goes_on
+    (subst (λ e. StepsOn (event_of e) (primitive c.args.prim.now) c.args.number c.args.view.now c.step_detector.new.view (option_map (λ a. occurrence_of a.value) c.in_ok-stepped.stepped)) event c.in_ok-stepped.ensures.steps)

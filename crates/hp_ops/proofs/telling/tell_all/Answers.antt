@@ -10,7 +10,7 @@ use Rattle.hp_rule.specs.Mapped.{library, task as task_of}
 use Rattle.hp_rule.specs.Mentions.{is_mentioned}
 use Rattle.hp_view.proofs.Views.{GoesOn-same, GoesOn-then}
 use Rattle.hp_ops.specs.Hears.{Hears}
-use Rattle.hp_ops.proofs.Told.{HaveHeard, mentioned_among, none_heard, told_listed, all_listed, depth_push}
+use Rattle.hp_ops.proofs.Told.{HaveHeard, mentioned_among, none_heard, told_listed, all_listed, depth_push, steps_then}
 use Rattle.hp_ops.proofs.telling.tell_all.Goals as goal
 use Rattle.hp_ops.proofs.telling.tell_all.Goals.{in-Some+in_ok-add, in_default}
 
@@ -22,6 +22,7 @@ loop-number-init c =
       heard = subst (HaveHeard (library c.args.lib.now) (primitive c.args.prim.now) [] c.args.view.now c.args.view.now) none (none_heard (library c.args.lib.now) (primitive c.args.prim.now) c.args.view.now);
       shared = tt;
       depth = subst (AreAt c.args.depth) none tt;
+      writes = record { objects = λ class key. refl; rules = λ n. refl };
       goes_on = GoesOn-same c.args.view.now;
     }
 
@@ -43,6 +44,7 @@ loop-number-preserved c =
                 (subst (λ o. Hears (library c.args.lib.now) (primitive c.args.prim.now) n c.loop-number.view c.tell.new.view (option_map task_of o)) w.in-Some.is c.in_ok-task.ensures.hears));
             shared = c.tell.ensures.shared;
             depth = subst (AreAt c.args.depth) grown (depth_push c.args.depth (map task_of c.loop-number.tasks.items) (task_of t) c.loop-number.invariant.depth (c.in_ok-task.ensures.depth t w.in-Some.is));
+            writes = steps_then c.loop-number.invariant.writes c.tell.ensures.writes;
             goes_on = GoesOn-then c.loop-number.invariant.goes_on c.tell.ensures.goes_on;
           }
       | in_default w ↦
@@ -55,6 +57,7 @@ loop-number-preserved c =
                 (subst (λ o. Hears (library c.args.lib.now) (primitive c.args.prim.now) n c.loop-number.view c.tell.new.view (option_map task_of o)) w.in_default.is c.in_ok-task.ensures.hears));
             shared = c.tell.ensures.shared;
             depth = subst (AreAt c.args.depth) same c.loop-number.invariant.depth;
+            writes = steps_then c.loop-number.invariant.writes c.tell.ensures.writes;
             goes_on = GoesOn-then c.loop-number.invariant.goes_on c.tell.ensures.goes_on;
           }
     ]

@@ -5,7 +5,7 @@ use Rattle.hp_value.specs.Mapped.{occurrence as occurrence_of, primitive}
 use Rattle.hp_rule.specs.Mapped.{library, task as task_of}
 use Rattle.hp_rule.specs.Mentions.{mentioning, is_mentioned}
 use Rattle.hp_view.specs.Seeing.{GoesOn}
-use Rattle.hp_ops.specs.Hears.{Shares}
+use Rattle.hp_ops.specs.Hears.{OnlySteps, Shares}
 use Rattle.hp_ops.proofs.Told.{HaveHeard, mentioned_among}
 use Rattle.hp_ops.proofs.telling.tell_all.Given as goal
 
@@ -17,5 +17,6 @@ invariant-loop-number l =
       heard : HaveHeard (library l.lib) (primitive l.prim) (mentioned_among (library l.lib) (primitive l.prim) l.number-items l.number-index) l.fn.view l.view (map task_of l.tasks.items);
       shared : Shares (primitive l.prim) (option_map (λ o. occurrence_of o.value) l.shared);
       depth : AreAt l.depth (map task_of l.tasks.items);
+      writes : OnlySteps l.fn.view l.view;
       goes_on : GoesOn l.fn.view l.view;
     }

@@ -1,19 +1,14 @@
-use Rattle.std.proofs.Common.{◌≡◌, subst, sym, ap, ◌∙◌, Option, Some, None}
-use Rattle.std.specs.Prelude.{IfSome}
+use Rattle.std.proofs.Common.{◌≡◌, subst, sym, ap, ◌∙◌}
+use Rattle.std.proofs.lemmas.Option.{IfSome_then}
 use Rattle.hp_model.specs.Expressions.{both}
 use Rattle.hp_value.specs.Mapped.{expression}
 use Rattle.hp_query.specs.ByKey.{AsksFor}
 use Rattle.hp_query.proofs.ByKeyLemmas.{asks_both}
 use Rattle.hp_query.proofs.by_key.+wanted_key.Goals as goal
 
-told_map : {A : Type 0} {P Q : A → Type 0} (o : Option A) → ((a : A) → P a → Q a) → IfSome o P → IfSome o Q
-told_map None more told = tt
-told_map (Some a) more told = more a told
-
 pub returns-in-And : goal.returns-in-And
 returns-in-And t c =
     let first = expression c.deref.result.now in
     let second = expression c.in-And.field-1.value in
     let whole : expression c.args.predicate.now ≡ both first second = ap expression c.in-And.is ∙ ap (λ e. both (expression e) second) (sym c.deref.ensures) in
-    told_map c.wanted_key.result (λ w asks. subst (λ e. AsksFor c.args.name.now e (expression w.now)) (sym whole) (asks_both c.args.name.now first second (expression w.now) asks))
-    c.wanted_key.ensures
+    IfSome_then c.wanted_key.result c.wanted_key.ensures (λ w asks. subst (λ e. AsksFor c.args.name.now e (expression w.now)) (sym whole) (asks_both c.args.name.now first second (expression w.now) asks))

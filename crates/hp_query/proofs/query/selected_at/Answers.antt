@@ -10,23 +10,23 @@ use Rattle.hp_query.proofs.query.selected_at.Goals as goal
 
 pub returns-in-Some-clause-answer : goal.returns-in-Some-clause-answer
 returns-in-Some-clause-answer g c = λ world rise allowed.
-    let env = environment c.args.env.now in
-    let predicate = expression c.args.predicate.now in
+    let env = environment c.args.asked.now.env.now in
+    let predicate = expression c.args.asked.now.predicate.now in
     let same : to_z w64 (of_z w64 c.args.key) ≡ c.args.key = to_z-of_z w64 c.args.key c.ranges.key in
-    let found : Some c.in-Some.row ≡ find_object world c.args.class c.args.key = sym c.in-Some.is ∙ c.in_ok-row.ensures.found world rise allowed ∙ ap (find_object world c.args.class) same in
-    let told : Meets keyed_rows c.selected.result (model.selected env c.args.name.now predicate (with_key (to_z w64 (of_z w64 c.args.key)) (Some c.in-Some.row))) = c.selected.ensures in
+    let found : Some c.in-Some.row ≡ find_object world c.args.asked.now.class c.args.key = sym c.in-Some.is ∙ c.in_ok-row.ensures.found world rise allowed ∙ ap (find_object world c.args.asked.now.class) same in
+    let told : Meets keyed_rows c.selected.result (model.selected env c.args.asked.now.name.now predicate (with_key (to_z w64 (of_z w64 c.args.key)) (Some c.in-Some.row))) = c.selected.ensures in
     subst (Meets keyed_rows c.selected.result)
-    (ap (λ k. model.selected env c.args.name.now predicate (with_key k (Some c.in-Some.row))) same
-    ∙ ap (λ o. model.selected env c.args.name.now predicate (with_key c.args.key o)) found
-    ∙ answered_by_key env c.args.name.now predicate c.args.key c.args.class world c.requires rise)
+    (ap (λ k. model.selected env c.args.asked.now.name.now predicate (with_key k (Some c.in-Some.row))) same
+    ∙ ap (λ o. model.selected env c.args.asked.now.name.now predicate (with_key c.args.key o)) found
+    ∙ answered_by_key env c.args.asked.now.name.now predicate c.args.key c.args.asked.now.class world c.requires rise)
     told
 
 pub returns-in-None-clause-answer : goal.returns-in-None-clause-answer
 returns-in-None-clause-answer g c = λ world rise allowed.
-    let env = environment c.args.env.now in
-    let predicate = expression c.args.predicate.now in
+    let env = environment c.args.asked.now.env.now in
+    let predicate = expression c.args.asked.now.predicate.now in
     let same : to_z w64 (of_z w64 c.args.key) ≡ c.args.key = to_z-of_z w64 c.args.key c.ranges.key in
-    let found : None ≡ find_object world c.args.class c.args.key = sym c.in-None.is ∙ c.in_ok-row.ensures.found world rise allowed ∙ ap (find_object world c.args.class) same in
+    let found : None ≡ find_object world c.args.asked.now.class c.args.key = sym c.in-None.is ∙ c.in_ok-row.ensures.found world rise allowed ∙ ap (find_object world c.args.asked.now.class) same in
     ap (λ rows. Ok (map keyed_row rows)) c.new.ensures.items
-    ∙ ap (λ o. model.selected env c.args.name.now predicate (with_key c.args.key o)) found
-    ∙ answered_by_key env c.args.name.now predicate c.args.key c.args.class world c.requires rise
+    ∙ ap (λ o. model.selected env c.args.asked.now.name.now predicate (with_key c.args.key o)) found
+    ∙ answered_by_key env c.args.asked.now.name.now predicate c.args.key c.args.asked.now.class world c.requires rise

@@ -6,9 +6,9 @@ use Rattle.rtrb.specs.Ring.{received}
 use Rattle.rtrb.specs.declared.consumer.Consumer.{Consumer}
 use Rattle.hp_rule.specs.Mapped.{library}
 use Rattle.hp_board.specs.Deal.{IsSeatOf}
-use Rattle.hp_fire.specs.declared.speculate.line.Sent.{Sent}
-use Rattle.hp_fire.specs.declared.speculate.line.Soundness.{Soundness}
-use Rattle.hp_fire.specs.Lines.{IsOf}
+use Rattle.hp_fire.specs.declared.speculate.channel.Sent.{Sent}
+use Rattle.hp_fire.specs.declared.speculate.channel.Soundness.{Soundness}
+use Rattle.hp_fire.specs.Channels.{IsOf}
 use Rattle.hp_fire.specs.Groups.{IsJob}
 use Rattle.hp_fire.proofs.speculate.wave.jobs_for.Goals as goal
 

@@ -7,4 +7,4 @@ use Rattle.hp_view.proofs.reads.Reads.has_cell.Goals as goal
 
 pub returns : goal.returns
 returns c =
-    c.contains_key.ensures ∙ recorded (OfCell c.args.cell) c.self.inside.entries.entries ∙ ap (λ rs. cell_was_read rs (cell c.args.cell)) c.self.view_is
+    c.contains_key.ensures ∙ recorded (OfCell c.args.cell) c.self.inside.entries.entries c.self.invariant ∙ ap (λ rs. cell_was_read rs (cell c.args.cell)) c.self.view_is

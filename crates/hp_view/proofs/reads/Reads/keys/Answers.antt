@@ -8,7 +8,7 @@ use Rattle.hp_view.proofs.reads.Reads.keys.Goals as goal
 pub returns-in-Some-clause-known : goal.returns-in-Some-clause-known
 returns-in-Some-clause-known c =
     ap is_some (sym (seen_same c.in-Some.is c.get.ensures.value))
-    ∙ recorded (OfKeys c.args.class) c.self.inside.entries.entries ∙ ap (λ rs. keys_were_read rs c.args.class) c.self.view_is
+    ∙ recorded (OfKeys c.args.class) c.self.inside.entries.entries c.self.invariant ∙ ap (λ rs. keys_were_read rs c.args.class) c.self.view_is
 
 pub returns-in-Some-clause-held : goal.returns-in-Some-clause-held
 returns-in-Some-clause-held c = λ base held.
@@ -19,4 +19,4 @@ returns-in-Some-clause-held c = λ base held.
 pub returns-in-None-clause-known : goal.returns-in-None-clause-known
 returns-in-None-clause-known c =
     ap is_some (sym (seen_none c.in-None.is c.get.ensures.value))
-    ∙ recorded (OfKeys c.args.class) c.self.inside.entries.entries ∙ ap (λ rs. keys_were_read rs c.args.class) c.self.view_is
+    ∙ recorded (OfKeys c.args.class) c.self.inside.entries.entries c.self.invariant ∙ ap (λ rs. keys_were_read rs c.args.class) c.self.view_is

@@ -7,7 +7,7 @@ use Rattle.hp_view.proofs.reads.Reads.objects.Goals as goal
 
 pub returns-in-Some-Objects-clause-known : goal.returns-in-Some-Objects-clause-known
 returns-in-Some-Objects-clause-known c = λ some.
-    sym (ap (λ rs. keys_were_read rs c.args.class) c.self.view_is) ∙ sym (recorded (OfKeys c.args.class) c.self.inside.entries.entries)
+    sym (ap (λ rs. keys_were_read rs c.args.class) c.self.view_is) ∙ sym (recorded (OfKeys c.args.class) c.self.inside.entries.entries c.self.invariant)
     ∙ ap is_some (seen_same c.in-Some-Objects.is c.get.ensures.value)
 
 pub returns-in-Some-Objects-clause-held : goal.returns-in-Some-Objects-clause-held

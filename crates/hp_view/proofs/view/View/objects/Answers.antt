@@ -31,7 +31,7 @@ unnamed : (c : goal.In_ok-note_objects) → (key : ℤ) → written (the_view c.
 unnamed c key = ap (λ es. changes es (object_cell c.args.class key)) (sym c.deref.ensures) ∙ c.names_objects_of.ensures.leaves c.if-names_objects_of.false key
 
 whole : (c : goal.In_ok-note_objects) → AreObjects (cells_in c.self.inside.base) c.args.class c.in-Some-2.objects.value
-whole c = told_some (λ objects. AreObjects (cells_in c.self.inside.base) c.args.class objects.value) c.in-Some-2.is c.in_ok-objects.ensures
+whole c = told_some (λ objects. AreObjects (cells_in c.self.inside.base) c.args.class objects.value) c.in-Some-2.is c.in_ok-objects.ensures.objects
 
 reads_are : (c : goal.In_ok-note_objects) → c.note_objects.new.self ≡ noted c.self.inside.reads (objects_read c.args.class c.in-Some-2.objects.value)
 reads_are c = c.in_ok-note_objects.ensures.ok ∙ ap (λ os. noted c.self.inside.reads (objects_read c.args.class os)) c.in_ok-shared.ensures

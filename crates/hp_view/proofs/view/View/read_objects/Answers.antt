@@ -1,10 +1,15 @@
-use Rattle.std.proofs.Common.{◌∙◌, sym, subst}
+use Rattle.std.proofs.Common.{refl, ◌∙◌, sym, subst}
+use Rattle.std.specs.declared.sync.Arc.{Arc}
+use Rattle.std.specs.declared.alloc.Global.{Global}
+use Rattle.hp_value.specs.declared.objects.ObjectList.{ObjectList}
+use Rattle.hp_view.specs.Adding.{IsOfClass}
+use Rattle.hp_view.proofs.Adding.{adds_whole, adds_keys, adds_on}
 use Rattle.std.specs.Prelude.{All}
 use Rattle.hp_model.specs.Cells.{object_cell}
-use Rattle.hp_view.specs.Seeing.{Shows, now_in}
+use Rattle.hp_view.specs.Seeing.{Shows, now_in, written}
 use Rattle.hp_view.specs.Looks.{only_reads_then}
 use Rattle.hp_view.proofs.Reading.{some_told}
-use Rattle.hp_view.proofs.Wholes.{whole_still, read_by_rows}
+use Rattle.hp_view.proofs.Wholes.{whole_still, read_by_rows, cells_of_whole, cells_by_rows}
 use Rattle.hp_view.proofs.view.View.read_objects.Goals as goal
 
 pub returns-then-is_some-clause-shows : goal.returns-then-is_some-clause-shows
@@ -17,3 +22,30 @@ returns-clause-shows c = λ objects are.
     read_by_rows (only_reads_then c.args.self.now c.objects.new.self c.keys.new.self c.objects.ensures.only c.keys.ensures.only) c.in_ok-keys.ensures.shows c.in_ok-keys.ensures.so_it_was
     c.read_rows.ensures.only
     (subst (All (λ key. Shows c.read_rows.new.self (object_cell c.args.class key) (now_in c.keys.new.self (object_cell c.args.class key)))) c.deref.ensures.value c.in_ok-read_rows.ensures.shows) are
+
+pub returns-then-is_some-clause-cells : goal.returns-then-is_some-clause-cells
+returns-then-is_some-clause-cells c =
+    let found = some_told c.in_ok-objects.field-0 c.in_ok-objects.ensures.shows (sym c.is_some.ensures ∙ c.if-is_some.true) in
+    cells_of_whole c.objects.ensures.only c.in_ok-objects.ensures.so_it_was found.1
+
+pub returns-clause-cells : goal.returns-clause-cells
+returns-clause-cells c =
+    cells_by_rows (only_reads_then c.args.self.now c.objects.new.self c.keys.new.self c.objects.ensures.only c.keys.ensures.only) c.in_ok-keys.ensures.shows c.in_ok-keys.ensures.so_it_was
+    c.read_rows.ensures.only
+    (subst (All (λ key. Shows c.read_rows.new.self (object_cell c.args.class key) (now_in c.keys.new.self (object_cell c.args.class key)))) c.deref.ensures.value c.in_ok-read_rows.ensures.shows)
+
+pub returns-then-is_some-clause-reads : goal.returns-then-is_some-clause-reads
+returns-then-is_some-clause-reads c =
+    adds_whole (λ (o : Arc ObjectList Global). o.value) c.args.self.now c.objects.new.self c.args.class c.in_ok-objects.field-0 c.in_ok-objects.ensures.reads c.in_ok-objects.ensures.none
+
+pub returns-clause-reads : goal.returns-clause-reads
+returns-clause-reads c =
+    let whole = adds_whole (λ (o : Arc ObjectList Global). o.value) c.args.self.now c.objects.new.self c.args.class c.in_ok-objects.field-0 c.in_ok-objects.ensures.reads c.in_ok-objects.ensures.none in
+    let by_keys = adds_on c.keys.new.self c.args.class c.objects.ensures.only whole (adds_keys (IsOfClass (written c.objects.new.self) c.args.class) (λ keys. refl) c.in_ok-keys.ensures.reads) in
+    adds_on c.read_rows.new.self c.args.class (only_reads_then c.args.self.now c.objects.new.self c.keys.new.self c.objects.ensures.only c.keys.ensures.only) by_keys c.read_rows.ensures.reads
+
+pub returns-in_err-read_rows-clause-reads : goal.returns-in_err-read_rows-clause-reads
+returns-in_err-read_rows-clause-reads c =
+    let whole = adds_whole (λ (o : Arc ObjectList Global). o.value) c.args.self.now c.objects.new.self c.args.class c.in_ok-objects.field-0 c.in_ok-objects.ensures.reads c.in_ok-objects.ensures.none in
+    let by_keys = adds_on c.keys.new.self c.args.class c.objects.ensures.only whole (adds_keys (IsOfClass (written c.objects.new.self) c.args.class) (λ keys. refl) c.in_ok-keys.ensures.reads) in
+    adds_on c.read_rows.new.self c.args.class (only_reads_then c.args.self.now c.objects.new.self c.keys.new.self c.objects.ensures.only c.keys.ensures.only) by_keys c.read_rows.ensures.reads

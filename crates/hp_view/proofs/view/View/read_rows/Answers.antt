@@ -5,6 +5,7 @@ use Rattle.std.proofs.lemmas.List.{take_all}
 use Rattle.hp_model.specs.Cells.{object_cell}
 use Rattle.hp_view.specs.Looks.{only_reads_then}
 use Rattle.hp_view.specs.Seeing.{now_in, Shows}
+use Rattle.hp_view.proofs.Adding.{adds_row}
 use Rattle.hp_view.proofs.Views.{GoesOn-then}
 use Rattle.hp_view.proofs.Wholes.{read_more}
 use Rattle.hp_view.proofs.view.View.read_rows.Goals as goal
@@ -15,6 +16,7 @@ loop-key-preserved c =
     record {
       only = only_reads_then c.args.self.now c.loop-key.self c.read.new.self c.loop-key.invariant.only c.read.ensures.only;
       on = GoesOn-then c.loop-key.invariant.on c.read.ensures.goes_on;
+      adds = adds_row c.args.class _ c.loop-key.invariant.only c.loop-key.invariant.adds c.in_ok-read.ensures.reads;
       shows = read_more c.args.self.now c.args.class c.args.keys.now c.loop-key.key-index _ c.loop-key-test.true (to_z-of_z w64 _ fits) c.loop-key.invariant.only c.read.ensures.only
           c.loop-key.invariant.shows c.in_ok-read.ensures.shows;
     }

@@ -26,6 +26,6 @@ returns-clause-so_far g c = λ first so_far.
     let before : IsSoFar lib c.args.self.now.stop_at_veto (map task tasks) first c.settle_by_wave.new.view c.settle_by_wave.new.progress.settled.outcomes.items c.settle_by_wave.new.progress.settled.end = c.in_ok-taken.ensures.so_far first so_far in
     let ran : RunsFiring lib (λ S. fire_task lib S (task c.index-self-len.result)) c.settle_by_wave.new.view c.fire_counted.new.view (firing c.in_ok-outcome.outcome) =
     subst (λ t. RunsFiring lib (λ S. fire_task lib S (task t)) c.settle_by_wave.new.view c.fire_counted.new.view (firing c.in_ok-outcome.outcome)) (sym c.index-self-len.is) c.in_ok-outcome.ensures in
-    c.in_ok-settle.ensures.so_far lib first (c.in_ok-add.ensures.sound lib c.in_ok-taken.ensures.sound)
+    c.in_ok-settle.ensures.so_far lib (c.in_ok-add.ensures.sound lib c.in_ok-taken.ensures.sound) first
     (so_far_ran c.settle_by_wave.new.progress.settled.outcomes.items c.add.new.self.settled.outcomes.items c.settle_by_wave.new.progress.settled.end c.add.new.self.settled.end (task c.index-self-len.result) _ c.in_ok-outcome.outcome none here
     c.in_ok-add.ensures.outcomes c.in_ok-add.ensures.end before ran)

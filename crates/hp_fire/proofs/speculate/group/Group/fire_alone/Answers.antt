@@ -5,8 +5,8 @@ use Rattle.hp_ops.proofs.Worlds.{split_at}
 use Rattle.hp_fire.proofs.Helping.{so_far_starts, so_far_ran}
 use Rattle.hp_fire.proofs.speculate.group.Group.fire_alone.Goals as goal
 
-pub returns-then-is_worth_workers-clause-so_far : goal.returns-then-is_worth_workers-clause-so_far
-returns-then-is_worth_workers-clause-so_far g c = c.loop-task.invariant.0
+pub returns-then-starts_workers-clause-so_far : goal.returns-then-starts_workers-clause-so_far
+returns-then-starts_workers-clause-so_far g c = c.loop-task.invariant.0
 
 pub loop-task-init : goal.loop-task-init
 loop-task-init g c =

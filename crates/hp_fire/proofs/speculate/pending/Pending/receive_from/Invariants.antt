@@ -1,7 +1,7 @@
 use Rattle.rtrb.specs.Ring.{received}
 use Rattle.hp_model.specs.Rules.{Library}
 use Rattle.hp_attempt.specs.Fronts.{AreSound}
-use Rattle.hp_fire.specs.Lines.{IsOf}
+use Rattle.hp_fire.specs.Channels.{IsOf}
 use Rattle.hp_fire.proofs.speculate.pending.Pending.receive_from.Given as goal
 
 abbrev pub invariant-loop : goal.invariant-loop

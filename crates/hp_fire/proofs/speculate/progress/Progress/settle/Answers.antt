@@ -16,7 +16,7 @@ returns-clause-none c = λ zero was.
     c.in_ok-add_front.ensures.end ∙ stopped_by_none c.args.stop_at_veto c.in_ok-front.front.items none
 
 pub returns-clause-so_far : goal.returns-clause-so_far
-returns-clause-so_far c = λ library first sound so_far.
+returns-clause-so_far c = λ library sound first so_far.
     let none : c.args.self.now.settled.end ≡ None = search rules in
     let done : c.len-done.result ≡ length c.args.self.now.settled.outcomes.items = search rules in
     let left = ap (map task) c.left_of-left.ensures ∙ sym (drop-map task c.len-done.result c.args.tasks.now) ∙ ap (λ n. drop n (map task c.args.tasks.now)) done in

@@ -1,0 +1,29 @@
+use Rattle.std.proofs.Common.{ap, sym, subst, ◌∙◌, []}
+use Rattle.hp_model.specs.Conditions.{Verdict}
+use Rattle.hp_model.specs.Tree.{Node}
+use Rattle.hp_model.specs.Answers.{handing_on}
+use Rattle.hp_value.specs.Mapped.{cause}
+use Rattle.hp_query.specs.Mapped.{verdict}
+use Rattle.hp_rule.specs.Mapped.{library, task}
+use Rattle.hp_attempt.specs.Mapped.{firing}
+use Rattle.hp_fire.specs.declared.deciding.Decision.TheVariants.{Over}
+use Rattle.hp_fire.specs.Decides.{Follows}
+use Rattle.hp_fire.proofs.Decisions.{unsatisfied_over, faulty_over}
+use Rattle.hp_fire.proofs.engine.Engine.follow.Goals as goal
+
+pub returns-in_ok-decision-in-Satisfied : goal.returns-in_ok-decision-in-Satisfied
+returns-in_ok-decision-in-Satisfied g c =
+    subst (λ (v : Verdict). Follows (library c.args.self.now.lib.now) (task c.args.task.now) v c.in_ok-decision-in-Satisfied.decision) (ap verdict (sym c.in-Satisfied.is))
+    c.in_ok-decision-in-Satisfied.ensures
+
+pub returns-in_ok-outcome-in-Unsatisfied : goal.returns-in_ok-outcome-in-Unsatisfied
+returns-in_ok-outcome-in-Unsatisfied g c =
+    subst (λ (v : Verdict). Follows (library c.args.self.now.lib.now) (task c.args.task.now) v (Over c.in_ok-outcome-in-Unsatisfied.outcome)) (ap verdict (sym c.in-Unsatisfied.is))
+    (λ view. unsatisfied_over (library c.args.self.now.lib.now) (task c.args.task.now) (firing c.in_ok-outcome-in-Unsatisfied.outcome) view
+    (c.in_ok-outcome-in-Unsatisfied.ensures ∙ ap (λ (n : Node). handing_on n []) c.fired-what.ensures))
+
+pub returns-in_ok-outcome-in-Faulty : goal.returns-in_ok-outcome-in-Faulty
+returns-in_ok-outcome-in-Faulty g c =
+    subst (λ (v : Verdict). Follows (library c.args.self.now.lib.now) (task c.args.task.now) v (Over c.in_ok-outcome-in-Faulty.outcome)) (ap verdict (sym c.in-Faulty.is))
+    (λ view. faulty_over (library c.args.self.now.lib.now) (task c.args.task.now) (cause c.in-Faulty.cause) (firing c.in_ok-outcome-in-Faulty.outcome) view
+    (c.in_ok-outcome-in-Faulty.ensures ∙ ap (λ (n : Node). handing_on n []) c.fired-what-in-Faulty.ensures))

@@ -1,0 +1,62 @@
+-- What the engine's calls do, by a library and the context of a statement.
+use Rattle.std.specs.Prelude.{ℕ, Bool, List, Result, map}
+use Rattle.hp_model.specs.Values.{Name}
+use Rattle.hp_model.specs.Rules.{Statement, Body}
+use Rattle.hp_model.specs.Transactions.{Work, for_each}
+use Rattle.hp_model.specs.Firing.{Level, level_at, run_statement, run_body, with_row, signal_in, start, siblings, fire_task}
+use Rattle.hp_model.specs.Tree.{Task as ModelTask}
+use Rattle.hp_value.specs.declared.halt.Halt.{Halt}
+use Rattle.hp_value.specs.declared.occurrence.Primitive.{Primitive}
+use Rattle.hp_value.specs.declared.row.KeyedRow.{KeyedRow}
+use Rattle.hp_value.specs.Mapped.{keyed_row, primitive}
+use Rattle.hp_rule.specs.declared.library.Library.{Library}
+use Rattle.hp_rule.specs.declared.task.Task.{Task}
+use Rattle.hp_rule.specs.Mapped.{library, task}
+use Rattle.hp_attempt.specs.declared.outcome.Outcome.{Outcome}
+use Rattle.hp_attempt.specs.Mapped.{firing}
+use Rattle.hp_view.specs.Seeing.{Seeing}
+use Rattle.hp_fire.specs.declared.course.Course.{Course}
+use Rattle.hp_fire.specs.declared.course.GroupOutcome.{GroupOutcome}
+use Rattle.hp_fire.specs.declared.context.Context.{Context}
+use Rattle.hp_fire.specs.Mapped.{course, context, group}
+use Rattle.hp_fire.specs.Runs.{Runs, RunsFiring, RunsGroup, Steps, Makes}
+
+-- what a statement does in a context
+abbrev pub statement_in : Library → Context → Statement → Work
+statement_in lib c s = run_statement s (level_at (library lib) c.depth) (context c)
+
+-- what a body does
+abbrev pub body_work : Library → Context → Body → Work
+body_work lib c b = run_body b (level_at (library lib) c.depth) (context c)
+
+-- what a body does for each of some rows, which has a name in it
+abbrev pub body_for_each : Library → Context → Name → List KeyedRow → Body → Work
+body_for_each lib c name rows b = for_each (map keyed_row rows) (λ r. run_body b (level_at (library lib) c.depth) (with_row name r (context c)))
+
+-- the statement runs, unless a cause ends it or memory runs out
+abbrev pub StatementRuns : Library → Context → Statement → Seeing → Seeing → Result Course Halt → Type 0
+StatementRuns lib c s old new result = Steps (library lib) (statement_in lib c s) old new result
+
+-- the operation of the statement is made, unless a cause ends the statement or memory runs out
+abbrev pub OperationIsMade : Library → Context → Statement → Seeing → Seeing → Result Primitive Halt → Type 0
+OperationIsMade lib c s old new result = Makes primitive (library lib) (level_at (library lib) c.depth) (statement_in lib c s) old new result
+
+-- the body runs and takes this course
+abbrev pub BodyRuns : Library → Context → Body → Seeing → Seeing → Course → Type 0
+BodyRuns lib c b old new taken = Runs (library lib) (body_work lib c b) old new (course taken)
+
+-- the occurrence is signalled, unless a cause ends that or memory runs out
+abbrev pub SignalRuns : Library → (depth : ℕ) → Primitive → Seeing → Seeing → Result Course Halt → Type 0
+SignalRuns lib depth p old new result = Steps (library lib) (signal_in (level_at (library lib) depth) (primitive p)) old new result
+
+-- the tasks are started in a transaction of this depth
+abbrev pub TasksStart : Library → (depth : ℕ) → List Task → Seeing → Seeing → Course → Type 0
+TasksStart lib depth tasks old new taken = Runs (library lib) (start (level_at (library lib) depth).below (map task tasks)) old new (course taken)
+
+-- the tasks fire as siblings
+abbrev pub SiblingsFire : Library → (stops : Bool) → List Task → Seeing → Seeing → GroupOutcome → Type 0
+SiblingsFire lib stops tasks old new g = RunsGroup (library lib) (siblings (fire_task (library lib)) stops (map task tasks)) old new (group g)
+
+-- the task fires
+abbrev pub TaskFires : Library → Task → Seeing → Seeing → Outcome → Type 0
+TaskFires lib t old new o = RunsFiring (library lib) (λ S. fire_task (library lib) S (task t)) old new (firing o)

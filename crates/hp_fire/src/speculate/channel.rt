@@ -1,0 +1,80 @@
+//! Channels over which the workers of a wave send their attempts to the owner of the group, while they go on.
+
+ghost use Rattle.std.specs.Prelude.{◌≡◌, IfOk, IfSome};
+ghost use Rattle.rtrb.specs.Ring.{sent, received};
+ghost use Rattle.hp_model.specs.Rules.{Library as ModelLibrary};
+ghost use Rattle.hp_model.specs.Soundness.{IsSound};
+ghost use Rattle.hp_rule.specs.Mapped.{library};
+ghost use Rattle.hp_attempt.specs.Mapped.{attempt as attempt_of};
+ghost use Rattle.hp_fire.specs.Channels.{IsOf};
+
+use crate::speculate::pending::Tried;
+use crate::speculate::policy::ROOM;
+use hp_rule::Library;
+use rtrb::{Consumer, Producer, Protocol, PushError, RingBuffer};
+use std::alloc::{AllocError, Global};
+
+/// What is sent over a channel: first the library whose rules the tasks fire, and then attempts.
+#[derive(Drop)]
+pub(crate) enum Sent<'a> {
+    /// The library. It tells the owner for which one the attempts are sound.
+    Library(&'a Library),
+    /// An attempt.
+    Tried(Tried),
+}
+
+/// Each attempt in a channel is sound for the library that was sent first.
+pub(crate) struct Soundness;
+
+impl<'a> Protocol<Sent<'a>> for Soundness {
+    ghost use Rattle.hp_fire.specs.Channels.{MayFollow};
+
+    ghost allows = { MayFollow };
+}
+
+/// The worker's end of a channel.
+pub(crate) type Sender<'a> = Producer<Sent<'a>, Global, Soundness>;
+
+/// The owner's end of a channel.
+pub(crate) type Receiver<'a> = Consumer<Sent<'a>, Global, Soundness>;
+
+/// The ends of a channel for attempts that are sound for this library.
+///
+/// An error means that memory ran out.
+pub(crate) fn channel<'a>(
+    alloc: Global,
+    lib: &'a Library,
+) -> Result<(Sender<'a>, Receiver<'a>), AllocError>
+    ensures sender { IfOk result (λ ends. IsOf (library lib.entry.now) (sent ends.0)) }
+    ensures receiver { IfOk result (λ ends. IsOf (library lib.entry.now) (received ends.1)) }
+{
+    let (mut sender, mut receiver) = RingBuffer::with_protocol::<Global, Soundness>(alloc, ROOM)?;
+    sender.push_reserved(Sent::Library(lib));
+    receiver.slots_beside(&mut sender);
+    receiver.pop_known();
+    Ok((sender, receiver))
+}
+
+/// Sends an attempt, which comes back where the channel has no room.
+pub(crate) fn send(sender: &mut Sender<'_>, tried: Tried) -> Option<Tried>
+    requires { (l : ModelLibrary) → IsOf l (sent sender.old) → IsSound l (attempt_of tried.attempt) }
+    ensures channel { (l : ModelLibrary) → IsOf l (sent sender.old) → IsOf l (sent sender.new) }
+    ensures back { IfSome result (λ back. back ≡ tried) }
+{
+    match sender.push(Sent::Tried(tried)) {
+        Err(PushError::Full(Sent::Tried(back))) => Some(back),
+        _ => None,
+    }
+}
+
+/// Receives the next attempt, if one has come.
+pub(crate) fn receive(receiver: &mut Receiver<'_>) -> Option<Tried>
+    ensures channel { (l : ModelLibrary) → IsOf l (received receiver.old) → IsOf l (received receiver.new) }
+    ensures sound { (l : ModelLibrary) → IsOf l (received receiver.old)
+        → IfSome result (λ tried. IsSound l (attempt_of tried.attempt)) }
+{
+    match receiver.pop() {
+        Ok(Sent::Tried(tried)) => Some(tried),
+        _ => None,
+    }
+}

@@ -1,0 +1,72 @@
+//! Classes that are listed once for all workers of a wave.
+
+ghost use Rattle.std.specs.Prelude.{◌≡◌};
+
+use hp_query::Query;
+use hp_rule::{Library, Task};
+use hp_store::Snapshot;
+use hp_value::ClassNo;
+use hp_view::View;
+use std::alloc::{AllocError, Global};
+
+/// Lists the classes that the conditions of some tasks ask for, as they stand beneath a view's own writes: for the
+/// workers of a wave, and for the owner, who compares with them what the workers saw. A class of which the writes name
+/// an object is left out.
+///
+/// An error means that memory ran out.
+pub(crate) fn share_beneath(
+    alloc: Global,
+    lib: &Library,
+    tasks: &[Task],
+    view: &mut View,
+) -> Result<(), AllocError>
+    ensures { view.new ≡ view.old }
+{
+    for class in asked_classes(alloc, lib, tasks)? {
+        view.keep_objects(alloc, class)?;
+    }
+    Ok(())
+}
+
+/// Lists these classes in a snapshot, so that workers who start from it share the lists.
+///
+/// An error means that memory ran out.
+pub(crate) fn share_in(
+    alloc: Global,
+    lib: &Library,
+    tasks: &[Task],
+    snapshot: &mut Snapshot,
+) -> Result<(), AllocError>
+    ensures { snapshot.new ≡ snapshot.old }
+{
+    for class in asked_classes(alloc, lib, tasks)? {
+        snapshot.keep_objects(alloc, class)?;
+    }
+    Ok(())
+}
+
+// The classes that the conditions of some tasks ask for, each once.
+fn asked_classes(alloc: Global, lib: &Library, tasks: &[Task]) -> Result<Vec<ClassNo>, AllocError> {
+    let mut classes = Vec::new(alloc);
+    for task in tasks {
+        if let Some(rule) = lib.rule(task.rule) {
+            note_asked(&rule.condition, &mut classes)?;
+        }
+    }
+    Ok(classes)
+}
+
+// Adds the classes of one condition that aren't there yet, of which all objects are looked at.
+fn note_asked(condition: &[Query], classes: &mut Vec<ClassNo>) -> Result<(), AllocError> {
+    for query in condition {
+        if scans(query) && !classes.contains(&query.class) {
+            classes.push(query.class)?;
+        }
+    }
+    Ok(())
+}
+
+// Whether a query looks at all objects of its class: it asks neither for one key nor for values of a field.
+fn scans(query: &Query) -> bool {
+    !query.asks_key() && query.asked_field().is_none()
+}

@@ -1,0 +1,76 @@
+//! Calls on threads of their own.
+
+ghost use Rattle.std.specs.Prelude.{[], ◌∷◌, IfOk, IfSome, IsSome};
+ghost use denote.Param.Send.{IsSync, IsSend};
+ghost use Rattle.std.specs.Fork.{AcceptsJobs};
+ghost use Rattle.std.specs.Fork.Halves.{GivesFor};
+
+use std::alloc::{AllocError, Global};
+use std::thread::Threads;
+use std::{mem, thread};
+
+/// Calls a function at each job, and another function besides, each in a thread of its own where one can be made. The
+/// results are in the order of the jobs.
+///
+/// This thread starts all others, and then sleeps until they end. Linux puts what a thread starts on that thread's own
+/// processor, where it is mostly idle. So a thread that was just started is no good starter, and one that goes on with
+/// work of its own would hold up what waits there (measured, `bench/README.md`).
+///
+/// An error means that memory ran out; what the jobs gave is then dropped.
+#[cycle(fork_join)]
+pub(crate) fn on_threads<
+    R: Threads + Sync,
+    J: Send + Drop,
+    X: Send + Drop,
+    F: Fn(J) -> X + Sync,
+    Y: Send + Drop,
+    H: FnMut() -> Y + Send,
+>(
+    rt: &R,
+    alloc: Global,
+    f: &F,
+    mut jobs: Vec<J>,
+    besides: &mut H,
+) -> (Result<Vec<X>, AllocError>, Y)
+    requires jobs { AcceptsJobs F.Fn f.now jobs.items }
+    requires besides { H.pre besides.old }
+    ensures jobs { IfOk result.0 (λ results. GivesFor F.Fn f.now jobs.items results.items) }
+    ensures besides { H.step besides.old result.1 besides.new }
+{
+    let Some(last) = jobs.pop() else {
+        let mut nothing = || {};
+        let (own, ()) = thread::join_mut(rt, besides, &mut nothing);
+        return (Ok(Vec::new(alloc)), own);
+    };
+    let mut last = Some(last);
+    let mut apart = || -> X
+        requires { IsSync F.row × IsSend J.row × IsSend X.row × IsSome last × IfSome last (F.pre f.now) }
+        ensures { IfSome last.entry (λ job. GivesFor F.Fn f.entry.now (job ∷ []) (result ∷ [])) }
+    {
+        let Some(job) = last.take() else {
+            unreachable!();
+        };
+        f(job)
+    };
+    let mut rest = || -> (Result<Vec<X>, AllocError>, Y)
+        requires { AcceptsJobs F.Fn f.now jobs.items × H.pre besides.now × IsSend H.row × IsSend Y.row }
+        ensures { IfOk result.0 (λ results. GivesFor F.Fn f.entry.now jobs.entry.items results.items)
+            × H.step besides.entry.now result.1 besides.exit.now }
+    {
+        on_threads(
+            rt,
+            alloc,
+            f,
+            mem::replace(&mut jobs, Vec::new(alloc)),
+            besides,
+        )
+    };
+    let (result, (before, own)) = thread::join_mut(rt, &mut apart, &mut rest);
+    let Ok(mut results) = before else {
+        return (Err(AllocError), own);
+    };
+    match results.push(result) {
+        Ok(()) => (Ok(results), own),
+        Err(_) => (Err(AllocError), own),
+    }
+}

@@ -1,0 +1,186 @@
+-- Predicates that begin by asking for a part of a class, and what answers them.
+use Rattle.std.proofs.Common.{◌≡◌, refl, sym, ap, ap₂, ◌∙◌, ℕ, ℤ, Bool, true, false, not, ◌&&◌, List, [], ◌∷◌, Ok, Err, if◌then◌else◌, int_eq, int_lt, arith}
+use Rattle.std.specs.Prelude.{bytes_eq}
+use Rattle.std.specs.declared.cmp.Ordering.{Ordering}
+use Rattle.std.specs.declared.cmp.Ordering.TheVariants.{Less, Equal, Greater}
+use Rattle.std.specs.Ordering.{is_lt, is_eq, nat_cmp, ordering_reverse}
+use Rattle.std.specs.Cmp.Lexicographic.{slice_cmp}
+use Rattle.std.proofs.lemmas.Bool.Decides.{same_from_decides}
+use Rattle.std.proofs.lemmas.Cmp.{int_eq_equiv, nat_list_cmp_total}
+use Rattle.std.proofs.lemmas.Map.Text.{is_eq-slice_cmp}
+use lib.Pointwise.{bytes_decides}
+use Rattle.hp_model.specs.Values.{Name, Value, integer, boolean, text, KeyedRow, Outcome, ◌>>=◌}
+use Rattle.hp_model.specs.Expressions.{Expression, Comparison, equal, unequal, less, at_most, greater, at_least, both, compared, Environment, bound, as_boolean, field_in, is_equal, is_below, compare, value_of}
+use Rattle.hp_model.specs.ClassParts.{Attribute, key_attribute, field_attribute, attribute_of, ClassPart, lies_within, belongs, picked}
+use Rattle.hp_model.specs.Conditions.{selected, answer}
+use Rattle.hp_model.specs.State.{Objects, rows_of}
+use Rattle.hp_query.specs.Parts.{IsFalseOutside, AsksForPart, expression_of, turned, low_bound, high_bound}
+use Rattle.hp_query.proofs.ByKeyLemmas.{value_stays, no_more, own_row}
+use Rattle.hp_query.proofs.SelectLemmas.{selected-cons, bind_ok}
+
+-- ---- two values that are in order aren't in the other order, and aren't the same
+
+lower_once : (r : Ordering) → is_lt (ordering_reverse r) ≡ true → is_lt r ≡ false
+lower_once Less h = cc
+lower_once Equal h = cc
+lower_once Greater h = refl
+
+lower_apart : (r : Ordering) → is_lt r ≡ true → is_eq r ≡ false
+lower_apart Less h = refl
+lower_apart Equal h = cc
+lower_apart Greater h = cc
+
+numbers_once : (y z : ℤ) → int_lt y z ≡ true → int_lt z y ≡ false
+numbers_once y z h = grind arith
+
+numbers_apart : (y z : ℤ) → int_lt y z ≡ true → int_eq y z ≡ false
+numbers_apart y z h = grind arith
+
+texts_once : (s t : List ℕ) → is_lt (slice_cmp nat_cmp s t) ≡ true → is_lt (slice_cmp nat_cmp t s) ≡ false
+texts_once s t h = lower_once (slice_cmp nat_cmp t s) (ap is_lt (sym (nat_list_cmp_total.antisymm s t)) ∙ h)
+
+texts_apart : (s t : List ℕ) → is_lt (slice_cmp nat_cmp s t) ≡ true → bytes_eq s t ≡ false
+texts_apart s t h = sym (is_eq-slice_cmp s t) ∙ lower_apart (slice_cmp nat_cmp s t) h
+
+one_bool : {b c : Bool} → ◌≡◌ {A = Outcome Bool} (Ok b) (Ok c) → b ≡ c
+one_bool e = cc
+
+below_once : (v w : Value) → is_below v w ≡ Ok true → is_below w v ≡ Ok false
+below_once (integer y) (integer z) h = ap Ok (numbers_once y z (one_bool h))
+below_once (text s) (text t) h = ap Ok (texts_once s t (one_bool h))
+below_once (integer y) (boolean c) h = cc
+below_once (integer y) (text t) h = cc
+below_once (boolean b) w h = cc
+below_once (text s) (integer z) h = cc
+below_once (text s) (boolean c) h = cc
+
+below_apart : (v w : Value) → is_below v w ≡ Ok true → is_equal v w ≡ Ok false
+below_apart (integer y) (integer z) h = ap Ok (numbers_apart y z (one_bool h))
+below_apart (text s) (text t) h = ap Ok (texts_apart s t (one_bool h))
+below_apart (integer y) (boolean c) h = cc
+below_apart (integer y) (text t) h = cc
+below_apart (boolean b) w h = cc
+below_apart (text s) (integer z) h = cc
+below_apart (text s) (boolean c) h = cc
+
+bools_turn : (b c : Bool) → (if b then c else not c) ≡ (if c then b else not b)
+bools_turn true true = refl
+bools_turn true false = refl
+bools_turn false true = refl
+bools_turn false false = refl
+
+equal_turn : (v w : Value) → is_equal v w ≡ is_equal w v
+equal_turn (integer y) (integer z) = ap Ok (int_eq_equiv.symm y z)
+equal_turn (boolean b) (boolean c) = ap Ok (bools_turn b c)
+equal_turn (text s) (text t) = ap Ok (same_from_decides (bytes_eq s t) (bytes_eq t s) (bytes_decides s t) ((λ e. sym ((bytes_decides t s).0 e)), (λ e. (bytes_decides t s).1 (sym e))))
+equal_turn (integer y) (boolean c) = refl
+equal_turn (integer y) (text t) = refl
+equal_turn (boolean b) (integer z) = refl
+equal_turn (boolean b) (text t) = refl
+equal_turn (text s) (integer z) = refl
+equal_turn (text s) (boolean c) = refl
+
+compare_turned : (op : Comparison) (v w : Value) → compare op v w ≡ compare (turned op) w v
+compare_turned equal v w = equal_turn v w
+compare_turned unequal v w = ap (λ (o : Outcome Bool). o >>= λ b. Ok (not b)) (equal_turn v w)
+compare_turned less v w = refl
+compare_turned at_most v w = refl
+compare_turned greater v w = refl
+compare_turned at_least v w = refl
+
+-- ---- outside the bounds of a comparison it is false
+
+too_low : (o : Outcome Bool) → ((o >>= λ b. Ok (not b)) >>= λ f. Ok (f && true)) ≡ Ok false → o ≡ Ok true
+too_low (Ok true) h = refl
+too_low (Ok false) h = cc
+too_low (Err c) h = cc
+
+too_high : (o : Outcome Bool) → ((o >>= λ b. Ok (not b)) >>= λ f. Ok (true && f)) ≡ Ok false → o ≡ Ok true
+too_high (Ok true) h = refl
+too_high (Ok false) h = cc
+too_high (Err c) h = cc
+
+turned_false : (o : Outcome Bool) → o ≡ Ok true → (o >>= λ b. Ok (not b)) ≡ Ok false
+turned_false o is = ap (λ (o : Outcome Bool). o >>= λ b. Ok (not b)) is
+
+outside_false : (op : Comparison) (v w : Value) → lies_within (low_bound op v) (high_bound op v) w ≡ Ok false → compare op w v ≡ Ok false
+outside_false equal v w isnt = by (is_below w v) (is_below v w) refl refl isnt
+  where
+    by : (o p : Outcome Bool) → is_below w v ≡ o → is_below v w ≡ p → ((o >>= λ b. Ok (not b)) >>= λ f. (p >>= λ b. Ok (not b)) >>= λ g. Ok (f && g)) ≡ Ok false → is_equal w v ≡ Ok false
+    by (Ok true) p is _ h = below_apart w v is
+    by (Ok false) (Ok true) _ is h = equal_turn w v ∙ below_apart v w is
+    by (Ok false) (Ok false) _ _ h = cc
+    by (Ok false) (Err c) _ _ h = cc
+    by (Err c) p _ _ h = cc
+outside_false unequal v w isnt = cc
+outside_false less v w isnt = below_once v w (too_high (is_below v w) isnt)
+outside_false at_most v w isnt = turned_false (is_below v w) (too_high (is_below v w) isnt)
+outside_false greater v w isnt = below_once w v (too_low (is_below w v) isnt)
+outside_false at_least v w isnt = turned_false (is_below w v) (too_low (is_below w v) isnt)
+
+-- ---- which predicates ask for a part
+
+own_attribute : (env : Environment) (x : Name) (a : Attribute) (r : KeyedRow) → value_of (bound x r env) (expression_of x a) ≡ attribute_of a r
+own_attribute env x key_attribute r = ap (λ (o : Outcome KeyedRow). o >>= λ q. Ok (integer q.key)) (own_row env x r)
+own_attribute env x (field_attribute f) r = ap (λ (o : Outcome KeyedRow). o >>= λ q. field_in q.row f) (own_row env x r)
+
+-- what a comparison of two outcomes is, as a truth value
+abbrev compared_outcomes : Comparison → Outcome Value → Outcome Value → Outcome Bool
+compared_outcomes op o p = (o >>= λ v. p >>= λ w. compare op v w >>= λ t. Ok (boolean t)) >>= λ v. as_boolean v
+
+as_told : {o : Outcome Bool} → o ≡ Ok false → ((o >>= λ t. Ok (boolean t)) >>= λ u. as_boolean u) ≡ Ok false
+as_told is = ap (λ (o : Outcome Bool). (o >>= λ t. Ok (boolean t)) >>= λ u. as_boolean u) is
+
+left_outside : (op : Comparison) (o : Outcome Value) (v : Value) → (o >>= λ w. lies_within (low_bound op v) (high_bound op v) w) ≡ Ok false → compared_outcomes op o (Ok v) ≡ Ok false
+left_outside op (Ok w) v isnt = as_told (outside_false op v w isnt)
+left_outside op (Err c) v isnt = cc
+
+right_outside : (op : Comparison) (o : Outcome Value) (v : Value) → (o >>= λ w. lies_within (low_bound (turned op) v) (high_bound (turned op) v) w) ≡ Ok false → compared_outcomes op (Ok v) o ≡ Ok false
+right_outside op (Ok w) v isnt = as_told (compare_turned op v w ∙ outside_false (turned op) v w isnt)
+right_outside op (Err c) v isnt = cc
+
+pub asks_left : (x : Name) (op : Comparison) (a : Attribute) (b : Expression) → AsksForPart x (compared op (expression_of x a) b) a op b
+asks_left x op a b = record {
+  asks = λ env c v free is. record {
+    outside = λ r isnt. ap₂ (compared_outcomes op) (own_attribute env x a r) ((value_stays env x r c free b).so v is) ∙ left_outside op (attribute_of a r) v isnt;
+  };
+}
+
+pub asks_right : (x : Name) (op : Comparison) (a : Attribute) (b : Expression) → AsksForPart x (compared op b (expression_of x a)) a (turned op) b
+asks_right x op a b = record {
+  asks = λ env c v free is. record {
+    outside = λ r isnt. ap₂ (compared_outcomes op) ((value_stays env x r c free b).so v is) (own_attribute env x a r) ∙ right_outside op (attribute_of a r) v isnt;
+  };
+}
+
+pub asks_through_both : (x : Name) (first second : Expression) (a : Attribute) (op : Comparison) (wanted : Expression) → AsksForPart x first a op wanted → AsksForPart x (both first second) a op wanted
+asks_through_both x first second a op wanted asked = record {
+  asks = λ env c v free is. record {
+    outside = λ r isnt. no_more (value_of (bound x r env) first) (value_of (bound x r env) second) ((asked.asks env c v free is).outside r isnt);
+  };
+}
+
+-- ---- what answers them
+
+module _ (env : Environment) (x : Name) (predicate : Expression) (p : ClassPart) (false_outside : IsFalseOutside env x predicate p) where
+  -- the part alone is asked, where of each object it is told whether it belongs to it
+  pub of_part : (rows objects : List KeyedRow) → picked p rows ≡ Ok objects → selected env x predicate rows ≡ selected env x predicate objects
+  of_part [] objects is = let same : [] ≡ objects = cc in ap (selected env x predicate) same
+  of_part (r ∷ rs) objects is = by (belongs p r) (picked p rs) refl refl (λ rows later. of_part rs rows later) is
+    where
+      by : (o : Outcome Bool) (rest : Outcome (List KeyedRow)) → belongs p r ≡ o → picked p rs ≡ rest → ((rows : List KeyedRow) → picked p rs ≡ Ok rows → selected env x predicate rs ≡ selected env x predicate rows)
+          → (o >>= λ keep. rest >>= λ rows. Ok (if keep then r ∷ rows else rows)) ≡ Ok objects → selected env x predicate (r ∷ rs) ≡ selected env x predicate objects
+      by (Err c) rest here later others all = cc
+      by (Ok keep) (Err c) here later others all = cc
+      by (Ok true) (Ok rows) here later others all =
+          let same : r ∷ rows ≡ objects = cc in
+          ap (λ (o : Outcome (List KeyedRow)). value_of (bound x r env) predicate >>= λ v. as_boolean v >>= λ keep. o >>= λ qs. Ok (if keep then r ∷ qs else qs)) (others rows later)
+          ∙ ap (selected env x predicate) same
+      by (Ok false) (Ok rows) here later others all =
+          let same : rows ≡ objects = cc in
+          selected-cons env x predicate r rs (Ok false) (false_outside.outside r here) ∙ bind_ok (selected env x predicate rs) ∙ others rows later ∙ ap (selected env x predicate) same
+
+-- the answer of a query, from the part that its predicate asks for
+pub answered_by_part : (env : Environment) (x : Name) (predicate : Expression) (p : ClassPart) (class : ℕ) (world : Objects) (objects : List KeyedRow) → IsFalseOutside env x predicate p → picked p (rows_of class world) ≡ Ok objects
+    → selected env x predicate objects ≡ answer env x class predicate world
+answered_by_part env x predicate p class world objects outside is = sym (of_part env x predicate p outside (rows_of class world) objects is)

@@ -1,0 +1,49 @@
+-- Predicates that are false of all rows outside a part of their class.
+use Rattle.std.specs.Prelude.{◌≡◌, false, Option, Some, None, Ok, Err}
+use Rattle.hp_model.specs.Values.{Name, Value, KeyedRow, Cause}
+use Rattle.hp_model.specs.Expressions.{Comparison, equal, unequal, less, at_most, greater, at_least, Expression, field_of, key_of, Environment, bound, row_named, value_of}
+use Rattle.hp_model.specs.ClassParts.{Attribute, key_attribute, field_attribute, ClassPart, belongs}
+use Rattle.hp_model.specs.Firing.{boolean_value}
+
+-- of each object outside the part the predicate is false, without a fault
+pub record IsFalseOutside (env : Environment) (x : Name) (predicate : Expression) (p : ClassPart) : Type 0 where
+  pub outside : (r : KeyedRow) → belongs p r ≡ Ok false → boolean_value (bound x r env) predicate ≡ Ok false
+
+-- the bounds between which a value lies where it compares so with another; the other is among what they include
+abbrev pub low_bound : {A : Type 0} → Comparison → A → Option A
+low_bound equal v = Some v
+low_bound unequal v = None
+low_bound less v = None
+low_bound at_most v = None
+low_bound greater v = Some v
+low_bound at_least v = Some v
+
+abbrev pub high_bound : {A : Type 0} → Comparison → A → Option A
+high_bound equal v = Some v
+high_bound unequal v = None
+high_bound less v = Some v
+high_bound at_most v = Some v
+high_bound greater v = None
+high_bound at_least v = None
+
+abbrev pub part_compared : Attribute → Comparison → Value → ClassPart
+part_compared a op v = record { attribute = a; low = low_bound op v; high = high_bound op v }
+
+-- the predicate begins by comparing the row's attribute with the expression: wherever the name means nothing yet, it is false
+-- outside the part for the value that the expression has
+pub record AsksForPart (x : Name) (predicate : Expression) (a : Attribute) (op : Comparison) (wanted : Expression) : Type 0 where
+  pub asks : (env : Environment) (c : Cause) (v : Value) → row_named env x ≡ Err c → value_of env wanted ≡ Ok v → IsFalseOutside env x predicate (part_compared a op v)
+
+-- the expression for an attribute of the row with this name
+abbrev pub expression_of : Name → Attribute → Expression
+expression_of x key_attribute = key_of x
+expression_of x (field_attribute f) = field_of x f
+
+-- the comparison with its sides changed
+abbrev pub turned : Comparison → Comparison
+turned equal = equal
+turned unequal = unequal
+turned less = greater
+turned at_most = at_least
+turned greater = less
+turned at_least = at_most

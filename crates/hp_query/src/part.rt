@@ -1,0 +1,166 @@
+//! Predicates that begin by asking for a part of a class.
+
+ghost use Rattle.std.specs.Prelude.{◌≡◌, IfOk, IfSome};
+ghost use Rattle.hp_model.specs.Expressions.{compared};
+ghost use Rattle.hp_value.specs.Mapped.{attribute, class_part, comparison, environment, expression, value};
+ghost use Rattle.hp_query.specs.Parts.{IsFalseOutside, AsksForPart, expression_of, low_bound, high_bound, part_compared, turned};
+
+use hp_value::{Attribute, Bounds, ClassPart, Comparison, Env, Expr, Halt, Value};
+use std::alloc::{AllocError, Global};
+
+/// A comparison by which a predicate begins: of an attribute of its row, with a value that doesn't hang on the row.
+#[derive(Drop)]
+pub(crate) struct AskedPart<'e> {
+    attribute: Attribute<'e>,
+    comparison: Comparison,
+    value: Value,
+}
+
+impl AskedPart<'_> {
+    /// The part of the class outside which the comparison is false. None where the value is a truth value.
+    ///
+    /// Both bounds are included, whatever the comparison is: the predicate is tested on the part's rows.
+    pub(crate) fn class_part(&self) -> Option<ClassPart<'_>>
+        ensures { IfSome result (λ part. class_part part ≡ part_compared (attribute self.now.attribute) (comparison self.now.comparison) (value self.now.value)) }
+    {
+        let bounds = match &self.value {
+            Value::Int(number) => {
+                let (low, high) = bounds(self.comparison, *number);
+                Bounds::Numbers(low, high)
+            }
+            Value::Text(written) => {
+                let (low, high) = bounds(self.comparison, written.as_str());
+                Bounds::Texts(low, high)
+            }
+            Value::Bool(_) => return None,
+        };
+        Some(ClassPart {
+            attribute: self.attribute,
+            bounds,
+        })
+    }
+}
+
+// The bounds between which a value lies where it compares so with another.
+fn bounds<T: Copy>(compared: Comparison, other: T) -> (Option<T>, Option<T>)
+    ensures { result ≡ (low_bound (comparison compared) other, high_bound (comparison compared) other) }
+{
+    match compared {
+        Comparison::Equal => (Some(other), Some(other)),
+        Comparison::Unequal => (None, None),
+        Comparison::Less | Comparison::AtMost => (None, Some(other)),
+        Comparison::Greater | Comparison::AtLeast => (Some(other), None),
+    }
+}
+
+/// What part of its class a predicate asks for, where it begins by comparing the key or a field of its row with what
+/// doesn't hang on that row.
+///
+/// None where it isn't so, or isn't seen to be: also where what is compared with has a fault, since the first row then
+/// has that fault too. An error means that memory ran out.
+pub(crate) fn asked_part<'e>(
+    alloc: Global,
+    name: &str,
+    predicate: &'e Expr,
+    env: &Env,
+) -> Result<Option<AskedPart<'e>>, AllocError>
+    ensures { IfOk result (λ asked. IfSome asked (λ a. IsFalseOutside (environment env.now) name.now (expression predicate.now) (part_compared (attribute a.attribute) (comparison a.comparison) (value a.value)))) }
+{
+    let Some(compared) = compared_attribute(name, predicate) else {
+        return Ok(None);
+    };
+    // What is evaluated before a row is bound must not see another row under its name.
+    let Err(_) = env.row(name) else {
+        return Ok(None);
+    };
+    match compared.other.eval(alloc, env) {
+        Ok(value) => Ok(Some(AskedPart {
+            attribute: compared.attribute,
+            comparison: compared.comparison,
+            value,
+        })),
+        Err(Halt::Memory) => Err(AllocError),
+        Err(Halt::Cause(_)) => Ok(None),
+    }
+}
+
+/// The field by which the rows are found of which a predicate may be true, each tested under a name: where the
+/// predicate begins by comparing a field of its row with what doesn't hang on the row. With an index of that field the
+/// query costs what it finds. No answer depends on it.
+pub fn asked_field<'e>(name: &str, predicate: &'e Expr) -> Option<&'e str> {
+    match compared_attribute(name, predicate)?.attribute {
+        Attribute::Field(field) => Some(field),
+        Attribute::Key => None,
+    }
+}
+
+// A comparison of an attribute of a row, on the left, with an expression.
+#[derive(Clone, Copy)]
+struct Compared<'e> {
+    attribute: Attribute<'e>,
+    comparison: Comparison,
+    other: &'e Expr,
+}
+
+// The comparison by which a predicate begins, if it is one of an attribute of the row with this name.
+fn compared_attribute<'e>(name: &str, predicate: &'e Expr) -> Option<Compared<'e>>
+    ensures { IfSome result (λ c. AsksForPart name.now (expression predicate.now) (attribute c.attribute) (comparison c.comparison) (expression c.other.now)) }
+{
+    match predicate {
+        Expr::And(first, _) => compared_attribute(name, first),
+        Expr::Comparison(Comparison::Unequal, _, _) => None,
+        Expr::Comparison(compares, a, b) => compared_side(name, *compares, a, b),
+        _ => None,
+    }
+}
+
+// The same of a comparison with these two sides.
+fn compared_side<'e>(
+    name: &str,
+    compares: Comparison,
+    a: &'e Expr,
+    b: &'e Expr,
+) -> Option<Compared<'e>>
+    ensures { IfSome result (λ c. AsksForPart name.now (compared (comparison compares) (expression a.now) (expression b.now)) (attribute c.attribute) (comparison c.comparison) (expression c.other.now)) }
+{
+    if let Some(attribute) = own_attribute(name, a) {
+        return Some(Compared {
+            attribute,
+            comparison: compares,
+            other: b,
+        });
+    }
+    let attribute = own_attribute(name, b)?;
+    Some(Compared {
+        attribute,
+        comparison: sides_changed(compares),
+        other: a,
+    })
+}
+
+// The attribute that an expression is of the row with this name.
+fn own_attribute<'e>(name: &str, expr: &'e Expr) -> Option<Attribute<'e>>
+    ensures { IfSome result (λ a. expression expr.now ≡ expression_of name.now (attribute a)) }
+{
+    match expr {
+        Expr::KeyOf { variable } if variable.as_str() == name => Some(Attribute::Key),
+        Expr::FieldOf { variable, field } if variable.as_str() == name => {
+            Some(Attribute::Field(field.as_str()))
+        }
+        _ => None,
+    }
+}
+
+// The comparison that holds of two values where this one holds of them in the other order.
+fn sides_changed(compares: Comparison) -> Comparison
+    ensures { comparison result ≡ turned (comparison compares) }
+{
+    match compares {
+        Comparison::Equal => Comparison::Equal,
+        Comparison::Unequal => Comparison::Unequal,
+        Comparison::Less => Comparison::Greater,
+        Comparison::AtMost => Comparison::AtLeast,
+        Comparison::Greater => Comparison::Less,
+        Comparison::AtLeast => Comparison::AtMost,
+    }
+}

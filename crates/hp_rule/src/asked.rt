@@ -1,0 +1,104 @@
+//! The fields that the queries of rules ask for.
+
+use crate::rule::Rule;
+use crate::stmt::Stmt;
+use hp_query::{Query, asked_field};
+use hp_value::ClassNo;
+use std::alloc::{AllocError, Global};
+
+/// A field by whose values a query finds the rows of a class.
+#[derive(Debug, PartialEq, Eq, Drop)]
+pub struct AskedField {
+    /// The class.
+    pub class: ClassNo,
+    /// The field's name.
+    pub field: String,
+}
+
+/// The fields that the conditions and the actions of some rules ask for, each once.
+///
+/// An error means that memory ran out.
+pub(crate) fn asked_fields(alloc: Global, rules: &[Rule]) -> Result<Vec<AskedField>, AllocError> {
+    let mut asked = Vec::new(alloc);
+    for rule in rules {
+        note_condition(alloc, &rule.condition, &mut asked)?;
+        note_body(alloc, &rule.action, &mut asked)?;
+    }
+    Ok(asked)
+}
+
+// Notes the fields that the queries of a condition ask for.
+fn note_condition(
+    alloc: Global,
+    queries: &[Query],
+    asked: &mut Vec<AskedField>,
+) -> Result<(), AllocError> {
+    for query in queries {
+        if let Some(field) = query.asked_field() {
+            note(alloc, query.class, field, asked)?;
+        }
+    }
+    Ok(())
+}
+
+// Notes the fields that the statements of a body ask for.
+#[cycle(statement)]
+fn note_body(alloc: Global, body: &[Stmt], asked: &mut Vec<AskedField>) -> Result<(), AllocError> {
+    for statement in body {
+        note_statement(alloc, statement, asked)?;
+    }
+    Ok(())
+}
+
+// Notes the fields that a statement and those in it ask for.
+#[cycle(statement)]
+fn note_statement(
+    alloc: Global,
+    statement: &Stmt,
+    asked: &mut Vec<AskedField>,
+) -> Result<(), AllocError> {
+    match statement {
+        Stmt::Each {
+            variable,
+            class,
+            predicate,
+            body,
+        } => {
+            if let Some(field) = asked_field(variable.as_str(), predicate) {
+                note(alloc, *class, field, asked)?;
+            }
+            note_body(alloc, body, asked)
+        }
+        Stmt::For { body, .. } | Stmt::With { body, .. } => note_body(alloc, body, asked),
+        Stmt::If {
+            then_body: first,
+            else_body: second,
+            ..
+        }
+        | Stmt::Sub {
+            body: first,
+            otherwise: second,
+        } => {
+            note_body(alloc, first, asked)?;
+            note_body(alloc, second, asked)
+        }
+        _ => Ok(()),
+    }
+}
+
+// Notes a field of a class, if it isn't there yet.
+fn note(
+    alloc: Global,
+    class: ClassNo,
+    field: &str,
+    asked: &mut Vec<AskedField>,
+) -> Result<(), AllocError> {
+    for known in asked.iter() {
+        if known.class == class && known.field.as_str() == field {
+            return Ok(());
+        }
+    }
+    let field = String::from_str(alloc, field)?;
+    asked.push(AskedField { class, field })?;
+    Ok(())
+}

@@ -1,0 +1,25 @@
+use Rattle.std.proofs.Common.{ap, map, refl, drop, pos, get_or, w64, FitsSigned, rules, arith}
+use Rattle.std.proofs.lemmas.Int.{to_z-of_z}
+use Rattle.std.proofs.lemmas.List.{drop_all}
+use Rattle.hp_model.specs.Cells.{over}
+use Rattle.hp_value.specs.Mapped.{class_part, keyed_row}
+use Rattle.hp_store.specs.Changes.{changes}
+use Rattle.hp_store.specs.Stack.{cells_in}
+use Rattle.hp_store.proofs.Picked.{member_told, picks_start, picks_step, picks_all}
+use Rattle.hp_store.proofs.snapshot.Snapshot.picked.Goals as goal
+
+pub loop-key-init : goal.loop-key-init
+loop-key-init c =
+    picks_start (over (cells_in c.args.self.now) (changes c.args.writes.now)) (class_part c.args.part.now) c.args.class c.args.keys.now c.args.keys.now (map keyed_row c.new-objects.result.items)
+    (ap (map keyed_row) c.new-objects.ensures.items) refl c.requires.rise c.requires.covers
+
+pub loop-key-preserved : goal.loop-key-preserved
+loop-key-preserved c =
+    let fits : FitsSigned w64 (get_or c.args.keys.now c.loop-key.key-index (pos 0)) = search rules in
+    picks_step (over (cells_in c.args.self.now) (changes c.args.writes.now)) (class_part c.args.part.now) c.args.class c.args.keys.now c.loop-key.key-index _ (map keyed_row c.loop-key.objects.items)
+    (map keyed_row c.add_member.new.objects.items) c.in-Ok.member c.loop-key-test.true (to_z-of_z w64 _ fits) (member_told _ c.in-Ok.is c.in_ok-told.ensures) c.in_ok-add_member.ensures c.loop-key.invariant
+
+pub returns : goal.returns
+returns c =
+    picks_all (over (cells_in c.args.self.now) (changes c.args.writes.now)) (class_part c.args.part.now) c.args.class (drop c.loop-key.key-index c.args.keys.now) (map keyed_row c.loop-key.objects.items)
+    (drop_all c.loop-key.key-index c.args.keys.now (omega (arith, c.loop-key-test.false))) c.loop-key.invariant

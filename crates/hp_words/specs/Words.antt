@@ -1,0 +1,63 @@
+-- What the words of the command line ask for, as `clap` reads them.
+use Rattle.std.specs.Prelude.{ℕ, pos, List, [], ◌∷◌, codes, Bool, true, false, ◌&&◌, nat_le, Option, Some, None, if◌then◌else◌}
+use Rattle.std.specs.Option.{option_map_or}
+use Rattle.std.specs.Str.{bytes_eq}
+use Rattle.clap.specs.Words.{App, Kinds, Row, Rule, fault_of, matches_of, new_app, new_rule, one_of, with_rule}
+use Rattle.clap.specs.Walk.{byte_or_zero}
+use Rattle.clap.specs.declared.builder.ArgAction.TheVariants.{SetTrue}
+use Rattle.clap.specs.declared.builder.value_parser.ValueParser.TheVariants as parser
+use Rattle.hp_words.specs.declared.words.WordFault.{WordFault}
+use Rattle.hp_words.specs.declared.words.WordFault.TheVariants.{Refused, NoMemory}
+
+-- `--workers N`, of 8 bits, 4 where it isn't given
+abbrev pub workers_rule : Rule
+workers_rule = record (new_rule (codes "workers")) {
+  long = Some (codes "workers");
+  parser = Some (parser.Signed (pos 0) (pos 255));
+  defaults = codes "4" ∷ [];
+}
+
+-- `--tree`
+abbrev pub tree_rule : Rule
+tree_rule = record (new_rule (codes "tree")) { long = Some (codes "tree"); action = Some SetTrue }
+
+-- a command with `[--workers N] [--tree]`, whose name no text shows
+abbrev pub app : App
+app = with_rule (with_rule (new_app (codes "program")) workers_rule) tree_rule
+
+-- what stands for each argument
+unfoldable pub rows_for : List (List ℕ) → List Row
+rows_for words = matches_of app words
+
+-- the kinds of error of which one is answered, none where the words are taken
+unfoldable pub faults_for : List (List ℕ) → Kinds
+faults_for words = fault_of app words
+
+abbrev pub number_in : Option (List ℕ) → ℕ
+number_in o = option_map_or byte_or_zero o 0
+
+abbrev pub flag_in : Option (List ℕ) → Bool
+flag_in o = option_map_or (λ t. bytes_eq t (codes "true")) o false
+
+abbrev pub workers_for : List (List ℕ) → ℕ
+workers_for words = number_in (one_of (codes "workers") (rows_for words))
+
+abbrev pub tree_for : List (List ℕ) → Bool
+tree_for words = flag_in (one_of (codes "tree") (rows_for words))
+
+abbrev pub is_empty_list : {A : Type 0} → List A → Bool
+is_empty_list [] = true
+is_empty_list (x ∷ xs) = false
+
+-- the words are taken, and the number of workers is 1 to 64
+abbrev pub are_taken : List (List ℕ) → Bool
+are_taken words = is_empty_list (faults_for words) && (nat_le 1 (workers_for words) && nat_le (workers_for words) 64)
+
+-- the workers and whether trees are wanted
+abbrev pub options_for : List (List ℕ) → Option (ℕ × Bool)
+options_for words = if are_taken words then Some (workers_for words, tree_for words) else None
+
+-- the program's exit status where there are no options
+abbrev pub word_code_of : WordFault → ℕ
+word_code_of Refused = 3
+word_code_of NoMemory = 4

@@ -1,0 +1,109 @@
+//! The words of the command line.
+
+ghost use Rattle.std.specs.Prelude.{◌≡◌, map, string_bytes, codes, IfOk, Some, None};
+ghost use Rattle.clap.specs.Words.{one_of, rows_of, found_of, FailsBy};
+ghost use Rattle.hp_words.specs.Words.{rows_for, faults_for, number_in, flag_in, options_for, word_code_of};
+
+use clap::error::ErrorKind;
+use clap::{Arg, ArgAction, ArgMatches, Command, Error, value_parser};
+use std::alloc::Global;
+use std::env;
+use std::env::Env;
+use thiserror::Error as ThisError;
+
+/// What the words of a command line ask for.
+#[derive(Clone, Copy, Debug, PartialEq, Eq)]
+pub struct Options {
+    /// How many workers may try sibling firings at once, 1 to 64. It has no effect on what is written.
+    pub workers: usize,
+    /// Whether the trees of the transactions are written.
+    pub tree: bool,
+}
+
+/// Why there are no options.
+#[derive(Clone, Copy, Debug, PartialEq, Eq, ThisError)]
+pub enum WordFault {
+    /// The words are none of the command's, or the number of workers isn't 1 to 64.
+    #[error("command line refused")]
+    Refused,
+    /// Memory ran out.
+    #[error("fault F1")]
+    NoMemory,
+}
+
+/// The options that the words ask for, of which the first is the program's name.
+///
+/// Without words there are 4 workers, and no trees are written.
+pub fn parse_words(alloc: Global, words: &[String]) -> Result<Options, WordFault>
+    ensures ok { IfOk result (λ options. options_for (map string_bytes words.now) ≡ Some (options.workers, options.tree)) }
+    ensures refused { result ≡ Err WordFault.Refused → options_for (map string_bytes words.now) ≡ None }
+{
+    match matches_of(alloc, words) {
+        Ok(matches) => {
+            let workers = workers_in(&matches);
+            let tree = tree_in(&matches);
+            if workers < 1 || 64 < workers {
+                return Err(WordFault::Refused);
+            }
+            Ok(Options {
+                workers: workers as usize,
+                tree,
+            })
+        }
+        Err(error) => match error.kind() {
+            ErrorKind::OutOfMemory => Err(WordFault::NoMemory),
+            _ => Err(WordFault::Refused),
+        },
+    }
+}
+
+/// The options that the process was started with.
+pub fn options_of<R: Env + AllocGlobal>(rt: &R) -> Result<Options, WordFault> {
+    let Ok(words) = env::args(rt) else {
+        return Err(WordFault::NoMemory);
+    };
+    let Ok(words) = words.collect::<Vec<String>>(rt.alloc()) else {
+        return Err(WordFault::NoMemory);
+    };
+    parse_words(rt.alloc(), words.as_slice())
+}
+
+/// The status with which the program ends where there are no options: 3 where the words were refused, 4 where memory ran out.
+pub fn word_code(fault: WordFault) -> u8
+    ensures { result ≡ word_code_of fault }
+{
+    match fault {
+        WordFault::Refused => 3,
+        WordFault::NoMemory => 4,
+    }
+}
+
+/// What `clap` finds in the words.
+fn matches_of<'a>(alloc: Global, words: &'a [String]) -> Result<ArgMatches<'a>, Error>
+    ensures rows { IfOk result (λ m. rows_of (found_of m) ≡ rows_for (map string_bytes words.entry.now)) }
+    ensures kinds { FailsBy (faults_for (map string_bytes words.entry.now)) result }
+{
+    let workers = Arg::new(alloc, "workers")
+        .long("workers")
+        .value_parser(value_parser!(u8))
+        .default_value("4");
+    let tree = Arg::new(alloc, "tree")
+        .long("tree")
+        .action(ArgAction::SetTrue);
+    let command = Command::new(alloc, "program").arg(workers)?.arg(tree)?;
+    command.try_get_matches_from(words)
+}
+
+/// The number of workers in what was found, or 0 where there is none.
+fn workers_in(matches: &ArgMatches<'_>) -> u8
+    ensures { result ≡ number_in (one_of (codes "workers") (rows_of (found_of matches.entry.now))) }
+{
+    matches.get_one::<u8>("workers").unwrap_or(0)
+}
+
+/// Whether trees are wanted by what was found.
+fn tree_in(matches: &ArgMatches<'_>) -> bool
+    ensures { result ≡ flag_in (one_of (codes "tree") (rows_of (found_of matches.entry.now))) }
+{
+    matches.get_one::<bool>("tree").unwrap_or(false)
+}

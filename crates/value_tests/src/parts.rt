@@ -1,0 +1,420 @@
+//! Queries that begin by asking for a part of a class, with a look that finds parts and with one that doesn't.
+
+use crate::fixtures::{account, row, text};
+use crate::queries::{
+    accounts, assert_fault, assert_keys, balance_of, both, compared, key_of, number,
+};
+use hp_query::{Look, PlainObjects, selected_rows};
+use hp_value::{
+    Arithmetic, Cause, ClassNo, ClassPart, Comparison, Env, Expr, Halt, Key, KeyedRow, ObjectList,
+    Row, Value,
+};
+use std::alloc::{AllocError, Global};
+use std::process::Abort;
+use std::sync::Arc;
+use std::test::Fail;
+
+/// Objects in a plain map, of which parts are found too. It shows no world: what it answers is tested and not proved.
+#[derive(Drop)]
+struct Parts {
+    objects: PlainObjects,
+    // How many objects were in the last part, if one was found since this was cleared.
+    found: Option<usize>,
+}
+
+impl Look for Parts {
+    ghost use Rattle.std.specs.Prelude.{⊤};
+
+    ghost allows = { λ look world. ⊥ };
+
+    ghost goes_on = { λ before after. ⊤ };
+
+    ghost goes_on_same = { λ look. tt };
+
+    ghost goes_on_then = { λ first second third one two. tt };
+
+    ghost narrows = { λ first second on world is. is };
+
+    fn row(&mut self, alloc: Global, class: ClassNo, key: Key) -> Result<Option<Row>, AllocError> {
+        Look::row(&mut self.objects, alloc, class, key)
+    }
+
+    fn keys(&mut self, alloc: Global, class: ClassNo) -> Result<Vec<Key>, AllocError> {
+        Look::keys(&mut self.objects, alloc, class)
+    }
+
+    fn objects(
+        &mut self,
+        alloc: Global,
+        class: ClassNo,
+    ) -> Result<Option<Arc<ObjectList>>, AllocError> {
+        Ok(None)
+    }
+
+    fn part(
+        &mut self,
+        alloc: Global,
+        class: ClassNo,
+        part: &ClassPart<'_>,
+    ) -> Result<Option<Vec<KeyedRow>>, AllocError> {
+        let mut found = Vec::new(alloc);
+        for key in Look::keys(&mut self.objects, alloc, class)? {
+            if let Some(row) = Look::row(&mut self.objects, alloc, class, key)? {
+                match part.has(key, &row) {
+                    Ok(true) => found.push(KeyedRow { key, row })?,
+                    Ok(false) => {}
+                    Err(_) => return Ok(None),
+                }
+            }
+        }
+        self.found = Some(found.len());
+        Ok(Some(found))
+    }
+}
+
+/// The same objects twice: where all are looked at, and where parts are found.
+#[derive(Drop)]
+struct Looks {
+    plain: PlainObjects,
+    parts: Parts,
+}
+
+impl Looks {
+    fn new(alloc: Global) -> Result<Looks, AllocError> {
+        let parts = Parts {
+            objects: accounts(alloc)?,
+            found: None,
+        };
+        Ok(Looks {
+            plain: accounts(alloc)?,
+            parts,
+        })
+    }
+
+    fn put(
+        &mut self,
+        alloc: Global,
+        class: ClassNo,
+        key: Key,
+        row: &Row,
+    ) -> Result<(), AllocError> {
+        self.plain.insert(class, key, row.clone()?)?;
+        self.parts.objects.insert(class, key, row.clone()?)
+    }
+
+    /// The predicate's rows are those with these keys. Gives how many objects are in the part in which they are sought,
+    /// if there is one.
+    fn assert_rows(
+        &mut self,
+        rt: &impl Abort,
+        alloc: Global,
+        env: &Env,
+        predicate: &Expr,
+        keys: &[Key],
+    ) -> Result<Option<usize>, Halt> {
+        let rows = selected_rows(alloc, "x", 0, predicate, env, &mut self.plain)?;
+        assert_keys(rt, &rows, keys);
+        self.parts.found = None;
+        let rows = selected_rows(alloc, "x", 0, predicate, env, &mut self.parts)?;
+        assert_keys(rt, &rows, keys);
+        Ok(self.parts.found)
+    }
+
+    /// The predicate has this fault, and no part is found.
+    fn assert_faulty(
+        &mut self,
+        rt: &impl Abort,
+        alloc: Global,
+        env: &Env,
+        predicate: &Expr,
+        cause: Cause,
+    ) {
+        let found = selected_rows(alloc, "x", 0, predicate, env, &mut self.plain);
+        assert_fault(rt, found, cause);
+        self.parts.found = None;
+        let found = selected_rows(alloc, "x", 0, predicate, env, &mut self.parts);
+        assert_fault(rt, found, cause);
+        assert!(rt; self.parts.found.is_none());
+    }
+}
+
+// The comparison that says the same with its sides changed.
+fn changed(how: Comparison) -> Comparison {
+    match how {
+        Comparison::Less => Comparison::Greater,
+        Comparison::AtMost => Comparison::AtLeast,
+        Comparison::Greater => Comparison::Less,
+        Comparison::AtLeast => Comparison::AtMost,
+        other => other,
+    }
+}
+
+// A comparison of an attribute with a number: the keys of its answer, and how many objects the part has, if one is asked
+// for.
+#[derive(Clone, Copy)]
+struct Case {
+    how: Comparison,
+    keys: &'static [Key],
+    found: Option<usize>,
+}
+
+fn made(how: Comparison, keys: &'static [Key], found: Option<usize>) -> Case {
+    Case { how, keys, found }
+}
+
+// The accounts whose keys compare so with 2. Where one key is asked for no part is.
+fn by_key() -> [Case; 6] {
+    [
+        made(Comparison::Equal, &[2], None),
+        made(Comparison::Unequal, &[-20, -3, 10], None),
+        made(Comparison::Less, &[-20, -3], Some(3)),
+        made(Comparison::AtMost, &[-20, -3, 2], Some(3)),
+        made(Comparison::Greater, &[10], Some(2)),
+        made(Comparison::AtLeast, &[2, 10], Some(2)),
+    ]
+}
+
+// The accounts whose balances, 5, 0, 3 and 4, compare so with 3.
+fn by_balance() -> [Case; 6] {
+    [
+        made(Comparison::Equal, &[2], Some(1)),
+        made(Comparison::Unequal, &[-20, -3, 10], None),
+        made(Comparison::Less, &[-3], Some(2)),
+        made(Comparison::AtMost, &[-3, 2], Some(2)),
+        made(Comparison::Greater, &[-20, 10], Some(3)),
+        made(Comparison::AtLeast, &[-20, 2, 10], Some(3)),
+    ]
+}
+
+// The comparison, with the attribute on either side.
+fn either_way(
+    alloc: Global,
+    attribute: Box<Expr>,
+    how: Comparison,
+    other: Box<Expr>,
+    right: bool,
+) -> Result<Box<Expr>, AllocError> {
+    if right {
+        return compared(alloc, other, changed(how), attribute);
+    }
+    compared(alloc, attribute, how, other)
+}
+
+#[test]
+fn each_comparison_of_a_key(rt: HostRuntime) -> Result<(), Fail> {
+    let alloc = rt.alloc();
+    let mut looks = Looks::new(alloc)?;
+    let env = Env::new(None, &[]);
+    for case in by_key() {
+        for right in [false, true] {
+            let key = key_of(alloc, "x")?;
+            let asked = either_way(alloc, key, case.how, number(alloc, 2)?, right)?;
+            let found = looks.assert_rows(&rt, alloc, &env, &asked, case.keys)?;
+            assert_eq!(rt; found, case.found);
+        }
+    }
+    Ok(())
+}
+
+#[test]
+fn each_comparison_of_a_field(rt: HostRuntime) -> Result<(), Fail> {
+    let alloc = rt.alloc();
+    let mut looks = Looks::new(alloc)?;
+    let env = Env::new(None, &[]);
+    for case in by_balance() {
+        for right in [false, true] {
+            let balance = balance_of(alloc, "x")?;
+            let asked = either_way(alloc, balance, case.how, number(alloc, 3)?, right)?;
+            let found = looks.assert_rows(&rt, alloc, &env, &asked, case.keys)?;
+            assert_eq!(rt; found, case.found);
+        }
+    }
+    Ok(())
+}
+
+// What follows the comparison is asked of the part alone: elsewhere it would be a fault, but it isn't looked at there.
+#[test]
+fn what_follows_a_comparison(rt: HostRuntime) -> Result<(), Fail> {
+    let alloc = rt.alloc();
+    let mut looks = Looks::new(alloc)?;
+    let env = Env::new(None, &[]);
+    let low = compared(
+        alloc,
+        number(alloc, 3)?,
+        Comparison::AtMost,
+        balance_of(alloc, "x")?,
+    )?;
+    let high = compared(
+        alloc,
+        balance_of(alloc, "x")?,
+        Comparison::Less,
+        number(alloc, 5)?,
+    )?;
+    let asked = both(alloc, both(alloc, low, high)?, is_quotient_positive(alloc)?)?;
+    let found = looks.assert_rows(&rt, alloc, &env, &asked, &[2, 10])?;
+    assert_eq!(rt; found, Some(3));
+    Ok(())
+}
+
+// 7 / bal > 0, which has a fault where the balance is 0.
+fn is_quotient_positive(alloc: Global) -> Result<Box<Expr>, AllocError> {
+    let quotient = Expr::Arithmetic(
+        Arithmetic::Quotient,
+        number(alloc, 7)?,
+        balance_of(alloc, "x")?,
+    );
+    let quotient = Box::new(alloc, quotient)?;
+    compared(alloc, quotient, Comparison::Greater, number(alloc, 0)?)
+}
+
+// The field is below 3.
+fn is_poor(alloc: Global) -> Result<Box<Expr>, AllocError> {
+    compared(
+        alloc,
+        balance_of(alloc, "x")?,
+        Comparison::Less,
+        number(alloc, 3)?,
+    )
+}
+
+#[test]
+fn a_row_that_lacks_the_field(rt: HostRuntime) -> Result<(), Fail> {
+    let alloc = rt.alloc();
+    let mut looks = Looks::new(alloc)?;
+    let env = Env::new(None, &[]);
+    let other = row(alloc, "other", Value::Int(1))?;
+    looks.put(alloc, 0, 11, &other)?;
+    let poor = is_poor(alloc)?;
+    looks.assert_faulty(&rt, alloc, &env, &poor, Cause::Kind);
+    Ok(())
+}
+
+#[test]
+fn a_value_of_another_kind(rt: HostRuntime) -> Result<(), Fail> {
+    let alloc = rt.alloc();
+    let mut looks = Looks::new(alloc)?;
+    let env = Env::new(None, &[]);
+    for right in [false, true] {
+        let much = Box::new(alloc, Expr::literal(Value::Text(text(alloc, "much")?)))?;
+        let asked = either_way(
+            alloc,
+            balance_of(alloc, "x")?,
+            Comparison::Less,
+            much,
+            right,
+        )?;
+        looks.assert_faulty(&rt, alloc, &env, &asked, Cause::Kind);
+    }
+    let much = row(alloc, "bal", Value::Text(text(alloc, "much")?))?;
+    looks.put(alloc, 0, 11, &much)?;
+    let poor = is_poor(alloc)?;
+    looks.assert_faulty(&rt, alloc, &env, &poor, Cause::Kind);
+    Ok(())
+}
+
+// Each truth value is no whole number and no text, so no part is asked for: of equal ones all rows are looked at.
+#[test]
+fn truth_values(rt: HostRuntime) -> Result<(), Fail> {
+    let alloc = rt.alloc();
+    let mut looks = Looks::new(alloc)?;
+    let env = Env::new(None, &[]);
+    let is = Box::new(alloc, Expr::literal(Value::Bool(true)))?;
+    let asked = compared(alloc, balance_of(alloc, "x")?, Comparison::Equal, is)?;
+    looks.assert_faulty(&rt, alloc, &env, &asked, Cause::Kind);
+    for key in [-20, -3, 2, 10] {
+        let balance = row(alloc, "bal", Value::Bool(key > 0))?;
+        looks.put(alloc, 0, key, &balance)?;
+    }
+    let found = looks.assert_rows(&rt, alloc, &env, &asked, &[2, 10])?;
+    assert_eq!(rt; found, None);
+    Ok(())
+}
+
+#[test]
+fn texts_by_their_bytes(rt: HostRuntime) -> Result<(), Fail> {
+    let alloc = rt.alloc();
+    let mut looks = Looks::new(alloc)?;
+    let env = Env::new(None, &[]);
+    for (key, name) in [(-20, "b"), (-3, "a"), (2, "ab"), (10, "")] {
+        let named = row(alloc, "bal", Value::Text(text(alloc, name)?))?;
+        looks.put(alloc, 0, key, &named)?;
+    }
+    let cases = [
+        made(Comparison::Equal, &[2], Some(1)),
+        made(Comparison::Less, &[-3, 10], Some(3)),
+        made(Comparison::AtMost, &[-3, 2, 10], Some(3)),
+        made(Comparison::Greater, &[-20], Some(2)),
+        made(Comparison::AtLeast, &[-20, 2], Some(2)),
+    ];
+    for case in cases {
+        for right in [false, true] {
+            let name = Box::new(alloc, Expr::literal(Value::Text(text(alloc, "ab")?)))?;
+            let asked = either_way(alloc, balance_of(alloc, "x")?, case.how, name, right)?;
+            let found = looks.assert_rows(&rt, alloc, &env, &asked, case.keys)?;
+            assert_eq!(rt; found, case.found);
+        }
+    }
+    Ok(())
+}
+
+// What has a fault has it at the first row, and nowhere if there is no row.
+#[test]
+fn the_other_side_has_a_fault(rt: HostRuntime) -> Result<(), Fail> {
+    let alloc = rt.alloc();
+    let mut looks = Looks::new(alloc)?;
+    let env = Env::new(None, &[]);
+    for right in [false, true] {
+        let unknown = Box::new(alloc, Expr::KeyIn { part: 0 })?;
+        let asked = either_way(
+            alloc,
+            balance_of(alloc, "x")?,
+            Comparison::Less,
+            unknown,
+            right,
+        )?;
+        looks.assert_faulty(&rt, alloc, &env, &asked, Cause::NoParameter);
+        let rows = selected_rows(alloc, "x", 2, &asked, &env, &mut looks.parts)?;
+        assert_keys(&rt, &rows, &[]);
+    }
+    Ok(())
+}
+
+#[test]
+fn a_class_without_objects(rt: HostRuntime) -> Result<(), Fail> {
+    let alloc = rt.alloc();
+    let mut looks = Looks::new(alloc)?;
+    let env = Env::new(None, &[]);
+    let poor = is_poor(alloc)?;
+    let rows = selected_rows(alloc, "x", 2, &poor, &env, &mut looks.parts)?;
+    assert_keys(&rt, &rows, &[]);
+    assert_eq!(rt; looks.parts.found, Some(0));
+    Ok(())
+}
+
+// The other side names the row itself, also where another row has the name outside: no part is asked for.
+#[test]
+fn the_name_means_the_own_row(rt: HostRuntime) -> Result<(), Fail> {
+    let alloc = rt.alloc();
+    let mut looks = Looks::new(alloc)?;
+    let outer = account(alloc, 100)?;
+    let env = Env::new(None, &[]);
+    for right in [false, true] {
+        let balance = balance_of(alloc, "x")?;
+        let own = either_way(alloc, balance, Comparison::Less, key_of(alloc, "x")?, right)?;
+        let found = looks.assert_rows(&rt, alloc, &env, &own, &[10])?;
+        assert_eq!(rt; found, None);
+        let found = looks.assert_rows(&rt, alloc, &env.bound("x", 1, &outer), &own, &[10])?;
+        assert_eq!(rt; found, None);
+    }
+    let poor = is_poor(alloc)?;
+    let found = looks.assert_rows(&rt, alloc, &env.bound("x", 1, &outer), &poor, &[-3])?;
+    assert_eq!(rt; found, None);
+
+    // Another row's balance is as good as a number.
+    let other = balance_of(alloc, "y")?;
+    let asked = compared(alloc, balance_of(alloc, "x")?, Comparison::Less, other)?;
+    let four = account(alloc, 4)?;
+    let found = looks.assert_rows(&rt, alloc, &env.bound("y", 1, &four), &asked, &[-3, 2])?;
+    assert_eq!(rt; found, Some(3));
+    Ok(())
+}
