@@ -178,7 +178,7 @@ alike_after (row ∷ objects) first added is e h =
     let same : first ≡ row = cc in
     (h.0, alike_more (names_of row.row) (map keyed_row objects) (keyed_row added) h.1 (e ∙ ap (λ (r : KeyedRow). names_of r.row) same))
 
--- ---- the values of all rows, one after the other
+-- ---- the values of all rows, one after another
 
 values_added : (os : List V.KeyedRow) (o : V.KeyedRow) → all_values (os ++ o ∷ []) ≡ all_values os ++ values_of o.row
 values_added [] o = append-nil (values_of o.row)

@@ -56,7 +56,7 @@ AreNamed ns (o ∷ os) = (names_of o.row ≡ ns) × AreNamed ns os
 abbrev pub AreAlike : List V.KeyedRow → Type 0
 AreAlike os = AreNamed (first_names os) os
 
--- the values of all rows, one after the other
+-- the values of all rows, one after another
 abbrev pub all_values : List V.KeyedRow → List V.Value
 all_values [] = []
 all_values (o ∷ os) = values_of o.row ++ all_values os

@@ -22,7 +22,7 @@ pub struct ObjectList {
     // Whether all rows are known to have the same names, as those of one class do. Then a comparison looks at values
     // alone.
     are_alike: bool,
-    // The values of all rows, one after the other; `None` if one of them isn't an integer. Comparing this one list of
+    // The values of all rows, one after another; `None` if one of them isn't an integer. Comparing this one list of
     // integers is faster than comparing rows.
     numbers: Option<Vec<i64>>,
 }
