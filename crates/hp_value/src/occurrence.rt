@@ -267,7 +267,7 @@ impl Clone for Occurrence {
 /// When and in which transaction a rule's condition is evaluated, relative to the event, or its action runs, relative
 /// to the condition.
 ///
-/// The modes are HiPAC's; `Exclusive` is one of its later ones.
+/// The modes are HiPAC's, except `Exclusive`, which is this project's own.
 #[derive(Clone, Copy, Debug, PartialEq, Eq)]
 pub enum Coupling {
     /// At once, inside the triggering transaction.
