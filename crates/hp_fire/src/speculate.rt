@@ -1,7 +1,7 @@
 //! Groups of sibling firings, which workers try ahead of their turn.
 //!
 //! All speculation is in this module, and it knows nothing of statements: a group is passed one function that fires a
-//! task, and one that tries a task on a snapshot. `README.md` of the crate explains the terms, and follows one sibling.
+//! task, and one that tries a task on a snapshot. `docs/SPECULATION.md` has the terms, and the life of a group.
 
 mod channel;
 mod counts;
