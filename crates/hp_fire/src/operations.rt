@@ -236,7 +236,7 @@ pub(crate) fn operation_course(alloc: Global, prim: &Prim) -> Result<Course, All
             return Ok(Course::ended(alloc, End::Done));
         }
     };
-    // At most one firing mostly follows an operation.
+    // Mostly at most one firing follows an operation.
     let course = Course::of_item(alloc, Item::Operation(operation), 1)?;
     Ok(course)
 }

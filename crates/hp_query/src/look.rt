@@ -26,23 +26,17 @@ pub trait Look {
     ghost goes_on: { Self → Self → Type 0 };
 
     /// The row of the object with this key in this class, or `None` if there is no such object.
-    ///
-    /// An error means that memory ran out.
     fn row(&mut self, alloc: Global, class: ClassNo, key: Key) -> Result<Option<Row>, AllocError>
         ensures goes_on { goes_on self.old self.new }
         ensures found { IfOk result (λ found. (world : Objects) → ObjectsRise world → allows self.new world → found ≡ find_object world class key) };
 
     /// The keys of a class's objects, in ascending order.
-    ///
-    /// An error means that memory ran out.
     fn keys(&mut self, alloc: Global, class: ClassNo) -> Result<Vec<Key>, AllocError>
         ensures goes_on { goes_on self.old self.new }
         ensures listed { IfOk result (λ keys. (world : Objects) → ObjectsRise world → allows self.new world → keys.items ≡ class_keys class world) };
 
     /// All objects of a class with their rows, in ascending key order, if the look keeps such a list. The list is
     /// shared. `None` if the objects have to be read one by one.
-    ///
-    /// An error means that memory ran out.
     fn objects(
         &mut self,
         alloc: Global,
@@ -53,8 +47,6 @@ pub trait Look {
 
     /// The objects of a part of a class with their rows, in ascending key order, if the look finds them without reading
     /// the others and knows that no other object is in the part. `None` if it can't.
-    ///
-    /// An error means that memory ran out.
     fn part(
         &mut self,
         alloc: Global,

@@ -98,19 +98,19 @@ IsUnable b body (Refusal.HistoryFull n) = (rules.library body.library.value ≡ 
 IsUnable b body (Refusal.Stale entries cell) = ⊥
 IsUnable b body Refusal.NoMemory = MayCome b body
 
--- a refusal that isn't for what a unit read
+-- a refusal whose reason isn't a read of the unit
 abbrev pub IsNotStale : Refusal → Type 0
 IsNotStale Refusal.OtherLibrary = Unit {0}
 IsNotStale (Refusal.HistoryFull n) = Unit {0}
 IsNotStale (Refusal.Stale entries cell) = ⊥
 IsNotStale Refusal.NoMemory = Unit {0}
 
--- what a session that was told of the number last holds of this table
+-- what a session with this last number knows of this table
 abbrev pub IsMemory : TableId → ℕ → Option (Seat Entry View) → Type 0
 IsMemory table last None = last ≡ 0
 IsMemory table last (Some t) = (t.table_id ≡ table) × (t.me.1 ≡ []) × (last ≤ length t.me.0.list)
 
--- the body was run as a unit on the store as it was, and committed: its entry was added to the history, and the receipt
+-- the body ran as a unit on the current store, and was committed: its entry was added to the history, and the receipt
 -- is the entry's
 pub record IsRun (session : ℕ) (body : Body) (before now : Ledger) (r : Told) : Type 0 where
   pub might : MayCome before body
@@ -121,7 +121,7 @@ pub record IsRun (session : ℕ) (body : Body) (before now : Ledger) (r : Told) 
   pub history : now.history ≡ before.history ++ record { session = session; body = body; reply = reply } ∷ []
   pub receipt : r ≡ record { number = length before.history + 1; entry = Some (record { session = session; body = body; reply = reply }) }
 
--- this is what is reported of the entry
+-- this is the report of the entry
 abbrev pub IsReply : Arc UnitReport Global → Option Entry → Type 0
 IsReply reply None = ⊥
 IsReply reply (Some e) = reply.value ≡ e.reply.value
