@@ -1,4 +1,4 @@
-//! What a unit leaves in the store beside its changes.
+//! Lists that a unit leaves in the store.
 
 use crate::fixtures::{alone, bank, going, idles, library, on_rich, set};
 use hp_rule::{CheckError, Library, Stmt, Unit};
@@ -10,7 +10,7 @@ use std::sync::Arc;
 use std::test::Fail;
 use std::thread::Threads;
 
-// A rule whose condition asks for the rich accounts, and one that asks for nothing.
+// A rule whose condition asks for the rich accounts, and one without a query.
 fn asking(alloc: Global) -> Result<Arc<Library>, CheckError> {
     let first = on_rich(alloc, "first", Vec::new(alloc));
     let lib = library(alloc, first, idles(alloc, "second", Coupling::Immediate))?;
@@ -25,7 +25,7 @@ fn stocked(alloc: Global, lib: &Library) -> Result<Store, Halt> {
     Ok(store)
 }
 
-// Runs a transaction, and tells whether the store then has a list of the accounts.
+// Runs a transaction, and says whether the store then lists the accounts.
 fn are_listed_after(
     rt: &(impl Threads + Sync),
     alloc: Global,

@@ -1,4 +1,4 @@
--- Lists that are compared place by place.
+-- Lists that are compared element by element.
 use Rattle.std.proofs.Common.{◌≡◌, ◌≢◌, ℕ, ◌+◌, ◌<◌, ◌≤◌, List, [], ◌∷◌, length, drop, get_or, map, Bool, true, false, ◌&&◌, refl, sym, ap, ap₂, ◌∙◌, subst}
 use Rattle.std.proofs.lemmas.List.{at_drop_more, at_drop_all}
 use Rattle.std.specs.Ordering.{on}
@@ -49,12 +49,12 @@ queries_on = pointwise_on query query_same
 pub rules_on : (xs ys : List Rule) → pointwise (on rule rule_same) xs ys ≡ pointwise rule_same (map rule xs) (map rule ys)
 rules_on = pointwise_on rule rule_same
 
--- a test that is another, which decides
+-- a test that equals another one, which decides
 pub told : {P : Type 0} (x b : Bool) → x ≡ b → Decides b P → (IsTrue x → P) × (P → IsTrue x)
 told true b is d = (λ _. d.0 (sym is), λ _. refl)
 told false b is d = (λ h. absurd (true≢false (sym h)), λ p. absurd (true≢false (sym (d.1 p) ∙ sym is)))
 
--- the lists from the i-th place on
+-- the lists from the i-th element on
 left_over : {A : Type 0} (E : A → A → Bool) (xs ys : List A) (i : ℕ) (x y : A) → i < length xs → i < length ys → x ≡ get_or xs i x → y ≡ get_or ys i y
     → pointwise E (drop i xs) (drop i ys) ≡ E x y && pointwise E (drop (i + 1) xs) (drop (i + 1) ys)
 left_over E xs ys i x y low low' is is' =

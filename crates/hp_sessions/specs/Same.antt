@@ -1,4 +1,4 @@
--- Whether two libraries are the same, as a test that is true exactly where the two are equal.
+-- Equality of libraries as a test that is true exactly if the two are equal.
 use Rattle.std.specs.Prelude.{ℕ, ◌≡◌, refl, Bool, true, false, ◌&&◌, nat_eq, bytes_eq, List}
 use Rattle.std.proofs.Common.{ap}
 use lib.Pointwise.{pointwise, pointwise_decides, bytes_decides}

@@ -1,4 +1,4 @@
-//! Whether two libraries are the same.
+//! Equality of libraries.
 
 ghost use Rattle.std.specs.Prelude.{◌≡◌, ◌↔◌, IsTrue, map};
 ghost use lib.Pointwise.{pointwise};
@@ -11,9 +11,9 @@ use hp_query::Query;
 use hp_rule::{Assignment, Library, Rule, Stmt};
 use hp_value::{ClassDef, Expr, Field};
 
-/// Whether two libraries are the same: the same classes and the same rules in the same order, and the same limit of depth.
+/// Whether two libraries are equal: the same classes and rules in the same order, and the same depth limit.
 ///
-/// Neither has to be the other's copy: all of both is compared. It takes no memory.
+/// It compares their values; neither has to be a copy of the other. It allocates nothing.
 pub(crate) fn are_same(one: &Library, other: &Library) -> bool
     ensures { IsTrue result ↔ (library one.now ≡ library other.now) }
 {
@@ -22,19 +22,19 @@ pub(crate) fn are_same(one: &Library, other: &Library) -> bool
         && one.depth_limit() == other.depth_limit()
 }
 
-/// What can be compared as a whole.
+/// A type whose values can be compared.
 trait Same {
     ghost use Rattle.std.specs.Prelude.{◌≡◌, Bool};
 
-    /// Whether two are the same, as a test.
+    /// The test for equality.
     ghost same: { Self → Self → Bool };
 
-    /// Whether this is the same as the other.
+    /// Whether the two are equal.
     fn is_same(&self, other: &Self) -> bool
         ensures { result ≡ same self.now other.now };
 }
 
-/// Whether two lists are as long, and the same at each place.
+/// Whether two lists are equal.
 fn is_each_same<T: Same>(items: &[T], others: &[T]) -> bool
     ensures { result ≡ pointwise T.same items.now others.now }
 {
@@ -128,7 +128,7 @@ impl Same for Rule {
     }
 }
 
-/// Whether two expressions are the same.
+/// Whether two expressions are equal.
 fn is_same_expression(e: &Expr, other: &Expr) -> bool
     ensures { result ≡ expression_same (expression e.now) (expression other.now) }
 {
@@ -171,7 +171,7 @@ fn is_same_expression(e: &Expr, other: &Expr) -> bool
     }
 }
 
-/// Whether two bodies are the same.
+/// Whether two bodies are equal.
 #[cycle(body)]
 fn is_same_body(body: &[Stmt], other: &[Stmt]) -> bool
     ensures { result ≡ body_same (body_in body.now) (body_in other.now) }
@@ -187,7 +187,7 @@ fn is_same_body(body: &[Stmt], other: &[Stmt]) -> bool
     true
 }
 
-/// Whether two statements are the same.
+/// Whether two statements are equal.
 #[cycle(body)]
 fn is_same_statement(s: &Stmt, other: &Stmt) -> bool
     ensures { result ≡ statement_same (statement s.now) (statement other.now) }
