@@ -18,12 +18,19 @@ use std::alloc::{AllocError, Global};
 ///
 /// A library is checked: each name, number, event, expression and statement in it is as the grammar of scripts wants it,
 /// and nothing exceeds a limit.
+///
+/// Two are equal where they have the same classes and the same rules in the same order, and the same limit of depth.
 #[derive(Debug, Drop)]
+#[derive_where(PartialEq, Eq)]
 pub struct Library {
     classes: Vec<ClassDef>,
     rules: Vec<Rule>,
     depth_limit: u8,
+    // The rules give it, so it isn't compared.
+    #[derive_where(skip(EqHashOrd))]
     index: Index,
+    // The rules give them too.
+    #[derive_where(skip(EqHashOrd))]
     asked_fields: Vec<AskedField>,
     // What the index lists is what may concern an occurrence.
     ghost indexed: { (p : Primitive) → listed index p ≡ candidates (map rule rules.items) p },

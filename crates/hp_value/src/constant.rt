@@ -7,7 +7,7 @@ ghost use Rattle.hp_value.specs.Rows.{value as value_of};
 use crate::value::Value;
 
 /// A value as it is written in an expression.
-#[derive(Debug, Drop)]
+#[derive(Debug, PartialEq, Eq, Drop)]
 pub struct Constant {
     value: Value,
     // A whole number is within its type's bounds.
