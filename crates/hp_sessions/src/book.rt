@@ -16,7 +16,6 @@ use crate::history::History;
 use crate::name::BookName;
 use crate::receipt::Receipt;
 use crate::refusal::Refusal;
-use crate::same::are_same;
 use crate::telling::{Token, Words, append, recall, tell};
 use crate::unit::Unit;
 use hp_rule::{Body, Library};
@@ -154,7 +153,7 @@ impl<K: BookName> Book<K> {
         ensures none { IfNone result (MayCome self.now body.now) }
         ensures some { IfSome result (λ e. IsUnable self.now body.now e) }
     {
-        if !are_same(body.library(), &self.library) {
+        if **body.library() != *self.library {
             return Some(Refusal::OtherLibrary);
         }
         if self.history.len() >= MOST_UNITS {
