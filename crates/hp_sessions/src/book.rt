@@ -1,6 +1,6 @@
 //! The book: what lies under the lock.
 
-ghost use Rattle.std.specs.Prelude.{◌≡◌, ◌<◌, ◌≤◌, length, vec_len, vec_capacity, IfOk, IfErr, IfSome, IfNone, OnErr};
+ghost use Rattle.std.specs.Prelude.{◌≡◌, ◌↔◌, IsTrue, ◌<◌, ◌≤◌, length, vec_len, vec_capacity, IfOk, IfErr, IfSome, IfNone, OnErr};
 ghost use mathlib.Core.List.{IsPrefix};
 ghost use Rattle.hp_model.specs.Cells.{Holds, over};
 ghost use Rattle.hp_model.specs.Sessions.{HasFitState};
@@ -91,6 +91,13 @@ impl Book<Brand> {
     }
 }
 
+/// Whether two libraries are equal, as values: neither has to be the other's copy.
+fn are_same(one: &Library, other: &Library) -> bool
+    ensures { IsTrue result ↔ (rules.library one.now ≡ rules.library other.now) }
+{
+    *one == *other
+}
+
 /// Makes all that the commit of a unit needs, up to what cannot fail: room for its entry, its changes in the store, and
 /// the receipt's share of its reply.
 ///
@@ -153,7 +160,7 @@ impl<K: BookName> Book<K> {
         ensures none { IfNone result (MayCome self.now body.now) }
         ensures some { IfSome result (λ e. IsUnable self.now body.now e) }
     {
-        if **body.library() != *self.library {
+        if !are_same(body.library(), &self.library) {
             return Some(Refusal::OtherLibrary);
         }
         if self.history.len() >= MOST_UNITS {
