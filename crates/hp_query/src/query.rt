@@ -19,7 +19,7 @@ use hp_value::{ClassNo, Env, Expr, Halt, Key, KeyedRow, Row};
 use std::alloc::{AllocError, Global};
 
 /// A query: the rows of a class for which a predicate is true. HiPAC's conditions are lists of queries.
-#[derive(Debug, Drop)]
+#[derive(Debug, PartialEq, Eq, Drop)]
 pub struct Query {
     /// The query's name. In its predicate it means the row that is tested, and later on the first row of its answer.
     pub name: String,

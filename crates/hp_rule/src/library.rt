@@ -18,12 +18,19 @@ use std::alloc::{AllocError, Global};
 ///
 /// A library is checked: all its names, numbers, events, expressions and statements follow the grammar of scripts, and
 /// no limit is exceeded.
+///
+/// Two are equal if they have the same classes and the same rules in the same order, and the same limit of depth.
 #[derive(Debug, Drop)]
+#[derive_where(PartialEq, Eq)]
 pub struct Library {
     classes: Vec<ClassDef>,
     rules: Vec<Rule>,
     depth_limit: u8,
+    // The rules give it, so it isn't compared.
+    #[derive_where(skip(EqHashOrd))]
     index: Index,
+    // The rules give them too.
+    #[derive_where(skip(EqHashOrd))]
     asked_fields: Vec<AskedField>,
     // The index lists the rules that an occurrence may concern.
     ghost indexed: { (p : Primitive) → listed index p ≡ candidates (map rule rules.items) p },

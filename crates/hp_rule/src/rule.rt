@@ -9,7 +9,7 @@ use std::sync::Arc;
 /// A rule: when its event occurs, its condition is evaluated, and if that is satisfied, its action runs.
 ///
 /// HiPAC's rules have an event, a condition, an action and two coupling modes.
-#[derive(Debug, Drop)]
+#[derive(Debug, PartialEq, Eq, Drop)]
 pub struct Rule {
     /// The rule's name.
     pub name: String,

@@ -3,7 +3,7 @@
 use hp_value::{ClassNo, Expr, RuleNo, RuleOperation};
 
 /// A field and the expression that it is set to.
-#[derive(Debug, Drop)]
+#[derive(Debug, PartialEq, Eq, Drop)]
 pub struct Assignment {
     /// The field's name.
     pub field: String,
@@ -108,4 +108,132 @@ pub enum Stmt {
     },
     /// Fires a rule without an occurrence of its event.
     Fire(RuleNo),
+}
+
+impl PartialEq for Stmt {
+    ghost use Rattle.std.specs.Ordering.{on};
+    ghost use Rattle.std.specs.Cmp.{on_equiv, partial_equiv_from_equiv};
+    ghost use Rattle.hp_rule.specs.SameStatements.{statement_same, statement_equiv};
+    ghost use Rattle.hp_rule.specs.Statements.{statement};
+
+    ghost eq = { on statement statement_same };
+
+    ghost laws = { partial_equiv_from_equiv (on_equiv statement statement_equiv) };
+
+    fn eq(&self, other: &Stmt) -> bool {
+        match (self, other) {
+            (
+                Stmt::Create {
+                    class: c,
+                    key: k,
+                    pairs: p,
+                },
+                Stmt::Create {
+                    class: d,
+                    key: l,
+                    pairs: q,
+                },
+            )
+            | (
+                Stmt::Update {
+                    class: c,
+                    key: k,
+                    pairs: p,
+                },
+                Stmt::Update {
+                    class: d,
+                    key: l,
+                    pairs: q,
+                },
+            ) => c == d && **k == **l && p == q,
+            (Stmt::Delete { class: c, key: k }, Stmt::Delete { class: d, key: l }) => {
+                c == d && **k == **l
+            }
+            (
+                Stmt::Signal {
+                    name: x,
+                    arguments: a,
+                },
+                Stmt::Signal {
+                    name: y,
+                    arguments: b,
+                },
+            ) => x == y && a == b,
+            (Stmt::Emit(a), Stmt::Emit(b)) => **a == **b,
+            (
+                Stmt::If {
+                    condition: e,
+                    then_body: a,
+                    else_body: b,
+                },
+                Stmt::If {
+                    condition: f,
+                    then_body: c,
+                    else_body: d,
+                },
+            ) => **e == **f && a == c && b == d,
+            (
+                Stmt::Each {
+                    variable: x,
+                    class: c,
+                    predicate: e,
+                    body: a,
+                },
+                Stmt::Each {
+                    variable: y,
+                    class: d,
+                    predicate: f,
+                    body: b,
+                },
+            )
+            | (
+                Stmt::With {
+                    variable: x,
+                    class: c,
+                    key: e,
+                    body: a,
+                },
+                Stmt::With {
+                    variable: y,
+                    class: d,
+                    key: f,
+                    body: b,
+                },
+            ) => x == y && c == d && **e == **f && a == b,
+            (Stmt::For { query: x, body: a }, Stmt::For { query: y, body: b }) => {
+                x == y && a == b
+            }
+            (
+                Stmt::Sub {
+                    body: a,
+                    otherwise: b,
+                },
+                Stmt::Sub {
+                    body: c,
+                    otherwise: d,
+                },
+            ) => a == c && b == d,
+            (Stmt::Abort, Stmt::Abort) | (Stmt::Veto, Stmt::Veto) => true,
+            (
+                Stmt::OnRule {
+                    operation: o,
+                    rule: m,
+                },
+                Stmt::OnRule {
+                    operation: p,
+                    rule: n,
+                },
+            ) => o == p && m == n,
+            (Stmt::Fire(m), Stmt::Fire(n)) => m == n,
+            _ => false,
+        }
+    }
+}
+
+impl Eq for Stmt {
+    ghost use Rattle.std.specs.Cmp.{on_equiv};
+    ghost use Rattle.hp_rule.specs.SameStatements.{statement_equiv};
+    ghost use Rattle.hp_rule.specs.Statements.{statement};
+
+    ghost laws = { on_equiv statement statement_equiv };
 }

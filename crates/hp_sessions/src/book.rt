@@ -1,6 +1,6 @@
 //! The book, which the lock protects.
 
-ghost use Rattle.std.specs.Prelude.{◌≡◌, ◌<◌, ◌≤◌, length, vec_len, vec_capacity, IfOk, IfErr, IfSome, IfNone, OnErr};
+ghost use Rattle.std.specs.Prelude.{◌≡◌, ◌↔◌, IsTrue, ◌<◌, ◌≤◌, length, vec_len, vec_capacity, IfOk, IfErr, IfSome, IfNone, OnErr};
 ghost use mathlib.Core.List.{IsPrefix};
 ghost use Rattle.hp_model.specs.Cells.{Holds, over};
 ghost use Rattle.hp_model.specs.Sessions.{HasFitState};
@@ -16,7 +16,6 @@ use crate::history::History;
 use crate::name::BookName;
 use crate::receipt::Receipt;
 use crate::refusal::Refusal;
-use crate::same::are_same;
 use crate::telling::{Token, Words, append, recall, tell};
 use crate::unit::Unit;
 use hp_rule::{Body, Library};
@@ -89,6 +88,13 @@ impl Book<Brand> {
             token,
         })
     }
+}
+
+/// Whether two libraries are equal, as values: neither has to be the other's copy.
+fn are_same(one: &Library, other: &Library) -> bool
+    ensures { IsTrue result ↔ (rules.library one.now ≡ rules.library other.now) }
+{
+    *one == *other
 }
 
 /// Prepares the commit of a unit, so that nothing after it can fail: space for its entry, its changes in the store, and

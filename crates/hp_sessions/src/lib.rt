@@ -15,7 +15,6 @@ pub mod laws;
 mod name;
 mod receipt;
 mod refusal;
-mod same;
 mod session;
 mod telling;
 mod unit;

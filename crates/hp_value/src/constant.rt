@@ -7,7 +7,7 @@ ghost use Rattle.hp_value.specs.Rows.{value as value_of};
 use crate::value::Value;
 
 /// A literal of an expression.
-#[derive(Debug, Drop)]
+#[derive(Debug, PartialEq, Eq, Drop)]
 pub struct Constant {
     value: Value,
     // An integer is within the bounds of its type.

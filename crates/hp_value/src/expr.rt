@@ -99,6 +99,63 @@ pub enum Expr {
     Count,
 }
 
+impl PartialEq for Expr {
+    ghost use Rattle.std.specs.Ordering.{on};
+    ghost use Rattle.std.specs.Cmp.{on_equiv, partial_equiv_from_equiv};
+    ghost use Rattle.hp_value.specs.SameExpressions.{expression_same, expression_equiv};
+    ghost use Rattle.hp_value.specs.Mapped.{expression};
+
+    ghost eq = { on expression expression_same };
+
+    ghost laws = { partial_equiv_from_equiv (on_equiv expression expression_equiv) };
+
+    fn eq(&self, other: &Expr) -> bool {
+        match (self, other) {
+            (Expr::Constant(v), Expr::Constant(w)) => v == w,
+            (Expr::Arithmetic(o, a, b), Expr::Arithmetic(p, c, d)) => {
+                o == p && **a == **c && **b == **d
+            }
+            (Expr::Comparison(o, a, b), Expr::Comparison(p, c, d)) => {
+                o == p && **a == **c && **b == **d
+            }
+            (Expr::Negated(a), Expr::Negated(b)) | (Expr::Not(a), Expr::Not(b)) => **a == **b,
+            (Expr::And(a, b), Expr::And(c, d)) | (Expr::Or(a, b), Expr::Or(c, d)) => {
+                **a == **c && **b == **d
+            }
+            (
+                Expr::FieldOf {
+                    variable: x,
+                    field: f,
+                },
+                Expr::FieldOf {
+                    variable: y,
+                    field: g,
+                },
+            ) => x == y && f == g,
+            (Expr::KeyOf { variable: x }, Expr::KeyOf { variable: y }) => x == y,
+            (Expr::NewField { part: m, field: f }, Expr::NewField { part: n, field: g })
+            | (Expr::OldField { part: m, field: f }, Expr::OldField { part: n, field: g }) => {
+                m == n && f == g
+            }
+            (Expr::KeyIn { part: m }, Expr::KeyIn { part: n })
+            | (Expr::TimeOf { part: m }, Expr::TimeOf { part: n }) => m == n,
+            (Expr::Argument { part: m, place: k }, Expr::Argument { part: n, place: l }) => {
+                m == n && k == l
+            }
+            (Expr::Count, Expr::Count) => true,
+            _ => false,
+        }
+    }
+}
+
+impl Eq for Expr {
+    ghost use Rattle.std.specs.Cmp.{on_equiv};
+    ghost use Rattle.hp_value.specs.SameExpressions.{expression_equiv};
+    ghost use Rattle.hp_value.specs.Mapped.{expression};
+
+    ghost laws = { on_equiv expression expression_equiv };
+}
+
 impl Expr {
     ghost use Rattle.std.specs.Prelude.{◌≡◌};
     ghost use Rattle.hp_model.specs.Expressions.{constant};

@@ -23,7 +23,7 @@ pub struct Field {
 }
 
 /// A class of objects.
-#[derive(Debug, Drop)]
+#[derive(Debug, PartialEq, Eq, Drop)]
 pub struct ClassDef {
     /// The class's name.
     pub name: String,
