@@ -15,3 +15,4 @@ pub mod Told
 pub mod Picked
 pub mod Placed
 pub mod Indexed
+pub mod Noted

@@ -24,8 +24,8 @@ use std::collections::{BTreeMap, BTreeSet};
 /// It has to be complete only: who finds a key looks at the object.
 #[derive(Debug, Drop)]
 pub(crate) struct Index {
-    class: ClassNo,
-    field: String,
+    pub(crate) class: ClassNo,
+    pub(crate) field: String,
     places: BTreeSet<Place>,
 }
 
@@ -87,6 +87,18 @@ impl Index {
     {
         let place = place_in(self.field.as_str(), key, value);
         add(&mut self.places, place)
+    }
+
+    /// The same of a cell, which may be none of an object of the class.
+    pub(crate) fn enter_at(&mut self, cell: Cell, value: Option<&CellValue>) -> bool
+        ensures same { self.new.class ≡ self.old.class }
+        ensures kept { (k : ℤ) (v : Option Held) → IsIn self.old k v → IsIn self.new k v }
+        ensures entered { IsTrue result → (key : ℤ) → mapped.cell cell ≡ object_cell self.old.class key → IsIn self.new key (option_map (λ x. cell_value x.now) value.entry) }
+    {
+        match cell {
+            Cell::Object(class, key) if class == self.class => self.enter(key, value),
+            _ => true,
+        }
     }
 
     // Takes in what an object's cell holds in place of another value. The answer is false where memory runs out.

@@ -242,7 +242,7 @@ impl Snapshot {
         ensures { IfOk result (λ s. cells_in s ≡ over (cells_in self.now) (changes layer.value)) }
     {
         let lists = still_kept(alloc, &self.lists, &layer)?;
-        let layers = piled(alloc, &self.layers, layer)?;
+        let layers = piled(alloc, &self.layers, layer, &self.base.indexes)?;
         Ok(Snapshot {
             base: Arc::try_clone(&self.base)?,
             layers,
@@ -262,7 +262,7 @@ impl Snapshot {
             return Ok(());
         }
         let lists = still_kept(alloc, &self.lists, &layer)?;
-        self.layers = piled(alloc, &self.layers, layer)?;
+        self.layers = piled(alloc, &self.layers, layer, &self.base.indexes)?;
         self.lists = lists;
         settle(alloc, &mut self.base, &mut self.layers);
         Ok(())
