@@ -9,6 +9,7 @@ ghost use Rattle.hp_store.specs.Mapped as here;
 ghost use Rattle.hp_store.specs.Parts.{keys_left, no_cells, is_among, Covers};
 
 use crate::candidates::Candidates;
+use crate::index::Index;
 use crate::layer::Layer;
 use crate::value::CellValue;
 use hp_value::{Cell, ClassNo, ClassPart};
@@ -105,13 +106,15 @@ pub(crate) fn copied(alloc: Global, layers: &[SharedLayer]) -> Result<Layers, Al
     Ok(copies)
 }
 
-/// The layers with one more over them. One that changes nothing is left out, and a ninth is folded with the others into one.
+/// The layers with one more over them. One that changes nothing is left out, and a ninth is folded with the others into one,
+/// which has the base's indexes.
 ///
 /// An error means that memory ran out.
 pub(crate) fn piled(
     alloc: Global,
     layers: &[SharedLayer],
     layer: Arc<Layer>,
+    indexes: &[Index],
 ) -> Result<Layers, AllocError>
     requires { length layers.now ≤ MOST_LAYERS }
     ensures changes { IfOk result (λ pile. (q : ModelCell) → changes_in pile.items q ≡ option_or (changes layer.value q) (changes_in layers.now q)) }
@@ -124,6 +127,7 @@ pub(crate) fn piled(
     if layers.len() == MOST_LAYERS {
         let mut all = folded(alloc, layers)?;
         all.take_in(&layer)?;
+        all.keep_indexes(alloc, indexes)?;
         let one = alone(alloc, all)?;
         return Ok(one);
     }
