@@ -172,7 +172,7 @@ impl Layer {
         ensures changes { changes self.new ≡ changes self.old }
         ensures entries { self.new ≡ self.old }
     {
-        if self.changes.len() < FEW || has_index(&self.indexes, class, field) {
+        if self.len() < FEW || has_index(&self.indexes, class, field) {
             return Ok(());
         }
         let index = index_of(alloc, &self.changes, class, field)?;
