@@ -114,8 +114,8 @@ pub(crate) fn copied(alloc: Global, layers: &[SharedLayer]) -> Result<Layers, Al
     Ok(copies)
 }
 
-/// The layers with one more over them. One that changes nothing is left out, and a ninth is folded with the newest of the
-/// others into one, which has the base's indexes.
+/// The layers with one more over them. One that changes nothing is left out, and a ninth is folded with the newest of
+/// the others into one, which has the base's indexes.
 ///
 /// An error means that memory ran out.
 pub(crate) fn piled(
@@ -154,9 +154,9 @@ fn pushed(alloc: Global, layers: &[SharedLayer], layer: Arc<Layer>) -> Result<La
     Ok(pile)
 }
 
-// Where the layers begin that are folded with a new one of so many changes: the newest, and below it each that has at most
-// twice the changes of what is folded with it. So a change is folded again only into a layer half as large again, and commits
-// stay cheap while somebody holds the base for good.
+// Where the layers begin that are folded with a new one of so many changes: the newest, and below it each that has at
+// most twice the changes of those above it. So where a lower layer is folded it grows by half at least, and commits stay
+// cheap while somebody holds the base for good.
 fn fold_from(layers: &[SharedLayer], added: usize) -> usize
     requires { 0 < length layers.now }
     ensures { result < length layers.now }
