@@ -97,8 +97,8 @@ impl Base {
         }
     }
 
-    /// Keys of a class among which all objects of a part are: those of an index, if there is one of the part's field, and
-    /// else those up to the part's bounds, if it is one by keys.
+    /// Keys of a class among which all objects of a part are: those of an index, if there is one of the part's field,
+    /// and else those up to the part's bounds, if it is one by keys.
     pub(crate) fn candidates(&self, class: ClassNo, part: &ClassPart<'_>) -> Candidates<'_>
         ensures { AreComplete (base_cells self.now) self.now.indexes.items → Covers (is_among (keys_left result)) (mapped.class_part part.now) class (base_cells self.now) }
     {

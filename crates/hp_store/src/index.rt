@@ -50,8 +50,8 @@ impl Index {
         self.class == class && field == self.field.as_str()
     }
 
-    /// Keys among which all objects of a part are, if this is the index of its field. None where a value is of another kind
-    /// than the part's bounds, so that it can't be told of it.
+    /// Keys among which all objects of a part are, if this is the index of its field. None where a value is of another
+    /// kind than the part's bounds, so that it can't be told of it.
     pub(crate) fn candidates(&self, class: ClassNo, part: &ClassPart<'_>) -> Option<Candidates<'_>>
         ensures { IfSome result (λ keys. (cells : Cells) → IsComplete cells self.now → Covers (is_among (keys_left keys)) (mapped.class_part part.now) class cells) }
     {

@@ -159,8 +159,8 @@ impl Layer {
         old
     }
 
-    /// Keeps an index of a field of a class's objects from now on, unless the layer is small. A clone of the layer doesn't
-    /// have it. It takes a look at each change once; where there is such an index, nothing is done.
+    /// Keeps an index of a field of a class's objects from now on, unless the layer is small. A clone of the layer
+    /// doesn't have it. It takes a look at each change once; where there is such an index, nothing is done.
     ///
     /// An error means that memory ran out.
     pub fn keep_index(
@@ -172,7 +172,7 @@ impl Layer {
         ensures changes { changes self.new ≡ changes self.old }
         ensures entries { self.new ≡ self.old }
     {
-        if self.changes.len() < FEW || has_index(&self.indexes, class, field) {
+        if self.len() < FEW || has_index(&self.indexes, class, field) {
             return Ok(());
         }
         let index = index_of(alloc, &self.changes, class, field)?;
@@ -232,8 +232,8 @@ impl Layer {
         self.changes.range(Cell::Object(class, Key::MIN)..=Cell::Object(class, Key::MAX))
     }
 
-    /// Keys among which all objects of a part of a class are to which the layer gives a row: those of an index, if there is
-    /// one of the part's field, and else those up to the part's bounds, if it is one by keys.
+    /// Keys among which all objects of a part of a class are to which the layer gives a row: those of an index, if there
+    /// is one of the part's field, and else those up to the part's bounds, if it is one by keys.
     pub(crate) fn candidates(&self, class: ClassNo, part: &ClassPart<'_>) -> Candidates<'_>
         ensures { Covers (is_among (keys_left result)) (mapped.class_part part.now) class (over no_cells (changes self.now)) }
     {
@@ -317,7 +317,9 @@ fn renew(
 )
     ensures { (cells : Cells) → AreComplete cells indexes.old.items → AreComplete (with_value cells (mapped.cell cell) (over no_cells (changes (map entry named.now.entries)) (mapped.cell cell))) indexes.new.items }
 {
-    renew_all(indexes, cell, value_of(old), value_of(named.get(&cell)));
+    if !indexes.is_empty() {
+        renew_all(indexes, cell, value_of(old), value_of(named.get(&cell)));
+    }
 }
 
 // The value that a cell has after a change.

@@ -18,7 +18,8 @@ use hp_value::{Bounds, Key, Row, Value};
 /// How many bytes of a text an index tells apart. Of texts that begin with the same ones it may name too many.
 const START: usize = 32;
 
-/// Where an index has an object: by its value in the field, and then by its key. Whole numbers come first, and texts last.
+/// Where an index has an object: by its value in the field, and then by its key. Whole numbers come first, and texts
+/// last.
 #[derive(Clone, Copy, Debug, PartialEq, Eq, PartialOrd, Ord)]
 pub(crate) enum Place {
     /// A whole number.

@@ -235,7 +235,7 @@ impl Snapshot {
     }
 
     /// The snapshot with one layer more over it. It shares the base and the layer; a ninth layer is folded with the
-    /// others into one, and one that changes nothing is left out.
+    /// newest of the others into one, and one that changes nothing is left out.
     ///
     /// An error means that memory ran out.
     pub fn with_layer(&self, alloc: Global, layer: Arc<Layer>) -> Result<Snapshot, AllocError>

@@ -85,8 +85,8 @@ impl Store {
         self.state.keep_list(class, objects)
     }
 
-    /// Keeps an index of a field from now on, so that `Snapshot::part` finds parts of the class by it. That takes a look at
-    /// each object of the class once; where there is such an index, or a snapshot shares the cells, nothing is done.
+    /// Keeps an index of a field from now on, so that `Snapshot::part` finds parts of the class by it. That takes a look
+    /// at each object of the class once; where there is such an index, or a snapshot shares the cells, nothing is done.
     ///
     /// An error means that memory ran out.
     pub fn keep_index(
