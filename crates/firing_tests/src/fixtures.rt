@@ -166,7 +166,12 @@ fn classes(alloc: Global) -> Result<Vec<ClassDef>, AllocError> {
 
 // These rules, and firings at most two deep.
 pub fn checked(alloc: Global, rules: Vec<Rule>) -> Result<Library, CheckError> {
-    Library::check(alloc, classes(alloc)?, rules, 2)
+    checked_to(alloc, rules, 2)
+}
+
+// These rules, and firings at most so deep.
+pub fn checked_to(alloc: Global, rules: Vec<Rule>, depth: u8) -> Result<Library, CheckError> {
+    Library::check(alloc, classes(alloc)?, rules, depth)
 }
 
 // Two rules. Here and below rules, bodies and libraries are handed on as they were made, refused or not: so a caller owns little.

@@ -139,7 +139,7 @@ impl Reads {
     ghost use Rattle.hp_view.specs.Mapped.{read, value_found};
     ghost use Rattle.hp_view.specs.Numbered.{IsStateOf};
     ghost use Rattle.hp_view.specs.Parts.{number_of};
-    ghost use Rattle.hp_view.specs.Seeing.{noted, cell_was_read, keys_were_read, number_was_read};
+    ghost use Rattle.hp_view.specs.Seeing.{noted, class_was_read, row_was_read, cell_was_read, keys_were_read, number_was_read};
 
     /// No reads.
     pub fn new(alloc: Global) -> Reads
@@ -201,6 +201,7 @@ impl Reads {
     /// All objects that were found in a class, if it was read as a whole.
     pub(crate) fn objects(&self, class: ClassNo) -> Option<&Arc<ObjectList>>
         ensures known { IsSome result → keys_were_read self.now class ≡ true }
+        ensures whole { is_some result ≡ class_was_read self.now class }
         ensures held { IfSome result (λ objects. (base : Cells) → Holds base self.now → AreObjects base class objects.now.value) }
     {
         match self.entries.get(&Seen::Keys(class)) {
@@ -216,11 +217,21 @@ impl Reads {
         self.entries.get(&Seen::Cell(cell))
     }
 
-    /// Whether a cell was read by itself.
+    /// Whether a cell was read: by itself, or with all objects of its class.
     pub fn has_cell(&self, cell: Cell) -> bool
         ensures { result ≡ cell_was_read self.now (mapped.cell cell) }
     {
-        self.entries.contains_key(&Seen::Cell(cell))
+        self.entries.contains_key(&Seen::Cell(cell)) || self.has_row(cell)
+    }
+
+    // Whether a cell is an object's whose class was read as a whole.
+    fn has_row(&self, cell: Cell) -> bool
+        ensures { result ≡ row_was_read self.now (mapped.cell cell) }
+    {
+        match cell {
+            Cell::Object(class, _) => self.objects(class).is_some(),
+            Cell::Rule(_) | Cell::Detector(_) => false,
+        }
     }
 
     /// How a part of a class stands among the reads.
