@@ -40,7 +40,7 @@ fn tried(
     Ok(Some(attempt))
 }
 
-// How many attempts were taken in and how many places are left, whether an attempt stands in the first of these, and the
+// How many attempts were taken in, how many places are left, whether an attempt stands in the first of these, and the
 // balances.
 type Settled = (usize, usize, bool, Balances);
 

@@ -1,4 +1,4 @@
-//! The replay of a unit's tree, over a rule that triggers itself down to the depth limit, with values worked out by hand.
+//! The replay of a unit's tree, with a rule that triggers itself to the depth limit, and values worked out by hand.
 
 use crate::fixtures::{alone, checked_to, make, number, set, text};
 use hp_event::Pattern;

@@ -180,7 +180,7 @@ forgotten {old} {more} count only is forgets =
 
 -- ---- an attempt
 
--- an attempt whose reads hold, and which is taken in, stands for the firing, for each class of states for which it is sound
+-- an attempt whose reads hold, and which is taken in, stands for the firing, for each class for which it is sound
 pub stands_settled : (a : Attempt) (t : Task) (layer : Entries) {first read new : Seeing} → a.task ≡ t → changes layer ≡ a.layer
     → OnlyReads first read → Covers read a.reads → TakesIn read new layer → (states : States) (library : Library) → IsSoundFor states library a
     → FaithfulFiringFor states library (λ S. fire_task library S t) new.reads (written first) (written new) a.answer

@@ -9,7 +9,7 @@ use Rattle.hp_model.specs.Soundness.{Attempt}
 use Rattle.hp_model.specs.Groups.{Machine, Event, draw, look, post, accept, rerun, opening, seen_at, posted_at, is_enabled, step, run, cells_now, start_of, MayGoOn, IfEnabled}
 use Rattle.hp_attempt.specs.States.{States, IsOneOf, IsSoundFor}
 
--- a task's layer that leads from some cells to those after its firing, and from states of the class to states of the class
+-- a task's layer that leads from some cells to those after its firing, and so from states of the class to such states
 abbrev pub LeadsFor : States → Library → Task → Cells → Changes → Type 0
 LeadsFor states library t base layer =
     (S : State) → IsOneOf states library S → cells library S ≡ base
@@ -35,8 +35,8 @@ IsLawfulFor states stops library tasks attempts S m (e ∷ es) =
     IfEnabled (is_enabled m e) (IsLawfulEventFor states stops library tasks attempts S m e)
     × IsLawfulFor states stops library tasks attempts S (step m e) es
 
--- the law: from a state of the class, the cells now are those of the state of the settled tasks' serial firing, which is one
--- of the class
+-- the law: from a state of the class, the cells now are those of the state of the settled tasks' serial firing, which is
+-- one of the class
 abbrev pub IsAcceptedFor : States → Type 0
 IsAcceptedFor states =
     (stops : Bool) (library : Library) (tasks : List Task) (attempts : ℕ → Attempt) (S : State) (es : List Event)

@@ -23,9 +23,9 @@ pub record LeadsToOne {A : Type 0} (states : States) (library : Library) (given 
   pub reaches : cells library S ≡ to
   pub one : IsOneOf states library S
 
--- A call on a view is faithful to a step for a class of states: for all cells where the view's reads after the call hold, and
--- every state of the class whose cells are these under the view's writes before the call, the call's answer is the step's,
--- and the cells after the step, in a state of the class, are these under the view's writes after the call.
+-- A call on a view is faithful to a step for a class of states: for all cells where the view's reads after the call hold,
+-- and every state of the class whose cells are these under the view's writes before the call, the call's answer is the
+-- step's, and the cells after the step, in a state of the class, are these under the view's writes after the call.
 pub record FaithfulFor {A : Type 0} (states : States) (library : Library) (given : State → A) (next : State → State) (reads : List Read) (before after : Changes) (answer : A) : Type 0 where
   pub from : (base : Cells) → Holds base reads → (S : State) → IsOneOf states library S → cells library S ≡ over base before
       → LeadsToOne states library (given S) (next S) answer (over base after)
@@ -38,8 +38,8 @@ abbrev pub FaithfulSiblingsFor : States → Library → (State → Siblings) →
 FaithfulSiblingsFor states library group reads before after answer =
     FaithfulFor states library (λ S. siblings_answer (group S)) (λ S. (group S).state) reads before after answer
 
--- an attempt is sound for a class of states if it stands for its task's firing on every state of the class where its reads
--- hold
+-- an attempt is sound for a class of states if it stands for its task's firing on every state of the class where its
+-- reads hold
 pub record IsSoundFor (states : States) (library : Library) (a : Attempt) : Type 0 where
   pub from : (S : State) → IsOneOf states library S → Holds (cells library S) a.reads
       → LeadsToOne states library (firing_answer (fire_task library S a.task)) (fire_task library S a.task).state a.answer (over (cells library S) a.layer)

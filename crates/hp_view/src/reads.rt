@@ -217,7 +217,7 @@ impl Reads {
         self.entries.get(&Seen::Cell(cell))
     }
 
-    /// Whether a cell was read: by itself, or with all objects of its class.
+    /// Whether a cell was read: by itself, or with its whole class.
     pub fn has_cell(&self, cell: Cell) -> bool
         ensures { result ≡ cell_was_read self.now (mapped.cell cell) }
     {

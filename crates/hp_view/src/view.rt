@@ -84,9 +84,9 @@ impl View {
 
     /// Reads a cell, whose value is then the one that `peek` gives.
     ///
-    /// The read is recorded with what the snapshot holds, unless the cell was read before, by itself or with all objects of
-    /// its class, or the view's own writes cover it: then it takes no memory. An error means that memory ran out; the view is
-    /// then as before.
+    /// The read is recorded with what the snapshot holds, unless the cell was read before, by itself or with its whole
+    /// class, or the view's own writes cover it: then it takes no memory. An error means that memory ran out; the view
+    /// is then as before.
     pub fn read(&mut self, cell: Cell) -> Result<(), AllocError>
         ensures reads { OnOk result (self.new ≡ record self.old { reads = read_cell self.old (mapped.cell cell) }) }
         ensures err { OnErr result (self.new ≡ self.old) }
@@ -115,8 +115,8 @@ impl View {
         if let Some(change) = self.writes.get(cell) {
             return change.as_ref();
         }
-        // What was read by itself is found faster among the reads. A class that was read as a whole leaves its objects' cells
-        // in the snapshot.
+        // What was read by itself is found faster among the reads. An object that was read with its class stands in the
+        // snapshot.
         match self.reads.in_cell(cell) {
             Some(found) => found.value(),
             None => self.base.get(cell),
@@ -135,7 +135,7 @@ impl View {
 
     /// Reads a cell and gives its value, or none where the cell is empty: `read` and then `peek`.
     ///
-    /// A cell that was read before, by itself or with all objects of its class, or that the view's own writes cover, takes no
+    /// A cell that was read before, by itself or with its whole class, or that the view's own writes cover, takes no
     /// memory. An error means that memory ran out; the view is then as before.
     pub fn get(&mut self, cell: Cell) -> Result<Option<&CellValue>, AllocError>
         ensures value { IfOk result (λ found. option_map (λ v. cell_value v.now) found ≡ now_in self.old (mapped.cell cell)) }
