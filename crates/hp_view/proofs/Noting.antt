@@ -22,7 +22,7 @@ use Rattle.hp_view.specs.declared.reads.Found.TheVariants.{Value, Keys, Objects,
 use Rattle.hp_view.specs.declared.reads.PartState.{PartState}
 use Rattle.hp_view.specs.declared.reads.PartState.TheVariants.{WasRead, IsTaken}
 use Rattle.hp_view.specs.contracts.reads.SeenPartialEq.TheImpl as seeing
-use Rattle.hp_view.specs.Mapped.{read, value_found, keys_found, part_found, class_read}
+use Rattle.hp_view.specs.Mapped.{read, value_found, keys_found, part_found, found_whole, class_read}
 use Rattle.hp_view.specs.Numbered.{IsNumbered, AreNumbered, is_read_of, IsStateOf}
 use Rattle.hp_view.specs.Parts.{same_part}
 use Rattle.hp_view.specs.Seeing.{class_was_read, part_was_read}
@@ -124,10 +124,7 @@ value_told q (Some found) es is = λ base held. told_value q found.now base es (
 -- what is recorded for a class has all of its objects
 abbrev pub is_whole : Option Found → Bool
 is_whole None = false
-is_whole (Some (Value v)) = false
-is_whole (Some (Keys keys)) = false
-is_whole (Some (Objects objects)) = true
-is_whole (Some (Part part)) = false
+is_whole (Some found) = found_whole found
 
 whole_or : (b : Bool) (found : Found) (rest : Option Found) → is_whole (cond b (Some found) rest) ≡ cond b (is_whole (Some found)) (is_whole rest)
 whole_or true found rest = refl

@@ -47,7 +47,7 @@ impl Found {
     ghost use Rattle.hp_store.specs.Mapped.{cell_value};
     ghost use Rattle.std.specs.Prelude.{map};
     ghost use Rattle.hp_value.specs.Mapped.{class_part, keyed_row};
-    ghost use Rattle.hp_view.specs.Mapped.{value_found, keys_found, part_found, objects_found};
+    ghost use Rattle.hp_view.specs.Mapped.{value_found, keys_found, part_found, objects_found, found_whole};
 
     /// The value that was found in a cell. In a class none is found.
     pub fn value(&self) -> Option<&CellValue>
@@ -80,6 +80,16 @@ impl Found {
                 attribute: Attribute::Key,
                 bounds: Bounds::Numbers(None, None),
             },
+        }
+    }
+
+    // Whether all objects of a class were found.
+    fn is_whole(&self) -> bool
+        ensures { result ≡ found_whole self.now }
+    {
+        match self {
+            Found::Objects(_) => true,
+            Found::Value(_) | Found::Keys(_) | Found::Part(_) => false,
         }
     }
 
@@ -201,7 +211,6 @@ impl Reads {
     /// All objects that were found in a class, if it was read as a whole.
     pub(crate) fn objects(&self, class: ClassNo) -> Option<&Arc<ObjectList>>
         ensures known { IsSome result → keys_were_read self.now class ≡ true }
-        ensures whole { is_some result ≡ class_was_read self.now class }
         ensures held { IfSome result (λ objects. (base : Cells) → Holds base self.now → AreObjects base class objects.now.value) }
     {
         match self.entries.get(&Seen::Keys(class)) {
@@ -229,8 +238,18 @@ impl Reads {
         ensures { result ≡ row_was_read self.now (mapped.cell cell) }
     {
         match cell {
-            Cell::Object(class, _) => self.objects(class).is_some(),
+            Cell::Object(class, _) => self.has_whole(class),
             Cell::Rule(_) | Cell::Detector(_) => false,
+        }
+    }
+
+    // Whether a class was read as a whole.
+    fn has_whole(&self, class: ClassNo) -> bool
+        ensures { result ≡ class_was_read self.now class }
+    {
+        match self.entries.get(&Seen::Keys(class)) {
+            Some(found) => found.is_whole(),
+            None => false,
         }
     }
 

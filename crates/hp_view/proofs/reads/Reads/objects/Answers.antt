@@ -1,8 +1,8 @@
 use Rattle.std.proofs.Common.{◌∙◌, sym, ap, subst, is_some, Some}
 use Rattle.hp_model.specs.Cells.{Holds}
 use Rattle.hp_view.specs.declared.reads.Seen.TheVariants.{Keys as OfKeys}
-use Rattle.hp_view.specs.Seeing.{class_was_read, keys_were_read}
-use Rattle.hp_view.proofs.Noting.{recorded, told_objects, is_whole, whole_recorded, seen_same}
+use Rattle.hp_view.specs.Seeing.{keys_were_read}
+use Rattle.hp_view.proofs.Noting.{recorded, told_objects, seen_same}
 use Rattle.hp_view.proofs.reads.Reads.objects.Goals as goal
 
 pub returns-in-Some-Objects-clause-known : goal.returns-in-Some-Objects-clause-known
@@ -14,8 +14,3 @@ pub returns-in-Some-Objects-clause-held : goal.returns-in-Some-Objects-clause-he
 returns-in-Some-Objects-clause-held c = λ base held.
     told_objects c.args.class c.in-Some-Objects.objects base c.self.inside.entries.entries (seen_same c.in-Some-Objects.is c.get.ensures.value ∙ ap Some c.in-Some-Objects.field-0-is)
     (subst (Holds base) (sym c.self.view_is) held).told
-
-pub returns-in-Some-Objects-clause-whole : goal.returns-in-Some-Objects-clause-whole
-returns-in-Some-Objects-clause-whole c =
-    ap is_whole (sym (seen_same c.in-Some-Objects.is c.get.ensures.value ∙ ap Some c.in-Some-Objects.field-0-is))
-    ∙ whole_recorded c.args.class c.self.inside.entries.entries ∙ ap (λ rs. class_was_read rs c.args.class) c.self.view_is
