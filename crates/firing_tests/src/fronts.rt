@@ -104,7 +104,13 @@ fn an_attempt_that_missed_a_predecessors_effect_stays(rt: HostRuntime) -> Result
 fn nothing_is_taken_in_where_the_first_attempt_is_missing(rt: HostRuntime) -> Result<(), Fail> {
     let alloc = rt.alloc();
     let (first, second) = settle_twice(&rt, alloc, disjoint(alloc), &[false, true])?;
-    assert_eq!(rt; first, (0, 2, false, (Some(10), Some(20), None, None, None)));
-    assert_eq!(rt; second, (2, 0, false, (Some(11), Some(22), None, None, None)));
+    assert_eq!(rt;
+        first,
+        (0, 2, false, (Some(10), Some(20), None, None, None))
+    );
+    assert_eq!(rt;
+        second,
+        (2, 0, false, (Some(11), Some(22), None, None, None))
+    );
     Ok(())
 }
