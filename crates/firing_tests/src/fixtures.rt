@@ -166,7 +166,12 @@ fn classes(alloc: Global) -> Result<Vec<ClassDef>, AllocError> {
 
 // A library of these rules, with a depth limit of 2.
 pub fn checked(alloc: Global, rules: Vec<Rule>) -> Result<Library, CheckError> {
-    Library::check(alloc, classes(alloc)?, rules, 2)
+    checked_to(alloc, rules, 2)
+}
+
+// These rules, and firings at most so deep.
+pub fn checked_to(alloc: Global, rules: Vec<Rule>, depth: u8) -> Result<Library, CheckError> {
+    Library::check(alloc, classes(alloc)?, rules, depth)
 }
 
 // A library of two rules. Here and below, rules, bodies and libraries are passed on as results, with their errors, so
