@@ -1,4 +1,4 @@
-//! Pairs of a field and what it is set to.
+//! Assignments: a field of a class and its new value.
 
 ghost use Rattle.std.specs.Prelude.{◌≡◌, map};
 ghost use Rattle.serde_json.specs.View.{view};
@@ -23,7 +23,7 @@ use hp_value::Field;
 use serde_json::Value;
 use std::alloc::Global;
 
-/// The place of the pair that sets the field of this name.
+/// The position of the assignment to the field of this name.
 fn assignment_place(pairs: &[Assignment], name: &str) -> Option<usize>
     ensures { result ≡ place_of (assigned_names (map assignment pairs.now)) name.now }
 {
@@ -35,7 +35,7 @@ fn assignment_place(pairs: &[Assignment], name: &str) -> Option<usize>
     None
 }
 
-/// The name of one of the fields, which no pair before has.
+/// The name of a field of the class that no assignment before sets.
 #[tactic(auto, unfolding(hp_model::specs::StatementGrammar::assigned_field_at, hp_model::specs::Parts::new_name_at))]
 fn assigned_field_at<'a>(
     alloc: Global,
@@ -76,7 +76,7 @@ fn assignment_at(
     Ok(Assignment { field, value })
 }
 
-/// The pairs that stand at a place: some of the fields, each at most once.
+/// The assignments of an `update`: to some of the fields, at most one to each.
 #[tactic(auto, unfolding(hp_model::specs::StatementGrammar::assignments_at))]
 pub(crate) fn assignments_at(
     alloc: Global,
@@ -98,7 +98,7 @@ pub(crate) fn assignments_at(
     Ok(pairs)
 }
 
-/// The pairs that stand at a place: each of the fields.
+/// The assignments of a `create`: one to each of the fields.
 #[tactic(auto, unfolding(hp_model::specs::StatementGrammar::all_assignments_at))]
 pub(crate) fn all_assignments_at(
     alloc: Global,

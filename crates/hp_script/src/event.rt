@@ -21,7 +21,7 @@ use hp_rule::EventExpr;
 use serde_json::Value;
 use std::alloc::Global;
 
-/// The levels that an event may have.
+/// The most levels that an event may have.
 const MAX_LEVELS: usize = 16;
 
 /// An event whose parts are still JSON.
@@ -165,7 +165,7 @@ fn every_moment_at(
     Ok(EventExpr::One(Pattern::Every { first, period }))
 }
 
-/// The event of at most so many levels that stands at a place.
+/// The event at a place, which has at most `levels` levels.
 #[cycle(event)]
 #[tactic(auto, unfolding(hp_model::specs::EventGrammar::event_within))]
 fn event_within(
@@ -237,7 +237,7 @@ fn parts_at(
     Ok((left, right))
 }
 
-/// The event that stands at a place.
+/// The event at a place.
 pub(crate) fn event_at(
     alloc: Global,
     place: &Place<'_>,

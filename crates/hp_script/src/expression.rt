@@ -19,10 +19,10 @@ use hp_value::{Arithmetic, Comparison, Expr, Value as Constant};
 use serde_json::Value;
 use std::alloc::Global;
 
-/// The levels that an expression may have.
+/// The most levels that an expression may have.
 const MAX_LEVELS: usize = 16;
 
-/// The bytes that a text may have.
+/// The most bytes that a text may have.
 const MAX_TEXT: usize = 1_024;
 
 /// An expression whose parts are still JSON.
@@ -265,7 +265,7 @@ fn time_of_at(alloc: Global, place: &Place<'_>, part: &Value) -> Result<Expr, De
     Ok(Expr::TimeOf { part })
 }
 
-/// The expression of at most so many levels that stands at a place.
+/// The expression at a place, which has at most `levels` levels.
 #[cycle(expression)]
 #[tactic(auto, unfolding(hp_model::specs::ExpressionGrammar::expression_within))]
 fn expression_within(
@@ -355,7 +355,7 @@ fn operands_at(
     Ok((left, right))
 }
 
-/// The expression that stands at a place.
+/// The expression at a place.
 pub(crate) fn expression_at(
     alloc: Global,
     place: &Place<'_>,
@@ -367,7 +367,7 @@ pub(crate) fn expression_at(
     expression_within(alloc, place, rows, MAX_LEVELS, value)
 }
 
-/// The same on the heap.
+/// The expression at a place, in a box.
 pub(crate) fn boxed_expression_at(
     alloc: Global,
     place: &Place<'_>,

@@ -87,7 +87,7 @@ fn transaction_at(
     Ok(Schedule { units, clock })
 }
 
-/// The units with these moments after them.
+/// The units, with these moments after them.
 fn with_moments(units: Vec<Unit>, moments: &[u64]) -> Result<Vec<Unit>, AllocError>
     ensures own { IfOk result (λ all. (library : Library) → AreOf library units.items → AreOf library all.items) }
     ensures units { IfOk result (λ all. map unit all.items ≡ map unit units.items ++ map moment moments.now) }
@@ -118,7 +118,7 @@ fn clock_at(
     Ok(Schedule { units, clock })
 }
 
-/// What was read before, and the item that stands at a place.
+/// The schedule before, with the units of the item at a place added.
 #[tactic(auto, unfolding(hp_model::specs::Decode::unit_at))]
 pub(crate) fn unit_at(
     alloc: Global,
@@ -136,7 +136,7 @@ pub(crate) fn unit_at(
     }
 }
 
-/// The items that stand at a place, as the units that they run.
+/// The units that the items at a place run.
 #[tactic(auto, using(crate::proofs::OwnBodies::none_own), unfolding(hp_model::specs::Decode::units_at))]
 pub(crate) fn units_at(
     alloc: Global,

@@ -1,4 +1,4 @@
-//! Statements that hold no statement.
+//! Statements with no statement inside.
 
 ghost use Rattle.std.specs.Prelude.{map};
 ghost use Rattle.serde_json.specs.View.{view};
@@ -24,7 +24,7 @@ use hp_value::Expr;
 use serde_json::Value;
 use std::alloc::Global;
 
-/// The arguments that a signal may have.
+/// The most arguments that a signal may have.
 const MAX_ARGUMENTS: usize = 32;
 
 #[tactic(auto, unfolding(hp_model::specs::StatementGrammar::create_at))]

@@ -30,7 +30,7 @@ fn triple_of(value: &Value) -> Option<(&Value, &Value, &Value)>
     }
 }
 
-/// A query, which knows those before it.
+/// A query, whose predicate may use the rows of the queries before it.
 #[tactic(auto, unfolding(hp_model::specs::Decode::query_at))]
 fn query_at(
     alloc: Global,
@@ -57,7 +57,7 @@ fn query_at(
     })
 }
 
-/// The condition that stands at a place.
+/// The condition at a place.
 #[tactic(auto, unfolding(hp_model::specs::Decode::condition_at))]
 pub(crate) fn condition_at(
     alloc: Global,

@@ -36,7 +36,7 @@ fn rule_number(scope: &Scope<'_>, name: &str) -> Option<RuleNo>
     Some(place as RuleNo)
 }
 
-/// The class whose name stands at a place.
+/// The class that is named at a place.
 #[tactic(auto, unfolding(hp_model::specs::Parts::place_at))]
 pub(crate) fn class_at(
     alloc: Global,
@@ -53,7 +53,7 @@ pub(crate) fn class_at(
     }
 }
 
-/// The rule whose name stands at a place.
+/// The rule that is named at a place.
 #[tactic(auto, unfolding(hp_model::specs::Parts::place_at))]
 pub(crate) fn rule_at(
     alloc: Global,
@@ -70,7 +70,7 @@ pub(crate) fn rule_at(
     }
 }
 
-/// The name, at a place, of a query of the rule.
+/// The name of a query of the rule, at a place.
 #[tactic(auto, unfolding(hp_model::specs::StatementGrammar::query_at))]
 pub(crate) fn query_at<'a>(
     alloc: Global,

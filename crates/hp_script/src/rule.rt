@@ -26,7 +26,7 @@ use serde_json::Value;
 use std::alloc::Global;
 use std::sync::Arc;
 
-/// The action, at a place, of a rule with this condition.
+/// The action at a place, of a rule with this condition.
 fn action_at(
     alloc: Global,
     place: &Place<'_>,
@@ -46,7 +46,7 @@ fn action_at(
     statements_at(alloc, place, &acting, &rows, value)
 }
 
-/// A rule by its name and its other parts.
+/// The rule with this head.
 #[tactic(auto, using(crate::proofs::Bodies::body_of_statements), unfolding(hp_model::specs::Decode::rule_at))]
 fn rule_at(
     alloc: Global,
@@ -81,7 +81,7 @@ fn rule_at(
     })
 }
 
-/// The rules of these heads, which stand in the list at a place.
+/// The rules with these heads, which are the items of the list at a place.
 pub(crate) fn rules_at(
     alloc: Global,
     place: &Place<'_>,

@@ -22,7 +22,7 @@ use hp_rule::Stmt;
 use serde_json::Value;
 use std::alloc::Global;
 
-/// The levels of statements in statements.
+/// The most levels of statements in statements.
 const MAX_LEVELS: usize = 16;
 
 #[cycle(statement)]
@@ -144,7 +144,7 @@ fn sub_at(
     Ok(Stmt::Sub { body, otherwise })
 }
 
-/// The statement of at most so many levels that stands at a place.
+/// The statement at a place, which has at most `levels` levels.
 #[cycle(statement)]
 #[tactic(auto, unfolding(hp_model::specs::StatementGrammar::statement_within))]
 fn statement_within(
@@ -198,7 +198,7 @@ fn statement_within(
     }
 }
 
-/// The statements, of at most so many levels, of the body that stands at a place.
+/// The statements of the body at a place, each of which has at most `levels` levels.
 #[cycle(statement)]
 #[tactic(auto, unfolding(hp_model::specs::StatementGrammar::statements_by))]
 fn statements_within(
@@ -222,7 +222,7 @@ fn statements_within(
     Ok(body)
 }
 
-/// The statements of the body that stands at a place.
+/// The statements of the body at a place.
 pub(crate) fn statements_at(
     alloc: Global,
     place: &Place<'_>,

@@ -127,7 +127,7 @@ fn is_veto(form: StatementForm<'_>) -> bool
     matches!(form, StatementForm::Veto)
 }
 
-/// The form of the statement that stands at a place. A veto stands in a rule's action alone.
+/// The form of the statement at a place. A veto is allowed only in a rule's action.
 #[tactic(auto, unfolding(hp_model::specs::StatementGrammar::statement_form_at))]
 pub(crate) fn statement_form_at<'a>(
     alloc: Global,
