@@ -4,7 +4,8 @@ ghost use Rattle.std.specs.Prelude.{◌≡◌, map};
 ghost use Rattle.serde_json.specs.View.{view};
 ghost use Rattle.hp_model.specs.Parts.{place_of};
 ghost use Rattle.hp_model.specs.Scopes.{field_names};
-ghost use Rattle.hp_model.specs.StatementGrammar.{assigned_names, assigned_field_at, assignment_at, assignments_at, all_assignments_at};
+ghost use Rattle.hp_model.specs.StatementGrammar.{assigned_names, assigned_field_at, assignment_at, assignments_at};
+ghost use Rattle.hp_model.specs.StatementGrammar.{all_assignments_at};
 ghost use Rattle.hp_value.specs.Mapped.{field};
 ghost use Rattle.hp_rule.specs.Mapped.{assignment};
 ghost use Rattle.hp_script.specs.Mapped.{Gives};
@@ -44,7 +45,9 @@ fn assigned_field_at<'a>(
     before: &[Assignment],
     value: &'a Value,
 ) -> Result<&'a str, DecodeError>
-    ensures { Gives (λ x. x.now) result (assigned_field_at (field_names (map field fields.now)) (assigned_names (map assignment before.now)) (path_to place.now) (view value.entry.now)) }
+    ensures { Gives (λ x. x.now) result
+        (assigned_field_at (field_names (map field fields.now)) (assigned_names (map assignment before.now))
+        (path_to place.now) (view value.entry.now)) }
 {
     let name = name_at(alloc, place, value)?;
     if assignment_place(before, name).is_some() {
@@ -65,7 +68,9 @@ fn assignment_at(
     before: &[Assignment],
     value: &Value,
 ) -> Result<Assignment, DecodeError>
-    ensures { Gives assignment result (assignment_at (field_names (map field fields.now)) (names_in rows.now) (map assignment before.now) (path_to place.now) (view value.now)) }
+    ensures { Gives assignment result
+        (assignment_at (field_names (map field fields.now)) (names_in rows.now) (map assignment before.now)
+        (path_to place.now) (view value.now)) }
 {
     let Some((name, value)) = pair_of(value) else {
         return Err(misshapen(alloc, place));
@@ -85,7 +90,9 @@ pub(crate) fn assignments_at(
     rows: &Rows<'_>,
     value: &Value,
 ) -> Result<Vec<Assignment>, DecodeError>
-    ensures { Gives (λ pairs. map assignment pairs.items) result (assignments_at (field_names (map field fields.now)) (names_in rows.now) (path_to place.now) (view value.now)) }
+    ensures { Gives (λ pairs. map assignment pairs.items) result
+        (assignments_at (field_names (map field fields.now)) (names_in rows.now) (path_to place.now)
+        (view value.now)) }
 {
     let Some(values) = list_of(value) else {
         return Err(misshapen(alloc, place));
@@ -107,7 +114,9 @@ pub(crate) fn all_assignments_at(
     rows: &Rows<'_>,
     value: &Value,
 ) -> Result<Vec<Assignment>, DecodeError>
-    ensures { Gives (λ pairs. map assignment pairs.items) result (all_assignments_at (field_names (map field fields.now)) (names_in rows.now) (path_to place.now) (view value.now)) }
+    ensures { Gives (λ pairs. map assignment pairs.items) result
+        (all_assignments_at (field_names (map field fields.now)) (names_in rows.now) (path_to place.now)
+        (view value.now)) }
 {
     let pairs = assignments_at(alloc, place, fields, rows, value)?;
     if pairs.len() < fields.len() {

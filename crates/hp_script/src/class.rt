@@ -114,7 +114,8 @@ pub(crate) fn classes_at(
     place: &Place<'_>,
     value: &Value,
 ) -> Result<Vec<ClassDef>, DecodeError>
-    ensures reads { Gives (λ classes. map class_def classes.items) result (classes_at (path_to place.now) (view value.now)) }
+    ensures reads { Gives (λ classes. map class_def classes.items) result
+        (classes_at (path_to place.now) (view value.now)) }
     ensures few { IfOk result (λ classes. length classes.items ≤ 64) }
 {
     let Some(values) = list_of(value) else {

@@ -80,7 +80,9 @@ fn rules_of(
 ) -> Result<Vec<Rule>, DecodeError>
     requires few_classes { length classes.now ≤ 64 }
     requires few_rules { length heads.now ≤ 256 }
-    ensures { Gives (λ rules. map rule rules.items) result (rules_at (version_view version) (script_scope (map class_def classes.now) (heads_view heads.entry.now)) (under_root (codes "rules")) (heads_view heads.entry.now)) }
+    ensures { Gives (λ rules. map rule rules.items) result
+        (rules_at (version_view version) (script_scope (map class_def classes.now) (heads_view heads.entry.now))
+        (under_root (codes "rules")) (heads_view heads.entry.now)) }
 {
     let scope = Scope {
         classes,
@@ -94,7 +96,9 @@ fn rules_of(
 /// The units that the script's items run.
 fn items_of(alloc: Global, library: &Arc<Library>, value: &Value) -> Result<Schedule, DecodeError>
     ensures own { IfOk result (λ s. AreOf library.now.value s.units.items) }
-    ensures reads { Gives schedule result (units_at (model_library library.now.value).rules (library_scope (model_library library.now.value)) (under_root (codes "items")) (view value.now)) }
+    ensures reads { Gives schedule result
+        (units_at (model_library library.now.value).rules (library_scope (model_library library.now.value))
+        (under_root (codes "items")) (view value.now)) }
 {
     units_at(alloc, &Place::Member(Member::Items), library, value)
 }

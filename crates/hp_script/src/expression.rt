@@ -2,7 +2,11 @@
 
 ghost use Rattle.std.specs.Prelude.{◌≡◌, map, option_map};
 ghost use Rattle.serde_json.specs.View.{view};
-ghost use Rattle.hp_model.specs.ExpressionGrammar.{arithmetic_of, comparison_of, form_of_one, other_form_of_two, form_of_two, expression_form, expression_form_at, text_at, field_of_at, key_of_at, new_field_at, old_field_at, key_in_at, argument_at, time_of_at, operands_at, expression_within, expression_at};
+ghost use Rattle.hp_model.specs.ExpressionGrammar.{arithmetic_of, comparison_of, form_of_one, other_form_of_two};
+ghost use Rattle.hp_model.specs.ExpressionGrammar.{form_of_two, expression_form, expression_form_at, text_at};
+ghost use Rattle.hp_model.specs.ExpressionGrammar.{field_of_at, key_of_at, new_field_at, old_field_at, key_in_at};
+ghost use Rattle.hp_model.specs.ExpressionGrammar.{argument_at, time_of_at, operands_at, expression_within};
+ghost use Rattle.hp_model.specs.ExpressionGrammar.{expression_at};
 ghost use Rattle.hp_value.specs.Mapped.{arithmetic, comparison, expression};
 ghost use Rattle.hp_script.specs.Forms.{expression_form_view};
 ghost use Rattle.hp_script.specs.Mapped.{Gives};
@@ -92,7 +96,8 @@ fn other_form_of_two<'a>(
     first: &'a Value,
     second: &'a Value,
 ) -> Option<ExpressionForm<'a>>
-    ensures { option_map expression_form_view result ≡ other_form_of_two word.now (view first.entry.now) (view second.entry.now) }
+    ensures { option_map expression_form_view result
+        ≡ other_form_of_two word.now (view first.entry.now) (view second.entry.now) }
 {
     match word {
         "and" => Some(ExpressionForm::And(first, second)),
@@ -106,7 +111,8 @@ fn other_form_of_two<'a>(
 }
 
 fn form_of_two<'a>(word: &str, first: &'a Value, second: &'a Value) -> Option<ExpressionForm<'a>>
-    ensures { option_map expression_form_view result ≡ form_of_two word.now (view first.entry.now) (view second.entry.now) }
+    ensures { option_map expression_form_view result
+        ≡ form_of_two word.now (view first.entry.now) (view second.entry.now) }
 {
     if let Some(operator) = arithmetic_of(word) {
         return Some(ExpressionForm::Arithmetic(operator, first, second));
@@ -179,7 +185,8 @@ fn field_of_at(
     variable: &Value,
     field: &Value,
 ) -> Result<Expr, DecodeError>
-    ensures { Gives expression result (field_of_at (names_in rows.now) (path_to place.now) (view variable.now) (view field.now)) }
+    ensures { Gives expression result
+        (field_of_at (names_in rows.now) (path_to place.now) (view variable.now) (view field.now)) }
 {
     let variable = row_at(alloc, &place.item(1), rows, variable)?;
     let field = name_at(alloc, &place.item(2), field)?;
@@ -275,7 +282,8 @@ fn expression_within(
     levels: usize,
     value: &Value,
 ) -> Result<Expr, DecodeError>
-    ensures { Gives expression result (expression_within (names_in rows.now) levels (path_to place.now) (view value.now)) }
+    ensures { Gives expression result
+        (expression_within (names_in rows.now) levels (path_to place.now) (view value.now)) }
 {
     let form = expression_form_at(alloc, place, value)?;
     if levels == 0 {
@@ -331,7 +339,8 @@ fn operand_at(
     levels: usize,
     value: &Value,
 ) -> Result<Box<Expr>, DecodeError>
-    ensures { Gives (λ e. expression e.value) result (expression_within (names_in rows.now) levels (path_to place.now) (view value.now)) }
+    ensures { Gives (λ e. expression e.value) result
+        (expression_within (names_in rows.now) levels (path_to place.now) (view value.now)) }
 {
     let operand = expression_within(alloc, place, rows, levels, value)?;
     Ok(Box::new(alloc, operand)?)
@@ -348,7 +357,9 @@ fn operands_at(
     left: &Value,
     right: &Value,
 ) -> Result<(Box<Expr>, Box<Expr>), DecodeError>
-    ensures { Gives (λ p. (expression p.0.value, expression p.1.value)) result (operands_at (expression_within (names_in rows.now) levels) (path_to place.now) (view left.now) (view right.now)) }
+    ensures { Gives (λ p. (expression p.0.value, expression p.1.value)) result
+        (operands_at (expression_within (names_in rows.now) levels) (path_to place.now) (view left.now)
+        (view right.now)) }
 {
     let left = operand_at(alloc, &place.item(1), rows, levels, left)?;
     let right = operand_at(alloc, &place.item(2), rows, levels, right)?;
@@ -374,7 +385,8 @@ pub(crate) fn boxed_expression_at(
     rows: &Rows<'_>,
     value: &Value,
 ) -> Result<Box<Expr>, DecodeError>
-    ensures { Gives (λ e. expression e.value) result (expression_at (names_in rows.now) (path_to place.now) (view value.now)) }
+    ensures { Gives (λ e. expression e.value) result
+        (expression_at (names_in rows.now) (path_to place.now) (view value.now)) }
 {
     operand_at(alloc, place, rows, MAX_LEVELS, value)
 }

@@ -92,7 +92,8 @@ pub(crate) fn due_moments(
 ) -> Result<Option<Vec<u64>>, AllocError>
     requires order { after ≤ until }
     requires small { until < 2 ^ 63 }
-    ensures { IfOk result (λ found. option_map (λ v. v.items) found ≡ limited (due_moments (map rule rules.now) after until)) }
+    ensures { IfOk result (λ found.
+        option_map (λ v. v.items) found ≡ limited (due_moments (map rule rules.now) after until)) }
 {
     let mut moments = Vec::new(alloc);
     let mut now = after;

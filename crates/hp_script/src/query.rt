@@ -39,7 +39,9 @@ fn query_at(
     before: &[Query],
     value: &Value,
 ) -> Result<Query, DecodeError>
-    ensures { Gives query result (query_at (class_names (scope_view scope.entry.now).classes) (map query before.now) (path_to place.now) (view value.now)) }
+    ensures { Gives query result
+        (query_at (class_names (scope_view scope.entry.now).classes) (map query before.now) (path_to place.now)
+        (view value.now)) }
 {
     let Some((name, class, predicate)) = triple_of(value) else {
         return Err(misshapen(alloc, place));
@@ -65,7 +67,8 @@ pub(crate) fn condition_at(
     scope: &Scope<'_>,
     value: &Value,
 ) -> Result<Vec<Query>, DecodeError>
-    ensures { Gives (λ queries. map query queries.items) result (condition_at (class_names (scope_view scope.entry.now).classes) (path_to place.now) (view value.now)) }
+    ensures { Gives (λ queries. map query queries.items) result
+        (condition_at (class_names (scope_view scope.entry.now).classes) (path_to place.now) (view value.now)) }
 {
     let Some(values) = list_of(value) else {
         return Err(misshapen(alloc, place));

@@ -44,7 +44,8 @@ pub(crate) fn class_at(
     scope: &Scope<'_>,
     value: &Value,
 ) -> Result<ClassNo, DecodeError>
-    ensures { Gives (λ n. n) result (place_at (class_names (scope_view scope.entry.now).classes) (path_to place.now) (view value.now)) }
+    ensures { Gives (λ n. n) result
+        (place_at (class_names (scope_view scope.entry.now).classes) (path_to place.now) (view value.now)) }
 {
     let name = name_at(alloc, place, value)?;
     match class_number(scope, name) {
@@ -78,7 +79,8 @@ pub(crate) fn query_at<'a>(
     scope: &Scope<'_>,
     value: &'a Value,
 ) -> Result<&'a str, DecodeError>
-    ensures { Gives (λ x. x.now) result (query_at (scope_view scope.entry.now) (path_to place.now) (view value.entry.now)) }
+    ensures { Gives (λ x. x.now) result
+        (query_at (scope_view scope.entry.now) (path_to place.now) (view value.entry.now)) }
 {
     let name = name_at(alloc, place, value)?;
     if has_query(scope.queries, name) {

@@ -59,8 +59,11 @@ fn item_after(
     before: Schedule,
     value: &Value,
 ) -> Result<Schedule, DecodeError>
-    ensures own { IfOk result (λ s. AreOf library.now.value before.units.items → AreOf library.now.value s.units.items) }
-    ensures reads { Gives schedule result (unit_at (model_library library.now.value).rules (library_scope (model_library library.now.value)) [] (schedule before) (view value.now)) }
+    ensures own { IfOk result (λ s.
+        AreOf library.now.value before.units.items → AreOf library.now.value s.units.items) }
+    ensures reads { Gives schedule result
+        (unit_at (model_library library.now.value).rules (library_scope (model_library library.now.value)) []
+        (schedule before) (view value.now)) }
 {
     unit_at(alloc, &Place::Root, library, before, value)
 }

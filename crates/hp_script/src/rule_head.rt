@@ -67,7 +67,8 @@ fn rule_head_at<'a>(
     before: &[RuleHead<'_>],
     value: &'a Value,
 ) -> Result<RuleHead<'a>, DecodeError>
-    ensures { Gives head_view result (rule_head_at (heads_view before.entry.now) (path_to place.now) (view value.entry.now)) }
+    ensures { Gives head_view result
+        (rule_head_at (heads_view before.entry.now) (path_to place.now) (view value.entry.now)) }
 {
     let Some(parts) = rule_parts_of(value) else {
         return Err(misshapen(alloc, place));
@@ -86,7 +87,8 @@ pub(crate) fn rule_heads_at<'a>(
     place: &Place<'_>,
     value: &'a Value,
 ) -> Result<Vec<RuleHead<'a>>, DecodeError>
-    ensures reads { Gives (λ heads. heads_view heads.items) result (rule_heads_at (path_to place.now) (view value.entry.now)) }
+    ensures reads { Gives (λ heads. heads_view heads.items) result
+        (rule_heads_at (path_to place.now) (view value.entry.now)) }
     ensures few { IfOk result (λ heads. length heads.items ≤ 256) }
 {
     let Some(values) = list_of(value) else {
