@@ -140,6 +140,10 @@ whole_recorded class ((OfKeys n, Keys keys) ∷ es) = whole_or (class == n) (Key
 whole_recorded class ((OfKeys n, Objects objects) ∷ es) = whole_or (class == n) (Objects objects) (lookup (seeing.ghosts.eq (OfKeys class)) es) ∙ ap (cond (class == n) true) (whole_recorded class es)
 whole_recorded class ((OfKeys n, Part part) ∷ es) = whole_or (class == n) (Part part) (lookup (seeing.ghosts.eq (OfKeys class)) es) ∙ ap (cond (class == n) false) (whole_recorded class es)
 
+pub first_false : (a b : Bool) → (a || b) ≡ false → a ≡ false
+first_false true b h = h
+first_false false b h = refl
+
 -- one entry more
 pub numbered_more : (es : List (Seen × Found)) (e : Seen × Found) → AreNumbered es → IsNumbered e → AreNumbered (es ++ e ∷ [])
 numbered_more [] e n fits = (fits, tt)

@@ -8,7 +8,8 @@ use Rattle.hp_view.proofs.reads.Reads.has_cell.Goals as goal
 
 pub returns-then-contains_key : goal.returns-then-contains_key
 returns-then-contains_key c =
-    ap (λ b. b || row_was_read c.args.self.now (cell c.args.cell))
+    c.if-contains_key.true
+    ∙ ap (λ b. b || row_was_read c.args.self.now (cell c.args.cell))
     (sym c.if-contains_key.true ∙ c.contains_key.ensures ∙ recorded (OfCell c.args.cell) c.self.inside.entries.entries c.self.invariant
     ∙ ap (list_any (reads_cell (cell c.args.cell))) c.self.view_is)
 
