@@ -1,10 +1,10 @@
 -- Indexes of a layer's objects.
-use Rattle.std.proofs.Common.{◌≡◌, refl, ap, sym, ◌∙◌, subst, ℤ, ℕ, Bool, true, false, List, [], ◌∷◌, ◌++◌, append_assoc, map, Option, Some, None}
+use Rattle.std.proofs.Common.{◌≡◌, refl, ap, sym, ◌∙◌, subst, ℤ, Bool, true, false, List, [], ◌∷◌, ◌++◌, append_assoc, map, Option, Some, None}
 use Rattle.std.specs.Prelude.{option_map, if◌then◌else◌}
 use Rattle.std.proofs.lemmas.List.{append-nil}
 use Rattle.hp_model.specs.Cells as C
 use Rattle.hp_model.specs.Cells.{Cell, object_cell, Cells, Changes, changed, over, same_cell, with_change}
-use Rattle.hp_model.proofs.BridgesCells.{exact_cell, same_self}
+use Rattle.hp_model.proofs.BridgesCells.{exact_cell}
 use Rattle.hp_value.specs.declared.cell.Cell as V
 use Rattle.hp_value.specs.Mapped.{cell}
 use Rattle.hp_store.specs.declared.index.Index.{Index}

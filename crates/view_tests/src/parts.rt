@@ -113,7 +113,7 @@ fn a_part_by_keys_is_found(rt: HostRuntime) -> Result<(), Fail> {
     ask_by_key(&rt, rt.alloc(), &store)
 }
 
-/// Nine layers over a base that somebody else holds, so that the ninth is folded with the others.
+/// Nine layers over a base that somebody else holds, so that the ninth is folded with the newest ones.
 fn pile_nine(alloc: Global, store: &mut Store) -> Result<(), AllocError> {
     for tenth in 0..9i64 {
         let key = tenth.wrapping_mul(10);
@@ -195,7 +195,6 @@ fn a_part_is_compared_under_writes(rt: HostRuntime) -> Result<(), Fail> {
 
 // ---- parts by a field
 
-/// Its text has many objects before it and after it that begin alike.
 fn by_name<'a>(low: Option<&'a str>, high: Option<&'a str>) -> ClassPart<'a> {
     ClassPart {
         attribute: Attribute::Field("name"),
