@@ -1,5 +1,5 @@
 -- What comparisons of rules and libraries tell: they are true exactly where what the two stand for is equal.
-use Rattle.std.proofs.Common.{◌≡◌, refl, ap, subst, sym, ℕ, List, map, string_bytes}
+use Rattle.std.proofs.Common.{◌≡◌, refl, ap, subst, sym, ℕ, List, string_bytes}
 use lib.Pointwise.{pointwise, bytes_decides}
 use Rattle.std.specs.Bool.{Decides}
 use Rattle.std.specs.Cmp.{unsigned_Decides}
