@@ -4,13 +4,13 @@ use Rattle.hp_model.specs.Rules.{Library}
 use Rattle.hp_model.specs.State.{State}
 use Rattle.hp_model.specs.Tree.{Task}
 use Rattle.hp_model.specs.Firing.{Firing, Fire, Siblings, after_firing, siblings}
-use Rattle.hp_model.specs.Cells.{Cells, Changes, over, Read}
-use Rattle.hp_model.specs.Soundness.{FiringAnswer, firing_answer, Faithful, Attempt, IsSound}
+use Rattle.hp_model.specs.Cells.{Changes, over, Read}
+use Rattle.hp_model.specs.Soundness.{FiringAnswer, Faithful, Attempt, IsSound}
 use Rattle.hp_model.specs.Answers.{SiblingsAnswer, siblings_answer}
 use Rattle.hp_model.proofs.Faithful.{Grows, Grows-same, Grows-then, held_before}
 use Rattle.hp_model.proofs.FaithfulFirings.{goes_on}
 use Rattle.hp_model.proofs.FitUnits.{fire_fits}
-use Rattle.hp_attempt.specs.States.{States, ordered_states, fit_states, IsOneOf, LeadsToOne, FaithfulFor, FaithfulFiringFor, FaithfulSiblingsFor, IsSoundFor, IsSoundForOrdered, IsSoundForFit}
+use Rattle.hp_attempt.specs.States.{States, ordered_states, LeadsToOne, FaithfulFor, FaithfulFiringFor, FaithfulSiblingsFor, IsSoundFor, IsSoundForOrdered, IsSoundForFit}
 
 -- ---- ordered states, and fit ones
 

@@ -1,5 +1,5 @@
 -- The law of groups, for a class of states: a lawful run leads to the cells of the settled tasks' serial firing.
-use Rattle.std.specs.Prelude.{◌≡◌, ℕ, Bool, List, [], ◌∷◌, length, Option, Some, None, slice_get, ⊤, ◌⊎◌, take}
+use Rattle.std.specs.Prelude.{◌≡◌, ℕ, Bool, List, [], ◌∷◌, length, Some, None, slice_get, ⊤, ◌⊎◌, take}
 use Rattle.hp_model.specs.Rules.{Library}
 use Rattle.hp_model.specs.State.{State}
 use Rattle.hp_model.specs.Tree.{Task}
