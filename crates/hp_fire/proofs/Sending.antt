@@ -23,6 +23,7 @@ use Rattle.hp_detect.specs.contracts.event.EventExpr as EventExpr
 use Rattle.hp_detect.proofs.event.EventExpr.TheLaws.TheKnot as event
 use Rattle.hp_store.specs.contracts.value.CellValue as CellValue
 use Rattle.hp_store.proofs.value.Status.TheSendSync as status
+use Rattle.hp_store.proofs.index.Index.TheSendSync as field_index
 use Rattle.hp_store.specs.contracts.layer.Layer as Layer
 use Rattle.hp_store.specs.contracts.shared.SharedLayer as SharedLayer
 use Rattle.hp_store.specs.contracts.base.Base as Base
@@ -111,7 +112,7 @@ cell_value_send = search (knowledge_send, row.the_send, status.the_send, sendabl
 pub cell_value_sync : IsSync CellValue.the_field.row
 cell_value_sync = search (knowledge_sync, row.the_sync, status.the_sync, sendable) depth 12
 
-ruleset layer_parts = (cell_value_send, cell_value_sync, cell.the_send, cell.the_sync, maps.crosses, heap.crosses, sendable)
+ruleset layer_parts = (cell_value_send, cell_value_sync, cell.the_send, cell.the_sync, field_index.the_send, field_index.the_sync, maps.crosses, heap.crosses, sendable)
 
 pub layer_send : IsSend Layer.the_field.row
 layer_send = search layer_parts depth 12
