@@ -1,4 +1,4 @@
--- Accepted lines are a journal: a script of their items gives the same answers, and the same state.
+-- Accepted lines are a journal: a script of their items gives the same answers and the same state.
 use Rattle.std.specs.Prelude.{◌≡◌, Bool, List, [], ◌∷◌, ◌++◌, Option, Some, None, Ok, Err}
 use Rattle.serde_json.specs.Data.{Data}
 use Rattle.hp_model.specs.Cascade.{Script, evaluate}
@@ -12,7 +12,7 @@ use Rattle.hp_script.specs.Requests.{Request, item, state, request_of}
 use Rattle.hp_lines.specs.Lines.{Line}
 use Rattle.hp_lines.specs.Live.{RuleBase, Stage, unopened, up, closed, answer, stage_after}
 
--- what a line asks for, if it is an item and accepted
+-- the schedule of a line, if the line is an accepted item
 abbrev pub item_in : Decoded Request → Option Schedule
 item_in (Ok (item schedule)) = Some schedule
 item_in (Ok state) = None
@@ -37,16 +37,16 @@ abbrev pub accepted : (with_tree : Bool) → Stage → List Line → List Data
 accepted with_tree stage [] = []
 accepted with_tree stage (l ∷ ls) = value_if (item_for stage l) (json_at l) ++ accepted with_tree (answer with_tree stage l).stage ls
 
--- the answers to these, their last lines left out
+-- the answers to these, without their last lines
 abbrev pub accepted_bodies : (with_tree : Bool) → Stage → List Line → Bytes
 accepted_bodies with_tree stage [] = []
 accepted_bodies with_tree stage (l ∷ ls) = body_if (item_for stage l) (answer with_tree stage l).body ++ accepted_bodies with_tree (answer with_tree stage l).stage ls
 
--- after the first line
+-- the stage after the first line
 abbrev pub opened_by : (with_tree : Bool) → Line → Stage
 opened_by with_tree first = (answer with_tree unopened first).stage
 
--- a script that is the first line's but for its items: these are followed by the later lines that are accepted items
+-- the first line's script, with the later lines that are accepted items added to its items
 pub record IsJournal (with_tree : Bool) (first : Line) (later : List Line) (journal : Data) : Type 0 where
   pub script : Data
   pub root : Root
@@ -58,7 +58,7 @@ pub record IsJournal (with_tree : Bool) (first : Line) (later : List Line) (jour
   pub items_are : list_of root.items ≡ Some items
   pub entries_are : list_of entries ≡ Some (items ++ accepted with_tree (opened_by with_tree first) later)
 
--- the script gives a report with the lines that were answered, and leaves the library and the state of the rule base
+-- the script's report has the lines of the answers, and its library and final state are those of the rule base
 pub record Replays (with_tree : Bool) (first : Line) (later : List Line) (journal : Data) (base : RuleBase) : Type 0 where
   pub script : Script
   pub decoded : decode journal ≡ Ok script
@@ -67,7 +67,7 @@ pub record Replays (with_tree : Bool) (first : Line) (later : List Line) (journa
   pub report_is : text_of with_tree (Ok script)
       ≡ ((answer with_tree unopened first).body ++ accepted_bodies with_tree (opened_by with_tree first) later) ++ final_text base.library base.state.objects base.state.rules
 
--- whatever lines come, where a rule base is up after them, their journal replays to it
+-- where a rule base is running after lines, a journal of the lines replays to it
 abbrev pub AcceptedLinesReplay : Type 0
 AcceptedLinesReplay = (with_tree : Bool) (first : Line) (later : List Line) (journal : Data) (base : RuleBase)
     → stage_after with_tree unopened (first ∷ later) ≡ up base → IsJournal with_tree first later journal → Replays with_tree first later journal base

@@ -1,4 +1,4 @@
--- A rule manager that stays up: what it answers to lines.
+-- The answers of a running rule manager to lines.
 use Rattle.std.specs.Prelude.{ℕ, suc, ◌+◌, ◌==◌, Bool, List, [], ◌∷◌, ◌++◌, length, codes, decimal, Ok, Err, if◌then◌else◌}
 use Rattle.hp_model.specs.Rules.{Library}
 use Rattle.hp_model.specs.State.{State, initial_state}
@@ -12,9 +12,9 @@ use Rattle.hp_script.specs.Timed.{TimedScript, timed_script_of}
 use Rattle.hp_script.specs.Requests.{Request, item, state, request_of}
 use Rattle.hp_lines.specs.Lines.{Line, lines_of, kept_with, begun}
 
--- ---- a rule base that is up
+-- ---- a running rule base
 
--- its library, its state, where its clock stands, and how many units have run
+-- its library, its state, its clock's time, and how many units have run
 pub record RuleBase : Type 0 where
   pub library : Library
   pub state : State
@@ -24,7 +24,7 @@ pub record RuleBase : Type 0 where
 abbrev pub new_base : Library → RuleBase
 new_base library = record { library = library; state = initial_state library; clock = 0; units = 0 }
 
--- no line was read yet; a rule base is up; the script was refused, and nothing more is answered
+-- before the first line; a rule base is running; the script was refused, and later lines get no answer
 pub data Stage : Type 0 where
   unopened : Stage
   up : RuleBase → Stage
@@ -32,7 +32,7 @@ pub data Stage : Type 0 where
 
 -- ---- answers
 
--- the lines of an answer but its last one, the last one, and how matters stand after it
+-- the lines of an answer before its last, its last line, and the stage after it
 pub record Answer : Type 0 where
   pub body : Bytes
   pub last : Bytes
@@ -41,7 +41,7 @@ pub record Answer : Type 0 where
 abbrev pub ok_line : ℕ → Bytes
 ok_line units = line 0 (codes "ok" ∷ decimal units ∷ [])
 
--- units run, and are numbered on from those before
+-- the units are numbered on from those that ran before
 abbrev pub ran : (with_tree : Bool) → RuleBase → Schedule → Answer
 ran with_tree base schedule =
     let e = run_units base.library schedule.units base.state in
@@ -52,7 +52,7 @@ ran with_tree base schedule =
       stage = up (record { library = base.library; state = e.state; clock = schedule.clock; units = units });
     }
 
--- nothing of a refused line happens
+-- a refused line changes nothing
 abbrev pub opening_answer : (with_tree : Bool) → Decoded TimedScript → Answer
 opening_answer with_tree (Err r) = record { body = []; last = refusal_text r; stage = closed }
 opening_answer with_tree (Ok t) = ran with_tree (new_base t.script.library) (record { units = t.script.units; clock = t.clock })
@@ -63,7 +63,7 @@ later_answer with_tree base (Ok (item schedule)) = ran with_tree base schedule
 later_answer with_tree base (Ok state) =
     record { body = state_text base.library base.state.objects base.state.rules; last = ok_line base.units; stage = up base }
 
--- the first line is a script; each later one is an item of it, or asks for the state
+-- the first line is a script; each later one is an item over its library, or asks for the state
 abbrev pub answer : (with_tree : Bool) → Stage → Line → Answer
 answer with_tree unopened l = opening_answer with_tree (timed_script_of l)
 answer with_tree (up base) l = later_answer with_tree base (request_of base.library base.clock l)
@@ -87,7 +87,7 @@ output with_tree input = answers with_tree unopened (lines_of input)
 
 -- ---- the same, byte by byte
 
--- whether trees are wanted, how matters stand, and what has come of the next line
+-- whether trees are wanted, the stage, and the beginning of the next line
 pub record Desk : Type 0 where
   pub with_tree : Bool
   pub stage : Stage
@@ -96,7 +96,7 @@ pub record Desk : Type 0 where
 abbrev pub new_desk : (with_tree : Bool) → Desk
 new_desk with_tree = record { with_tree = with_tree; stage = unopened; line = [] }
 
--- the answer to the line as it is, and the desk after it
+-- the answer to the kept line, and the desk after it
 abbrev pub reply : Desk → Bytes
 reply d = let a = answer d.with_tree d.stage d.line in a.body ++ a.last
 
@@ -106,14 +106,14 @@ answered d = record { with_tree = d.with_tree; stage = (answer d.with_tree d.sta
 abbrev pub grown : Desk → ℕ → Desk
 grown d x = record { with_tree = d.with_tree; stage = d.stage; line = kept_with d.line x }
 
--- what one more byte has written: the answer to a line that is whole with it
+-- what is written after one more byte: the answer, if the byte ends a line
 abbrev pub told : Desk → ℕ → Bytes
 told d x = if x == 10 then reply d else []
 
 abbrev pub next : Desk → ℕ → Desk
 next d x = if x == 10 then answered d else grown d x
 
--- what a piece of input has written: the answers to all lines that are whole with it
+-- what is written after a piece of input: the answers to the lines that end in it
 abbrev pub said : Desk → List ℕ → Bytes
 said d [] = []
 said d (x ∷ xs) = told d x ++ said (next d x) xs
@@ -122,6 +122,6 @@ abbrev pub after : Desk → List ℕ → Desk
 after d [] = d
 after d (x ∷ xs) = after (next d x) xs
 
--- what the end of the input has written: the answer to a last line without a line feed
+-- what is written at the end of the input: the answer to a last line without a line feed
 abbrev pub said_at_end : Desk → Bytes
 said_at_end d = answers d.with_tree d.stage (begun d.line)

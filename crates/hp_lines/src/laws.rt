@@ -1,25 +1,26 @@
-//! Laws over the definitions alone.
+//! Laws of the definitions.
 
 ghost use Rattle.hp_lines.specs.Journal.{AcceptedLinesReplay};
 ghost use Rattle.hp_lines.specs.Laws.{BytesAreLines, PiecesCompose, ScriptsAreRead};
 
-/// The answers to accepted lines, their last lines left out, are the units' text of the report on the script whose items are
-/// those of the first line followed by the accepted ones; and the state is that script's final state.
+/// Accepted lines replay as one script, whose items are those of the first line and then the accepted ones. The
+/// answers, without their last lines, are the text of the units in the script's report, and the state is the script's
+/// final state.
 pub fn accepted_lines_replay()
     ensures { AcceptedLinesReplay }
 {}
 
-/// What is said byte by byte, and at the end, is what is answered to the input's lines.
+/// The answers byte by byte, with those at the end of the input, are the answers to the input's lines.
 pub fn bytes_are_lines()
     ensures { BytesAreLines }
 {}
 
-/// It doesn't matter how an input is cut into pieces.
+/// The answers do not depend on how the input is cut into pieces.
 pub fn pieces_compose()
     ensures { PiecesCompose }
 {}
 
-/// The first line is read as a script is.
+/// The first line is read as a script.
 pub fn scripts_are_read()
     ensures { ScriptsAreRead }
 {}

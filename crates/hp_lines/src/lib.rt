@@ -1,6 +1,6 @@
-//! What a rule manager that stays up answers to lines: definitions, and laws over them alone.
+//! The answers of a running rule manager to lines: definitions, and laws about them.
 //!
-//! `specs/Live.antt` says what is answered, `specs/Journal.antt` that accepted lines are a journal.
+//! `specs/Live.antt` defines the answers, and `specs/Journal.antt` says that accepted lines are a journal.
 #![tactic(auto)]
 
 pub mod laws;

@@ -1,4 +1,4 @@
--- The end of a run: the statuses that cells tell, and which final state is meant.
+-- The final state of a run.
 use Rattle.std.specs.Prelude.{◌≡◌, List, [], map, Option, Some, None}
 use Rattle.hp_model.specs.Rules.{Library}
 use Rattle.hp_model.specs.State.{State, IsOrdered, Objects, RuleState, Status, absent}
@@ -6,7 +6,7 @@ use Rattle.hp_model.specs.Cells.{Cells, cells, CellValue, row_value, status_valu
 use Rattle.hp_model.specs.Cascade.{UnitReport}
 use Rattle.hp_model.specs.Laws.{replay_units}
 
--- the status that a rule's cell tells; a rule without one is absent
+-- the status in a rule's cell; a rule without one is absent
 abbrev pub status_from : Option CellValue → Status
 status_from None = absent
 status_from (Some (row_value r)) = absent
@@ -20,8 +20,8 @@ statuses rules = map (λ (r : RuleState). r.status) rules
 pub record AreStatuses (library : Library) (base : Cells) (told : List Status) : Type 0 where
   pub from : (S : State) → IsOrdered library S → cells library S ≡ base → told ≡ statuses S.rules
 
--- these are the objects, and the statuses of the rules, of every ordered state that has the cells and whose objects are what the
--- reports' trees leave
+-- these are the objects, and the statuses of the rules, in every ordered state that has the cells and whose objects are
+-- those that the reports' trees replay to
 pub record AreFinal (library : Library) (base : Cells) (reports : List UnitReport) (objects : Objects) (told : List Status) : Type 0 where
   pub objects_are : (S : State) → IsOrdered library S → cells library S ≡ base → S.objects ≡ replay_units [] reports → objects ≡ S.objects
   pub statuses_are : AreStatuses library base told

@@ -27,7 +27,7 @@ status Disabled = S.disabled
 abbrev pub rule_state : Status → S.RuleState
 rule_state s = S.with_status (status s)
 
--- what a top-level transaction has emitted
+-- what a top-level transaction emitted, if it committed
 abbrev pub committed_emits : C.TransactionReport → List V.Value
 committed_emits t = if_committed t.ending (emits t.items) []
 

@@ -1,4 +1,4 @@
--- The library whose names are shown. No text shows how deep its firings go.
+-- The library whose names are shown. Its depth limit is shown nowhere.
 use Rattle.std.specs.Prelude.{map}
 use Rattle.hp_model.specs.Rules as R
 use Rattle.hp_value.specs.Mapped.{class_def}

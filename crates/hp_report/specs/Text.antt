@@ -1,4 +1,4 @@
--- Texts that grow at their end, word by word.
+-- Texts to which words are added.
 use Rattle.std.specs.Prelude.{◌≡◌, [], ◌∷◌, ◌++◌, List, flat_map, codes, String, string_bytes}
 use Rattle.std.specs.declared.alloc.Global.{Global}
 use Rattle.hp_model.specs.Values.{Value}
@@ -6,7 +6,7 @@ use Rattle.hp_model.specs.Rules.{Library}
 use Rattle.hp_model.specs.State.{Objects, RuleState}
 use Rattle.hp_model.specs.Report.{Bytes, line, value_text, objects_text, rules_text}
 
--- the text grew by this at its end
+-- this was added to the end of the text
 abbrev pub Gains : String Global → String Global → Bytes → Type 0
 Gains old new text = string_bytes new ≡ string_bytes old ++ text
 

@@ -1,4 +1,4 @@
-//! Devices that remember whether a call of theirs has failed.
+//! Devices that remember whether one of their calls has failed.
 
 ghost use Rattle.std.specs.Prelude.{◌≡◌, ℕ, List, Option, Bool, true, false};
 ghost use Rattle.std.specs.Io.{ReadsAtMost, WritesAtMost};
@@ -9,48 +9,48 @@ use std::io;
 
 /// What bytes are read from.
 ///
-/// Once a read has failed, no further one may be made: so no caller can try a failed read again, or
-/// miss that it failed. [`Watched`](crate::Watched) makes a source of each of std's readers.
+/// After a read that failed, no read may follow. So no caller can retry it or miss that it failed.
+/// [`Watched`](crate::Watched) makes a source of each of std's readers.
 pub trait Source {
     /// The bytes that reads will give from here to the end, where they are known.
     ghost remaining: { Self → Option (List ℕ) };
 
-    /// Whether a read has answered an `Err`.
+    /// Whether a read has returned an `Err`.
     ghost has_failed: { Self → Bool };
 
-    /// Reads into the front of `buf`, as std's `Read::read` does, and answers how many bytes it read.
-    /// At `Ok(0)`, where `buf` isn't empty, the source is at its end. An `Err` reads nothing.
+    /// Reads into the front of `buf`, as std's `Read::read` does, and returns how many bytes it read.
+    /// `Ok(0)` for a `buf` that isn't empty means the end of the source. On `Err` nothing was read.
     fn read(&mut self, buf: &mut [u8]) -> io::Result<usize>
         requires { has_failed self.old ≡ false }
         ensures bound { ReadsAtMost result buf.new }
         ensures bytes { ReadConsumes (remaining self.old) (remaining self.new) result buf.new }
         ensures failure { has_failed self.new ≡ read_fails result };
 
-    /// Whether a read has answered an `Err`.
+    /// Whether a read has returned an `Err`.
     fn failed(&self) -> bool
         ensures { result ≡ has_failed self.now };
 }
 
 /// What bytes are written to.
 ///
-/// Once a write has failed, no further one may be made: so no caller can try a failed write again, or
-/// miss that it failed. [`Watched`](crate::Watched) makes a sink of each of std's writers.
+/// After a write that failed, no write may follow. So no caller can retry it or miss that it failed.
+/// [`Watched`](crate::Watched) makes a sink of each of std's writers.
 pub trait Sink {
     /// The bytes that the sink has taken, where they are known.
     ghost contents: { Self → Option (List ℕ) };
 
-    /// Whether a write has answered an `Err`, or has taken nothing of a piece that isn't empty.
+    /// Whether a write has returned an `Err`, or has taken nothing of a `buf` that isn't empty.
     ghost has_failed: { Self → Bool };
 
-    /// Writes a front of `buf`, as std's `Write::write` does, and answers how many bytes it took.
-    /// An `Err` writes nothing.
+    /// Writes bytes from the front of `buf`, as std's `Write::write` does, and returns how many it took.
+    /// On `Err` nothing was written.
     fn write(&mut self, buf: &[u8]) -> io::Result<usize>
         requires { has_failed self.old ≡ false }
         ensures bound { WritesAtMost result buf.now }
         ensures bytes { WriteAppends (contents self.old) (contents self.new) result buf.now }
         ensures failure { has_failed self.new ≡ write_fails result buf.now };
 
-    /// Whether a write has answered an `Err`, or has taken nothing of a piece that isn't empty.
+    /// Whether a write has returned an `Err`, or has taken nothing of a `buf` that isn't empty.
     fn failed(&self) -> bool
         ensures { result ≡ has_failed self.now };
 }

@@ -1,4 +1,4 @@
-//! The final state of a run, as a report shows it.
+//! The final state of a run.
 
 ghost use Rattle.std.specs.Prelude.{◌≡◌, [], IfOk, map};
 ghost use Rattle.hp_model.specs.Cells.{rule_cell};
@@ -14,7 +14,8 @@ use hp_tree::{Ending, Objects, TopReport, UnitReport, replay};
 use hp_value::{Cell, RuleNo};
 use std::alloc::{AllocError, Global};
 
-/// The objects and the statuses of the rules after units, from what was reported of them and from the store that they left.
+/// The final state after units: the objects, from the units' reports, and the rules' statuses, from the store that the
+/// units left.
 ///
 /// An error means that memory ran out, or that there are more rules than there are rule numbers.
 pub fn final_state(
@@ -24,14 +25,15 @@ pub fn final_state(
     units: &[UnitReport],
 ) -> Result<(Objects, Vec<Status>), AllocError>
     ensures { IfOk result (λ ends.
-        AreFinal (model.library lib.now) (cells_in store.now) (map model.unit_report units.now) ends.0 (map model.status ends.1.items)) }
+        AreFinal (model.library lib.now) (cells_in store.now) (map model.unit_report units.now)
+        ends.0 (map model.status ends.1.items)) }
 {
     let objects = final_objects(alloc, units)?;
     let statuses = final_statuses(alloc, lib, store)?;
     Ok((objects, statuses))
 }
 
-/// The objects that units leave, the first of which found none: what their trees' committed operations make.
+/// The objects after units that began with none: a replay of the committed operations in the units' trees.
 ///
 /// An error means that memory ran out.
 pub fn final_objects(alloc: Global, units: &[UnitReport]) -> Result<Objects, AllocError>
@@ -40,7 +42,7 @@ pub fn final_objects(alloc: Global, units: &[UnitReport]) -> Result<Objects, All
     replay_units(Objects::new(alloc), units)
 }
 
-/// The objects that units leave: what their trees' committed operations make of those that were there.
+/// The objects after units that began with these: a replay of the committed operations in the units' trees.
 ///
 /// An error means that memory ran out; the objects are then lost.
 pub fn replay_units(initial: Objects, units: &[UnitReport]) -> Result<Objects, AllocError>
@@ -85,7 +87,8 @@ pub fn final_statuses(
     lib: &Library,
     store: &Store,
 ) -> Result<Vec<Status>, AllocError>
-    ensures { IfOk result (λ statuses. AreStatuses (model.library lib.now) (cells_in store.now) (map model.status statuses.items)) }
+    ensures { IfOk result (λ statuses.
+        AreStatuses (model.library lib.now) (cells_in store.now) (map model.status statuses.items)) }
 {
     let mut statuses = Vec::new(alloc);
     for place in 0..lib.rules().len() {
@@ -94,7 +97,7 @@ pub fn final_statuses(
     Ok(statuses)
 }
 
-/// The number of the rule at a place.
+/// The number of the rule at a position.
 fn rule_number(place: usize) -> Result<RuleNo, AllocError>
     ensures { IfOk result (λ number. number ≡ place) }
 {

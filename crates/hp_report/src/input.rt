@@ -1,4 +1,4 @@
-//! Reading a device.
+//! Reading from a device.
 
 ghost use Rattle.std.specs.Prelude.{◌≡◌, ◌↔◌, ◌≤◌, take, vec_len, IfOk, IfSome, true, false};
 ghost use Rattle.std.specs.Io.KnownBytes.{Consumes};
@@ -9,13 +9,13 @@ use crate::device::Source;
 use std::alloc::{AllocError, Global};
 use thiserror::Error;
 
-/// Why a device's bytes were not read.
+/// Why the bytes of a device could not be read.
 #[derive(Clone, Copy, Debug, PartialEq, Eq, Error)]
 pub enum ReadFault {
-    /// A read has failed.
+    /// A read failed.
     #[error("a read failed")]
     Read,
-    /// There was no memory for the bytes; no read has failed.
+    /// Memory ran out; no read failed.
     #[error("out of memory")]
     NoMemory,
 }
@@ -30,8 +30,8 @@ impl From<AllocError> for ReadFault {
 
 /// Reads the bytes of a device up to its end, or the first `limit` of them.
 ///
-/// However it ends, no more than `limit` bytes are taken from the device. It ends at the first read that fails, and a read
-/// fails only where fewer than `limit` bytes were there before. After a fault some bytes may have been read, and are lost.
+/// It never takes more than `limit` bytes from the device, and stops at the first read that fails. A read can fail only
+/// while fewer than `limit` bytes have been read. After a fault the bytes that were read are lost.
 pub fn read_up_to<R: Source>(
     alloc: Global,
     reader: &mut R,

@@ -1,6 +1,6 @@
-//! What a run reads and writes: devices, and the text of a report.
+//! The input and output of a run: devices, and the text of a report.
 //!
-//! `specs/Mapped.antt` says what each type stands for in `hp_model`, whose `Report` says the text.
+//! `specs/Mapped.antt` says what each type stands for in `hp_model`, whose `Report` defines the text.
 #![tactic(auto)]
 
 mod device;

@@ -17,7 +17,7 @@ impl<'a> Names<'a> {
     ghost use Rattle.hp_model.specs.Report.{class_name, rule_name};
     ghost use Rattle.hp_report.specs.Named.{library_of};
 
-    /// The name of a class; nothing where there is no such class.
+    /// The name of a class, or `""` where there is no such class.
     pub fn class(&self, class: ClassNo) -> &'a str
         ensures { result.now ≡ class_name (library_of self.now) class }
     {
@@ -27,7 +27,7 @@ impl<'a> Names<'a> {
             .map_or("", |class| class.name.as_str())
     }
 
-    /// The name of a rule; nothing where there is no such rule.
+    /// The name of a rule, or `""` where there is no such rule.
     pub fn rule(&self, rule: RuleNo) -> &'a str
         ensures { result.now ≡ rule_name (library_of self.now) rule }
     {

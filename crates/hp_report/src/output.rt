@@ -9,13 +9,13 @@ use crate::device::Sink;
 use std::alloc::AllocError;
 use thiserror::Error;
 
-/// Why a text was not written.
+/// Why a text could not be written.
 #[derive(Clone, Copy, Debug, PartialEq, Eq, Error)]
 pub enum WriteFault {
-    /// A write has failed; what went out is a beginning of the text.
+    /// A write failed. A beginning of the text was written.
     #[error("a write failed")]
     Write,
-    /// There was no memory to make the text; nothing went out, and no write has failed.
+    /// Memory ran out while the text was made. Nothing was written, and no write failed.
     #[error("out of memory")]
     NoMemory,
 }
@@ -28,10 +28,10 @@ impl From<AllocError> for WriteFault {
     }
 }
 
-/// Writes a whole text, in as many writes as the device wants.
+/// Writes a whole text, in as many writes as the device needs.
 ///
-/// It ends at the first write that fails, with `WriteFault::Write`, its one fault; what went out is then
-/// a beginning of the text.
+/// Its only fault is `WriteFault::Write`: it stops at the first write that fails, and a beginning of the text was
+/// written.
 pub fn write_text<W: Sink>(writer: &mut W, text: &[u8]) -> Result<(), WriteFault>
     requires { W.has_failed writer.old ≡ false }
     ensures ok { OnOk result (Appends (W.contents writer.old) (W.contents writer.new) text.now) }

@@ -1,4 +1,4 @@
-//! Parts of a report as texts of their own.
+//! Parts of a report as separate texts.
 
 ghost use Rattle.std.specs.Prelude.{◌≡◌, ◌+◌, ◌<◌, ◌^◌, IfOk, length, map, string_bytes};
 ghost use Rattle.hp_model.specs.Report.{units_text};
@@ -12,8 +12,7 @@ use hp_rule::Library;
 use hp_tree::{Objects, UnitReport};
 use std::alloc::{AllocError, Global};
 
-/// The lines that a report has for units, the first of which has this number, with the trees of their transactions where
-/// these are wanted.
+/// The lines of a report for units, numbered from `first` on. With `with_tree` the trees of their transactions follow.
 ///
 /// An error means that memory ran out.
 pub fn units_text(
@@ -36,7 +35,7 @@ pub fn units_text(
     Ok(out)
 }
 
-/// The lines that a report has for a state: its objects, and the status of each rule, by its number.
+/// The lines of a report for a state: its objects, and the status of each rule, by the rule's number.
 ///
 /// An error means that memory ran out.
 pub fn state_text(

@@ -15,18 +15,18 @@ use hp_tree::{Objects, UnitReport};
 use std::alloc::{AllocError, Global};
 use std::sync::Arc;
 
-/// Whether a rule fires where its event occurs (this project's own choice).
+/// Whether a rule fires when its event occurs. That a report shows it is this project's own choice.
 #[derive(Clone, Copy, Debug, PartialEq, Eq)]
 pub enum Status {
-    /// The rule isn't there.
+    /// The rule is not installed.
     Absent,
-    /// It fires.
+    /// The rule is installed and fires.
     Enabled,
-    /// It is there, and doesn't fire.
+    /// The rule is installed and doesn't fire.
     Disabled,
 }
 
-/// What the units of a script did, and the state that the last one left.
+/// What the units of a script did, and the state after the last one.
 #[derive(Debug, Drop)]
 pub struct Report {
     /// The script's classes and rules.
@@ -54,12 +54,11 @@ fn text_of(alloc: Global, report: &Report, with_tree: bool) -> Result<String, Al
     Ok(out)
 }
 
-/// Writes the text of a report in as many writes as the device wants, with the trees of its transactions where these are
-/// wanted.
+/// Writes the text of a report, in as many writes as the device needs. With `with_tree` it has the trees of the
+/// transactions.
 ///
-/// The text is made whole before the first write, so that want of memory writes nothing. The first
-/// write that fails is the fault, and none is tried after it: what went out is then a beginning of the
-/// text.
+/// The whole text is made before the first write, so nothing is written where memory runs out. It stops at the first
+/// write that fails, and a beginning of the text was written.
 pub fn write_report<W: Sink>(
     alloc: Global,
     report: &Report,
@@ -70,7 +69,7 @@ pub fn write_report<W: Sink>(
     ensures ok { OnOk result (Appends (W.contents writer.old) (W.contents writer.new)
         (report_text (model.library report.now.library.value) with_tree (model.evaluation report.now))) }
 
-    // However it ends, what went out is a beginning of the text.
+    // Whatever the result, what was written is a beginning of the text.
     ensures begins { Begins (W.contents writer.old) (W.contents writer.new)
         (report_text (model.library report.now.library.value) with_tree (model.evaluation report.now)) }
 

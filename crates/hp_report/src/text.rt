@@ -1,4 +1,4 @@
-//! The text of a report, made part by part at the end of a `String`.
+//! The parts of a report's text. Each is added to the end of a `String`.
 
 mod objects;
 mod rules;

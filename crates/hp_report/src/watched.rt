@@ -1,4 +1,4 @@
-//! Readers and writers of `std` as devices.
+//! Devices over readers and writers of std.
 
 ghost use Rattle.std.specs.Prelude.{◌≡◌};
 
@@ -6,7 +6,7 @@ use crate::device::{Sink, Source};
 use std::io;
 use std::io::{Read, Write};
 
-/// A reader or writer of std, and whether a call of it has failed.
+/// A reader or writer of std, and whether one of its calls has failed.
 #[derive(Drop)]
 pub struct Watched<T> {
     inner: T,
@@ -17,7 +17,7 @@ impl<T> Watched<T> {
     ghost use Rattle.std.specs.Prelude.{false};
     ghost use Rattle.hp_report.specs.Watched.{inner_of, has_failed};
 
-    /// A device that has not failed yet.
+    /// A device that has not failed.
     pub fn new(inner: T) -> Watched<T>
         ensures inner { inner_of result ≡ inner }
         ensures fresh { has_failed result ≡ false }
@@ -28,7 +28,7 @@ impl<T> Watched<T> {
         }
     }
 
-    /// The reader or writer itself.
+    /// The reader or writer inside.
     pub fn into_inner(self) -> T
         ensures { result ≡ inner_of self }
     {

@@ -11,7 +11,7 @@ abbrev pub request : Request → R.Request
 request (Item s) = R.item (schedule s)
 request State = R.state
 
--- the bodies that are asked for are of this library
+-- the bodies in the request were checked against this library
 abbrev pub IsRequestOf : Library → Request → Type 0
 IsRequestOf library (Item s) = AreOf library s.units.items
 IsRequestOf library State = ⊤

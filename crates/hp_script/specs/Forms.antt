@@ -1,4 +1,4 @@
--- What the forms stand for whose parts are still JSON, and what is known where they are read.
+-- What forms whose parts are still JSON stand for, and the names that are known to them.
 use Rattle.std.specs.Prelude.{List, map, option_map}
 use Rattle.serde_json.specs.View.{view}
 use Rattle.hp_model.specs.Json as J

@@ -1,4 +1,4 @@
--- What the heads of rules stand for, whose parts are still JSON.
+-- What the heads of rules stand for.
 use Rattle.std.specs.Prelude.{List, map}
 use Rattle.serde_json.specs.View.{view}
 use Rattle.hp_model.specs.RuleHeads as H

@@ -1,13 +1,13 @@
--- The next moment that is named, and lists of moments that are few.
+-- The first moment that is named after a time, and short lists of moments.
 use Rattle.std.specs.Prelude.{◌≡◌, ℕ, ◌^◌, ◌<◌, nat_lt, min, List, length, Bool, true, false, Option, Some, None, if◌then◌else◌}
 
--- the first moment after a time that is named; the clock's numbers end before 2^63
+-- the first moment after a time that is named; the clock stays below 2^63
 pub record IsNext (named : ℕ → Bool) (after n : ℕ) : Type 0 where
   pub above : after < n
   pub is : named n ≡ true
   pub first : (m : ℕ) → after < m → m < n → m < 2 ^ 63 → named m ≡ false
 
--- the same, or none
+-- the first such moment, if there is one
 abbrev pub NextOf : (ℕ → Bool) → ℕ → Option ℕ → Type 0
 NextOf named after None = (m : ℕ) → after < m → m < 2 ^ 63 → named m ≡ false
 NextOf named after (Some n) = IsNext named after n

@@ -1,4 +1,4 @@
--- What a line asks of a rule base that is up.
+-- What a line asks of a running rule base.
 use Rattle.std.specs.Prelude.{ℕ, Bool, true, false, ◌&&◌, nat_lt, List, [], ◌∷◌, length, codes, Option, Some, None, Ok, Err, bytes_eq, if◌then◌else◌}
 use Rattle.serde_json.specs.Data.{Data}
 use Rattle.hp_model.specs.Values.{◌>>=◌}
@@ -8,7 +8,7 @@ use Rattle.hp_model.specs.Json.{Form, form_of}
 use Rattle.hp_model.specs.Decode.{Schedule, unit_at, json_at}
 use Rattle.hp_script.specs.Scopes.{library_scope}
 
--- an item's units, with the time that the clock has after them; or the state as it is
+-- to run an item's units, with the time after them; or to show the state
 pub data Request : Type 0 where
   item : Schedule → Request
   state : Request
@@ -25,11 +25,11 @@ is_show (Some f) = bytes_eq f.word (codes "show") && is_alone f.parts
 abbrev pub asks_for_state : Data → Bool
 asks_for_state d = is_show (form_of d)
 
--- no unit as yet, and the clock as it stands
+-- no units yet, and the current time
 abbrev pub nothing_since : (clock : ℕ) → Schedule
 nothing_since clock = record { units = []; clock = clock }
 
--- an item is read as one of a script is, by paths from its own value
+-- an item is read as an item of a script; paths begin at its own value
 unfoldable pub item_of : Library → (clock : ℕ) → Data → Decoded Request
 item_of library clock d = do
   schedule ← unit_at library.rules (library_scope library) [] (nothing_since clock) d
@@ -38,6 +38,6 @@ item_of library clock d = do
 unfoldable pub request_at : Library → (clock : ℕ) → Data → Decoded Request
 request_at library clock d = if asks_for_state d then Ok state else item_of library clock d
 
--- the size comes before all else, as in a script
+-- the size is checked first, as in a script
 unfoldable pub request_of : Library → (clock : ℕ) → List ℕ → Decoded Request
 request_of library clock bytes = if nat_lt 1048576 (length bytes) then Err (over_limit size_limit) else json_at bytes >>= request_at library clock

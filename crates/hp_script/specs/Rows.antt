@@ -1,4 +1,4 @@
--- The names of rows.
+-- The names of the rows that are in scope.
 use Rattle.std.specs.Prelude.{List, ◌∷◌, map}
 use Rattle.hp_model.specs.Values.{Name}
 use Rattle.hp_model.specs.Scopes.{query_names}

@@ -1,4 +1,4 @@
--- Scripts with the time that the clock has after their items.
+-- Scripts with the clock's time after their items.
 use Rattle.std.specs.Prelude.{ℕ, nat_lt, List, [], length, codes, Ok, Err, if◌then◌else◌}
 use Rattle.serde_json.specs.Data.{Data}
 use Rattle.hp_model.specs.Values.{◌>>=◌}
@@ -31,11 +31,11 @@ timed_script_at d = do
   schedule ← units_at library.rules (library_scope library) (under_root (codes "items")) root.items
   Ok (record { script = record { library = library; units = schedule.units }; clock = schedule.clock })
 
--- the script that the bytes say, with the time after it, or the first refusal
+-- the script in the bytes, with the time after it, or the first refusal
 unfoldable pub timed_script_of : List ℕ → Decoded TimedScript
 timed_script_of bytes = if nat_lt 1048576 (length bytes) then Err (over_limit size_limit) else json_at bytes >>= timed_script_at
 
--- the script alone
+-- without the time
 abbrev pub untimed : Decoded TimedScript → Decoded Script
 untimed (Ok t) = Ok t.script
 untimed (Err r) = Err r

@@ -1,10 +1,11 @@
-//! Pairs of a field and what it is set to.
+//! Assignments: a field of a class and its new value.
 
 ghost use Rattle.std.specs.Prelude.{◌≡◌, map};
 ghost use Rattle.serde_json.specs.View.{view};
 ghost use Rattle.hp_model.specs.Parts.{place_of};
 ghost use Rattle.hp_model.specs.Scopes.{field_names};
-ghost use Rattle.hp_model.specs.StatementGrammar.{assigned_names, assigned_field_at, assignment_at, assignments_at, all_assignments_at};
+ghost use Rattle.hp_model.specs.StatementGrammar.{assigned_names, assigned_field_at, assignment_at, assignments_at};
+ghost use Rattle.hp_model.specs.StatementGrammar.{all_assignments_at};
 ghost use Rattle.hp_value.specs.Mapped.{field};
 ghost use Rattle.hp_rule.specs.Mapped.{assignment};
 ghost use Rattle.hp_script.specs.Mapped.{Gives};
@@ -23,7 +24,7 @@ use hp_value::Field;
 use serde_json::Value;
 use std::alloc::Global;
 
-/// The place of the pair that sets the field of this name.
+/// The position of the assignment to the field of this name.
 fn assignment_place(pairs: &[Assignment], name: &str) -> Option<usize>
     ensures { result ≡ place_of (assigned_names (map assignment pairs.now)) name.now }
 {
@@ -35,7 +36,7 @@ fn assignment_place(pairs: &[Assignment], name: &str) -> Option<usize>
     None
 }
 
-/// The name of one of the fields, which no pair before has.
+/// The name of a field of the class that no assignment before sets.
 #[tactic(auto, unfolding(hp_model::specs::StatementGrammar::assigned_field_at, hp_model::specs::Parts::new_name_at))]
 fn assigned_field_at<'a>(
     alloc: Global,
@@ -44,7 +45,9 @@ fn assigned_field_at<'a>(
     before: &[Assignment],
     value: &'a Value,
 ) -> Result<&'a str, DecodeError>
-    ensures { Gives (λ x. x.now) result (assigned_field_at (field_names (map field fields.now)) (assigned_names (map assignment before.now)) (path_to place.now) (view value.entry.now)) }
+    ensures { Gives (λ x. x.now) result
+        (assigned_field_at (field_names (map field fields.now)) (assigned_names (map assignment before.now))
+        (path_to place.now) (view value.entry.now)) }
 {
     let name = name_at(alloc, place, value)?;
     if assignment_place(before, name).is_some() {
@@ -65,7 +68,9 @@ fn assignment_at(
     before: &[Assignment],
     value: &Value,
 ) -> Result<Assignment, DecodeError>
-    ensures { Gives assignment result (assignment_at (field_names (map field fields.now)) (names_in rows.now) (map assignment before.now) (path_to place.now) (view value.now)) }
+    ensures { Gives assignment result
+        (assignment_at (field_names (map field fields.now)) (names_in rows.now) (map assignment before.now)
+        (path_to place.now) (view value.now)) }
 {
     let Some((name, value)) = pair_of(value) else {
         return Err(misshapen(alloc, place));
@@ -76,7 +81,7 @@ fn assignment_at(
     Ok(Assignment { field, value })
 }
 
-/// The pairs that stand at a place: some of the fields, each at most once.
+/// The assignments of an `update`: to some of the fields, at most one to each.
 #[tactic(auto, unfolding(hp_model::specs::StatementGrammar::assignments_at))]
 pub(crate) fn assignments_at(
     alloc: Global,
@@ -85,7 +90,9 @@ pub(crate) fn assignments_at(
     rows: &Rows<'_>,
     value: &Value,
 ) -> Result<Vec<Assignment>, DecodeError>
-    ensures { Gives (λ pairs. map assignment pairs.items) result (assignments_at (field_names (map field fields.now)) (names_in rows.now) (path_to place.now) (view value.now)) }
+    ensures { Gives (λ pairs. map assignment pairs.items) result
+        (assignments_at (field_names (map field fields.now)) (names_in rows.now) (path_to place.now)
+        (view value.now)) }
 {
     let Some(values) = list_of(value) else {
         return Err(misshapen(alloc, place));
@@ -98,7 +105,7 @@ pub(crate) fn assignments_at(
     Ok(pairs)
 }
 
-/// The pairs that stand at a place: each of the fields.
+/// The assignments of a `create`: one to each of the fields.
 #[tactic(auto, unfolding(hp_model::specs::StatementGrammar::all_assignments_at))]
 pub(crate) fn all_assignments_at(
     alloc: Global,
@@ -107,7 +114,9 @@ pub(crate) fn all_assignments_at(
     rows: &Rows<'_>,
     value: &Value,
 ) -> Result<Vec<Assignment>, DecodeError>
-    ensures { Gives (λ pairs. map assignment pairs.items) result (all_assignments_at (field_names (map field fields.now)) (names_in rows.now) (path_to place.now) (view value.now)) }
+    ensures { Gives (λ pairs. map assignment pairs.items) result
+        (all_assignments_at (field_names (map field fields.now)) (names_in rows.now) (path_to place.now)
+        (view value.now)) }
 {
     let pairs = assignments_at(alloc, place, fields, rows, value)?;
     if pairs.len() < fields.len() {

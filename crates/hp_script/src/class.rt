@@ -17,10 +17,10 @@ use serde_json::Value;
 use std::alloc::Global;
 use std::sync::Arc;
 
-/// The fields that a class may have.
+/// The most fields that a class may have.
 const MAX_FIELDS: usize = 32;
 
-/// The classes that a script may have.
+/// The most classes that a script may have.
 const MAX_CLASSES: usize = 64;
 
 fn kind_of_word(word: &str) -> Option<Kind>
@@ -107,14 +107,15 @@ fn class_at(
     Ok(ClassDef { name, fields })
 }
 
-/// The classes that stand at a place.
+/// The classes at a place.
 #[tactic(auto, unfolding(hp_model::specs::Decode::classes_at, hp_model::specs::Parts::short_list_at))]
 pub(crate) fn classes_at(
     alloc: Global,
     place: &Place<'_>,
     value: &Value,
 ) -> Result<Vec<ClassDef>, DecodeError>
-    ensures reads { Gives (λ classes. map class_def classes.items) result (classes_at (path_to place.now) (view value.now)) }
+    ensures reads { Gives (λ classes. map class_def classes.items) result
+        (classes_at (path_to place.now) (view value.now)) }
     ensures few { IfOk result (λ classes. length classes.items ≤ 64) }
 {
     let Some(values) = list_of(value) else {

@@ -21,7 +21,7 @@ fn is_second(version: Version) -> bool
     matches!(version, Version::Second)
 }
 
-/// A coupling of both versions.
+/// A coupling mode of both versions.
 fn common_coupling(word: &str) -> Option<Coupling>
     ensures { option_map coupling result ≡ common_coupling word.now }
 {
@@ -43,7 +43,7 @@ fn coupling_of_word(version: Version, word: &str) -> Option<Coupling>
     common_coupling(word)
 }
 
-/// The coupling that stands at a place.
+/// The coupling mode at a place.
 pub(crate) fn coupling_at(
     alloc: Global,
     place: &Place<'_>,

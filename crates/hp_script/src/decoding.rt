@@ -1,4 +1,4 @@
-//! Scripts from their bytes.
+//! Reading a script from its bytes.
 
 ghost use Rattle.std.specs.Prelude.{◌≡◌, ◌≤◌, ◌<◌, codes, length, map, option_map, IfOk};
 ghost use Rattle.serde_json.specs.View.{view};
@@ -30,7 +30,7 @@ use serde_json::Value;
 use std::alloc::Global;
 use std::sync::Arc;
 
-/// The bytes that a script may have.
+/// The most bytes that a script may have.
 pub(crate) const MAX_BYTES: usize = 1_048_576;
 
 /// The members of the root.
@@ -43,7 +43,7 @@ pub(crate) struct Root<'a> {
     pub items: &'a Value,
 }
 
-/// How many members there are, if all are there.
+/// How many members a whole root has.
 fn wanted_count(depth: Option<&Value>) -> usize
     ensures { result ≡ wanted_count (option_map (λ v. view v.now) depth.entry) }
 {
@@ -53,7 +53,7 @@ fn wanted_count(depth: Option<&Value>) -> usize
     }
 }
 
-/// The members of the root, if each of them is there and no other.
+/// The members of the root, if it has all of them and no others.
 fn root_of(value: &Value) -> Option<Root<'_>>
     ensures { option_map root_view result ≡ root_of (view value.now) }
 {
@@ -71,7 +71,7 @@ fn root_of(value: &Value) -> Option<Root<'_>>
     })
 }
 
-/// The rules of these heads, over these classes.
+/// The rules with these heads, over these classes.
 fn rules_of(
     alloc: Global,
     version: Version,
@@ -80,7 +80,9 @@ fn rules_of(
 ) -> Result<Vec<Rule>, DecodeError>
     requires few_classes { length classes.now ≤ 64 }
     requires few_rules { length heads.now ≤ 256 }
-    ensures { Gives (λ rules. map rule rules.items) result (rules_at (version_view version) (script_scope (map class_def classes.now) (heads_view heads.entry.now)) (under_root (codes "rules")) (heads_view heads.entry.now)) }
+    ensures { Gives (λ rules. map rule rules.items) result
+        (rules_at (version_view version) (script_scope (map class_def classes.now) (heads_view heads.entry.now))
+        (under_root (codes "rules")) (heads_view heads.entry.now)) }
 {
     let scope = Scope {
         classes,
@@ -91,15 +93,17 @@ fn rules_of(
     rules_at(alloc, &Place::Member(Member::Rules), version, &scope, heads)
 }
 
-/// The items over a script's library, as the units that they run.
+/// The units that the script's items run.
 fn items_of(alloc: Global, library: &Arc<Library>, value: &Value) -> Result<Schedule, DecodeError>
     ensures own { IfOk result (λ s. AreOf library.now.value s.units.items) }
-    ensures reads { Gives schedule result (units_at (model_library library.now.value).rules (library_scope (model_library library.now.value)) (under_root (codes "items")) (view value.now)) }
+    ensures reads { Gives schedule result
+        (units_at (model_library library.now.value).rules (library_scope (model_library library.now.value))
+        (under_root (codes "items")) (view value.now)) }
 {
     units_at(alloc, &Place::Member(Member::Items), library, value)
 }
 
-/// The library that the root's members say.
+/// The library in the root's members.
 #[tactic(auto, unfolding(crate::specs::Timed::library_at))]
 fn library_of(alloc: Global, root: &Root<'_>) -> Result<Arc<Library>, DecodeError>
     ensures { Gives (λ l. model_library l.value) result (library_at (root_view root.entry.now)) }
@@ -113,7 +117,7 @@ fn library_of(alloc: Global, root: &Root<'_>) -> Result<Arc<Library>, DecodeErro
     Ok(Arc::new(alloc, library)?)
 }
 
-/// The script that a JSON value says.
+/// The script in a JSON value.
 #[tactic(auto, unfolding(crate::specs::Timed::timed_script_at))]
 fn script_at(alloc: Global, value: &Value) -> Result<Script, DecodeError>
     ensures own { IfOk result (λ s. AreOf s.library.value s.items.items) }
@@ -131,7 +135,7 @@ fn script_at(alloc: Global, value: &Value) -> Result<Script, DecodeError>
     })
 }
 
-/// The script that the bytes say, unless they are too many.
+/// The script in the bytes, unless they are too many.
 #[tactic(auto, unfolding(crate::specs::Timed::timed_script_of))]
 fn script_in(alloc: Global, bytes: &[u8]) -> Result<Script, DecodeError>
     ensures timed { Gives timed_script result (timed_script_of bytes.now) }
@@ -145,12 +149,12 @@ fn script_in(alloc: Global, bytes: &[u8]) -> Result<Script, DecodeError>
     script_at(alloc, &value)
 }
 
-/// The script that the bytes say.
+/// Reads a script from its bytes. The bodies of the script are checked against its own library.
 ///
-/// `Refused` tells the first fault, in the order of the grammar's checks: the size, the JSON text, the root's members,
+/// `Refused` has the first fault, in the order of the grammar's checks: the size, the JSON text, the root's members,
 /// the version, the depth limit, the classes, the form and name of each rule, the other parts of each rule, and the
-/// items. `Memory` means that memory ran out, and says nothing of the bytes but that they are no more than 1,048,576:
-/// more are refused before any memory is taken. The bodies of a script are of its own library.
+/// items. `Memory` means that memory ran out. More than 1,048,576 bytes are refused before any memory is allocated, so
+/// with `Memory` the bytes are at most that many, and may or may not be a script.
 pub fn decode(alloc: Global, bytes: &[u8]) -> Result<Script, DecodeError>
     ensures reads { Gives script result (script_of bytes.now) }
     ensures timed { Gives timed_script result (timed_script_of bytes.now) }

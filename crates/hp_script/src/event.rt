@@ -2,7 +2,9 @@
 
 ghost use Rattle.std.specs.Prelude.{◌≡◌, map, option_map};
 ghost use Rattle.serde_json.specs.View.{view};
-ghost use Rattle.hp_model.specs.EventGrammar.{event_form, event_form_of_one, event_form_of_two, event_form_at, on_create_at, on_update_at, on_delete_at, on_signal_at, at_moment_at, every_moment_at, parts_at, event_within, event_at};
+ghost use Rattle.hp_model.specs.EventGrammar.{event_form, event_form_of_one, event_form_of_two, event_form_at};
+ghost use Rattle.hp_model.specs.EventGrammar.{on_create_at, on_update_at, on_delete_at, on_signal_at, at_moment_at};
+ghost use Rattle.hp_model.specs.EventGrammar.{every_moment_at, parts_at, event_within, event_at};
 ghost use Rattle.hp_model.specs.Scopes.{class_names};
 ghost use Rattle.hp_detect.specs.Mapped.{event};
 ghost use Rattle.hp_script.specs.Forms.{event_form_view, scope_view};
@@ -21,7 +23,7 @@ use hp_rule::EventExpr;
 use serde_json::Value;
 use std::alloc::Global;
 
-/// The levels that an event may have.
+/// The most levels that an event may have.
 const MAX_LEVELS: usize = 16;
 
 /// An event whose parts are still JSON.
@@ -53,7 +55,8 @@ fn event_form_of_one<'a>(word: &str, part: &'a Value) -> Option<EventForm<'a>>
 }
 
 fn event_form_of_two<'a>(word: &str, first: &'a Value, second: &'a Value) -> Option<EventForm<'a>>
-    ensures { option_map event_form_view result ≡ event_form_of_two word.now (view first.entry.now) (view second.entry.now) }
+    ensures { option_map event_form_view result
+        ≡ event_form_of_two word.now (view first.entry.now) (view second.entry.now) }
 {
     match word {
         "every" => Some(EventForm::Every(first, second)),
@@ -102,7 +105,8 @@ fn on_create_at(
     scope: &Scope<'_>,
     class: &Value,
 ) -> Result<EventExpr, DecodeError>
-    ensures { Gives event result (on_create_at (class_names (scope_view scope.entry.now).classes) (path_to place.now) (view class.now)) }
+    ensures { Gives event result
+        (on_create_at (class_names (scope_view scope.entry.now).classes) (path_to place.now) (view class.now)) }
 {
     let class = class_at(alloc, &place.item(1), scope, class)?;
     Ok(EventExpr::One(Pattern::Create(class)))
@@ -115,7 +119,8 @@ fn on_update_at(
     scope: &Scope<'_>,
     class: &Value,
 ) -> Result<EventExpr, DecodeError>
-    ensures { Gives event result (on_update_at (class_names (scope_view scope.entry.now).classes) (path_to place.now) (view class.now)) }
+    ensures { Gives event result
+        (on_update_at (class_names (scope_view scope.entry.now).classes) (path_to place.now) (view class.now)) }
 {
     let class = class_at(alloc, &place.item(1), scope, class)?;
     Ok(EventExpr::One(Pattern::Update(class)))
@@ -128,7 +133,8 @@ fn on_delete_at(
     scope: &Scope<'_>,
     class: &Value,
 ) -> Result<EventExpr, DecodeError>
-    ensures { Gives event result (on_delete_at (class_names (scope_view scope.entry.now).classes) (path_to place.now) (view class.now)) }
+    ensures { Gives event result
+        (on_delete_at (class_names (scope_view scope.entry.now).classes) (path_to place.now) (view class.now)) }
 {
     let class = class_at(alloc, &place.item(1), scope, class)?;
     Ok(EventExpr::One(Pattern::Delete(class)))
@@ -165,7 +171,7 @@ fn every_moment_at(
     Ok(EventExpr::One(Pattern::Every { first, period }))
 }
 
-/// The event of at most so many levels that stands at a place.
+/// The event at a place, which has at most `levels` levels.
 #[cycle(event)]
 #[tactic(auto, unfolding(hp_model::specs::EventGrammar::event_within))]
 fn event_within(
@@ -175,7 +181,9 @@ fn event_within(
     levels: usize,
     value: &Value,
 ) -> Result<EventExpr, DecodeError>
-    ensures { Gives event result (event_within (class_names (scope_view scope.entry.now).classes) levels (path_to place.now) (view value.now)) }
+    ensures { Gives event result
+        (event_within (class_names (scope_view scope.entry.now).classes) levels (path_to place.now)
+        (view value.now)) }
 {
     let form = event_form_at(alloc, place, value)?;
     if levels == 0 {
@@ -213,7 +221,9 @@ fn part_at(
     levels: usize,
     value: &Value,
 ) -> Result<Box<EventExpr>, DecodeError>
-    ensures { Gives (λ e. event e.value) result (event_within (class_names (scope_view scope.entry.now).classes) levels (path_to place.now) (view value.now)) }
+    ensures { Gives (λ e. event e.value) result
+        (event_within (class_names (scope_view scope.entry.now).classes) levels (path_to place.now)
+        (view value.now)) }
 {
     let part = event_within(alloc, place, scope, levels, value)?;
     Ok(Box::new(alloc, part)?)
@@ -230,21 +240,24 @@ fn parts_at(
     left: &Value,
     right: &Value,
 ) -> Result<(Box<EventExpr>, Box<EventExpr>), DecodeError>
-    ensures { Gives (λ p. (event p.0.value, event p.1.value)) result (parts_at (event_within (class_names (scope_view scope.entry.now).classes) levels) (path_to place.now) (view left.now) (view right.now)) }
+    ensures { Gives (λ p. (event p.0.value, event p.1.value)) result
+        (parts_at (event_within (class_names (scope_view scope.entry.now).classes) levels) (path_to place.now)
+        (view left.now) (view right.now)) }
 {
     let left = part_at(alloc, &place.item(1), scope, levels, left)?;
     let right = part_at(alloc, &place.item(2), scope, levels, right)?;
     Ok((left, right))
 }
 
-/// The event that stands at a place.
+/// The event at a place.
 pub(crate) fn event_at(
     alloc: Global,
     place: &Place<'_>,
     scope: &Scope<'_>,
     value: &Value,
 ) -> Result<EventExpr, DecodeError>
-    ensures { Gives event result (event_at (class_names (scope_view scope.entry.now).classes) (path_to place.now) (view value.now)) }
+    ensures { Gives event result
+        (event_at (class_names (scope_view scope.entry.now).classes) (path_to place.now) (view value.now)) }
 {
     event_within(alloc, place, scope, MAX_LEVELS, value)
 }

@@ -2,7 +2,11 @@
 
 ghost use Rattle.std.specs.Prelude.{◌≡◌, map, option_map};
 ghost use Rattle.serde_json.specs.View.{view};
-ghost use Rattle.hp_model.specs.ExpressionGrammar.{arithmetic_of, comparison_of, form_of_one, other_form_of_two, form_of_two, expression_form, expression_form_at, text_at, field_of_at, key_of_at, new_field_at, old_field_at, key_in_at, argument_at, time_of_at, operands_at, expression_within, expression_at};
+ghost use Rattle.hp_model.specs.ExpressionGrammar.{arithmetic_of, comparison_of, form_of_one, other_form_of_two};
+ghost use Rattle.hp_model.specs.ExpressionGrammar.{form_of_two, expression_form, expression_form_at, text_at};
+ghost use Rattle.hp_model.specs.ExpressionGrammar.{field_of_at, key_of_at, new_field_at, old_field_at, key_in_at};
+ghost use Rattle.hp_model.specs.ExpressionGrammar.{argument_at, time_of_at, operands_at, expression_within};
+ghost use Rattle.hp_model.specs.ExpressionGrammar.{expression_at};
 ghost use Rattle.hp_value.specs.Mapped.{arithmetic, comparison, expression};
 ghost use Rattle.hp_script.specs.Forms.{expression_form_view};
 ghost use Rattle.hp_script.specs.Mapped.{Gives};
@@ -19,10 +23,10 @@ use hp_value::{Arithmetic, Comparison, Expr, Value as Constant};
 use serde_json::Value;
 use std::alloc::Global;
 
-/// The levels that an expression may have.
+/// The most levels that an expression may have.
 const MAX_LEVELS: usize = 16;
 
-/// The bytes that a text may have.
+/// The most bytes that a text may have.
 const MAX_TEXT: usize = 1_024;
 
 /// An expression whose parts are still JSON.
@@ -92,7 +96,8 @@ fn other_form_of_two<'a>(
     first: &'a Value,
     second: &'a Value,
 ) -> Option<ExpressionForm<'a>>
-    ensures { option_map expression_form_view result ≡ other_form_of_two word.now (view first.entry.now) (view second.entry.now) }
+    ensures { option_map expression_form_view result
+        ≡ other_form_of_two word.now (view first.entry.now) (view second.entry.now) }
 {
     match word {
         "and" => Some(ExpressionForm::And(first, second)),
@@ -106,7 +111,8 @@ fn other_form_of_two<'a>(
 }
 
 fn form_of_two<'a>(word: &str, first: &'a Value, second: &'a Value) -> Option<ExpressionForm<'a>>
-    ensures { option_map expression_form_view result ≡ form_of_two word.now (view first.entry.now) (view second.entry.now) }
+    ensures { option_map expression_form_view result
+        ≡ form_of_two word.now (view first.entry.now) (view second.entry.now) }
 {
     if let Some(operator) = arithmetic_of(word) {
         return Some(ExpressionForm::Arithmetic(operator, first, second));
@@ -179,7 +185,8 @@ fn field_of_at(
     variable: &Value,
     field: &Value,
 ) -> Result<Expr, DecodeError>
-    ensures { Gives expression result (field_of_at (names_in rows.now) (path_to place.now) (view variable.now) (view field.now)) }
+    ensures { Gives expression result
+        (field_of_at (names_in rows.now) (path_to place.now) (view variable.now) (view field.now)) }
 {
     let variable = row_at(alloc, &place.item(1), rows, variable)?;
     let field = name_at(alloc, &place.item(2), field)?;
@@ -265,7 +272,7 @@ fn time_of_at(alloc: Global, place: &Place<'_>, part: &Value) -> Result<Expr, De
     Ok(Expr::TimeOf { part })
 }
 
-/// The expression of at most so many levels that stands at a place.
+/// The expression at a place, which has at most `levels` levels.
 #[cycle(expression)]
 #[tactic(auto, unfolding(hp_model::specs::ExpressionGrammar::expression_within))]
 fn expression_within(
@@ -275,7 +282,8 @@ fn expression_within(
     levels: usize,
     value: &Value,
 ) -> Result<Expr, DecodeError>
-    ensures { Gives expression result (expression_within (names_in rows.now) levels (path_to place.now) (view value.now)) }
+    ensures { Gives expression result
+        (expression_within (names_in rows.now) levels (path_to place.now) (view value.now)) }
 {
     let form = expression_form_at(alloc, place, value)?;
     if levels == 0 {
@@ -331,7 +339,8 @@ fn operand_at(
     levels: usize,
     value: &Value,
 ) -> Result<Box<Expr>, DecodeError>
-    ensures { Gives (λ e. expression e.value) result (expression_within (names_in rows.now) levels (path_to place.now) (view value.now)) }
+    ensures { Gives (λ e. expression e.value) result
+        (expression_within (names_in rows.now) levels (path_to place.now) (view value.now)) }
 {
     let operand = expression_within(alloc, place, rows, levels, value)?;
     Ok(Box::new(alloc, operand)?)
@@ -348,14 +357,16 @@ fn operands_at(
     left: &Value,
     right: &Value,
 ) -> Result<(Box<Expr>, Box<Expr>), DecodeError>
-    ensures { Gives (λ p. (expression p.0.value, expression p.1.value)) result (operands_at (expression_within (names_in rows.now) levels) (path_to place.now) (view left.now) (view right.now)) }
+    ensures { Gives (λ p. (expression p.0.value, expression p.1.value)) result
+        (operands_at (expression_within (names_in rows.now) levels) (path_to place.now) (view left.now)
+        (view right.now)) }
 {
     let left = operand_at(alloc, &place.item(1), rows, levels, left)?;
     let right = operand_at(alloc, &place.item(2), rows, levels, right)?;
     Ok((left, right))
 }
 
-/// The expression that stands at a place.
+/// The expression at a place.
 pub(crate) fn expression_at(
     alloc: Global,
     place: &Place<'_>,
@@ -367,14 +378,15 @@ pub(crate) fn expression_at(
     expression_within(alloc, place, rows, MAX_LEVELS, value)
 }
 
-/// The same on the heap.
+/// The expression at a place, in a box.
 pub(crate) fn boxed_expression_at(
     alloc: Global,
     place: &Place<'_>,
     rows: &Rows<'_>,
     value: &Value,
 ) -> Result<Box<Expr>, DecodeError>
-    ensures { Gives (λ e. expression e.value) result (expression_at (names_in rows.now) (path_to place.now) (view value.now)) }
+    ensures { Gives (λ e. expression e.value) result
+        (expression_at (names_in rows.now) (path_to place.now) (view value.now)) }
 {
     operand_at(alloc, place, rows, MAX_LEVELS, value)
 }

@@ -3,7 +3,8 @@
 ghost use Rattle.std.specs.Prelude.{◌≡◌, ◌++◌, map, option_map, IfOk};
 ghost use Rattle.serde_json.specs.View.{view};
 ghost use Rattle.hp_model.specs.Cascade.{moment};
-ghost use Rattle.hp_model.specs.Decode.{item_form_of_one, item_form, item_form_at, transaction_at, clock_at, unit_at, units_at};
+ghost use Rattle.hp_model.specs.Decode.{item_form_of_one, item_form, item_form_at, transaction_at, clock_at};
+ghost use Rattle.hp_model.specs.Decode.{unit_at, units_at};
 ghost use Rattle.hp_rule.specs.Mapped.{library as model_library, rule, unit};
 ghost use Rattle.hp_script.specs.Forms.{item_form_view};
 ghost use Rattle.hp_script.specs.Mapped.{Gives, schedule};
@@ -75,8 +76,11 @@ fn transaction_at(
     before: Schedule,
     body: &Value,
 ) -> Result<Schedule, DecodeError>
-    ensures own { IfOk result (λ s. AreOf library.now.value before.units.items → AreOf library.now.value s.units.items) }
-    ensures reads { Gives schedule result (transaction_at (library_scope (model_library library.now.value)) (path_to place.now) (schedule before) (view body.now)) }
+    ensures own { IfOk result (λ s.
+        AreOf library.now.value before.units.items → AreOf library.now.value s.units.items) }
+    ensures reads { Gives schedule result
+        (transaction_at (library_scope (model_library library.now.value)) (path_to place.now) (schedule before)
+        (view body.now)) }
 {
     let rows = no_rows();
     let scope = Scope::of_library(library);
@@ -87,7 +91,7 @@ fn transaction_at(
     Ok(Schedule { units, clock })
 }
 
-/// The units with these moments after them.
+/// The units, with these moments after them.
 fn with_moments(units: Vec<Unit>, moments: &[u64]) -> Result<Vec<Unit>, AllocError>
     ensures own { IfOk result (λ all. (library : Library) → AreOf library units.items → AreOf library all.items) }
     ensures units { IfOk result (λ all. map unit all.items ≡ map unit units.items ++ map moment moments.now) }
@@ -107,8 +111,10 @@ fn clock_at(
     before: Schedule,
     time: &Value,
 ) -> Result<Schedule, DecodeError>
-    ensures own { IfOk result (λ s. (library : Library) → AreOf library before.units.items → AreOf library s.units.items) }
-    ensures reads { Gives schedule result (clock_at (map rule rules.now) (path_to place.now) (schedule before) (view time.now)) }
+    ensures own { IfOk result (λ s.
+        (library : Library) → AreOf library before.units.items → AreOf library s.units.items) }
+    ensures reads { Gives schedule result
+        (clock_at (map rule rules.now) (path_to place.now) (schedule before) (view time.now)) }
 {
     let clock = number_from(alloc, &place.item(1), before.clock, time)?;
     let Some(moments) = due_moments(alloc, rules, before.clock, clock)? else {
@@ -118,7 +124,7 @@ fn clock_at(
     Ok(Schedule { units, clock })
 }
 
-/// What was read before, and the item that stands at a place.
+/// The schedule before, with the units of the item at a place added.
 #[tactic(auto, unfolding(hp_model::specs::Decode::unit_at))]
 pub(crate) fn unit_at(
     alloc: Global,
@@ -127,8 +133,11 @@ pub(crate) fn unit_at(
     before: Schedule,
     value: &Value,
 ) -> Result<Schedule, DecodeError>
-    ensures own { IfOk result (λ s. AreOf library.now.value before.units.items → AreOf library.now.value s.units.items) }
-    ensures reads { Gives schedule result (unit_at (model_library library.now.value).rules (library_scope (model_library library.now.value)) (path_to place.now) (schedule before) (view value.now)) }
+    ensures own { IfOk result (λ s.
+        AreOf library.now.value before.units.items → AreOf library.now.value s.units.items) }
+    ensures reads { Gives schedule result
+        (unit_at (model_library library.now.value).rules (library_scope (model_library library.now.value))
+        (path_to place.now) (schedule before) (view value.now)) }
 {
     match item_form_at(alloc, place, value)? {
         ItemForm::Transaction(body) => transaction_at(alloc, place, library, before, body),
@@ -136,7 +145,7 @@ pub(crate) fn unit_at(
     }
 }
 
-/// The items that stand at a place, as the units that they run.
+/// The units that the items at a place run.
 #[tactic(auto, using(crate::proofs::OwnBodies::none_own), unfolding(hp_model::specs::Decode::units_at))]
 pub(crate) fn units_at(
     alloc: Global,
@@ -145,7 +154,9 @@ pub(crate) fn units_at(
     value: &Value,
 ) -> Result<Schedule, DecodeError>
     ensures own { IfOk result (λ s. AreOf library.now.value s.units.items) }
-    ensures reads { Gives schedule result (units_at (model_library library.now.value).rules (library_scope (model_library library.now.value)) (path_to place.now) (view value.now)) }
+    ensures reads { Gives schedule result
+        (units_at (model_library library.now.value).rules (library_scope (model_library library.now.value))
+        (path_to place.now) (view value.now)) }
 {
     let Some(values) = list_of(value) else {
         return Err(misshapen(alloc, place));

@@ -9,7 +9,7 @@ use crate::refusal::{DecodeError, Refusal};
 use serde_json::Value;
 use std::alloc::Global;
 
-/// The value that a JSON text in UTF-8 is.
+/// The value of a JSON text in UTF-8.
 pub(crate) fn json_at(alloc: Global, bytes: &[u8]) -> Result<Value, DecodeError>
     ensures { Gives view result (json_at bytes.now) }
 {
@@ -24,7 +24,7 @@ pub(crate) fn json_at(alloc: Global, bytes: &[u8]) -> Result<Value, DecodeError>
     }
 }
 
-/// The number of an object's members.
+/// How many members an object has.
 #[tactic(auto, using(crate::proofs::Listed::member_count_view))]
 pub(crate) fn member_count(value: &Value) -> Option<usize>
     ensures { result ≡ member_count (view value.now) }

@@ -1,4 +1,4 @@
-//! The places of names among those that are known.
+//! Looking things up by their names.
 
 ghost use Rattle.std.specs.Prelude.{◌≡◌, ◌<◌, map, length, IfSome};
 ghost use Rattle.hp_model.specs.Parts.{place_of};
@@ -13,7 +13,7 @@ use crate::rule_head::RuleHead;
 use hp_rule::Rule;
 use hp_value::{ClassDef, Field};
 
-/// The place of the field of this name.
+/// The position of the field of this name.
 pub(crate) fn field_place(fields: &[Field], name: &str) -> Option<usize>
     ensures { result ≡ place_of (field_names (map field fields.now)) name.now }
 {
@@ -25,7 +25,7 @@ pub(crate) fn field_place(fields: &[Field], name: &str) -> Option<usize>
     None
 }
 
-/// The place of the class of this name.
+/// The position of the class of this name.
 pub(crate) fn class_place(classes: &[ClassDef], name: &str) -> Option<usize>
     ensures place { result ≡ place_of (class_names (map class_def classes.now)) name.now }
     ensures inside { IfSome result (λ n. n < length classes.now) }
@@ -38,7 +38,7 @@ pub(crate) fn class_place(classes: &[ClassDef], name: &str) -> Option<usize>
     None
 }
 
-/// The place of the head of this name.
+/// The position of the rule of this name among those whose other parts are still JSON.
 pub(crate) fn head_place(heads: &[RuleHead<'_>], name: &str) -> Option<usize>
     ensures place { result ≡ place_of (rule_names (heads_view heads.entry.now)) name.now }
     ensures inside { IfSome result (λ n. n < length heads.entry.now) }
@@ -51,7 +51,7 @@ pub(crate) fn head_place(heads: &[RuleHead<'_>], name: &str) -> Option<usize>
     None
 }
 
-/// The place of the rule of this name.
+/// The position of the rule of this name.
 pub(crate) fn rule_place(rules: &[Rule], name: &str) -> Option<usize>
     ensures place { result ≡ place_of (names_in (map rule rules.now)) name.now }
     ensures inside { IfSome result (λ n. n < length rules.now) }

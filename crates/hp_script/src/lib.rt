@@ -1,6 +1,6 @@
-//! Scripts as JSON: the bytes of a script are read to its library and its items, or refused.
+//! Reads scripts: from bytes to JSON, and from JSON to a checked library and its units, or to the first fault.
 //!
-//! The grammar and the order of its checks stand in `hp_model` (`specs/Decode.antt` and the files that it names).
+//! The grammar and the order of its checks are in `hp_model` (`specs/Decode.antt` and the files that it names).
 #![tactic(auto)]
 
 mod assignment;

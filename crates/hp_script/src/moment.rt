@@ -13,10 +13,10 @@ use hp_event::Pattern;
 use hp_rule::{EventExpr, Rule};
 use std::alloc::{AllocError, Global};
 
-/// The moments that one move of the clock may have.
+/// The most moments that one move of the clock may pass.
 const MAX_MOMENTS: usize = 1_000;
 
-/// The next of the moments first, first + period, .. after a time.
+/// The first of the moments `first`, `first + period`, .. that is after a time.
 #[tactic(auto, using(crate::proofs::Moments::multiple_before_first, crate::proofs::Moments::no_multiple, crate::proofs::Moments::next_multiple))]
 fn next_multiple(first: u64, period: u64, after: u64) -> Option<u64>
     requires small { after < 2 ^ 63 }
@@ -31,7 +31,7 @@ fn next_multiple(first: u64, period: u64, after: u64) -> Option<u64>
     after.checked_add(period - (after - first) % period)
 }
 
-/// The next moment after a time that matches the pattern.
+/// The first moment after a time that matches the pattern.
 fn next_match(pattern: &Pattern, after: u64) -> Option<u64>
     requires small { after < 2 ^ 63 }
     ensures { NextOf (λ t. matches (pattern_of_model pattern.now) (moment_reached t)) after result }
@@ -54,7 +54,7 @@ fn earlier(a: Option<u64>, b: Option<u64>) -> Option<u64>
     }
 }
 
-/// The next moment after a time that a pattern of the event matches.
+/// The first moment after a time that a pattern of the event matches.
 #[tactic(auto, using(crate::proofs::Moments::next_of_both))]
 fn next_mention(event: &EventExpr, after: u64) -> Option<u64>
     requires small { after < 2 ^ 63 }
@@ -70,7 +70,7 @@ fn next_mention(event: &EventExpr, after: u64) -> Option<u64>
     }
 }
 
-/// The next moment after a time that the event of a rule names.
+/// The first moment after a time that the event of some rule names.
 #[tactic(auto, using(crate::proofs::Moments::next_of_more))]
 fn next_moment(rules: &[Rule], after: u64) -> Option<u64>
     requires small { after < 2 ^ 63 }
@@ -83,7 +83,7 @@ fn next_moment(rules: &[Rule], after: u64) -> Option<u64>
     next
 }
 
-/// The moments after one time and up to another that the event of a rule names, unless they are more than 1,000.
+/// The moments after `after`, up to and with `until`, that the event of some rule names; `None` for more than 1,000.
 pub(crate) fn due_moments(
     alloc: Global,
     rules: &[Rule],
@@ -92,7 +92,8 @@ pub(crate) fn due_moments(
 ) -> Result<Option<Vec<u64>>, AllocError>
     requires order { after ≤ until }
     requires small { until < 2 ^ 63 }
-    ensures { IfOk result (λ found. option_map (λ v. v.items) found ≡ limited (due_moments (map rule rules.now) after until)) }
+    ensures { IfOk result (λ found.
+        option_map (λ v. v.items) found ≡ limited (due_moments (map rule rules.now) after until)) }
 {
     let mut moments = Vec::new(alloc);
     let mut now = after;

@@ -19,7 +19,7 @@ fn name_of(value: &Value) -> Option<&str>
     if is_name(text) { Some(text) } else { None }
 }
 
-/// The name that stands at a place.
+/// The name at a place.
 pub(crate) fn name_at<'a>(
     alloc: Global,
     place: &Place<'_>,

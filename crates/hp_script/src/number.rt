@@ -11,7 +11,7 @@ use crate::refusal::DecodeError;
 use serde_json::Value;
 use std::alloc::Global;
 
-/// The whole number of 64 bits with sign that stands at a place.
+/// The signed 64-bit integer at a place.
 #[tactic(auto, unfolding(hp_model::specs::Parts::integer_at))]
 pub(crate) fn integer_at(
     alloc: Global,
@@ -29,7 +29,7 @@ pub(crate) fn integer_at(
     }
 }
 
-/// The number of a part, 0 to 65,535, that stands at a place.
+/// The number of a part at a place: 0 to 65,535.
 #[tactic(auto, unfolding(hp_model::specs::Parts::index_at))]
 pub(crate) fn index_at(alloc: Global, place: &Place<'_>, value: &Value) -> Result<u16, DecodeError>
     ensures { Gives (λ n. n) result (index_at (path_to place.now) (view value.now)) }
@@ -41,7 +41,7 @@ pub(crate) fn index_at(alloc: Global, place: &Place<'_>, value: &Value) -> Resul
     Ok(integer as u16)
 }
 
-/// The whole number that stands at a place and isn't below the least one allowed.
+/// The integer at a place, which is at least `least`.
 #[tactic(auto, unfolding(hp_model::specs::Parts::number_from))]
 pub(crate) fn number_from(
     alloc: Global,

@@ -1,8 +1,9 @@
-//! Statements that hold no statement.
+//! Statements with no statement inside.
 
 ghost use Rattle.std.specs.Prelude.{map};
 ghost use Rattle.serde_json.specs.View.{view};
-ghost use Rattle.hp_model.specs.StatementGrammar.{create_at, update_at, delete_at, arguments_at, signal_at, emit_at, on_rule_at, fire_at};
+ghost use Rattle.hp_model.specs.StatementGrammar.{create_at, update_at, delete_at, arguments_at, signal_at};
+ghost use Rattle.hp_model.specs.StatementGrammar.{emit_at, on_rule_at, fire_at};
 ghost use Rattle.hp_value.specs.Mapped.{expression};
 ghost use Rattle.hp_rule.specs.Mapped.{rule_operation, statement};
 ghost use Rattle.hp_script.specs.Forms.{scope_view};
@@ -24,7 +25,7 @@ use hp_value::Expr;
 use serde_json::Value;
 use std::alloc::Global;
 
-/// The arguments that a signal may have.
+/// The most arguments that a signal may have.
 const MAX_ARGUMENTS: usize = 32;
 
 #[tactic(auto, unfolding(hp_model::specs::StatementGrammar::create_at))]
@@ -37,7 +38,9 @@ pub(crate) fn create_at(
     key: &Value,
     pairs: &Value,
 ) -> Result<Stmt, DecodeError>
-    ensures { Gives statement result (create_at (scope_view scope.entry.now) (names_in rows.now) (path_to place.now) (view class.now) (view key.now) (view pairs.now)) }
+    ensures { Gives statement result
+        (create_at (scope_view scope.entry.now) (names_in rows.now) (path_to place.now) (view class.now)
+        (view key.now) (view pairs.now)) }
 {
     let class = class_at(alloc, &place.item(1), scope, class)?;
     let key = boxed_expression_at(alloc, &place.item(2), rows, key)?;
@@ -55,7 +58,9 @@ pub(crate) fn update_at(
     key: &Value,
     pairs: &Value,
 ) -> Result<Stmt, DecodeError>
-    ensures { Gives statement result (update_at (scope_view scope.entry.now) (names_in rows.now) (path_to place.now) (view class.now) (view key.now) (view pairs.now)) }
+    ensures { Gives statement result
+        (update_at (scope_view scope.entry.now) (names_in rows.now) (path_to place.now) (view class.now)
+        (view key.now) (view pairs.now)) }
 {
     let class = class_at(alloc, &place.item(1), scope, class)?;
     let key = boxed_expression_at(alloc, &place.item(2), rows, key)?;
@@ -72,7 +77,9 @@ pub(crate) fn delete_at(
     class: &Value,
     key: &Value,
 ) -> Result<Stmt, DecodeError>
-    ensures { Gives statement result (delete_at (scope_view scope.entry.now) (names_in rows.now) (path_to place.now) (view class.now) (view key.now)) }
+    ensures { Gives statement result
+        (delete_at (scope_view scope.entry.now) (names_in rows.now) (path_to place.now) (view class.now)
+        (view key.now)) }
 {
     let class = class_at(alloc, &place.item(1), scope, class)?;
     let key = boxed_expression_at(alloc, &place.item(2), rows, key)?;
@@ -86,7 +93,8 @@ fn arguments_at(
     rows: &Rows<'_>,
     value: &Value,
 ) -> Result<Vec<Expr>, DecodeError>
-    ensures { Gives (λ es. map expression es.items) result (arguments_at (names_in rows.now) (path_to place.now) (view value.now)) }
+    ensures { Gives (λ es. map expression es.items) result
+        (arguments_at (names_in rows.now) (path_to place.now) (view value.now)) }
 {
     let Some(values) = list_of(value) else {
         return Err(misshapen(alloc, place));
@@ -110,7 +118,8 @@ pub(crate) fn signal_at(
     name: &Value,
     arguments: &Value,
 ) -> Result<Stmt, DecodeError>
-    ensures { Gives statement result (signal_at (names_in rows.now) (path_to place.now) (view name.now) (view arguments.now)) }
+    ensures { Gives statement result
+        (signal_at (names_in rows.now) (path_to place.now) (view name.now) (view arguments.now)) }
 {
     let name = name_at(alloc, &place.item(1), name)?;
     let arguments = arguments_at(alloc, &place.item(2), rows, arguments)?;
@@ -139,7 +148,8 @@ pub(crate) fn on_rule_at(
     operation: RuleOperation,
     rule: &Value,
 ) -> Result<Stmt, DecodeError>
-    ensures { Gives statement result (on_rule_at (scope_view scope.entry.now) (rule_operation operation) (path_to place.now) (view rule.now)) }
+    ensures { Gives statement result
+        (on_rule_at (scope_view scope.entry.now) (rule_operation operation) (path_to place.now) (view rule.now)) }
 {
     let rule = rule_at(alloc, &place.item(1), scope, rule)?;
     Ok(Stmt::OnRule { operation, rule })

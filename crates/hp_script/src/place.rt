@@ -1,4 +1,4 @@
-//! Where a JSON value stands, and what is refused there.
+//! Places in a script, and the refusals of what is there.
 
 ghost use Rattle.std.specs.Prelude.{◌≡◌, IfOk};
 ghost use Rattle.hp_model.specs.Refusals.{wrong_shape, bad_number, bad_name};
@@ -8,7 +8,7 @@ ghost use Rattle.hp_script.specs.Place.{path_to};
 use crate::refusal::{DecodeError, Member, Refusal, Step};
 use std::alloc::{AllocError, Global};
 
-/// A place in the script, which knows the places round it. A path is built from it only where a value is refused.
+/// A place in a script, linked to the places around it. Its path is built only when a value is refused.
 #[derive(Clone, Copy)]
 pub(crate) enum Place<'a> {
     /// The whole script.
@@ -23,7 +23,7 @@ impl Place<'_> {
     ghost use Rattle.hp_model.specs.Refusals.{item_at};
     ghost use Rattle.hp_script.specs.Place.{path_to};
 
-    /// The place of an item of the list here.
+    /// The place of an item of this list.
     pub(crate) fn item(&self, position: usize) -> Place<'_>
         ensures { path_to result ≡ item_at (path_to self.now) position }
     {
@@ -50,7 +50,7 @@ fn path(alloc: Global, place: &Place<'_>) -> Result<Vec<Step>, AllocError>
     }
 }
 
-/// A value of another form than the grammar's stands here.
+/// The refusal of a value that has not the form that the grammar wants here.
 pub(crate) fn misshapen(alloc: Global, place: &Place<'_>) -> DecodeError
     ensures { IsRefusal result (wrong_shape (path_to place.now)) }
 {
@@ -60,7 +60,7 @@ pub(crate) fn misshapen(alloc: Global, place: &Place<'_>) -> DecodeError
     }
 }
 
-/// No whole number of 64 bits with sign stands here.
+/// The refusal of a number that is not a signed 64-bit integer.
 pub(crate) fn no_integer(alloc: Global, place: &Place<'_>) -> DecodeError
     ensures { IsRefusal result (bad_number (path_to place.now)) }
 {
@@ -70,7 +70,7 @@ pub(crate) fn no_integer(alloc: Global, place: &Place<'_>) -> DecodeError
     }
 }
 
-/// A name that is unknown or doubled stands here, or a list that lacks one.
+/// The refusal of a name that is unknown or taken, or of a list that lacks one.
 pub(crate) fn misnamed(alloc: Global, place: &Place<'_>) -> DecodeError
     ensures { IsRefusal result (bad_name (path_to place.now)) }
 {

@@ -30,7 +30,7 @@ fn triple_of(value: &Value) -> Option<(&Value, &Value, &Value)>
     }
 }
 
-/// A query, which knows those before it.
+/// A query, whose predicate may use the rows of the queries before it.
 #[tactic(auto, unfolding(hp_model::specs::Decode::query_at))]
 fn query_at(
     alloc: Global,
@@ -39,7 +39,9 @@ fn query_at(
     before: &[Query],
     value: &Value,
 ) -> Result<Query, DecodeError>
-    ensures { Gives query result (query_at (class_names (scope_view scope.entry.now).classes) (map query before.now) (path_to place.now) (view value.now)) }
+    ensures { Gives query result
+        (query_at (class_names (scope_view scope.entry.now).classes) (map query before.now) (path_to place.now)
+        (view value.now)) }
 {
     let Some((name, class, predicate)) = triple_of(value) else {
         return Err(misshapen(alloc, place));
@@ -57,7 +59,7 @@ fn query_at(
     })
 }
 
-/// The condition that stands at a place.
+/// The condition at a place.
 #[tactic(auto, unfolding(hp_model::specs::Decode::condition_at))]
 pub(crate) fn condition_at(
     alloc: Global,
@@ -65,7 +67,8 @@ pub(crate) fn condition_at(
     scope: &Scope<'_>,
     value: &Value,
 ) -> Result<Vec<Query>, DecodeError>
-    ensures { Gives (λ queries. map query queries.items) result (condition_at (class_names (scope_view scope.entry.now).classes) (path_to place.now) (view value.now)) }
+    ensures { Gives (λ queries. map query queries.items) result
+        (condition_at (class_names (scope_view scope.entry.now).classes) (path_to place.now) (view value.now)) }
 {
     let Some(values) = list_of(value) else {
         return Err(misshapen(alloc, place));

@@ -36,7 +36,7 @@ fn rule_number(scope: &Scope<'_>, name: &str) -> Option<RuleNo>
     Some(place as RuleNo)
 }
 
-/// The class whose name stands at a place.
+/// The class that is named at a place.
 #[tactic(auto, unfolding(hp_model::specs::Parts::place_at))]
 pub(crate) fn class_at(
     alloc: Global,
@@ -44,7 +44,8 @@ pub(crate) fn class_at(
     scope: &Scope<'_>,
     value: &Value,
 ) -> Result<ClassNo, DecodeError>
-    ensures { Gives (λ n. n) result (place_at (class_names (scope_view scope.entry.now).classes) (path_to place.now) (view value.now)) }
+    ensures { Gives (λ n. n) result
+        (place_at (class_names (scope_view scope.entry.now).classes) (path_to place.now) (view value.now)) }
 {
     let name = name_at(alloc, place, value)?;
     match class_number(scope, name) {
@@ -53,7 +54,7 @@ pub(crate) fn class_at(
     }
 }
 
-/// The rule whose name stands at a place.
+/// The rule that is named at a place.
 #[tactic(auto, unfolding(hp_model::specs::Parts::place_at))]
 pub(crate) fn rule_at(
     alloc: Global,
@@ -70,7 +71,7 @@ pub(crate) fn rule_at(
     }
 }
 
-/// The name, at a place, of a query of the rule.
+/// The name of a query of the rule, at a place.
 #[tactic(auto, unfolding(hp_model::specs::StatementGrammar::query_at))]
 pub(crate) fn query_at<'a>(
     alloc: Global,
@@ -78,7 +79,8 @@ pub(crate) fn query_at<'a>(
     scope: &Scope<'_>,
     value: &'a Value,
 ) -> Result<&'a str, DecodeError>
-    ensures { Gives (λ x. x.now) result (query_at (scope_view scope.entry.now) (path_to place.now) (view value.entry.now)) }
+    ensures { Gives (λ x. x.now) result
+        (query_at (scope_view scope.entry.now) (path_to place.now) (view value.entry.now)) }
 {
     let name = name_at(alloc, place, value)?;
     if has_query(scope.queries, name) {

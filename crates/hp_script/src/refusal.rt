@@ -11,13 +11,13 @@ use std::error::Error;
 pub enum Member {
     /// The version of the grammar.
     Version,
-    /// The depth that firings may have.
+    /// The depth limit of firings.
     Depth,
     /// The classes of objects.
     Classes,
     /// The rules.
     Rules,
-    /// What is run, in order.
+    /// What runs, in order.
     Items,
 }
 
@@ -30,7 +30,7 @@ pub enum Step {
     Position(usize),
 }
 
-/// What is limited.
+/// What a limit is on.
 #[derive(Clone, Copy, Debug, PartialEq, Eq)]
 pub enum Limit {
     /// The bytes of a script: 1,048,576.
@@ -57,21 +57,21 @@ pub enum Limit {
     Moments,
 }
 
-/// Why a script is refused. A path is the steps from the root to the value that is refused.
+/// Why a script is refused. A path leads from the root to the refused value.
 ///
-/// At one value another form comes before a wrong number, then a limit, then a name; the value's parts come after it,
-/// from left to right (this project's own choice).
+/// The checks of one value come in this order: its form, its number, its limit, its name. Then its parts are checked,
+/// from left to right. This order is this project's own choice.
 #[derive(Debug, PartialEq, Eq, Drop)]
 pub enum Refusal {
-    /// The bytes are no JSON text in UTF-8.
+    /// The bytes are not a JSON text in UTF-8.
     S1,
-    /// A value has another form than the grammar's.
+    /// A value has not the form that the grammar wants.
     S2(Vec<Step>),
-    /// A number is no whole number of 64 bits with sign.
+    /// A number is not a signed 64-bit integer.
     S3(Vec<Step>),
-    /// A name is unknown, or stands twice, or fields are missing.
+    /// A name is unknown or taken, or fields are missing.
     S4(Vec<Step>),
-    /// There is more than a limit allows.
+    /// A limit is exceeded.
     S5(Limit),
     /// The version is unknown.
     S6,

@@ -1,4 +1,4 @@
-//! What is asked of a rule base that is up.
+//! Reading a line to a running rule base.
 
 ghost use Rattle.std.specs.Prelude.{◌≡◌, ◌<◌, [], IfOk, length};
 ghost use Rattle.serde_json.specs.View.{view};
@@ -22,12 +22,12 @@ use serde_json::Value;
 use std::alloc::Global;
 use std::sync::Arc;
 
-/// What is asked of a rule base that is up.
+/// What a line asks of a running rule base.
 #[derive(Debug, Drop)]
 pub enum Request {
-    /// That an item runs, as a script has them.
+    /// To run an item, as one of a script.
     Item(Schedule),
-    /// That its state is shown.
+    /// To show the state.
     State,
 }
 
@@ -41,7 +41,7 @@ fn asks_for_state(value: &Value) -> bool
     }
 }
 
-/// What an item by itself comes after: no unit, and the clock as it stands.
+/// The schedule before an item that comes alone: no units, and the current time.
 fn nothing_since(alloc: Global, clock: u64) -> Schedule
     ensures units { result.units.items ≡ [] }
     ensures schedule { schedule result ≡ nothing_since clock }
@@ -52,20 +52,23 @@ fn nothing_since(alloc: Global, clock: u64) -> Schedule
     }
 }
 
-/// The item that a JSON value is, by paths from this value, after what came before it.
+/// The schedule before, with the units of an item added. Paths begin at the item's own value.
 fn item_after(
     alloc: Global,
     library: &Arc<Library>,
     before: Schedule,
     value: &Value,
 ) -> Result<Schedule, DecodeError>
-    ensures own { IfOk result (λ s. AreOf library.now.value before.units.items → AreOf library.now.value s.units.items) }
-    ensures reads { Gives schedule result (unit_at (model_library library.now.value).rules (library_scope (model_library library.now.value)) [] (schedule before) (view value.now)) }
+    ensures own { IfOk result (λ s.
+        AreOf library.now.value before.units.items → AreOf library.now.value s.units.items) }
+    ensures reads { Gives schedule result
+        (unit_at (model_library library.now.value).rules (library_scope (model_library library.now.value)) []
+        (schedule before) (view value.now)) }
 {
     unit_at(alloc, &Place::Root, library, before, value)
 }
 
-/// The item that a JSON value is by itself.
+/// The request for the item in a JSON value.
 #[tactic(auto, using(crate::proofs::OwnBodies::none_own), unfolding(crate::specs::Requests::item_of))]
 fn item_of(
     alloc: Global,
@@ -81,7 +84,7 @@ fn item_of(
     Ok(Request::Item(schedule))
 }
 
-/// What a JSON value asks for.
+/// The request in a JSON value.
 #[tactic(auto, unfolding(crate::specs::Requests::request_at))]
 fn request_at(
     alloc: Global,
@@ -98,11 +101,12 @@ fn request_at(
     item_of(alloc, library, clock, value)
 }
 
-/// What the bytes of a line ask for, where the clock of the rule base stands at a time.
+/// Reads a line to a rule base with this library, whose clock is at `clock`. A body in it is checked against the
+/// library.
 ///
-/// `Refused` tells the first fault, in the order in which a script is checked: the size, which is a script's, the JSON text,
-/// and then the item, by a path from the line's own value. `Memory` means that memory ran out, and says nothing of the
-/// bytes but that they are no more than a script may have. A body that is asked for is of this library.
+/// `Refused` has the first fault, in the order of a script's checks: the size, which has a script's limit, the JSON
+/// text, and the item, by a path from the line's own value. `Memory` means that memory ran out. More bytes than a
+/// script may have are refused before any memory is allocated, so with `Memory` the bytes are at most that many.
 #[tactic(auto, unfolding(crate::specs::Requests::request_of))]
 pub fn decode_request(
     alloc: Global,

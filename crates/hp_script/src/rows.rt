@@ -1,4 +1,4 @@
-//! The rows that have names where an expression stands.
+//! The named rows that an expression may use.
 
 ghost use Rattle.std.specs.Prelude.{◌≡◌, [], map};
 ghost use Rattle.serde_json.specs.View.{view};
@@ -15,12 +15,12 @@ use hp_rule::Query;
 use serde_json::Value;
 use std::alloc::Global;
 
-/// The names of rows.
+/// The named rows.
 #[derive(Clone, Copy)]
 pub(crate) enum Rows<'a> {
-    /// The first rows of these queries' answers.
+    /// The rows of these queries.
     Queries(&'a [Query]),
-    /// Those, and one more.
+    /// Other rows, and one more of this name.
     Named(&'a Rows<'a>, &'a str),
 }
 
@@ -28,7 +28,7 @@ impl Rows<'_> {
     ghost use Rattle.std.specs.Prelude.{◌≡◌, ◌∷◌};
     ghost use Rattle.hp_script.specs.Rows.{names_in};
 
-    /// These names and one more.
+    /// These rows, and one more of this name.
     pub(crate) fn named<'b>(&'b self, newest: &'b str) -> Rows<'b>
         ensures { names_in result ≡ newest.entry.now ∷ names_in self.entry.now }
     {
@@ -36,7 +36,7 @@ impl Rows<'_> {
     }
 }
 
-/// The names that a body of the script begins with: none.
+/// The named rows at the beginning of a transaction's body: none.
 pub(crate) fn no_rows<'a>() -> Rows<'a>
     ensures { names_in result ≡ [] }
 {
@@ -65,7 +65,7 @@ fn is_known(rows: &Rows<'_>, name: &str) -> bool
     }
 }
 
-/// The name, at a place, of a row that is known.
+/// The name of a row, at a place.
 #[tactic(auto, unfolding(hp_model::specs::Scopes::row_at))]
 pub(crate) fn row_at<'a>(
     alloc: Global,
@@ -83,7 +83,7 @@ pub(crate) fn row_at<'a>(
     }
 }
 
-/// The name, at a place, that a row is to have, and none has.
+/// The name of a new row, at a place.
 #[tactic(auto, unfolding(hp_model::specs::Scopes::new_row_at))]
 pub(crate) fn new_row_at<'a>(
     alloc: Global,

@@ -26,7 +26,7 @@ use serde_json::Value;
 use std::alloc::Global;
 use std::sync::Arc;
 
-/// The action, at a place, of a rule with this condition.
+/// The action at a place, of a rule with this condition.
 fn action_at(
     alloc: Global,
     place: &Place<'_>,
@@ -34,7 +34,9 @@ fn action_at(
     condition: &[Query],
     value: &Value,
 ) -> Result<Vec<Stmt>, DecodeError>
-    ensures { Gives (λ body. map statement body.items) result (statements_at (acting (scope_view scope.entry.now) (map query condition.now)) (query_names (map query condition.now)) (path_to place.now) (view value.now)) }
+    ensures { Gives (λ body. map statement body.items) result
+        (statements_at (acting (scope_view scope.entry.now) (map query condition.now))
+        (query_names (map query condition.now)) (path_to place.now) (view value.now)) }
 {
     let acting = Scope {
         classes: scope.classes,
@@ -46,7 +48,7 @@ fn action_at(
     statements_at(alloc, place, &acting, &rows, value)
 }
 
-/// A rule by its name and its other parts.
+/// The rule with this head.
 #[tactic(auto, using(crate::proofs::Bodies::body_of_statements), unfolding(hp_model::specs::Decode::rule_at))]
 fn rule_at(
     alloc: Global,
@@ -55,7 +57,8 @@ fn rule_at(
     scope: &Scope<'_>,
     head: &RuleHead<'_>,
 ) -> Result<Rule, DecodeError>
-    ensures { Gives rule result (rule_at (version_view version) (scope_view scope.entry.now) (path_to place.now) (head_view head.entry.now)) }
+    ensures { Gives rule result
+        (rule_at (version_view version) (scope_view scope.entry.now) (path_to place.now) (head_view head.entry.now)) }
 {
     let parts = head.parts;
     let event = event_at(alloc, &place.item(1), scope, parts.event)?;
@@ -81,7 +84,7 @@ fn rule_at(
     })
 }
 
-/// The rules of these heads, which stand in the list at a place.
+/// The rules with these heads, which are the items of the list at a place.
 pub(crate) fn rules_at(
     alloc: Global,
     place: &Place<'_>,
@@ -89,7 +92,9 @@ pub(crate) fn rules_at(
     scope: &Scope<'_>,
     heads: &[RuleHead<'_>],
 ) -> Result<Vec<Rule>, DecodeError>
-    ensures { Gives (λ rules. map rule rules.items) result (rules_at (version_view version) (scope_view scope.entry.now) (path_to place.now) (heads_view heads.entry.now)) }
+    ensures { Gives (λ rules. map rule rules.items) result
+        (rules_at (version_view version) (scope_view scope.entry.now) (path_to place.now)
+        (heads_view heads.entry.now)) }
 {
     let mut rules = Vec::new(alloc);
     for (i, head) in heads.iter().enumerate() {

@@ -1,4 +1,4 @@
-//! The forms and the names of rules.
+//! The heads of rules: their names, with their parts still JSON.
 
 ghost use Rattle.std.specs.Prelude.{◌≡◌, ◌≤◌, length, option_map, IfOk};
 ghost use Rattle.serde_json.specs.View.{view};
@@ -15,10 +15,10 @@ use crate::shape::list_of;
 use serde_json::Value;
 use std::alloc::Global;
 
-/// The rules that a script may have.
+/// The most rules that a script may have.
 const MAX_RULES: usize = 256;
 
-/// The six parts of a rule.
+/// The parts of a rule, as JSON.
 #[derive(Clone, Copy)]
 pub(crate) struct RuleParts<'a> {
     pub name: &'a Value,
@@ -29,7 +29,7 @@ pub(crate) struct RuleParts<'a> {
     pub action: &'a Value,
 }
 
-/// A rule's name, with its parts.
+/// A rule's name, and its parts as JSON.
 #[derive(Clone, Copy)]
 pub(crate) struct RuleHead<'a> {
     pub name: &'a str,
@@ -59,7 +59,7 @@ fn rule_parts_of(value: &Value) -> Option<RuleParts<'_>>
     }
 }
 
-/// A rule's name, which no rule before has, with the rule's parts.
+/// The head of a rule whose name no rule before has.
 #[tactic(auto, unfolding(hp_model::specs::RuleHeads::rule_head_at, hp_model::specs::Parts::new_name_at))]
 fn rule_head_at<'a>(
     alloc: Global,
@@ -67,7 +67,8 @@ fn rule_head_at<'a>(
     before: &[RuleHead<'_>],
     value: &'a Value,
 ) -> Result<RuleHead<'a>, DecodeError>
-    ensures { Gives head_view result (rule_head_at (heads_view before.entry.now) (path_to place.now) (view value.entry.now)) }
+    ensures { Gives head_view result
+        (rule_head_at (heads_view before.entry.now) (path_to place.now) (view value.entry.now)) }
 {
     let Some(parts) = rule_parts_of(value) else {
         return Err(misshapen(alloc, place));
@@ -79,14 +80,15 @@ fn rule_head_at<'a>(
     Ok(RuleHead { name, parts })
 }
 
-/// The forms and the names of the rules that stand at a place.
+/// The heads of the rules at a place.
 #[tactic(auto, unfolding(hp_model::specs::RuleHeads::rule_heads_at, hp_model::specs::Parts::short_list_at))]
 pub(crate) fn rule_heads_at<'a>(
     alloc: Global,
     place: &Place<'_>,
     value: &'a Value,
 ) -> Result<Vec<RuleHead<'a>>, DecodeError>
-    ensures reads { Gives (λ heads. heads_view heads.items) result (rule_heads_at (path_to place.now) (view value.entry.now)) }
+    ensures reads { Gives (λ heads. heads_view heads.items) result
+        (rule_heads_at (path_to place.now) (view value.entry.now)) }
     ensures few { IfOk result (λ heads. length heads.items ≤ 256) }
 {
     let Some(values) = list_of(value) else {

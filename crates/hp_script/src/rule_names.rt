@@ -4,7 +4,7 @@ use crate::known::{head_place, rule_place};
 use crate::rule_head::RuleHead;
 use hp_rule::Rule;
 
-/// Where the rules stand that a body may name.
+/// The rules that a body may name.
 #[derive(Clone, Copy)]
 pub(crate) enum RuleNames<'a> {
     /// Rules whose other parts are still JSON.
@@ -18,7 +18,7 @@ impl RuleNames<'_> {
     ghost use Rattle.hp_model.specs.Parts.{place_of};
     ghost use Rattle.hp_script.specs.RuleNames.{names_of};
 
-    /// The place of the rule of this name.
+    /// The position of the rule of this name.
     pub(crate) fn place(&self, name: &str) -> Option<usize>
         ensures place { result ≡ place_of (names_of self.entry.now) name.now }
         ensures inside { IfSome result (λ n. n < length (names_of self.entry.now)) }

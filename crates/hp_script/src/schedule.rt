@@ -1,12 +1,12 @@
-//! What items run.
+//! Schedules.
 
 use hp_rule::Unit;
 
-/// What items run, and where the clock stands after them.
+/// The units that items run, and the time after them.
 #[derive(Debug, Drop)]
 pub struct Schedule {
-    /// What is run, in order. A move of the clock stands as its due moments.
+    /// The units, in order. A move of the clock is a unit for each of its due moments.
     pub units: Vec<Unit>,
-    /// The time that the clock has after them.
+    /// The clock's time after them.
     pub clock: u64,
 }

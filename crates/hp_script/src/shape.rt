@@ -25,7 +25,7 @@ pub(crate) struct Form<'a> {
     pub parts: &'a [Value],
 }
 
-/// The form that a value is.
+/// The form in a value.
 pub(crate) fn form_of(value: &Value) -> Option<Form<'_>>
     ensures { option_map form_view result ≡ form_of (view value.now) }
 {

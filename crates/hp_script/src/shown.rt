@@ -96,7 +96,7 @@ impl fmt::Display for Refusal {
     }
 }
 
-/// The line that a refused script gets in a report's place, with its line feed: `refused S6`, `refused S5 size`, or
+/// The line that is written for a refused script, with its line feed: `refused S6`, `refused S5 size`, or
 /// `refused S2 /items/0/1/0`, where the path has the names of members and the positions of items.
 ///
 /// An error means that memory ran out.

@@ -2,7 +2,8 @@
 
 ghost use Rattle.std.specs.Prelude.{map};
 ghost use Rattle.serde_json.specs.View.{view};
-ghost use Rattle.hp_model.specs.StatementGrammar.{statements_by, if_at, each_at, for_at, with_at, sub_at, statement_within, statements_at};
+ghost use Rattle.hp_model.specs.StatementGrammar.{statements_by, if_at, each_at, for_at, with_at, sub_at};
+ghost use Rattle.hp_model.specs.StatementGrammar.{statement_within, statements_at};
 ghost use Rattle.hp_rule.specs.Mapped.{statement};
 ghost use Rattle.hp_script.specs.Forms.{scope_view};
 ghost use Rattle.hp_script.specs.Mapped.{Gives};
@@ -22,7 +23,7 @@ use hp_rule::Stmt;
 use serde_json::Value;
 use std::alloc::Global;
 
-/// The levels of statements in statements.
+/// The most levels of statements in statements.
 const MAX_LEVELS: usize = 16;
 
 #[cycle(statement)]
@@ -37,7 +38,9 @@ fn if_at(
     then_body: &Value,
     else_body: &Value,
 ) -> Result<Stmt, DecodeError>
-    ensures { Gives statement result (if_at (statement_within (scope_view scope.entry.now) levels) (names_in rows.now) (path_to place.now) (view test.now) (view then_body.now) (view else_body.now)) }
+    ensures { Gives statement result
+        (if_at (statement_within (scope_view scope.entry.now) levels) (names_in rows.now) (path_to place.now)
+        (view test.now) (view then_body.now) (view else_body.now)) }
 {
     let condition = boxed_expression_at(alloc, &place.item(1), rows, test)?;
     let then_body = statements_within(alloc, &place.item(2), scope, rows, levels, then_body)?;
@@ -62,7 +65,10 @@ fn each_at(
     predicate: &Value,
     body: &Value,
 ) -> Result<Stmt, DecodeError>
-    ensures { Gives statement result (each_at (scope_view scope.entry.now) (statement_within (scope_view scope.entry.now) levels) (names_in rows.now) (path_to place.now) (view variable.now) (view class.now) (view predicate.now) (view body.now)) }
+    ensures { Gives statement result
+        (each_at (scope_view scope.entry.now) (statement_within (scope_view scope.entry.now) levels)
+        (names_in rows.now) (path_to place.now)
+        (view variable.now) (view class.now) (view predicate.now) (view body.now)) }
 {
     let variable = new_row_at(alloc, &place.item(1), rows, variable)?;
     let class = class_at(alloc, &place.item(2), scope, class)?;
@@ -89,7 +95,9 @@ fn for_at(
     query: &Value,
     body: &Value,
 ) -> Result<Stmt, DecodeError>
-    ensures { Gives statement result (for_at (scope_view scope.entry.now) (statement_within (scope_view scope.entry.now) levels) (names_in rows.now) (path_to place.now) (view query.now) (view body.now)) }
+    ensures { Gives statement result
+        (for_at (scope_view scope.entry.now) (statement_within (scope_view scope.entry.now) levels)
+        (names_in rows.now) (path_to place.now) (view query.now) (view body.now)) }
 {
     let query = query_at(alloc, &place.item(1), scope, query)?;
     let body = statements_within(alloc, &place.item(2), scope, rows, levels, body)?;
@@ -110,7 +118,9 @@ fn with_at(
     key: &Value,
     body: &Value,
 ) -> Result<Stmt, DecodeError>
-    ensures { Gives statement result (with_at (scope_view scope.entry.now) (statement_within (scope_view scope.entry.now) levels) (names_in rows.now) (path_to place.now) (view variable.now) (view class.now) (view key.now) (view body.now)) }
+    ensures { Gives statement result
+        (with_at (scope_view scope.entry.now) (statement_within (scope_view scope.entry.now) levels)
+        (names_in rows.now) (path_to place.now) (view variable.now) (view class.now) (view key.now) (view body.now)) }
 {
     let variable = new_row_at(alloc, &place.item(1), rows, variable)?;
     let class = class_at(alloc, &place.item(2), scope, class)?;
@@ -137,14 +147,16 @@ fn sub_at(
     body: &Value,
     otherwise: &Value,
 ) -> Result<Stmt, DecodeError>
-    ensures { Gives statement result (sub_at (statement_within (scope_view scope.entry.now) levels) (names_in rows.now) (path_to place.now) (view body.now) (view otherwise.now)) }
+    ensures { Gives statement result
+        (sub_at (statement_within (scope_view scope.entry.now) levels) (names_in rows.now) (path_to place.now)
+        (view body.now) (view otherwise.now)) }
 {
     let body = statements_within(alloc, &place.item(1), scope, rows, levels, body)?;
     let otherwise = statements_within(alloc, &place.item(2), scope, rows, levels, otherwise)?;
     Ok(Stmt::Sub { body, otherwise })
 }
 
-/// The statement of at most so many levels that stands at a place.
+/// The statement at a place, which has at most `levels` levels.
 #[cycle(statement)]
 #[tactic(auto, unfolding(hp_model::specs::StatementGrammar::statement_within))]
 fn statement_within(
@@ -155,7 +167,9 @@ fn statement_within(
     levels: usize,
     value: &Value,
 ) -> Result<Stmt, DecodeError>
-    ensures { Gives statement result (statement_within (scope_view scope.entry.now) levels (names_in rows.now) (path_to place.now) (view value.now)) }
+    ensures { Gives statement result
+        (statement_within (scope_view scope.entry.now) levels (names_in rows.now) (path_to place.now)
+        (view value.now)) }
 {
     let form = statement_form_at(alloc, place, scope, value)?;
     if levels == 0 {
@@ -198,7 +212,7 @@ fn statement_within(
     }
 }
 
-/// The statements, of at most so many levels, of the body that stands at a place.
+/// The statements of the body at a place, each of which has at most `levels` levels.
 #[cycle(statement)]
 #[tactic(auto, unfolding(hp_model::specs::StatementGrammar::statements_by))]
 fn statements_within(
@@ -209,7 +223,9 @@ fn statements_within(
     levels: usize,
     value: &Value,
 ) -> Result<Vec<Stmt>, DecodeError>
-    ensures { Gives (λ body. map statement body.items) result (statements_by (statement_within (scope_view scope.entry.now) levels) (names_in rows.now) (path_to place.now) (view value.now)) }
+    ensures { Gives (λ body. map statement body.items) result
+        (statements_by (statement_within (scope_view scope.entry.now) levels) (names_in rows.now)
+        (path_to place.now) (view value.now)) }
 {
     let Some(values) = list_of(value) else {
         return Err(misshapen(alloc, place));
@@ -222,7 +238,7 @@ fn statements_within(
     Ok(body)
 }
 
-/// The statements of the body that stands at a place.
+/// The statements of the body at a place.
 pub(crate) fn statements_at(
     alloc: Global,
     place: &Place<'_>,
@@ -230,7 +246,8 @@ pub(crate) fn statements_at(
     rows: &Rows<'_>,
     value: &Value,
 ) -> Result<Vec<Stmt>, DecodeError>
-    ensures { Gives (λ body. map statement body.items) result (statements_at (scope_view scope.entry.now) (names_in rows.now) (path_to place.now) (view value.now)) }
+    ensures { Gives (λ body. map statement body.items) result
+        (statements_at (scope_view scope.entry.now) (names_in rows.now) (path_to place.now) (view value.now)) }
 {
     statements_within(alloc, place, scope, rows, MAX_LEVELS, value)
 }

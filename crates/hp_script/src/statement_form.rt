@@ -2,7 +2,10 @@
 
 ghost use Rattle.std.specs.Prelude.{◌≡◌, map, option_map};
 ghost use Rattle.serde_json.specs.View.{view};
-ghost use Rattle.hp_model.specs.StatementGrammar.{statement_form_of_none, statement_form_of_one, statement_form_of_two, statement_form_of_three, statement_form_of_four, statement_form, is_veto, statement_form_at};
+ghost use Rattle.hp_model.specs.StatementGrammar.{statement_form_of_none, statement_form_of_one};
+ghost use Rattle.hp_model.specs.StatementGrammar.{statement_form_of_two, statement_form_of_three};
+ghost use Rattle.hp_model.specs.StatementGrammar.{statement_form_of_four, statement_form, is_veto};
+ghost use Rattle.hp_model.specs.StatementGrammar.{statement_form_at};
 ghost use Rattle.hp_script.specs.Forms.{scope_view, statement_form_view};
 ghost use Rattle.hp_script.specs.Mapped.{Gives};
 ghost use Rattle.hp_script.specs.Place.{path_to};
@@ -63,7 +66,8 @@ fn statement_form_of_two<'a>(
     first: &'a Value,
     second: &'a Value,
 ) -> Option<StatementForm<'a>>
-    ensures { option_map statement_form_view result ≡ statement_form_of_two word.now (view first.entry.now) (view second.entry.now) }
+    ensures { option_map statement_form_view result
+        ≡ statement_form_of_two word.now (view first.entry.now) (view second.entry.now) }
 {
     match word {
         "delete" => Some(StatementForm::Delete(first, second)),
@@ -80,7 +84,8 @@ fn statement_form_of_three<'a>(
     second: &'a Value,
     third: &'a Value,
 ) -> Option<StatementForm<'a>>
-    ensures { option_map statement_form_view result ≡ statement_form_of_three word.now (view first.entry.now) (view second.entry.now) (view third.entry.now) }
+    ensures { option_map statement_form_view result
+        ≡ statement_form_of_three word.now (view first.entry.now) (view second.entry.now) (view third.entry.now) }
 {
     match word {
         "create" => Some(StatementForm::Create(first, second, third)),
@@ -97,7 +102,9 @@ fn statement_form_of_four<'a>(
     third: &'a Value,
     fourth: &'a Value,
 ) -> Option<StatementForm<'a>>
-    ensures { option_map statement_form_view result ≡ statement_form_of_four word.now (view first.entry.now) (view second.entry.now) (view third.entry.now) (view fourth.entry.now) }
+    ensures { option_map statement_form_view result
+        ≡ statement_form_of_four word.now (view first.entry.now) (view second.entry.now) (view third.entry.now)
+        (view fourth.entry.now) }
 {
     match word {
         "each" => Some(StatementForm::Each(first, second, third, fourth)),
@@ -127,7 +134,7 @@ fn is_veto(form: StatementForm<'_>) -> bool
     matches!(form, StatementForm::Veto)
 }
 
-/// The form of the statement that stands at a place. A veto stands in a rule's action alone.
+/// The form of the statement at a place. A veto is allowed only in a rule's action.
 #[tactic(auto, unfolding(hp_model::specs::StatementGrammar::statement_form_at))]
 pub(crate) fn statement_form_at<'a>(
     alloc: Global,
@@ -135,7 +142,8 @@ pub(crate) fn statement_form_at<'a>(
     scope: &Scope<'_>,
     value: &'a Value,
 ) -> Result<StatementForm<'a>, DecodeError>
-    ensures { Gives statement_form_view result (statement_form_at (scope_view scope.entry.now) (path_to place.now) (view value.entry.now)) }
+    ensures { Gives statement_form_view result
+        (statement_form_at (scope_view scope.entry.now) (path_to place.now) (view value.entry.now)) }
 {
     let Some(form) = form_of(value) else {
         return Err(misshapen(alloc, place));

@@ -13,17 +13,17 @@ use crate::refusal::{DecodeError, Limit, Refusal};
 use serde_json::Value;
 use std::alloc::Global;
 
-/// The depth limit of a script that says none.
+/// The depth limit of a script that gives none.
 const USUAL_DEPTH: u8 = 8;
 
-/// The versions of the grammar. The second has one coupling more.
+/// The versions of the grammar. The second has one more coupling mode.
 #[derive(Clone, Copy)]
 pub(crate) enum Version {
     First,
     Second,
 }
 
-/// The version that stands at a place.
+/// The version at a place.
 #[tactic(auto, unfolding(hp_model::specs::Decode::version_at))]
 pub(crate) fn version_at(
     alloc: Global,
@@ -50,7 +50,7 @@ fn depth_at(alloc: Global, place: &Place<'_>, value: &Value) -> Result<u8, Decod
     Ok(depth as u8)
 }
 
-/// The depth limit that stands at a place, if one stands there.
+/// The depth limit at a place, or the usual one where the script gives none.
 pub(crate) fn depth_if_any(
     alloc: Global,
     place: &Place<'_>,

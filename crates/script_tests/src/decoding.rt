@@ -1,5 +1,5 @@
-//! Scripts that are read. Those that are refused stand in `checks/refusals.py` and in the tests of the tools, which run the
-//! program on them.
+//! Scripts that are read. Refused scripts are in `checks/refusals.py` and in the tests of the tools, which run the
+//! program.
 
 use hp_rule::{Stmt, Unit};
 use hp_script::{DecodeError, Limit, Refusal, Script, decode, refusal_text};
@@ -7,7 +7,7 @@ use std::alloc::Global;
 use std::process::Abort;
 use std::test::Fail;
 
-/// What is written for a refused script, without its line feed, or `read`.
+/// The line for a refused script, without its line feed, or else `read`.
 fn answer(alloc: Global, bytes: &[u8]) -> Result<String, Fail> {
     match decode(alloc, bytes) {
         Ok(_) => Ok(String::from_str(alloc, "read")?),
@@ -94,7 +94,7 @@ fn reads_each_form(rt: HostRuntime) -> Result<(), Fail> {
     expect_read(&rt, EACH_FORM)
 }
 
-/// A script whose condition's answers are kept for a deferred action.
+/// A script in which the answers of a condition are kept for a deferred action.
 const KEPT_ANSWERS: &str = r#"{
   "version": 1,
   "classes": [["acct", [["bal", "int"]]]],

@@ -1,4 +1,4 @@
-//! Devices that move one byte a call, and what is read from them and written to them.
+//! Reading from devices and writing to devices that move one byte a call.
 
 ghost use Rattle.std.specs.Prelude.{◌≡◌, false};
 ghost use Rattle.hp_report.specs.Watched.{has_failed};
@@ -13,7 +13,7 @@ use std::io::{Read, Write};
 use std::sync::Arc;
 use std::test::Fail;
 
-/// A device that moves one byte a call. Its call `fails_at` moves none, and later ones would work again.
+/// A device that moves one byte a call. Call number `fails_at` moves none, and later calls work again.
 #[derive(Drop)]
 struct Slow<'a> {
     input: &'a [u8],
@@ -127,7 +127,7 @@ fn a_piece_may_be_empty(rt: HostRuntime) -> Result<(), Fail> {
     Ok(())
 }
 
-/// The report of one transaction that emitted a number, with no class and no rule.
+/// The report of one transaction that emitted a number, over no classes and no rules.
 fn small_report(alloc: Global) -> Result<Report, Fail> {
     let library = library(alloc, Vec::new(alloc), &[])?;
     let mut tree = Vec::new(alloc);

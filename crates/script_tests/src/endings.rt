@@ -1,4 +1,4 @@
-//! Where the final state comes from.
+//! The final state: statuses from the store, and objects from the trees.
 
 use crate::fixtures::library;
 use hp_report::{Status, final_state};
@@ -11,7 +11,7 @@ use std::process::Abort;
 use std::sync::Arc;
 use std::test::Fail;
 
-/// A top-level transaction that creates an object without fields.
+/// A top-level transaction that creates an object of a class without fields.
 fn creates(alloc: Global, key: Key, end: Ending) -> Result<TopReport, Fail> {
     let fields = Arc::new(alloc, Vec::new(alloc))?;
     let mut tree = Vec::new(alloc);
@@ -27,7 +27,7 @@ fn creates(alloc: Global, key: Key, end: Ending) -> Result<TopReport, Fail> {
     })
 }
 
-// A store in which the first rule is disabled, the second absent, and the third enabled.
+/// A store in which the first rule is disabled, the second absent, and the third enabled.
 fn store(alloc: Global) -> Result<Store, Fail> {
     let mut layer = Layer::new(alloc);
     for (rule, status) in [
@@ -41,7 +41,7 @@ fn store(alloc: Global) -> Result<Store, Fail> {
     Ok(store)
 }
 
-// A unit whose own transaction committed, and one after it aborted.
+/// A unit with a transaction that committed, and then one that aborted.
 fn units(alloc: Global) -> Result<Vec<UnitReport>, Fail> {
     let mut tops = Vec::new(alloc);
     tops.push(creates(alloc, 7, Ending::Committed)?)?;

@@ -18,7 +18,7 @@ fn rule(alloc: Global, name: &str) -> Result<Rule, AllocError> {
     })
 }
 
-/// A rule of each name.
+/// A library with a rule of each name.
 pub fn library(
     alloc: Global,
     classes: Vec<ClassDef>,

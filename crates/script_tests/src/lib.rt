@@ -1,4 +1,4 @@
-//! Tests of what a run reads and writes: scripts, devices, reports.
+//! Tests of the input and output of a run: scripts, devices, reports.
 #![tactic(auto)]
 
 #[cfg(test)]

@@ -1,4 +1,4 @@
-//! Lines that ask something of a rule base, and the refusals of others.
+//! Lines to a rule base, read or refused.
 
 use hp_rule::Library;
 use hp_script::{DecodeError, Request, Script, decode, decode_request, refusal_text};
@@ -14,7 +14,7 @@ const BASE: &str = r#"{
   "items": [["clock", 5]]
 }"#;
 
-/// What is written for a refused line, without its line feed; or how many units it asks for, and the time after it.
+/// The line for a refused request, without its line feed, or else how many units it has, and the time after it.
 fn asked(alloc: Global, library: &Arc<Library>, clock: u64, line: &str) -> Result<String, Fail> {
     match decode_request(alloc, library, clock, line.as_bytes()) {
         Ok(Request::State) => Ok(String::from_str(alloc, "state")?),

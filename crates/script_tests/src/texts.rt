@@ -1,4 +1,4 @@
-//! The text of reports, as it was worked out by hand.
+//! The text of reports, worked out by hand.
 
 use crate::fixtures::library;
 use hp_report::{Report, Status, Watched, write_report};
@@ -30,7 +30,7 @@ fn account(alloc: Global, classes: &[ClassDef], balance: i64) -> Result<Row, Fai
     Ok(Row::new(alloc, &class.fields, values)?)
 }
 
-/// Object 1 of the class `acct` gets a balance.
+/// An update of object 1 of the class `acct` to a balance.
 fn update(alloc: Global, classes: &[ClassDef], balance: i64) -> Result<Item, Fail> {
     Ok(Item::Operation(Operation::Update {
         class: 0,
@@ -54,7 +54,7 @@ fn install(rule: RuleNo) -> Item {
     })
 }
 
-/// A node with one item, or with two.
+/// A node with up to two items.
 fn node(
     alloc: Global,
     what: What,
@@ -103,7 +103,7 @@ fn unit(
     Ok(UnitReport { moment, tops })
 }
 
-/// The tree of the depth limit: each update fires the rule anew, and the third firing is too deep.
+/// A run into the depth limit: each update fires the rule again, and the third firing is too deep.
 fn depth_limit(alloc: Global, classes: &[ClassDef]) -> Result<UnitReport, Fail> {
     let up = fire(0, Coupling::Immediate, ConditionEnd::WithAction);
     let change = update(alloc, classes, 4)?;
@@ -120,7 +120,7 @@ fn depth_limit(alloc: Global, classes: &[ClassDef]) -> Result<UnitReport, Fail> 
     unit(alloc, None, Ending::Committed, tree)
 }
 
-/// A cascade: the firing of a separate rule, whose action is deferred and shows the kept answer.
+/// A cascade: a separate rule fires, and its deferred action shows the answer that was kept.
 fn kept_answers(alloc: Global, classes: &[ClassDef]) -> Result<UnitReport, Fail> {
     let z = fire(1, Coupling::Immediate, ConditionEnd::WithAction);
     let mut tree = Vec::new(alloc);
@@ -165,7 +165,7 @@ rule up enabled
 end
 ";
 
-/// The report of a unit, with rules of these names.
+/// The report of a unit, over rules of these names.
 fn report(
     alloc: Global,
     rules: &[&str],
@@ -184,7 +184,7 @@ fn report(
     })
 }
 
-/// What is written of a report.
+/// The text that is written for a report.
 fn written(alloc: Global, report: &Report, with_tree: bool) -> Result<String, Fail> {
     let mut writer = Watched::new(Vec::new(alloc));
     write_report(alloc, report, with_tree, &mut writer)?;
@@ -262,7 +262,7 @@ rule down absent
 end
 ";
 
-/// Lines that the worked scripts don't have.
+/// A unit with the kinds of lines that the other reports lack.
 fn others(alloc: Global) -> Result<UnitReport, Fail> {
     let mut tree = Vec::new(alloc);
     tree.push(Item::Operation(Operation::Delete { class: 0, key: -20 }))?;

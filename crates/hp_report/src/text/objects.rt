@@ -1,4 +1,4 @@
-//! Objects, and their lines.
+//! The lines of objects.
 
 ghost use Rattle.std.specs.Prelude.{◌++◌, ◌∷◌, codes, OnOk};
 ghost use Rattle.hp_model.specs.Report.{line, object_words, row_words, objects_text};
@@ -71,7 +71,7 @@ fn put_object_line(
     Ok(())
 }
 
-/// The lines of objects, by rising classes and keys.
+/// The lines of objects, by class and then by key.
 pub fn put_objects(
     alloc: Global,
     out: &mut String,

@@ -1,4 +1,4 @@
-//! Lines of rules.
+//! The lines of rules.
 
 ghost use Rattle.std.specs.Prelude.{◌≡◌, map, OnOk};
 ghost use Rattle.hp_model.specs.Report.{status_word, rules_text};
@@ -10,7 +10,7 @@ use hp_rule::Rule;
 use std::alloc::AllocError;
 use std::fmt::Write;
 
-/// What is written for a status.
+/// The word for a status.
 fn status_word(status: Status) -> &'static str
     ensures { result.now ≡ status_word (model.status status) }
 {
@@ -23,7 +23,8 @@ fn status_word(status: Status) -> &'static str
 
 /// The lines of rules, in their order.
 pub fn put_rules(out: &mut String, rules: &[Rule], statuses: &[Status]) -> Result<(), AllocError>
-    ensures { OnOk result (Gains out.old out.new (rules_text (map model.rule rules.now) (map model.rule_state statuses.now))) }
+    ensures { OnOk result (Gains out.old out.new
+        (rules_text (map model.rule rules.now) (map model.rule_state statuses.now))) }
 {
     for (rule, status) in rules.iter().zip(statuses) {
         let name = rule.name.as_str();

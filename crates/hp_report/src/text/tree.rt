@@ -1,8 +1,9 @@
-//! Lines of trees.
+//! The lines of trees.
 
 ghost use Rattle.std.specs.Prelude.{◌≡◌, ◌∷◌, [], OnOk, codes, replicate};
 ghost use Rattle.hp_model.specs.Tree.{no_items};
-ghost use Rattle.hp_model.specs.Report.{words, line, value_text, operation_word, operation_words, firing_words, node_words, tree_text};
+ghost use Rattle.hp_model.specs.Report.{words, line, value_text, operation_word, operation_words, firing_words};
+ghost use Rattle.hp_model.specs.Report.{node_words, tree_text};
 ghost use Rattle.hp_report.specs.Mapped as model;
 ghost use Rattle.hp_report.specs.Text.{Gains, spaced};
 
@@ -14,7 +15,7 @@ use hp_value::{RuleOperation, Value};
 use std::alloc::{AllocError, Global};
 use std::fmt::Write;
 
-/// As many spaces.
+/// An indent of so many spaces.
 fn put_indent(out: &mut String, indent: usize) -> Result<(), AllocError>
     ensures { OnOk result (Gains out.old out.new (replicate indent 32)) }
 {
@@ -24,7 +25,7 @@ fn put_indent(out: &mut String, indent: usize) -> Result<(), AllocError>
     Ok(())
 }
 
-/// What is written for an operation on a rule.
+/// The word for an operation on a rule.
 fn operation_word(operation: RuleOperation) -> &'static str
     ensures { result.now ≡ operation_word (model.rule_operation operation) }
 {
@@ -67,7 +68,7 @@ fn put_operation(
     }
 }
 
-/// What became of a condition and of its action, each word after a space.
+/// How a condition and its action ended, each word after a space.
 fn put_condition(
     out: &mut String,
     names: &Names<'_>,
@@ -176,9 +177,9 @@ fn put_node_line(
     Ok(())
 }
 
-/// The lines of items, indented; those of an inner node by two spaces more than its line.
+/// The lines of items, with an indent. The items of an inner node have an indent of two spaces more than its line.
 ///
-/// An error means that memory ran out: no text has more spaces in a line than a `usize` counts.
+/// An error means that memory ran out, since no line has room for an indent of more than a `usize` of spaces.
 #[cycle(tree)]
 pub fn put_items(
     alloc: Global,

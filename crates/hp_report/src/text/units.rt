@@ -1,4 +1,4 @@
-//! Lines of units.
+//! The lines of units.
 
 ghost use Rattle.std.specs.Prelude.{◌++◌, ◌+◌, ◌<◌, ◌^◌, length, map, flat_map, option_map, OnOk};
 ghost use Rattle.hp_model.specs.Report.{words, line, heading, ending_words, outcome_text, transaction_text, units_text};
@@ -13,7 +13,7 @@ use hp_value::{Coupling, RuleNo, Value};
 use std::alloc::{AllocError, Global};
 use std::fmt::Write;
 
-/// A line for each value.
+/// A line for each emitted value.
 fn put_emits(alloc: Global, out: &mut String, values: &[&Value]) -> Result<(), AllocError>
     ensures { OnOk result (Gains out.old out.new (emit_lines (model.values_behind values.now))) }
 {
@@ -23,7 +23,7 @@ fn put_emits(alloc: Global, out: &mut String, values: &[&Value]) -> Result<(), A
     Ok(())
 }
 
-/// What a top-level transaction emitted, if it committed.
+/// The values that a top-level transaction emitted, if it committed.
 fn put_committed(alloc: Global, out: &mut String, top: &TopReport) -> Result<(), AllocError>
     ensures { OnOk result (Gains out.old out.new (emit_lines (model.committed_emits (model.top_report top.now)))) }
 {
@@ -33,7 +33,7 @@ fn put_committed(alloc: Global, out: &mut String, top: &TopReport) -> Result<(),
     }
 }
 
-/// What a top-level transaction emitted, if it committed, and its tree where that is wanted.
+/// The values that a top-level transaction emitted, if it committed, and its tree if that is wanted.
 fn put_outcome(
     alloc: Global,
     out: &mut String,
@@ -51,7 +51,7 @@ fn put_outcome(
     Ok(())
 }
 
-/// What a top-level transaction's line begins with: the unit's number and moment, or the mode and the rule of its task.
+/// The beginning of a top-level transaction's line: the unit's number and moment, or its task's mode and rule.
 fn put_heading(
     out: &mut String,
     names: &Names<'_>,
@@ -111,7 +111,7 @@ fn put_tops(
     Ok(())
 }
 
-/// The lines of units, the first of which has this number, with their trees where these are wanted.
+/// The lines of units, numbered from `first` on, with their trees if these are wanted.
 pub fn put_units(
     alloc: Global,
     out: &mut String,

@@ -1,4 +1,4 @@
-//! Words of a report: values, causes, endings and modes.
+//! The words of a report for values, causes, endings and modes.
 
 ghost use Rattle.std.specs.Prelude.{◌≡◌, IfOk, OnOk, string_bytes};
 ghost use Rattle.hp_model.specs.Report.{quoted, value_text, cause_words, ending_words, coupling_word};
@@ -19,7 +19,7 @@ fn quoted_text(alloc: Global, text: &str) -> Result<String, AllocError>
     serde_json::Value::try_from_str(alloc, text)?.to_string(alloc)
 }
 
-/// A value as the report shows it.
+/// A value as a report shows it.
 pub fn put_value(alloc: Global, out: &mut String, value: &Value) -> Result<(), AllocError>
     ensures { OnOk result (Gains out.old out.new (value_text (model.value value.now))) }
 {
@@ -30,7 +30,7 @@ pub fn put_value(alloc: Global, out: &mut String, value: &Value) -> Result<(), A
     }
 }
 
-/// What is written for a mode.
+/// The word for a coupling mode.
 pub fn mode_word(mode: Coupling) -> &'static str
     ensures { result.now ≡ coupling_word (model.coupling mode) }
 {

@@ -1,0 +1,104 @@
+#!/usr/bin/env python3
+"""Compares reports of random scripts with those of the same scripts whose conditions look at whole classes.
+
+    checks/conditions.py [--scripts N] [--jobs N]
+
+Each predicate of a script begins by comparing its row's key or a field, so that the program looks at a part of the class
+alone. In the other script each predicate stands in two `not`s, so that the program looks at each object of the class. The
+reports must be the same byte for byte, with trees, for 1 and 4 workers. So faults of predicates must be the same too.
+
+HIPAC names the program; the default is the one that ./hipac starts. The seeds are fixed: script n is the same on each
+machine. The last line is 'N passed, M failed'.
+"""
+
+import argparse
+import concurrent.futures
+import json
+import os
+import sys
+
+TOP = os.path.dirname(os.path.dirname(os.path.abspath(__file__)))
+sys.path[:0] = [os.path.join(TOP, "tools"), os.path.join(TOP, "checks")]
+sys.dont_write_bytecode = True
+
+from live_sessions import by_pipe, command_of  # noqa: E402 (they lie in tools/ and checks/)
+from tests.made_scripts import ScriptMaker  # noqa: E402
+
+COMPARISONS = ("=", "<", "<=", ">", ">=")
+# An index holds the first 32 bytes of a text.
+LONG = "a text of more than thirty-two bytes, "
+TEXTS = ("", "a", "b", LONG + "a", LONG + "b", LONG)
+FIELDS = {"acct": ["bal"], "item": ["name", "count"], "bare": []}
+
+
+class ConditionMaker(ScriptMaker):
+    """Makes scripts whose predicates begin with a comparison of their row's key or field."""
+
+    def script(self):
+        whole = super().script()
+        accounts = [["create", "acct", key, [["bal", key % 5], ["open", True]]] for key in range(10, 24)]
+        items = [["create", "item", key, [["name", self.text()], ["count", key % 4]]] for key in range(10, 24)]
+        whole["items"].insert(1, ["tx", accounts + items])
+        return whole
+
+    def predicate(self, known):
+        name = list(known)[-1]
+        around = {other: known[other] for other in known if other != name}
+        begins = self.comparison(name, known[name], around)
+        for _ in range(self.random.randint(0, 2)):
+            begins = ["and", begins, self.test(known)]
+        return begins
+
+    def comparison(self, name, of, around):
+        field = self.random.choice([None, *FIELDS[of]])
+        one = ["of", name, field] if field else ["key", name]
+        is_text = self.chance(0.9) if field == "name" else self.chance(0.05)
+        sides = [one, self.text() if is_text else self.number(around, 1)]
+        if self.chance(0.4):
+            sides.reverse()
+        return [self.random.choice(COMPARISONS), *sides]
+
+    def text(self):
+        return self.random.choice(TEXTS)
+
+
+def scanned(part):
+    """The same statements, or rules, with each predicate in two `not`s."""
+    if not isinstance(part, list):
+        return part
+    if len(part) == 5 and part[0] == "each":
+        return part[:3] + [["not", ["not", part[3]]], scanned(part[4])]
+    return [scanned(each) for each in part]
+
+
+def scanned_rule(rule):
+    name, event, mode, queries, then, action = rule
+    wrapped = [[query, of, ["not", ["not", predicate]]] for query, of, predicate in queries]
+    return [name, event, mode, wrapped, then, scanned(action)]
+
+
+def is_alike(command, seed):
+    script = ConditionMaker(seed).script()
+    other = {**script, "rules": [scanned_rule(rule) for rule in script["rules"]], "items": scanned(script["items"])}
+    runs = [(script, "1"), (script, "4"), (other, "1")]
+    answers = [by_pipe([*command, "--tree", "--workers", workers], json.dumps(given).encode()) for given, workers in runs]
+    return all(answer[:2] == answers[-1][:2] for answer in answers) and answers[-1][0] == 0
+
+
+def main():
+    parser = argparse.ArgumentParser()
+    parser.add_argument("--scripts", type=int, default=2000)
+    parser.add_argument("--jobs", type=int, default=os.cpu_count())
+    options = parser.parse_args()
+    command = command_of("hipac")
+    with concurrent.futures.ThreadPoolExecutor(options.jobs) as pool:
+        alike = list(pool.map(lambda seed: is_alike(command, seed), range(options.scripts)))
+    for seed, same in enumerate(alike):
+        if not same:
+            print(f"script {seed}: the reports differ, or there is none")
+    print(f"{sum(alike)} passed, {len(alike) - sum(alike)} failed")
+    return 0 if all(alike) else 1
+
+
+if __name__ == "__main__":
+    sys.exit(main())
