@@ -13,7 +13,7 @@ use Rattle.hp_model.specs.Checked.{depth_check, classes_check, heads_check, libr
 use Rattle.hp_model.specs.StatementGrammar.{body_of, statements_at}
 use Rattle.serde_json.specs.Data.{Data}
 use Rattle.hp_model.proofs.WellFormedScripts.{rules_read, IsScriptScope, body_passes}
-use Rattle.hp_script.specs.RuleNames.{names_in}
+use Rattle.hp_script.specs.Names.{names_in}
 use Rattle.hp_script.specs.Scopes.{library_scope}
 
 abbrev Passed : Decoded ⊤ → Type 0

@@ -11,6 +11,7 @@ ghost use Rattle.hp_script.specs.Forms.{head_view, heads_view, scope_view, versi
 ghost use Rattle.hp_script.specs.Mapped.{Gives};
 ghost use Rattle.hp_script.specs.Place.{path_to};
 
+use crate::context::Context;
 use crate::coupling::coupling_at;
 use crate::event::event_at;
 use crate::place::Place;
@@ -34,9 +35,10 @@ fn action_at(
     condition: &[Query],
     value: &Value,
 ) -> Result<Vec<Stmt>, DecodeError>
-    ensures { Gives (λ body. map statement body.items) result
-        (statements_at (acting (scope_view scope.entry.now) (map query condition.now))
-        (query_names (map query condition.now)) (path_to place.now) (view value.now)) }
+    ensures { let queries = map query condition.now in
+        Gives (λ body. map statement body.items) result
+        (statements_at (acting (scope_view scope.entry.now) queries) (query_names queries)
+        (path_to place.now) (view value.now)) }
 {
     let acting = Scope {
         classes: scope.classes,
@@ -44,8 +46,13 @@ fn action_at(
         queries: condition,
         in_action: true,
     };
-    let rows = Rows::Queries(condition);
-    statements_at(alloc, place, &acting, &rows, value)
+    let context = Context {
+        alloc,
+        place: *place,
+        scope: acting,
+        rows: Rows::Queries(condition),
+    };
+    statements_at(&context, value)
 }
 
 /// The rule with this head.
@@ -58,7 +65,8 @@ fn rule_at(
     head: &RuleHead<'_>,
 ) -> Result<Rule, DecodeError>
     ensures { Gives rule result
-        (rule_at (version_view version) (scope_view scope.entry.now) (path_to place.now) (head_view head.entry.now)) }
+        (rule_at (version_view version) (scope_view scope.entry.now)
+        (path_to place.now) (head_view head.entry.now)) }
 {
     let parts = head.parts;
     let event = event_at(alloc, &place.item(1), scope, parts.event)?;
@@ -93,8 +101,8 @@ pub(crate) fn rules_at(
     heads: &[RuleHead<'_>],
 ) -> Result<Vec<Rule>, DecodeError>
     ensures { Gives (λ rules. map rule rules.items) result
-        (rules_at (version_view version) (scope_view scope.entry.now) (path_to place.now)
-        (heads_view heads.entry.now)) }
+        (rules_at (version_view version) (scope_view scope.entry.now)
+        (path_to place.now) (heads_view heads.entry.now)) }
 {
     let mut rules = Vec::new(alloc);
     for (i, head) in heads.iter().enumerate() {
