@@ -28,11 +28,11 @@ use std::alloc::Global;
 use std::sync::Arc;
 
 /// The action at a place, of a rule with this condition.
-fn action_at(
+fn action_at<'a>(
     alloc: Global,
-    place: &Place<'_>,
-    scope: &Scope<'_>,
-    condition: &[Query],
+    place: &Place<'a>,
+    scope: &Scope<'a>,
+    condition: &'a [Query],
     value: &Value,
 ) -> Result<Vec<Stmt>, DecodeError>
     ensures { let queries = map query condition.now in
