@@ -3,14 +3,14 @@
 
     bench/bench.py PROGRAM [--times N] [--only LETTERS] [--tables NAMES] [--keep FOLDER]
 
-PROGRAM is the proved program, which `./build` makes. All commands of a workload run in turn, N times (9), so that the
-load of the machine falls on all of them. Where sqlite3 has something like rules it runs the same as triggers over an
-in-memory database, in the same run.
+PROGRAM is the proved program, which `./build` makes. All commands of a workload run alternately, N times (9), so that
+the load of the machine affects all of them. If sqlite3 has something like the rules, it runs the same as triggers over
+an in-memory database, in the same run.
 
-The table `firings` has the workloads of many firings: the middle time of each run, and firings a second. Its last
+The table `firings` has the workloads of many firings: the median time of each run, and firings per second. Its last
 columns say how many times as fast two and four workers are as one, and what the machine gave: how many processors' work
-copies of the run with 1 worker did at once. The tables of bench/costs.py have what one firing costs as something
-grows: the middle time of a script less that of the same script without its firings.
+copies of the run with 1 worker did at once. The tables of bench/costs.py have the cost of one firing as something
+grows: the median time of a script less that of the same script without its firings.
 """
 
 import argparse
@@ -30,7 +30,7 @@ SQLITE = ["sqlite3", "-batch", ":memory:"]
 
 
 def timed(command, text, copies=1):
-    """The wall time of the command over this input, run so many times at once, and what it printed."""
+    """The wall time of the command over this input, run in this number of copies at once, and what it printed."""
     with tempfile.TemporaryDirectory() as folder:
         script = os.path.join(folder, "script")
         with open(script, "w") as file:
@@ -45,14 +45,14 @@ def timed(command, text, copies=1):
         took = time.perf_counter() - begun
         with open(reports[0], "rb") as printed:
             out = printed.read()
-    # sqlite3 ends with 1 where a trigger has refused an order.
+    # sqlite3 ends with 1 if a trigger has refused an order.
     if any(statuses) and command is not SQLITE:
         sys.exit(f"{command}: statuses {statuses}: {out[:200]!r}")
     return took, out
 
 
 def in_turn(runs, times):
-    """The times of each run (command, input, copies), all of them in turn, and what each printed."""
+    """The times of each run (command, input, copies), all of them alternately, and what each printed."""
     taken, outputs = [[] for _ in runs], [None] * len(runs)
     for _ in range(times):
         for number, (command, given, copies) in enumerate(runs):

@@ -1,6 +1,6 @@
-"""What one firing costs as something grows: the store, the rules on an event, what waits.
+"""The cost of one firing as something grows: the store, the rules on an event, waiting occurrences.
 
-A case is a script with its firings and the same without: the difference of their times is what the firings cost.
+A case is a script with its firings and the same without: the difference of their times is the cost of the firings.
 """
 
 from dataclasses import dataclass
@@ -12,7 +12,7 @@ from workloads import scored
 
 @dataclass
 class Case:
-    """Both scripts, and the same in SQL where sqlite3 has something like it."""
+    """Both scripts, and the same in SQL if sqlite3 has something like it."""
 
     size: int
     firings: int
@@ -91,7 +91,7 @@ def order_desk(size, orders=1000):
     return Case(size, orders, *scripts, desk_sql(size, 0), desk_sql(size, orders))
 
 
-# ---- conditions that look for one key, or for one value of a field
+# ---- conditions on one key, or on one value of a field
 
 OWNED = ["acct", [["bal", "int"], ["own", "int"]]]
 BY_KEY = has_key("x", ["arg", 0, 0])
@@ -134,7 +134,7 @@ def condition(name, size, firings=2000):
 # ---- a sequence of which many first parts wait
 
 def backlog(size, signals=1000):
-    """Each further signal is both a first part that waits and the second part of one that waited."""
+    """Each further signal is both a first part that waits and the second part of one that has waited."""
     event = ["seq", ["signal", "a"], ["signal", "b"]]
     rule = immediate("pair", event, [], [["emit", ["arg", 0, 0]]])
     waiting = [["signal", "a", [n]] for n in range(size)]
@@ -156,7 +156,7 @@ def short_group(size, updates=2000):
 
 
 def long_group(size, objects=1000, rounds=40):
-    """Rules on one event, each of which tests 1,000 objects with 47 operators: a millisecond and more."""
+    """Rules on one event, each of which tests 1,000 objects with 47 operators: at least a millisecond."""
     classes = [ACCOUNT, ["seen", [["count", "int"]]]]
     condition = [["rich", "acct", scored(objects)]]
     rules = [on_go(f"r{n}", condition, [add("seen", "count", n, 1)]) for n in range(size)]

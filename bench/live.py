@@ -3,14 +3,14 @@
 
     bench/live.py HIPAC_LIVE HIPAC [--times N] [--lines N] [--trips N]
 
-HIPAC_LIVE and HIPAC are the proved programs, which `./build` makes. Each line is a transaction of one update, which one
-rule fires on to keep a sum. All commands of a table run in turn, N times (5), so that the load of the machine falls on
-all of them, and the table has their middle times.
+HIPAC_LIVE and HIPAC are the proved programs, which `./build` makes. Each line is a transaction of one update, on which
+one rule fires to keep a sum. All commands of a table run alternately, N times (5), so that the load of the machine
+affects all of them, and the table has their median times.
 
-The first table has the time of a line (1,000,000 of them) by a pipe; of the same units in scripts of at most 1 MiB;
-and of the same updates, one statement a line by a pipe, in sqlite3 with a trigger over an in-memory database. The
+The first table has the time of a line (1,000,000 of them) by a pipe; of the same units in scripts of at most 1 MiB; and
+of the same updates, one statement for each line by a pipe, in sqlite3 with a trigger over an in-memory database. The
 second one has the memory of hipac_live after a hundredth of the lines and after all of them. The third one has the time
-from a line to its answer (the middle of 10,000) for a client in Python by two pipes, beside that of a program in C
+from a line to its answer (the median of 10,000) for a client in Python by two pipes, beside that of a program in C
 which only sends each line back; gcc makes it.
 """
 
@@ -50,10 +50,10 @@ SQL = [
     "insert into seen values(1, 0);",
 ]
 
-# So many lines are sent before their answers are taken: both fit in a pipe.
+# The number of lines that are sent before their answers are read: both fit in a pipe.
 AT_ONCE = 500
 
-# So many units make a script that is within the program's limit of 1 MiB.
+# The number of units of a script that is within the program's limit of 1 MiB.
 IN_SCRIPT = 20_000
 
 
@@ -76,7 +76,7 @@ def write(folder, name, lines):
 
 
 def inputs(folder, count):
-    """The files of the same updates, by the name of their row: each is one command's input."""
+    """The files of the same updates, by the name of their row. Each is one command's input."""
     live = write(folder, "live", [script_of([]) + "\n", *map(update, range(count))])
     sql = (f"update acct set bal = {number} where id = 1;\n" for number in range(count))
     sqlite = write(folder, "sql", [*(f"{each}\n" for each in SQL), *sql, "select sum from seen;\n"])
@@ -89,7 +89,7 @@ def inputs(folder, count):
 
 
 def timed(command, paths):
-    """The time of the command over each of these inputs, one after the other, and the last line that it wrote."""
+    """The time of the command over each of these inputs, one after another, and the last line that it wrote."""
     took = 0
     for path in paths:
         with tempfile.TemporaryFile() as printed:
@@ -106,7 +106,7 @@ def timed(command, paths):
 
 
 def print_lines(given, folder):
-    """Prints the first table, and gives the seconds of a line of hipac_live."""
+    """Prints the first table, and returns the seconds of a line of hipac_live."""
     files = inputs(folder, given.lines)
     commands = [[given.live], [given.hipac], SQLITE]
     ends = [[f"ok {given.lines + 1}".encode()], [b"end"], [str(given.lines - 1).encode()]]
@@ -137,7 +137,7 @@ class Client:
         self.to, self.by, self.ends = self.running.stdin.fileno(), self.running.stdout.fileno(), ends
 
     def ask(self, text, number):
-        """Sends lines, and takes answers up to the one after which so many units have run."""
+        """Sends lines, and reads answers until this number of units have run."""
         wanted, taken = self.ends(number), b""
         os.write(self.to, text)
         while not taken.endswith(wanted):
@@ -147,7 +147,7 @@ class Client:
             taken = taken[-len(wanted) :] + more
 
     def memory(self):
-        """What the program's memory is and has been at most, in KiB."""
+        """The program's current and largest memory, in KiB."""
         with open(f"/proc/{self.running.pid}/status") as file:
             sizes = dict(line.split(":", 1) for line in file)
         return [int(sizes[name].split()[0]) for name in ("VmRSS", "VmHWM")]
@@ -176,7 +176,7 @@ def print_memory(given):
 
 
 def middle_trip(client, trips):
-    """The middle time from a line to its answer."""
+    """The median time from a line to its answer."""
     taken = []
     for number in range(1, trips + 1):
         text = update(number).encode()

@@ -1,4 +1,4 @@
-"""Words for making scripts, shared by the workloads."""
+"""Helpers for making scripts, shared by the workloads."""
 
 import json
 
@@ -7,7 +7,7 @@ GO = ["signal", "go", []]
 
 
 def script(classes, rules, items, depth=None):
-    """The text of a script, which has to be within the program's limit of 1 MiB."""
+    """The text of a script. It must be within the program's limit of 1 MiB."""
     whole = {"version": 1, "classes": classes, "rules": rules, "items": items}
     if depth:
         whole["depth"] = depth
@@ -38,7 +38,7 @@ def create(key, balance):
 
 
 def add(class_name, field, key, amount):
-    """Adds an amount to a field of one object, which only this reads."""
+    """Adds an amount to a field of one object that nothing else reads."""
     total = ["+", ["of", "x", field], amount]
     return ["with", "x", class_name, key, [["update", class_name, key, [[field, total]]]]]
 
@@ -48,5 +48,5 @@ def has_key(row, expression):
 
 
 def lines(*parts):
-    """SQL, one statement a line."""
+    """SQL, one statement for each line."""
     return "\n".join(line for part in parts for line in part) + "\n"

@@ -3,9 +3,9 @@
 
     bench/stack.py PROGRAM
 
-PROGRAM is the built hipac. The scripts are as deep as the limits let them be: 16 firings, 16 levels of statements in each
-action, expressions of 16 levels in each condition and in the deepest statement. Each runs under ever smaller `ulimit -s`,
-which bounds the main thread's stack and each worker's, until it no longer gives its report.
+PROGRAM is the built hipac. The scripts are as deep as the limits allow: 16 firings, 16 levels of statements in each
+action, expressions of 16 levels in each condition and in the deepest statement. Each runs under smaller and smaller
+`ulimit -s`, which bounds the main thread's stack and each worker's, until it no longer gives its report.
 """
 
 import json
@@ -25,7 +25,7 @@ def nested(form, levels, inside):
 TRUTH = nested(lambda _, e: ["not", e], 15, False)
 LEAST = nested(lambda _, e: ["neg", e], 15, GREATEST)
 
-# What stands round a statement: a form of one more level.
+# A form around a statement: one more level.
 FORMS = {
     "sub": lambda _, body: [["sub", body, []]],
     "sub, otherwise": lambda _, body: [["sub", [["abort"]], body]],
@@ -51,7 +51,7 @@ def script(form):
 
 
 def runs(program, workers, text, kilobytes):
-    """The report under a bound on the stack, or nothing where the program doesn't end well."""
+    """The report under a bound on the stack, or nothing if the program fails."""
     size = kilobytes * 1024
     done = subprocess.run(
         [program, "--workers", str(workers)],
@@ -65,14 +65,14 @@ def runs(program, workers, text, kilobytes):
 
 
 def least_stack(program, workers, text):
-    """The least bound in KiB, to 16, under which the report is as without one."""
+    """The least bound, in steps of 16 KiB, under which the report is the same as without one."""
     enough, little = 65_536, 64
     wanted = runs(program, workers, text, enough)
     if wanted is None:
         sys.exit("the program doesn't end well under 64 MiB")
     while enough - little > 16:
         middle = (enough + little) // 2
-        # With threads, thrice: who runs a task differs from run to run.
+        # With threads three times: which thread runs a task differs from run to run.
         if all(runs(program, workers, text, middle) == wanted for _ in range(3 if workers > 1 else 1)):
             enough = middle
         else:

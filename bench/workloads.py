@@ -1,4 +1,4 @@
-"""Workloads of many firings: how many a second, and what more workers gain."""
+"""Workloads of many firings: firings per second, and the gain of more workers."""
 
 from scripts import ACCOUNT, GO, add, create, immediate, installs, lines, on_go, script
 
@@ -9,7 +9,7 @@ def richest(objects):
 
 
 def scored(objects):
-    """The same after four scores, which every account passes: 47 operators."""
+    """The same after four tests, which every account passes: 47 operators."""
     whole = richest(objects)
     for first in range(4):
         score = ["of", "rich", "bal"]
@@ -20,7 +20,7 @@ def scored(objects):
 
 
 def wide_scans(predicate=richest, siblings=64, objects=400, rounds=60):
-    """Siblings that each scan a class of their own world and write one object of their own."""
+    """Siblings that each scan a class and write one object of their own."""
     classes = [ACCOUNT, ["seen", [["count", "int"]]]]
     condition = [["rich", "acct", predicate(objects)]]
     rules = [on_go(f"r{n}", condition, [add("seen", "count", n, 1)]) for n in range(siblings)]
@@ -55,7 +55,7 @@ def conflict_of_scans(siblings=64, objects=400, rounds=12):
 
 
 def single_firings(updates=16000):
-    """A long list of updates, of which each triggers one rule that writes another object."""
+    """A long list of updates, each of which triggers one rule that writes another object."""
     change = ["-", ["new", 0, "bal"], ["old", 0, "bal"]]
     rule = immediate("note", ["update", "acct"], [], [add("seen", "sum", 1, change)])
     classes = [ACCOUNT, ["seen", [["sum", "int"]]]]
@@ -75,7 +75,7 @@ def single_firings_sql(updates=16000):
 
 
 def deep_chains(depth=15, chains=2000):
-    """Updates of which each sets off a chain of firings, one inside the other."""
+    """Updates each of which sets off a chain of firings, one inside the other."""
     next_up = ["update", "acct", 1, [["bal", ["+", ["new", 0, "bal"], 1]]]]
     rule = immediate("up", ["update", "acct"], [], [["if", ["<", ["new", 0, "bal"], depth], [next_up], []]])
     body = [["update", "acct", 1, [["bal", 1]]] for _ in range(chains)]

@@ -1,35 +1,35 @@
-"""Scripts at the limits of the language, many of them at once, with their reports: `checks/programs.py` runs them."""
+"""Scripts at many limits of the language at once, with their reports. `checks/programs.py` runs them."""
 
-# The bytes that a script may have.
+# The most bytes of a script.
 MOST_BYTES = 1_048_576
 
 GREATEST = 9223372036854775807
 
-# The longest names without their three digits.
+# The longest names, without their three digits.
 NAME = "a" * 29
 
-# One move of the clock up to the greatest number has 1,000 of these periods, which are the most moments.
+# A move of the clock to the largest number has 1,000 of these periods, which is the limit of moments.
 PERIOD = 9_223_372_036_854_775
 
 
 def nested(before, after, levels, inside):
-    """What stands inside, with so many levels round it."""
+    """The inner value, inside this number of levels."""
     return before * levels + inside + after * levels
 
 
-# An expression of 16 levels that is true, and one whose value is the least number but one.
+# An expression of 16 levels that is true, and one whose value is the least integer plus 1.
 TRUTH = nested('["not",', "]", 15, "false")
 LEAST = nested('["neg",', "]", 15, str(GREATEST))
 
 
 def padded(script):
-    """The script with spaces behind it, up to the size that a script may have."""
+    """The script, padded with spaces to the limit of its size."""
     return script.ljust(MOST_BYTES)
 
 
 def deepest(before, after):
-    """Two siblings each begin a chain of firings down to the deepest level. In the 16th level of each action's statements an expression
-    of 16 levels is emitted and signalled, and each condition has such a one too."""
+    """Two siblings that each begin a chain of firings down to the deepest level. The 16th level of each action's
+    statements emits and signals an expression of 16 levels, and each condition has such an expression too."""
     action = nested(before, after, 15, f'["emit",{LEAST}],["signal","go",[{LEAST}]]')
     body = nested('["sub",[', "],[]]", 15, '["signal","start",[]]')
     rest = f'"immediate",[["q","acct",{TRUTH}]],"immediate",[{action}]]'
@@ -49,13 +49,13 @@ DEEPEST_REPORT = (
 
 
 def values(letters, form):
-    """A value for each field: the greatest number, a truth value, and the text, each written as the function says."""
+    """A value for each field: the largest integer, a boolean, and the text, each written by the function."""
     fields = [(f"{NAME}{number:03}", str(GREATEST)) for number in range(30)]
     return [form(name, value) for name, value in [*fields, (f"{NAME}030", "true"), (f"{NAME}031", f'"{letters}"')]]
 
 
 def most_rules():
-    """The most rules, all but one with the deepest event, query and action."""
+    """The most rules; all but one have the deepest event, query and action."""
     event = nested('["or",', ',["signal","other"]]', 15, '["signal","go"]')
     action = nested('["sub",[', "],[]]", 15, f'["emit",{LEAST}]')
     first = f'["{NAME}000",["every",0,{PERIOD}],"deferred",[],"deferred",[["emit",["time",0]]]]'
@@ -64,8 +64,8 @@ def most_rules():
 
 
 def all_at_once():
-    """A script of the most bytes, with the most classes, fields, rules, arguments and moments, the deepest events, expressions and
-    statements, the greatest numbers, and the longest names and texts; and its report."""
+    """A script of the most bytes, with the most classes, fields, rules, arguments and moments, the deepest events,
+    expressions and statements, the largest integers, and the longest names and texts; and its report."""
     letters = "a" * 1024
     kinds = ["int"] * 30 + ["bool", "text"]
     fields = ",".join(f'["{NAME}{number:03}","{kind}"]' for number, kind in enumerate(kinds))
@@ -91,8 +91,8 @@ def all_at_once():
 
 
 def queued_and_detached():
-    """512 tasks are queued and 512 detached, each of which queues or detaches the next, down to the deepest level, with a long text. Each
-    chain has 16 tasks, of which the last can't go on: its action aborts, and with it what it emitted."""
+    """512 queued and 512 detached tasks, each of which queues or detaches the next, down to the deepest level, with
+    a long text. Each chain has 16 tasks. The last one exceeds the depth: its action aborts, with what it emitted."""
     letters = "a" * 990
     rules = (
         '["q",["signal","later"],"deferred",[],"immediate",[["emit",1],["signal","later",[["arg",0,0]]]]],'
@@ -108,7 +108,7 @@ def queued_and_detached():
 
 
 def scripts():
-    """Each script at a limit, by its name, with its report."""
+    """The name, the script and the report of each script at a limit."""
     forms = {"sub": ('["sub",[', "],[]]"), "for": ('["for","q",[', "]]"), "if": ('["if",true,[', "],[]]"),
              "abort": ('["sub",[["abort"]],[', "]]")}
     for name, (before, after) in forms.items():

@@ -1,16 +1,16 @@
 #!/usr/bin/env python3
-"""Compares answers of hipac_live with reports of hipac, on sessions made at random, and looks at each kind of answer.
+"""Compares answers of hipac_live with reports of hipac, on random sessions, and checks each kind of answer.
 
     checks/live_sessions.py [--sessions N] [--jobs N]
 
-Each session has 1 and 4 workers, with trees and without. Its input comes in pieces cut at random, each by a read of its
-own. The answers to accepted lines, without their last lines, are to be the report on their journal: the script whose
-items are the first line's and then the accepted ones. So is the state that the last `["show"]` tells. Refused lines are
-to have exactly their refusal, and each `ok` the number of units. Before that, each kind of line and each refusal has a
-case by name, with the exact bytes.
+Each session runs with 1 and 4 workers, with trees and without. Its input is cut into random pieces, each for one read.
+The answers to accepted lines, without their last lines, must be the report on their journal: the script whose items are
+the first line's followed by the accepted ones. So must the state in the answer to the last `["show"]`. Refused lines
+must have exactly their refusal, and each `ok` the number of units. Before that, each kind of line and each refusal has
+a case by name, with the exact bytes.
 
-HIPAC and HIPAC_LIVE name the programs. Without them these are the ones that ./hipac and ./hipac-live start. The seeds
-are fixed: session n is the same on each machine. The last line is 'N passed, M failed'.
+HIPAC and HIPAC_LIVE name the programs. The default is the ones that ./hipac and ./hipac-live start. The seeds are
+fixed: session n is the same on each machine. The last line is 'N passed, M failed'.
 """
 
 import argparse
@@ -34,10 +34,10 @@ sys.dont_write_bytecode = True
 import unproved  # noqa: E402 (it lies in tools/)
 from tests.made_scripts import ScriptMaker  # noqa: E402
 
-# Seconds that one run may take.
+# The time limit of one run, in seconds.
 LIMIT = 120
 
-# The most bytes that the program takes by one read: a longer piece would be cut by the socket.
+# The most bytes of one read of the program: the socket would cut a longer piece.
 MOST_READ = 4096
 
 # The most bytes of a line.
@@ -45,7 +45,7 @@ MOST = 1_048_576
 
 
 class Failed(Exception):
-    """What a check found wrong."""
+    """A check has failed."""
 
 
 def expect(found, wanted, what):
@@ -85,7 +85,7 @@ class Programs:
     live: list
 
 
-# (where memory is refused the checks of an unproved program would else end it)
+# (otherwise the sanitizer of an unproved program ends it where an allocation is refused)
 ENVIRONMENT = {"ASAN_OPTIONS": "allocator_may_return_null=1"}
 
 
@@ -94,7 +94,7 @@ def started(command, given, wrote, said):
 
 
 def in_pieces(command, pieces):
-    """How a program ends that gets each piece by a read of its own: the status, what it wrote, and what it said."""
+    """Runs a program that gets each piece in one read: its status, standard output and standard error."""
     ours, its = socket.socketpair(socket.AF_UNIX, socket.SOCK_SEQPACKET)
     with tempfile.TemporaryFile() as wrote, tempfile.TemporaryFile() as said, ours:
         with its:
@@ -104,7 +104,7 @@ def in_pieces(command, pieces):
             for piece in pieces:
                 ours.sendall(piece)
         except OSError:
-            # It has ended, or takes no more.
+            # The program has ended, or takes no more.
             pass
         ours.close()
         return ended(running, wrote, said)
@@ -123,21 +123,21 @@ def ended(running, wrote, said):
 
 
 def by_pipe(command, given):
-    """The same, where the input comes by a pipe, as fast as it is read."""
+    """The same with the input from a pipe, as fast as the program reads it."""
     how = {"stdout": subprocess.PIPE, "stderr": subprocess.PIPE, "env": ENVIRONMENT}
     done = subprocess.run(command, input=given, timeout=LIMIT, check=False, **how)
     return done.returncode, done.stdout, done.stderr
 
 
-# ---- sessions made at random
+# ---- random sessions
 
 
 @dataclass
 class Line:
-    """A line as it is sent, without its end, and what is to come of it."""
+    """A line without its line feed, and what is expected of it."""
 
     text: bytes
-    # The item, if it is one that is accepted.
+    # The item, if it is an accepted one.
     item: object = None
     # The whole answer, if it is refused.
     refusal: bytes = b""
@@ -150,7 +150,7 @@ def nested(form, levels, inside):
 
 
 def refused_statement(pick):
-    """A statement that is refused, why, and the path to the fault from the statement."""
+    """A refused statement, its refusal, and the path of the fault in the statement."""
     return pick([
         (["veto"], "S2", ""), (["emit"], "S2", ""), (["create", "acct"], "S2", ""), (["if", True, []], "S2", ""),
         (["delete", 7, 1], "S2", "/1"), (["sub", [["abort", 1]], []], "S2", "/1/0"),
@@ -166,7 +166,7 @@ def refused_statement(pick):
     ])
 
 
-# Lines that are no items whatever the state is, each with its refusal.
+# Lines that are refused in any state, each with its refusal.
 NO_ITEMS = [
     (b"", "S1"), (b"  \t", "S1"), (b'["tx",[', "S1"), (b'["tx",[]] []', "S1"), (b"\x00", "S1"),
     (b'["tx",[["emit","\xff"]]]', "S1"), (b"[]", "S2 /"), (b"7", "S2 /"), (b'"show"', "S2 /"), (b'["show",1]', "S2 /"),
@@ -178,7 +178,7 @@ SHOW = [b'["show"]', b' [ "show" ]', b'["\\u0073how"]']
 
 
 class SessionMaker:
-    """Makes one session: a first line, later ones, and the pieces in which they come."""
+    """Makes one session: a first line, later lines, and the pieces of the input."""
 
     def __init__(self, seed):
         self.random = random.Random(seed)
@@ -198,7 +198,7 @@ class SessionMaker:
         self.add_others()
         self.lines.append(Line(self.random.choice(SHOW)))
         if self.random.random() < 0.3:
-            # (a line is empty only where its end has come)
+            # (an empty line needs a line feed)
             self.lines.append(Line(b"[", refusal=b"refused S1\n"))
 
     def pass_on(self, items):
@@ -213,7 +213,7 @@ class SessionMaker:
         self.lines.append(Line(text, refusal=f"refused {why}\n".encode()))
 
     def add_refused_body(self):
-        """A transaction that would do much, were it not for its last statement."""
+        """A transaction whose last statement is refused, so that nothing of it runs."""
         change, install = ["update", "acct", 1, [["bal", 90]]], ["install", self.maker.rule_names[0]]
         body = [["create", "bare", 90, []], change, install, ["emit", 90]][: self.random.randint(0, 4)]
         statement, why, path = refused_statement(self.random.choice)
@@ -236,7 +236,7 @@ class SessionMaker:
                 self.lines.append(Line(self.random.choice(SHOW)))
 
     def input(self):
-        """The bytes of all lines. Some have a carriage return, and the last one may lack its line feed."""
+        """The bytes of all lines. Some have a carriage return, and the last line may lack its line feed."""
         ends = [self.random.choice([b"\n", b"\n", b"\r\n"]) for _ in self.lines]
         ends[-1] = self.random.choice([b"", b"\n", b"\r\n"])
         return b"".join(line.text + end for line, end in zip(self.lines, ends))
@@ -251,16 +251,16 @@ class SessionMaker:
             at += size
 
     def journal(self):
-        """The script of all items that are accepted."""
+        """The script of all accepted items."""
         items = [*self.script["items"], *(line.item for line in self.lines if line.item)]
         return json.dumps(dict(self.script, items=items)).encode()
 
 
-# ---- what is looked at
+# ---- comparisons
 
 
 def answers_of(wrote):
-    """The answers in what was written: of each the lines before the last one, and that one."""
+    """The answers in an output: for each the lines before the last one, and the last one."""
     answers, body = [], []
     for line in wrote.splitlines(keepends=True):
         if line.startswith((b"ok ", b"refused ")):
@@ -283,7 +283,7 @@ def report_of(hipac, journal, tree):
 
 
 def look_at(made, answers, units, state):
-    """Answers are those to the lines, by the report on the journal."""
+    """The answers match the lines, by the report on the journal."""
     expect(len(answers), len(made.lines), "answers")
     bodies, ran, shown = [], 0, None
     for number, (line, (body, last)) in enumerate(zip(made.lines, answers)):
@@ -304,14 +304,14 @@ def look_at(made, answers, units, state):
 
 
 def look_at_refusal(made, hipac):
-    """The same line refuses a script as its last item, in the same words."""
+    """A script with this line as its last item has the same refusal."""
     items = [*made.script["items"], *(line.item for line in made.lines if line.item)]
     forms = (b'["tx"', b'["clock"')
     refused = [line for line in made.lines if line.text.startswith(forms) and line.refusal > b"refused S2"]
     if not refused or not items:
         return
     line = made.random.choice(refused)
-    # (the text of the line itself, whose numbers are as they are written)
+    # (the text of the line itself, so that numbers are written as in the line)
     before, after = json.dumps(dict(made.script, items=[*items, "HERE"])).split('"HERE"')
     given = before.encode() + line.text + after.encode()
     wanted = line.refusal.replace(b" /", f" /items/{len(items)}/".encode()).replace(b"/\n", b"\n")
@@ -319,7 +319,7 @@ def look_at_refusal(made, hipac):
 
 
 def session(seed, programs):
-    """One session, each way."""
+    """One session, with each number of workers, with trees and without."""
     made = SessionMaker(seed)
     given, journal = made.input(), made.journal()
     for tree in ([], ["--tree"]):
@@ -337,7 +337,7 @@ def session(seed, programs):
 
 
 def script(items=(), **others):
-    """A first line: a class, a rule that tells changes, and one that fires at 5 and 9."""
+    """A first line: a class, a rule that reports changes, and one that fires at 5 and 9."""
     tell = ["tell", ["update", "acct"], "immediate", [], "immediate", [["emit", ["new", 0, "bal"]]]]
     wake = ["wake", ["or", ["at", 5], ["at", 9]], "immediate", [], "immediate", [["emit", ["time", 0]]]]
     whole = {"version": 1, "classes": [["acct", [["bal", "int"]]]], "rules": [tell, wake], "items": list(items)}
@@ -358,19 +358,19 @@ def emit(expression):
 
 
 def later(line, answer):
-    """A session in which this line comes after the script, and the state is asked for before and after."""
+    """A session with this line after the script, and `["show"]` before and after it."""
     same = "" if answer.startswith("ok") or not answer.startswith("refused") else STATE
     tail = '["show"]\n' if same else ""
     return f'{UP}\n["show"]\n{line}\n{tail}', f"unit 1 committed\nok 1\n{STATE}{answer}{same}", 0
 
 
 def first(line, answer):
-    """A session whose first line is refused, so that no later one is answered."""
+    """A session whose first line is refused, so that no later line is answered."""
     return f'{line}\n["show"]\n{UP}\n', answer, 2
 
 
 def longest(line, size):
-    """The line with so many bytes, by spaces at its end."""
+    """The line, padded with spaces to this number of bytes."""
     return line + " " * (size - len(line.encode()))
 
 
@@ -458,13 +458,13 @@ ok 2
 
 
 def refused_words(live):
-    """Words that are none of the program's: nothing is read, and nothing is answered."""
+    """Unknown words on the command line: nothing is read, and nothing is answered."""
     for words in (["--workers", "65"], ["--workers", "0"], ["--workers"], ["--trees"], ["file"], ["--tree", "--tree"]):
         expect(by_pipe([*live, *words], UP.encode()), (3, b"", b"command line refused\n"), f"with {words}")
 
 
 def failed_read(live):
-    """A read that fails after a line and a half: the line has been answered."""
+    """A read that fails after a line and a half: the complete line has been answered."""
     with socket.create_server(("127.0.0.1", 0)) as server:
         ours = socket.create_connection(server.getsockname())
         its = server.accept()[0]
@@ -475,7 +475,7 @@ def failed_read(live):
         ours.sendall(f"{UP}\n{change(5)[:9]}".encode())
         while not os.fstat(wrote.fileno()).st_size and running.poll() is None and time.monotonic() < deadline:
             time.sleep(0.01)
-        # (a close that resets the connection, so that the next read fails)
+        # (closing resets the connection, so that the next read fails)
         ours.setsockopt(socket.SOL_SOCKET, socket.SO_LINGER, struct.pack("ii", 1, 0))
         ours.close()
         wanted = (4, b"unit 1 committed\nok 1\n", b"fault F2\n")
@@ -483,14 +483,14 @@ def failed_read(live):
 
 
 def nobody():
-    """A pipe from which nobody reads."""
+    """A pipe without a reader."""
     reader, writer = os.pipe()
     os.close(reader)
     return open(writer, "wb")
 
 
 def failed_write(live):
-    """Nobody takes the answers: the first write fails."""
+    """Nobody reads the answers: the first write fails."""
     for wrote in (open("/dev/full", "wb"), nobody()):
         with wrote:
             how = {"stdout": wrote, "stderr": subprocess.PIPE, "env": ENVIRONMENT}
@@ -499,7 +499,7 @@ def failed_write(live):
 
 
 def read_within(running, size):
-    """So many bytes of what a program writes, or fewer where it writes no more in time."""
+    """This number of bytes of a program's output, or fewer if it writes no more in time."""
     taken, deadline = b"", time.monotonic() + LIMIT
     while len(taken) < size and select.select([running.stdout], [], [], max(0, deadline - time.monotonic()))[0]:
         more = os.read(running.stdout.fileno(), size - len(taken))
@@ -528,14 +528,14 @@ def stored(live):
 
 
 def launcher():
-    """The launcher starts the program with the words and the input given."""
+    """The launcher passes its words and its input to the program."""
     how = {"stdout": subprocess.PIPE, "stderr": subprocess.DEVNULL, "timeout": LIMIT, "check": False}
     done = subprocess.run([os.path.join(TOP, "hipac-live"), "--workers", "1"], input=UP.encode(), **how)
     expect((done.returncode, done.stdout), (0, b"unit 1 committed\nok 1\n"), "status and answers")
 
 
 def checks(programs, sessions):
-    """All checks, each with its name."""
+    """The name and the function of each check."""
     live = programs.live
     for name, (given, answers, status) in CASES.items():
         yield name, lambda given=given, answers=answers, status=status: case(live, given, answers, status)

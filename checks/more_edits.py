@@ -1,16 +1,16 @@
 #!/usr/bin/env python3
 """Tries the edits of crates/NAME/more-edits: the prover must refuse each of them.
 
-    checks/more_edits.py [--anew] [--untried] [NAME ..]  tries those of the crates named, or of all crates
-    checks/more_edits.py --apply-only [NAME ..]          proves nothing: looks whether the edits of both folders apply
+    checks/more_edits.py [--anew] [--untried] [NAME ..]  tries those of these crates, or of all crates
+    checks/more_edits.py --apply-only [NAME ..]          proves nothing: checks that the edits of both folders apply
 
-The gate tries the edits of must-fail and not these. Here a copy of the crates is made in a temporary folder, in which more-edits
-stands as must-fail, and `rt must-fail NAME` runs there, crate by crate, lowest first. The copy begins with what checks of the same
-crates kept on this machine, and what an edit came to is kept for a later run. `--anew` tries all again. `--untried` tries those
-alone that have a line `# untried`.
+The gate tries the edits of must-fail and not these. This script copies the crates to a temporary folder, with
+more-edits in place of must-fail, and runs `rt must-fail NAME` there, crate by crate, lowest first. The copy begins with
+what checks of the same crates kept on this machine, and the result of an edit is kept for a later run. `--anew` tries
+all again. `--untried` tries only those that have a line `# untried`.
 
-The status is 0 where each edit applies and was refused, 1 where one wasn't, and 130 where the run was interrupted. The copy is
-then removed, and what was tried of the crates that had ended stays kept.
+The status is 0 if each edit applies and was refused, 1 if one wasn't, and 130 if the run was interrupted. The copy is
+then removed, and the results of finished crates stay kept.
 """
 
 import os
@@ -24,14 +24,14 @@ import time
 
 TOP = os.path.dirname(os.path.dirname(os.path.abspath(__file__)))
 
-# The folder of the edits that the gate tries, and that of the others.
+# The folder of the gate's edits, and that of the others.
 FIRST = "must-fail"
 MORE = "more-edits"
 
-# A line of an edit that was never tried, which is taken out once the prover has refused it.
+# The line of an edit that was never tried. It is removed when the prover has refused the edit.
 UNTRIED = "# untried"
 
-# What `rt` says of an edit.
+# The words of `rt` on an edit.
 SAYS = re.compile(r"rt: must-fail [^/]+/(\S+): (refused, as it must be|NOT REFUSED|BAD EDIT|NOT TRIED)")
 
 
@@ -39,18 +39,18 @@ SIGNALS = (signal.SIGINT, signal.SIGTERM, signal.SIGHUP)
 
 
 class Interrupted(Exception):
-    """The run is to end."""
+    """The run was interrupted."""
 
 
 def interrupt(_number, _frame):
-    # (a second one is not to stop the removal of the copy)
+    # (a second interrupt must not stop the removal of the copy)
     for number in SIGNALS:
         signal.signal(number, signal.SIG_IGN)
     raise Interrupted
 
 
 def crates_in_order():
-    """The crates as crates.txt names them, each after those that it stands on."""
+    """The crates in the order of crates.txt, each after those that it uses."""
     below = {}
     with open(os.path.join(TOP, "crates.txt"), encoding="utf-8") as file:
         for line in file:
@@ -88,7 +88,7 @@ def is_untried(path):
 
 
 def why_not_applied(crate, path):
-    """Why an edit does not apply to the sources as they stand, by the rules of `rt`; none where it does."""
+    """Why an edit does not apply to the current sources, by the rules of `rt`; None if it does."""
     if not re.fullmatch(r"[A-Za-z0-9_-][A-Za-z0-9_.-]*\.edit", os.path.basename(path)):
         return "its name is not that of an edit"
     file, old, pairs, before, after = "", "", 0, {}, {}
@@ -119,7 +119,7 @@ def why_not_applied(crate, path):
 
 
 def apply_all(crates):
-    """Says of each edit of both folders that does not apply why it doesn't, and returns how many there are."""
+    """Prints for each edit of both folders that does not apply why it doesn't, and returns their number."""
     faults, counts = 0, {FIRST: 0, MORE: 0}
     for crate in crates:
         names = {}
@@ -140,7 +140,7 @@ def apply_all(crates):
 
 
 def copy_crates(to):
-    """Copies the crates without what was made of them, and without their edits."""
+    """Copies the crates without build results and without their edits."""
     os.makedirs(to)
     for name in ("crates.txt", "HANDLES"):
         shutil.copyfile(os.path.join(TOP, name), os.path.join(to, name))
@@ -152,7 +152,7 @@ def copy_crates(to):
 
 
 def remove(path):
-    """Removes a folder, if it is there. A command that was ended may have been writing in it."""
+    """Removes a folder, if it exists. A command that was ended may still have been writing in it."""
     for _ in range(20):
         shutil.rmtree(path, ignore_errors=True)
         if not os.path.lexists(path):
@@ -162,7 +162,7 @@ def remove(path):
 
 
 def must_fail(crate, copy, room, anew):
-    """Runs `rt must-fail` on a crate of the copy, shows its lines and returns them. What it starts ends with it."""
+    """Runs `rt must-fail` on a crate of the copy, prints its lines and returns them. Its children end with it."""
     words = ["rt", "must-fail", *(["--anew"] if anew else []), crate]
     how = {"cwd": copy, "stdin": subprocess.DEVNULL, "stdout": subprocess.PIPE, "stderr": subprocess.STDOUT}
     how.update(env={**os.environ, "TMPDIR": room}, start_new_session=True, encoding="utf-8", errors="replace")
@@ -174,13 +174,14 @@ def must_fail(crate, copy, room, anew):
                 lines.append(line)
         finally:
             if running.poll() is None:
-                # (the checks that it started end with it)
+                # (the checks that it started end too)
                 running.kill()
     return lines
 
 
 def try_crate(crate, paths, copy, room, anew):
-    """Tries edits of a crate, says what each came to, and returns how many were not refused, were bad and were not tried."""
+    """Tries edits of a crate, prints the result of each, and returns how many were not refused, were bad and were
+    not tried."""
     begun = time.monotonic()
     paths = {os.path.basename(path): path for path in paths}
     print(f"== {crate}: {len(paths)} edits, from {time.strftime('%H:%M')}", flush=True)
@@ -202,7 +203,7 @@ def try_crate(crate, paths, copy, room, anew):
     if marked:
         print(f"{crate}: take the line '{UNTRIED}' out of {' '.join(marked)}", flush=True)
     print(f"{crate}: done in {time.monotonic() - begun:.0f} seconds", flush=True)
-    # The libraries stay for the crates above; the rest is large, and no crate above needs it.
+    # The crates above need the libraries; the rest is large, and they don't need it.
     for each in os.listdir(os.path.join(copy, "crates")):
         remove(os.path.join(copy, "crates", each, "out", "incremental"))
     return len(missed), len(bad), len(untried)

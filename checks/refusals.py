@@ -1,13 +1,13 @@
-"""Scripts that are refused, each with its refusal: `checks/programs.py` runs them.
+"""Refused scripts, each with its refusal. `checks/programs.py` runs them.
 
-The scripts of tools/tests/refused.py are others; of those it is also tested what is told about the place of the fault.
+The scripts of tools/tests/refused.py are others. For those the reported place of the fault is tested too.
 """
 
 from limits import nested
 
 
 def script(version="1", classes="[]", rules="[]", items="[]", depth=None):
-    """A script of these members."""
+    """A script with these members."""
     last = "" if depth is None else f',"depth":{depth}'
     return f'{{"version":{version},"classes":{classes},"rules":{rules},"items":{items}{last}}}'
 

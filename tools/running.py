@@ -1,20 +1,20 @@
-"""How the scripts here start rt and end it: it never outlives them."""
+"""Starts and ends rt for the scripts here: it never outlives them."""
 
 import ctypes
 import signal
 import subprocess
 
-# prctl's word for: send this signal to me when my parent ends, however it ends.
+# The code of prctl for: send me this signal when my parent ends, however it ends.
 PARENT_DEATH_SIGNAL = 1
 
-# Seconds that rt may take to end what it started.
+# The time limit for rt to end its children, in seconds.
 STOP_LIMIT = 30
 
 LIBC = ctypes.CDLL(None)
 
 
 def end_with_parent():
-    """Has the process that is about to begin end with the one that starts it, also where that is killed."""
+    """Makes the new process end with its parent, even if that is killed."""
     LIBC.prctl(PARENT_DEATH_SIGNAL, signal.SIGTERM)
 
 
@@ -24,7 +24,7 @@ def start(words, **how):
 
 
 def stop(running):
-    """Ends rt, which then ends what it started."""
+    """Ends rt, which then ends its children."""
     if running.poll() is None:
         running.terminate()
         try:

@@ -1,11 +1,12 @@
 #!/usr/bin/env python3
-"""Makes a program without proofs and with all checks at run time, and keeps it for tools/start.
+"""Makes an unproved program with all run-time checks, and keeps it for tools/start.
 
     tools/unproved.py NAME
 
-`rt try` makes such a program and runs it, but keeps no file. So it is given a row of empty inputs to run one after the other
-(`--cases`), and while it runs them its program gets a second name here. What is kept is a folder .built/NAME-unproved-KEY with the
-program and, a word a line, the toolchain's own loader, by which rt starts it. KEY is the checksum of the sources.
+`rt try` makes such a program and runs it, but keeps no file. So this script gives it several empty inputs to run one
+after another (`--cases`), and during a run gives the program's file a second name. It keeps a folder
+.built/NAME-unproved-KEY with the program and, one word for each line, the toolchain's own loader, with which rt starts
+it. KEY is the checksum of the sources.
 """
 
 import fcntl
@@ -25,14 +26,14 @@ import running  # noqa: E402 (it leaves no file beside it)
 TOP = os.path.dirname(os.path.dirname(os.path.abspath(__file__)))
 BUILT = os.path.join(TOP, ".built")
 
-# So many empty inputs: each is one more chance to take the program, and the first does in all likelihood.
+# The number of empty inputs. Each is one more chance to take the program; the first is mostly enough.
 CASES = 20
 
-# Seconds that a program may take to make, and then to run on an empty input.
+# The time limits for making a program, and for its run on an empty input, in seconds.
 MAKE_LIMIT = 1800
 RUN_LIMIT = 60
 
-# So many programs of one name stay: of these sources, and of those that stood here before.
+# The number of programs of one name that stay: of the current sources, and of earlier ones.
 KEPT = 2
 
 ADVICE = "./build makes the proved program instead, in longer time; `rt try`, in the folder of the crate, makes and runs an unproved one"
@@ -49,27 +50,27 @@ def key_of(name):
 
 
 def loader():
-    """The toolchain's own loader and C library, by which rt starts a program that it tries."""
+    """The toolchain's own loader and C library, with which rt starts a program that it tries."""
     said = subprocess.run(["rt", "doc"], stdin=subprocess.DEVNULL, stdout=subprocess.PIPE, text=True, check=True).stdout
     library = os.path.join(os.path.dirname(said.strip()), "toolchain", "lib")
     return [os.path.join(library, "ld-linux-x86-64.so.2"), "--inhibit-cache", "--library-path", library]
 
 
 def take(room, program):
-    """Gives the program that rt runs in this folder a second name, once a run has begun: then it is whole."""
+    """Gives the program that rt runs in this folder a second name. Once a run has begun, the file is complete."""
     for folder, _, names in os.walk(room):
         if "program" in names and "stdout" in names:
             try:
                 os.link(os.path.join(folder, "program"), program)
                 return True
             except OSError:
-                # That run has ended meanwhile.
+                # The run has ended meanwhile.
                 continue
     return False
 
 
 def end_of_case(said):
-    """The status with which the first input's run ended, once rt has told it; another end is an error."""
+    """The exit status of the first input's run, once rt has printed it; any other end is an error."""
     with open(said, encoding="utf-8", errors="replace") as file:
         text = file.read()
     line = re.search(r"^case=.*\n", text, re.MULTILINE)
@@ -80,7 +81,7 @@ def end_of_case(said):
 
 
 def made_by_try(name, room, words=()):
-    """Makes a program by `rt try` with these words more, and gives its path, in this folder."""
+    """Makes a program by `rt try` with these additional words, and returns its path in this folder."""
     program, cases, said = (os.path.join(room, it) for it in ("program", "cases", "said"))
     os.mkdir(cases)
     for number in range(CASES):
@@ -107,13 +108,13 @@ def made_by_try(name, room, words=()):
 
 
 def runs(program):
-    """The status with which a program ends that is given nothing to read."""
+    """The exit status of a program with an empty input."""
     how = {"stdin": subprocess.DEVNULL, "stdout": subprocess.DEVNULL, "stderr": subprocess.DEVNULL, "env": {}}
     return subprocess.run([*loader(), program], timeout=RUN_LIMIT, check=False, **how).returncode
 
 
 def is_kept(folder):
-    """Whether a whole program lies in this folder, whose loader is still there."""
+    """Whether this folder has a complete program whose loader still exists."""
     try:
         with open(os.path.join(folder, "loader"), encoding="utf-8") as file:
             return os.access(file.readline().rstrip("\n"), os.X_OK) and os.access(os.path.join(folder, "program"), os.X_OK)
@@ -122,7 +123,7 @@ def is_kept(folder):
 
 
 def keep(name):
-    """Makes the program of the sources as they stand, and keeps it. A source that changes meanwhile has it made anew."""
+    """Makes the program of the current sources, and keeps it. If a source changes meanwhile, it is made again."""
     while True:
         key = key_of(name)
         kept = os.path.join(BUILT, f"{name}-unproved-{key}")
@@ -145,7 +146,7 @@ def keep(name):
 
 
 def clear(name):
-    """Removes what was left by launches that were killed, and the programs of sources that stood here long ago."""
+    """Removes the remains of killed launches, and the programs of old sources."""
     old = []
     for each in os.listdir(BUILT):
         path = os.path.join(BUILT, each)

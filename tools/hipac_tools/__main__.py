@@ -13,7 +13,7 @@ from .near import nearest
 
 @dataclass(frozen=True)
 class Word:
-    """A word of the command line: the module that answers it, and what it does in one line."""
+    """A word of the command line: the module that implements it, and what it does in one line."""
 
     module: str
     says: str
@@ -49,7 +49,7 @@ def main(arguments: list[str]) -> int:
 
 
 def run() -> int:
-    """Runs `main`; a reader that wants no more of the output, as `head`, is no fault."""
+    """Runs `main`. A reader that stops early, such as `head`, is no fault."""
     sys.stdout.reconfigure(errors="backslashreplace")
     try:
         status = main(sys.argv[1:])

@@ -1,7 +1,8 @@
-"""A script with its report, and with what can be said of the report's nodes.
+"""A script with its report, and the reasons for the report's nodes.
 
-Notes come from the course (`course.py`) where it gives the program's report line by line. Where it doesn't, or where
-the script does more than the course follows, `derived` tells what the report's tree alone tells, and `doubt` says so.
+The reasons come from the course (`course.py`) if it gives the program's report line by line. If it doesn't, or if the
+script does more than the course follows, `derived` gives the reasons that the report's tree alone shows, and `doubt`
+says so.
 """
 
 from __future__ import annotations
@@ -21,7 +22,7 @@ DIFFERENT = "The report isn't the one that following the script gives"
 
 
 class NoAccount(Exception):
-    """There is nothing to tell: the script is refused, or the report is none. `status` is the exit status."""
+    """There is nothing to explain: the script is refused, or the report isn't one. `status` is the exit status."""
 
     def __init__(self, words: str, status: int):
         super().__init__(words)
@@ -39,13 +40,13 @@ class Account:
         return {rule.name: rule for rule in self.base.rules}
 
     def mode_of_action(self, rule: str) -> str:
-        """The mode of a rule's action; of a rule that only another script's report knows, nothing is known."""
+        """The mode of a rule's action; None for a rule that only another script's report names."""
         return self.rules[rule].ca if rule in self.rules else "not immediate"
 
 
 def account_of(script_bytes: bytes, report_text: Optional[str] = None, watch: Optional[str] = None,
                steps: int = STEPS) -> Account:
-    """Runs the program where no report is given, reads the report, and notes why things happened in it."""
+    """Runs the program if no report is given, reads the report, and notes why things happened in it."""
     is_own = report_text is None
     if report_text is None:
         report_text = _run(script_bytes)
@@ -62,7 +63,7 @@ def account_of(script_bytes: bytes, report_text: Optional[str] = None, watch: Op
     except TooLong:
         return derived(account, TOO_LONG, is_own)
     except (LookupError, TypeError, ValueError, AttributeError, RecursionError):
-        # A script that the program would refuse, beside a report given for it.
+        # A script that the program would refuse, with a report given for it.
         return derived(account, DIFFERENT, is_own)
     if followed != found:
         if report.write(found) == report.write(followed, trees=False):
@@ -82,8 +83,8 @@ def _run(script_bytes: bytes) -> str:
 
 
 def derived(account: Account, doubt: str, is_own: bool) -> Account:
-    """The report with the notes that its tree alone gives: who stands in whom, and plain triggers where the report is
-    the script's own for certain."""
+    """The report with the notes that its tree alone gives: the parents of nodes, and plain triggers if the report is
+    certainly the script's own."""
     fired = _fired_by_statements(account.base)
     plain = {rule.name: rule.event for rule in account.base.rules
              if is_own and language.has_one_part(rule.event) and rule.name not in fired}
@@ -96,14 +97,14 @@ def derived(account: Account, doubt: str, is_own: bool) -> Account:
 
 
 def _fired_by_statements(base: rulebase.RuleBase) -> Set[str]:
-    """The rules for which a statement `fire` stands somewhere in the script."""
+    """The rules that some statement `fire` of the script names."""
     bodies = [rule.action for rule in base.rules] + [item[1] for item in base.items if item[0] == "tx"]
     return {statement[1] for body in bodies for statement in language.statements(body) if statement[0] == "fire"}
 
 
 def _derive(holder: Any, plain: Dict[str, List[Any]]) -> None:
-    """The first immediate firing of a plain rule after an operation that its event matches is that operation's: were
-    the rule not enabled there, no later signal could trigger it unless an operation on a rule came between."""
+    """The first immediate firing of a plain rule after an operation that its event matches is that operation's: if
+    the rule weren't enabled there, no later signal could trigger it without an operation on a rule between."""
     last: Optional[Operation] = None
     fired: List[str] = []
     for node in holder.items:

@@ -1,8 +1,7 @@
-"""`check SCRIPT.json ..`: says whether the program accepts a script, and where it doesn't, says where and why.
+"""`check SCRIPT.json ..`: says whether the program accepts a script, and if it doesn't, where and why.
 
 The program decides. The tool reads the script a second time, in the program's order of checks, to find the place and
-the words for what the program refused; where its own reading comes to another end, it tells what the program said and
-no more.
+the message for the refusal. If its own reading has another result, it reports only the program's line.
 """
 
 from __future__ import annotations
@@ -38,7 +37,7 @@ MEANINGS = {
 
 @dataclass(frozen=True)
 class Read:
-    """What the tool's own reading comes to: the text and its values as far as they can be read, and the first fault."""
+    """The result of the tool's own reading: the text and its values as far as they can be read, and the first fault."""
 
     text: str
     root: Optional[Node]
@@ -57,7 +56,7 @@ def main(arguments: list[str]) -> int:
 
 
 def check(name: str) -> int:
-    """Checks one script, and gives the program's status."""
+    """Checks one script, and returns the program's status."""
     try:
         script = bytes_of(name)
     except OSError as fault:
@@ -78,7 +77,7 @@ def check(name: str) -> int:
 
 
 def read(script: bytes) -> Read:
-    """Reads a script in the order of checks: its size, then its JSON, then what it says."""
+    """Reads a script in the order of checks: its size, then its JSON, then its contents."""
     text = script.decode("utf-8", "replace")
     if len(script) > MOST_BYTES:
         message = f"the script has {len(script):,} bytes, and {MOST_BYTES:,} are the most"
@@ -103,11 +102,11 @@ def json_fault(fault: NotJson) -> Fault:
     return Fault("S1", fault.start, fault.end, fault.message, (fault.hint,) if fault.hint else (), notes)
 
 
-# ---- what is told
+# ---- messages
 
 
 def accepted(name: str, own: Read) -> list[str]:
-    """The line for an accepted script, what can't be meant in it, and what could be better."""
+    """The line for an accepted script, its warnings and its hints."""
     if own.script is None:
         return [f"{name}: accepted"]
     script = own.script
@@ -121,7 +120,7 @@ def accepted(name: str, own: Read) -> list[str]:
 
 
 def refused(name: str, refusal: str, own: Read) -> list[str]:
-    """Where and why a script is refused. The tool's own fault is told only where it is the program's refusal."""
+    """Where and why a script is refused. The tool's own fault is reported only if it is the program's refusal."""
     fault = own.fault if own.fault is not None and own.fault.refusal == refusal else general_fault(refusal, own)
     return told(name, own.text, f"refused {refusal}", fault)
 
@@ -138,7 +137,7 @@ def general_fault(refusal: str, own: Read) -> Fault:
 
 
 def told(name: str, text: str, head: str, fault: Fault) -> list[str]:
-    """A fault as compilers tell it: its place and meaning, the line with a mark, what helps, and other places."""
+    """A fault as compilers report it: its place and message, the line with a mark, a suggestion, and other places."""
     line, column = line_and_column(text, fault.start)
     places = [line] + [line_and_column(text, note.start)[0] for note in fault.notes]
     gutter = max(len(str(place)) for place in places) + 2

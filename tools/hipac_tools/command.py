@@ -1,4 +1,4 @@
-"""What the words of the command line share: exit statuses, and the bytes of a file that is named there."""
+"""Shared by the words of the command line: exit statuses, and the bytes of a file."""
 
 from __future__ import annotations
 

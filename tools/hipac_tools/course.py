@@ -1,8 +1,8 @@
 """Follows a script's course and notes why everything in it happens.
 
 A report says what happened; it doesn't say which query was empty, which signal triggered a rule, or which statement
-aborted a transaction. So the script is run here a second time, slowly and with notes. The program's report stays the
-judge: `agrees` compares it with the one that this course gives, and nothing of a course that disagrees is told.
+aborted a transaction. So the script is run here a second time, slowly, with notes. The program decides: `agrees`
+compares its report with the one of this course, and a course that disagrees is not used.
 """
 
 from __future__ import annotations
@@ -23,11 +23,11 @@ STATUS_AFTER = {"install": "enabled", "enable": "enabled", "disable": "disabled"
 
 
 class TooLong(Exception):
-    """The script does more than is followed here."""
+    """The script takes more steps than are followed here."""
 
 
 class Aborting(Exception):
-    """On its way to the innermost transaction round it, which it aborts."""
+    """Passes to the innermost transaction around it, which it aborts."""
 
     def __init__(self, stop: Stop):
         super().__init__(stop.words)
@@ -35,7 +35,7 @@ class Aborting(Exception):
 
 
 class Vetoing(Exception):
-    """On its way out of the action that vetoes."""
+    """Passes out of the action that vetoes."""
 
     def __init__(self, stop: Stop):
         super().__init__(stop.words)
@@ -57,7 +57,7 @@ class Task:
 
 @dataclass(frozen=True)
 class Mark:
-    """How far things had come where a transaction began."""
+    """The state of the course when a transaction began."""
 
     journal: int
     queued: int
@@ -65,7 +65,7 @@ class Mark:
 
 
 class Course:
-    """The state of a script on its way: objects, rules, their pasts, and what is to be done later."""
+    """The state of a running script: objects, rules, their pasts, and the tasks for later."""
 
     def __init__(self, base: RuleBase, watch: Optional[str] = None, steps: int = STEPS):
         self.base = base
@@ -90,7 +90,7 @@ class Course:
     # Units
 
     def report(self) -> Report:
-        """Runs all items; raises TooLong where that takes more steps than are followed."""
+        """Runs all items; raises TooLong if that takes more steps than are followed."""
         sys.setrecursionlimit(max(sys.getrecursionlimit(), RECURSION))
         result = Report()
         for number, (item, _, moments) in enumerate(numbered_items(self.base)):
@@ -148,7 +148,8 @@ class Course:
         return Mark(len(self.journal), len(self.queued), len(self.detached))
 
     def _abort(self, node: Any, mark: Mark, stop: Stop) -> None:
-        """Undoes all since the mark. Of the detached tasks it releases the exclusive and drops the dependent ones."""
+        """Undoes everything since the mark. Of the detached tasks it releases the exclusive and drops the dependent
+        ones."""
         while len(self.journal) > mark.journal:
             container, name, old = self.journal.pop()
             if old is _NONE:
@@ -231,7 +232,7 @@ class Course:
         self._signal(Primitive("delete", name, key, old=old), path, depth, node)
 
     def _evaluated(self, statement: List[Any], environment: Environment) -> Tuple[int, Dict[str, Any]]:
-        """A create's or update's key and fields: all are evaluated, and only then kinds are looked at."""
+        """A create's or update's key and fields: all are evaluated before any kind is tested."""
         word, name = statement[:2]
         key = evaluate(statement[2], environment)
         fields = {pair[0]: evaluate(pair[1], environment) for pair in statement[3]}
@@ -398,7 +399,7 @@ class Course:
                 raise
 
     def _task(self, task: Task) -> None:
-        """Runs one firing; where its action vetoes, the transaction round the firing aborts."""
+        """Runs one firing; if its action vetoes, the transaction around the firing aborts."""
         self._count_step()
         if task.answers is not None:
             node = self._add(Act(task.rule.name, task.mode, COMMITTED), "", trigger=task.trigger,
@@ -435,7 +436,7 @@ class Course:
         return environment.answers
 
     def _answer(self, asked: Asked, query: Query, environment: Environment) -> List[Row]:
-        """The rows that fit. Of one object that was asked for by its key and doesn't fit, the note tells why."""
+        """The rows that fit. If the query asked for one object by its key and it doesn't fit, the note says why."""
         query.key = self._asked_key(asked, environment)
         rows = self._rows(asked.class_name, query.key)
         answer = [row for row in rows
@@ -448,8 +449,8 @@ class Course:
         return answer
 
     def _asked_key(self, asked: Asked, environment: Environment) -> Optional[int]:
-        """The key of the one object that a query looks at; none where it goes over the whole class, or where the
-        program doesn't come to evaluate it."""
+        """The key of the one object that a query looks at; None if it looks at the whole class, or if the program
+        doesn't evaluate the key."""
         first = language.conjuncts(asked.predicate)[0]
         if not self.objects[asked.class_name] or not language.is_key_asked(asked.name, first):
             return None

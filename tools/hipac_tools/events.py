@@ -1,8 +1,7 @@
-"""Events and what of the past they hold on to.
+"""Events and what they keep of the past.
 
-A detector's state is a value that is never changed in place: a transaction that aborts gets the rule's past back by
-taking the state of before. Pending occurrences of a sequence share one growing list for that, each state with bounds of
-its own.
+A detector's state is an immutable value: a transaction that aborts restores the rule's past by taking the earlier
+state. For this the pending occurrences of a sequence share one growing list, and each state has bounds of its own.
 """
 
 from __future__ import annotations
@@ -43,7 +42,7 @@ class Pending:
 
 
 def matches(pattern: Form, primitive: Primitive) -> bool:
-    """Whether a simple event is met by what was signalled."""
+    """Whether a simple event matches what was signalled."""
     if primitive.kind == "time":
         return primitive.moment in moments_of(pattern, primitive.moment - 1, primitive.moment)
     return primitive.kind == pattern[0] and (primitive.kind == "commit" or primitive.name == pattern[1])
@@ -75,8 +74,8 @@ def step(event: Form, state: Any, primitive: Primitive) -> Step:
 
 
 def lacking(event: Form, state: Any, primitive: Primitive) -> str:
-    """What the event waits for, or has waited for in vain, where something in it occurs here and it doesn't itself: the
-    end of a sentence that begins with `as`. Empty where the event occurs or nothing in it does."""
+    """What the event waits for, or has waited for in vain, if a part of it occurs here and it doesn't itself: the
+    end of a sentence that begins with `as`. Empty if the event occurs or nothing in it does."""
     if has_one_part(event) or step(event, state, primitive)[1] is not None:
         return ""
     if event[0] != "or":
@@ -116,7 +115,7 @@ def _sequence(pending: Pending, left: Optional[Occurrence], right: Optional[Occu
 
 def _closure(run: Optional[Occurrence], left: Optional[Occurrence], right: Optional[Occurrence]) -> Step:
     """The run is the last occurrence of the first event since the last stop, with the counts of all of them. It is
-    none where there was neither, and NOTHING right after a stop."""
+    None if there was neither, and NOTHING right after a stop."""
     if right is not None:
         return NOTHING, _joined(run, right, run.count) if run is not None and run.count > 0 else None
     if left is not None:

@@ -1,4 +1,4 @@
-"""What became of a rule in a unit, in one line: how often it was triggered, and what it did."""
+"""The fate of a rule in a unit, in one line: how often it was triggered, and what it did."""
 
 from __future__ import annotations
 
@@ -53,12 +53,12 @@ def dropped_line(dropped: Dropped) -> str:
 
 
 def is_by_event(one: Any) -> bool:
-    """Whether what made a task was an event, and no statement `fire`."""
+    """Whether an event made a task, and not a statement `fire`."""
     return one.trigger is None or one.trigger.primitive is not None
 
 
 def fate_of(node: Any) -> int:
-    """What one task came to."""
+    """The fate of one task."""
     if isinstance(node, Fire) and not isinstance(node.action, End):
         return NOTHING if node.action == "none" else PUT_OFF
     if node.end.committed and is_idle(node):

@@ -1,7 +1,7 @@
 """The word `graph`: which rule may set off which, as text and as a picture.
 
 `build` finds the nodes and edges of a script, its cycles, its longest chain of firings, and what looks like an
-oversight. All of it is read from the script's text: an edge says that something may happen. Where no edge is, nothing
+oversight. All of it is read from the script's text: an edge means that something may happen. Without an edge nothing
 happens.
 """
 from __future__ import annotations
@@ -53,7 +53,7 @@ class Node:
 
     @property
     def couplings(self) -> str:
-        """The couplings in short: the second is left out where it is immediate."""
+        """The couplings in short: the second is left out if it is immediate."""
         return self.ec if self.ca in ("", "immediate") else f"{self.ec}, then {self.ca}"
 
 
@@ -68,9 +68,9 @@ class Edge:
 
 @dataclass(frozen=True)
 class Cycle:
-    """Rules each of which may set off the next, and the last the first; `labels` has what leads from each to its next.
+    """Rules each of which may set off the next, and the last the first; `labels` says what leads from each to its next.
 
-    `breaks` tells which couplings part the turns: without them all firings nest at the place of the first event.
+    `breaks` names the couplings that separate the turns: without them all firings nest at the place of the first event.
     """
     rules: tuple[str, ...]
     labels: tuple[str, ...]
@@ -85,14 +85,14 @@ class Cycle:
 
 @dataclass(frozen=True)
 class Chain:
-    """The longest chain of firings that may happen. Where a cycle may turn it is endless, and `steps` leads into it."""
+    """The longest chain of firings that may happen. If a cycle may turn, it is endless, and `steps` leads into it."""
     steps: tuple[Edge, ...]
     endless: bool
 
 
 @dataclass(frozen=True)
 class Graph:
-    """All that `graph` tells of a script."""
+    """All that `graph` shows of a script."""
     nodes: list[Node]
     edges: list[Edge]
     cycles: list[Cycle]
@@ -132,7 +132,7 @@ def main(arguments: list[str]) -> int:
 
 
 def _write_picture(graph: Graph, target: str) -> int:
-    """Writes the picture to a file, and gives the exit status."""
+    """Writes the picture to a file, and returns the exit status."""
     try:
         with open(target, "w", encoding="utf-8") as file:
             file.write(svg(graph))
@@ -217,13 +217,14 @@ def _cycles(rules: dict[str, Rule], edges: list[Edge], possible: list[Edge]) -> 
 
 
 def _turned(names: tuple[str, ...], order: dict[str, int]) -> tuple[str, ...]:
-    """A cycle begun at the rule that stands first in the script. A way that ends where the cycle closes is one too."""
+    """A cycle that begins at the rule which comes first in the script. A path that ends where the cycle closes is
+    one too."""
     start = min(range(len(names)), key=lambda place: order[names[place]])
     return names[start:] + names[:start]
 
 
 def _cycle(names: tuple[str, ...], edges: list[Edge], rules: dict[str, Rule], turning: set[tuple[str, str]]) -> Cycle:
-    """A cycle with what leads from rule to rule, and the couplings that part its turns."""
+    """A cycle with what leads from rule to rule, and the couplings that separate its turns."""
     pairs = list(zip(names, names[1:] + names[:1]))
     labels = tuple(" or ".join(edge.label or FIRES for edge in edges
                                if (edge.source, edge.target) == pair and edge.kind in FIRING_KINDS) for pair in pairs)
@@ -240,7 +241,7 @@ def _cycle(names: tuple[str, ...], edges: list[Edge], rules: dict[str, Rule], tu
 # Chains.
 
 def _chain(possible: list[Edge], order: Sequence[str], reach: Reach) -> Chain:
-    """The longest way along possible edges from a source that is no rule; where a cycle may turn, a way into it."""
+    """The longest path along possible edges from a source that isn't a rule; if a cycle may turn, a path into it."""
     links = _links(possible)
     starts = [name for name in order if name not in reach.firing]
     groups = paths.components(links, order)
@@ -263,7 +264,7 @@ def _steps(links: dict[str, dict[str, Edge]], names: Sequence[str]) -> tuple[Edg
 # The text.
 
 def graph_text(graph: Graph) -> str:
-    """The graph for reading: who acts on whom, the cycles, the longest chain, and what looks like an oversight."""
+    """The graph as text: its edges, the cycles, the longest chain, and what looks like an oversight."""
     couplings = {node.name: node.couplings for node in graph.nodes}
     edges: dict[str, list[Edge]] = {node.name: [] for node in graph.nodes}
     for edge in graph.edges:
@@ -292,7 +293,7 @@ def _node_text(node: Node, edges: list[Edge], couplings: dict[str, str]) -> str:
 
 
 def _cycles_text(graph: Graph) -> str:
-    """Each cycle with what leads from rule to rule, and what parts its turns."""
+    """Each cycle with what leads from rule to rule, and what separates its turns."""
     lines = []
     for cycle in graph.cycles:
         lines.append(f"{cycle.path}, by {', '.join(cycle.labels)}")
@@ -325,9 +326,9 @@ def _section(head: str, lines: Sequence[str]) -> str:
 # The picture.
 
 def svg(graph: Graph) -> str:
-    """The graph as one element `svg`, laid out by Graphviz where its `dot` is installed.
+    """The graph as one element `svg`, laid out by Graphviz if its `dot` is installed.
 
-    That a transaction of the script installs a rule is left out, since mostly one installs them all.
+    The script's installs of rules are left out, since mostly a script installs them all.
     """
     colour = {node.name: picture.COLOURS.get(node.ec, picture.COLOURS["other"]) for node in graph.nodes}
     rules = {node.name for node in graph.nodes if node.is_rule}
@@ -345,7 +346,7 @@ def svg(graph: Graph) -> str:
 
 
 def _box(node: Node, colour: str) -> picture.Box:
-    """The box of a node. A long event is cut: the text of the graph has it whole."""
+    """The box of a node. A long event is cut; the text of the graph has all of it."""
     if not node.is_rule:
         return picture.Box(node.name, (node.name,), colour, is_round=True)
     lines = textwrap.wrap(node.when, BOX_WIDTH)

@@ -1,8 +1,8 @@
-"""What each source of a script does, and what of it may come to pass.
+"""What each source of a script does, and what of that may happen.
 
-A source is the script's own transactions, the clock, or a rule's action. What it does are simple events (an operation
-on a class, a signal, a moment, a commit) and rule operations. All is by the text alone: conditions are taken as
-possibly true. So what isn't found here can't happen in any run; what is found may happen.
+A source is the script's own transactions, the clock, or a rule's action. What it does is simple events (an operation on
+a class, a signal, a moment, a commit) and rule operations. All is read from the text: conditions are assumed possibly
+true. So what isn't found here can't happen in any run; what is found may happen.
 """
 from __future__ import annotations
 
@@ -33,7 +33,7 @@ class Deeds:
 
 @dataclass(frozen=True)
 class Reach:
-    """What may come to pass: the simple events, the rules that may be installed, and the rules that may fire."""
+    """What may happen: the simple events, the rules that may be installed, and the rules that may fire."""
     events: frozenset[Pattern]
     installed: frozenset[str]
     firing: frozenset[str]
@@ -82,7 +82,7 @@ def _items_deeds(rulebase: RuleBase) -> dict[str, Deeds]:
 
 
 def last_patterns(event: Form) -> Iterator[Pattern]:
-    """The simple events at whose place an event may occur. The others in it only have to come before."""
+    """The simple events at which an event may occur. Its other events only have to come before."""
     if event[0] == "or":
         yield from last_patterns(event[1])
         yield from last_patterns(event[2])
@@ -93,7 +93,7 @@ def last_patterns(event: Form) -> Iterator[Pattern]:
 
 
 def setting_off(event: Form, possible: frozenset[Pattern]) -> set[Pattern]:
-    """Those of `last_patterns` at which an event may occur, where no other simple events than these are possible."""
+    """Those of `last_patterns` at which an event may occur, if only these simple events are possible."""
     if event[0] == "or":
         return setting_off(event[1], possible) | setting_off(event[2], possible)
     if event[0] in ("seq", "closure"):
@@ -102,7 +102,7 @@ def setting_off(event: Form, possible: frozenset[Pattern]) -> set[Pattern]:
 
 
 def reach(rulebase: RuleBase, sources: dict[str, Deeds]) -> Reach:
-    """What may come to pass: grows from what the items do, by the rules that may then fire, until nothing is new."""
+    """What may happen: grows from what the items do, by the rules that may then fire, until nothing is new."""
     rules = {rule.name: rule for rule in rulebase.rules}
     doing = [name for name in sources if name not in rules]
     firing: set[str] = set()

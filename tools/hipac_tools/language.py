@@ -1,8 +1,8 @@
-"""The language of scripts as data, said once for all tools: forms with their parts, modes and kinds, limits.
+"""The language of scripts as data, once for all tools: forms with their parts, modes and kinds, limits.
 
-A form is a list that begins with a word. `check` names the parts of a form in its messages; whoever walks over a script
-asks of what sort a part is: another form, a body, or something plain. Here too are the questions about an event or a
-predicate that more than one tool asks.
+A form is a list that begins with a word. `check` names the parts of a form in its messages. Code that walks over a
+script asks for the sort of a part: another form, a body, or a plain value. This module also answers the questions about
+an event or a predicate that several tools ask.
 """
 
 from __future__ import annotations
@@ -91,7 +91,7 @@ def sorts(parts: Iterable[str]) -> list[str]:
 
 
 def statements(body: list[Form]) -> Iterator[Form]:
-    """All statements of a body, those of inner bodies too, in written order."""
+    """All statements of a body and its inner bodies, in written order."""
     for statement in body:
         yield statement
         for part, sort in zip(statement[1:], sorts(STATEMENTS[statement[0]])):
@@ -111,15 +111,15 @@ def patterns(event: Form) -> Iterator[Form]:
 
 
 def has_one_part(event: Form) -> bool:
-    """Whether each occurrence of an event is one simple occurrence: so where no `seq` and no `closure` is in it. Such
-    an event needs nothing of the past."""
+    """Whether each occurrence of an event is one simple occurrence: it has no `seq` and no `closure`. Such an event
+    doesn't depend on the past."""
     if event[0] == "or":
         return has_one_part(event[1]) and has_one_part(event[2])
     return event[0] not in COMPOSITE
 
 
 def moments_of(pattern: Form, former: int, now: int) -> range:
-    """The moments above `former` and up to `now` that a simple event names: all, or one more than may be due."""
+    """The moments above `former` and up to `now` that a simple event names: all, or one more than the limit."""
     if pattern[0] == "at":
         return range(pattern[1], pattern[1] + 1) if former < pattern[1] <= now else range(0)
     if pattern[0] != "every":
@@ -130,7 +130,7 @@ def moments_of(pattern: Form, former: int, now: int) -> range:
 
 
 def due_moments(events: Iterable[Form], former: int, now: int) -> list[int]:
-    """The moments that are due when the clock moves from `former` to `now`: all, or one more than may be."""
+    """The moments that are due when the clock moves from `former` to `now`: all, or one more than the limit."""
     moments = {moment for event in events for pattern in patterns(event) for moment in moments_of(pattern, former, now)}
     return sorted(moments)[:MOST_MOMENTS + 1]
 
@@ -138,12 +138,12 @@ def due_moments(events: Iterable[Form], former: int, now: int) -> list[int]:
 # ---- predicates
 
 def asks_key(name: str, predicate: Form) -> bool:
-    """Whether a predicate begins by asking for the key of its row, so that one object alone is looked at."""
+    """Whether a predicate begins by asking for the key of its row, so that only one object is looked at."""
     return is_key_asked(name, conjuncts(predicate)[0])
 
 
 def is_key_asked(name: str, test: Form) -> bool:
-    """Whether a test compares the key of its row with something that is known before the row is."""
+    """Whether a test compares the key of its row with an expression that doesn't depend on the row."""
     key = ["key", name]
     if not isinstance(test, list) or test[0] != "=" or key not in test[1:]:
         return False
@@ -151,14 +151,14 @@ def is_key_asked(name: str, test: Form) -> bool:
 
 
 def conjuncts(predicate: Form) -> list[Form]:
-    """The tests that `and` joins, in the order in which they are made."""
+    """The tests that `and` joins, in the order of evaluation."""
     if isinstance(predicate, list) and predicate[0] == "and":
         return conjuncts(predicate[1]) + conjuncts(predicate[2])
     return [predicate]
 
 
 def names_row(expression: Form, name: str) -> bool:
-    """Whether an expression asks for the row itself, which isn't known before the object is found."""
+    """Whether an expression depends on the row itself, which isn't known before the object is found."""
     return any(leaf[0] in OF_A_ROW and leaf[1] == name for leaf in leaves(expression))
 
 

@@ -1,7 +1,7 @@
-"""What the page of `view` shows, as plain lists that JSON can hold.
+"""The contents of the page of `view`, as plain lists for JSON.
 
-All nodes stand in one list, in order of time, each with its parent's place in it: so a page can hold tens of thousands
-of them and make the elements of those alone that are looked at. Sentences stand in a list of their own, each once.
+All nodes are in one list, in order of time, each with the index of its parent. So a page can hold tens of thousands of
+nodes, and make elements only for those on the screen. Sentences are in a list of their own, without duplicates.
 """
 
 from __future__ import annotations
@@ -23,7 +23,7 @@ END_PLACES = {TRANSACTION: 4, SUB: 2, FIRE: 5, ACT: 4}
 
 @dataclass
 class PageModel:
-    """Nodes are rows of [kind, parent, what it says .., facts]; facts are pairs of a label and a sentence's place."""
+    """Nodes are rows of [kind, parent, texts .., facts]; facts are pairs of a label and a sentence's index."""
 
     units: List[List[Any]] = field(default_factory=list)
     nodes: List[List[Any]] = field(default_factory=list)
@@ -39,7 +39,7 @@ def page_model(account: Account) -> PageModel:
 
 
 class _Maker:
-    """Goes through a report once, in order of time."""
+    """Reads a report once, in order of time."""
 
     def __init__(self, account: Account):
         self.account = account
@@ -130,7 +130,7 @@ class _Maker:
         return " ".join([trigger] + reasons.later_sentences(node))
 
     def _trigger_place(self, node: Any) -> int:
-        """The node to look at for a trigger: the operation, else the transaction in which something was signalled."""
+        """The node of a trigger: the operation, else the transaction in which something was signalled."""
         trigger = node.note.trigger
         if trigger is None:
             return NOWHERE
@@ -159,7 +159,8 @@ class _Maker:
         return place
 
     def _objects(self) -> None:
-        """Every object that ever was, in the final state's order; one that isn't there at the end has no row."""
+        """Every object that ever existed, in the order of the final state; one that doesn't exist at the end has no
+        row."""
         final = {(thing.name, thing.key): thing.row for thing in self.account.report.objects}
         order = {name: place for place, name in enumerate(self.page.classes)}
         names = sorted(set(final) | set(self.histories), key=lambda name: (order.get(name[0], len(order)), name))

@@ -1,4 +1,4 @@
-"""The nearest known word to one that isn't known: what was meant, most likely."""
+"""The known word that is nearest to an unknown one, and so probably meant."""
 
 from __future__ import annotations
 
@@ -8,7 +8,7 @@ NO_HABITS: Mapping[str, str] = {}
 
 
 def distance(first: str, second: str) -> int:
-    """How many letters must be put in, left out, changed or swapped with the next to make one word of the other."""
+    """How many letters must be inserted, deleted, changed or swapped with the next to turn one word into the other."""
     rows = [list(range(len(second) + 1))]
     for i, letter in enumerate(first, 1):
         row, above = [i], rows[-1]

@@ -1,4 +1,4 @@
-"""What is known of a report's nodes beyond their lines: why they stand there, and why they ended as they did."""
+"""What is known of a report's nodes beyond their lines: why they happened, and why they ended as they did."""
 
 from __future__ import annotations
 
@@ -12,7 +12,7 @@ from .values import Occurrence, Primitive
 
 @dataclass
 class Signal:
-    """One place at which rules may be triggered, also where none was."""
+    """One signal, at which rules may be triggered, even if none was."""
 
     primitive: Optional[Primitive]
     within: Holder
@@ -28,7 +28,7 @@ class Signal:
 
 @dataclass
 class Watched:
-    """What one rule that is watched was like at a signal, and why its event, if it mentions that, didn't occur."""
+    """The state of a watched rule at a signal, and why its event, if it mentions the signal, didn't occur."""
 
     status: str
     since: Optional[Operation]
@@ -38,8 +38,8 @@ class Watched:
 
 @dataclass
 class Query:
-    """What a query of a condition found: its answer's keys, or the fault on the way. Where it asked for one object by
-    its key and found that this doesn't fit: the first test of its predicate that failed, and the values in it."""
+    """What a query of a condition found: the keys of its answer, or its fault. If it asked for one object by its key
+    and that doesn't fit: the first test of its predicate that failed, and the values in it."""
 
     name: str
     on: str
@@ -53,7 +53,7 @@ class Query:
 
 @dataclass
 class Stop:
-    """Why a transaction aborted: the statement at which it did, or the firing that vetoed."""
+    """Why a transaction aborted: the statement that aborted it, or the firing that vetoed."""
 
     end: End
     words: str
@@ -68,7 +68,7 @@ transaction round it aborted."""
 
 @dataclass
 class Dropped:
-    """A task that was made and never ran: why, and the node whose end dropped it. Where the condition had been tested
+    """A task that was made and never ran: why, and the node whose end dropped it. If the condition had been tested
     before, the task was the action's."""
 
     rule: str
@@ -82,8 +82,8 @@ class Dropped:
 
 @dataclass
 class Note:
-    """A node's parent and place in the script; of a top-level transaction the unit's number, of a firing its trigger,
-    of what aborted the reason."""
+    """A node's parent and place in the script; for a top-level transaction the unit's number, for a firing its
+    trigger, for an aborted node the reason."""
 
     parent: Optional[Holder]
     path: str = ""
@@ -97,7 +97,7 @@ class Note:
 
 
 def ancestry(node: Any) -> List[Any]:
-    """The nodes round this one, the innermost first."""
+    """The nodes around this one, the innermost first."""
     found = []
     while node.note is not None and node.note.parent is not None:
         node = node.note.parent
@@ -106,8 +106,8 @@ def ancestry(node: Any) -> List[Any]:
 
 
 def is_idle(task: Any) -> bool:
-    """Whether an action ran and neither changed nor signalled anything. Only of a course that was followed is it known
-    that nothing was signalled."""
+    """Whether an action ran and neither changed nor signalled anything. That nothing was signalled is only known for
+    a course that was followed."""
     if task.items or task.note.occurrence is None:
         return False
     top = (ancestry(task) or [task])[-1]
@@ -115,7 +115,7 @@ def is_idle(task: Any) -> bool:
 
 
 def undone_by(node: Any) -> Optional[Any]:
-    """The innermost node round an item that aborted, which undid it; none where the item lasts."""
+    """The innermost node around an item that aborted, which undid it; None if the item wasn't undone."""
     for holder in ancestry(node):
         if not holder.end.committed:
             return holder

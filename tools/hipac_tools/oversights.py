@@ -1,4 +1,5 @@
-"""What looks like an oversight in a script: rules that can't fire, events that don't happen, queries that go far."""
+"""What looks like an oversight in a script: rules that can't fire, events that don't happen, queries over whole
+classes."""
 from __future__ import annotations
 
 from typing import Iterator
@@ -63,7 +64,7 @@ def _not_heard(rulebase: RuleBase, sources: dict[str, Deeds]) -> list[str]:
 
 
 def scans(rulebase: RuleBase) -> list[str]:
-    """The queries and the statements `each` that go over all objects of a class."""
+    """The queries and the statements `each` that look at all objects of a class."""
     return list(_scans(rulebase))
 
 

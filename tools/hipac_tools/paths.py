@@ -1,4 +1,4 @@
-"""Ways through a graph that is given as the targets of each node, in order. All answers keep to that order."""
+"""Paths through a graph, which is given by the targets of each node, in order. All answers follow that order."""
 from __future__ import annotations
 
 from typing import Collection, Iterable, Iterator, Mapping
@@ -7,7 +7,7 @@ Targets = Mapping[str, Iterable[str]]
 
 
 def shortest_way(targets: Targets, start: str, goals: Collection[str]) -> tuple[str, ...] | None:
-    """The shortest way of one step or more from a node to one of the goals, both ends included."""
+    """The shortest path of at least one step from a node to one of the goals, both ends included."""
     ways: dict[str, tuple[str, ...]] = {}
     queue = [(start,)]
     for way in queue:

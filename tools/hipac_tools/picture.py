@@ -1,7 +1,7 @@
-"""Boxes and arrows as one SVG element: laid out by Graphviz where its `dot` is installed, else by a layout of our own.
+"""Boxes and arrows as one SVG element: laid out by Graphviz if its `dot` is installed, else by this module.
 
-The own layout puts boxes on levels, so that arrows go down where they can. Between two levels of boxes lies a level
-of labels. An arrow takes a place on each level that it crosses, so that it and its label have room beside the boxes.
+Its layout puts boxes on levels, so that arrows point down if possible. Between two levels of boxes is a level of
+labels. An arrow has a place on each level that it crosses, so that it and its label have space beside the boxes.
 """
 from __future__ import annotations
 
@@ -48,7 +48,7 @@ class Arrow:
 
 
 def draw(boxes: Sequence[Box], arrows: Sequence[Arrow]) -> str:
-    """The picture as an element `svg`, without a prolog, so that it can stand in a page."""
+    """The picture as an element `svg`, without a prolog, so that a page can contain it."""
     program = shutil.which("dot")
     drawn = _drawn_by_dot(program, boxes, arrows) if program and len(arrows) <= MOST_FOR_DOT else None
     return drawn or _Layout(boxes, arrows).svg()
@@ -57,7 +57,7 @@ def draw(boxes: Sequence[Box], arrows: Sequence[Arrow]) -> str:
 # By Graphviz.
 
 def _drawn_by_dot(program: str, boxes: Sequence[Box], arrows: Sequence[Arrow]) -> str | None:
-    """What `dot` makes of the picture, or None where it fails."""
+    """The layout by `dot`, or None if it fails."""
     try:
         ended = subprocess.run([program, "-Tsvg"], input=dot_source(boxes, arrows).encode("utf-8"),
                                stdout=subprocess.PIPE, stderr=subprocess.DEVNULL, timeout=MOST_SECONDS, check=False)
@@ -88,11 +88,11 @@ def _dot_text(text: str) -> str:
     return f'"{escaped}"'
 
 
-# By the own layout.
+# The layout of this module.
 
 @dataclass
 class _Place:
-    """Room on a level: for a box, for a label, or for an arrow that passes by."""
+    """Space on a level: for a box, for a label, or for an arrow that passes by."""
     width: float
     level: int
     above: list["_Place"] = field(default_factory=list)
@@ -120,7 +120,7 @@ class _Layout:
         self.tops = self._tops()
 
     def _box_levels(self) -> dict[str, int]:
-        """The level of each box: below all that lead to it, as far as arrows don't go round in circles."""
+        """The level of each box: below all that lead to it, as far as arrows form no cycle."""
         targets: dict[str, list[str]] = {name: [] for name in self.boxes}
         for arrow in self.arrows:
             if arrow.target not in targets[arrow.source]:
@@ -134,7 +134,7 @@ class _Layout:
 
     @staticmethod
     def _depth_first(targets: dict[str, list[str]]) -> tuple[dict[str, list[str]], list[str]]:
-        """The targets without those that close a circle, and the boxes, each after all that it leads to."""
+        """The targets without those that close a cycle, and the boxes, each after all that it leads to."""
         forward: dict[str, list[str]] = {name: [] for name in targets}
         order: list[str] = []
         state: dict[str, str] = {}
@@ -160,7 +160,7 @@ class _Layout:
         return max(len(line) for line in box.lines) * CHARACTER + 2 * PADDING
 
     def _loop_room(self, name: str) -> float:
-        """The room that a box's arrow to itself asks for at its right; as much is left free at its left."""
+        """The space at a box's right for its arrow to itself; as much is left free at its left."""
         labels = [len(arrow.label) * CHARACTER for arrow in self.loops if arrow.source == name]
         return max(labels) + GAP if labels else 0.0
 
@@ -200,7 +200,7 @@ class _Layout:
                     place.rank = position
 
     def _put_in_columns(self) -> None:
-        """Gives each place its middle: level by level as near to what is above as the order allows."""
+        """Gives each place its middle: level by level as near to the places above as the order allows."""
         for row in self.rows:
             self._pack(row, [None if not place.above else sum(one.x for one in place.above) / len(place.above)
                              for place in row])

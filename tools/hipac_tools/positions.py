@@ -1,7 +1,7 @@
-"""A reader of JSON that keeps where each value stands in its text.
+"""A reader of JSON that keeps the position of each value in its text.
 
-It reads what the program's own reader reads and refuses what that refuses: more than 127 lists and objects in one
-another, halves of surrogate pairs, numbers too large for a float. So a fault that it names is the program's refusal S1.
+It accepts what the program's own reader accepts, and refuses what that refuses: more than 127 nested lists and objects,
+halves of surrogate pairs, numbers too large for a float. So a fault that it names is the program's refusal S1.
 """
 
 from __future__ import annotations
@@ -32,7 +32,7 @@ FOREIGN_WORDS = {
 
 @dataclass
 class Node:
-    """A value with its place: `text[start:end]` is how it is written."""
+    """A value with its position: `text[start:end]` is how it is written."""
 
     value: object
     start: int
@@ -45,14 +45,14 @@ class Node:
 
 @dataclass(frozen=True)
 class Found:
-    """The value at a path, or where there is none, the nearest one that would have it in it."""
+    """The value at a path, or if there is none, the nearest one that would contain it."""
 
     node: Node
     exact: bool
 
 
 class NotJson(ValueError):
-    """The text is no JSON text: what is wrong, where, and what helps."""
+    """The text isn't JSON: what is wrong, where, and a suggestion."""
 
     def __init__(self, message: str, start: int, end: int, hint: str = "", opened: Optional[int] = None):
         super().__init__(message)
@@ -65,7 +65,7 @@ class NotJson(ValueError):
 
 
 def parse(text: str) -> Node:
-    """The value that a text is, with all places; raises NotJson."""
+    """The value of a text, with all positions; raises NotJson."""
     reader = _Reader(text)
     reader.skip_space()
     root = reader.value(0)
@@ -81,7 +81,7 @@ def line_and_column(text: str, offset: int) -> tuple[int, int]:
 
 
 def find(root: Node, path: str) -> Found:
-    """The value at the path of a refusal, as `/rules/0/3`; `/` is the root."""
+    """The value at the path of a refusal, such as `/rules/0/3`; `/` is the root."""
     node = root
     for step in path.split("/"):
         if step == "":
@@ -96,7 +96,7 @@ def find(root: Node, path: str) -> Found:
 
 
 class _Reader:
-    """Reads one value after the other, from left to right."""
+    """Reads one value after another, from left to right."""
 
     def __init__(self, text: str):
         self.text = text
@@ -109,12 +109,12 @@ class _Reader:
         return self.text[self.offset:self.offset + 1]
 
     def fault(self, message: str, hint: str = "", length: int = 1, opened: Optional[int] = None) -> NotJson:
-        """A fault at the place where the reader stands."""
+        """A fault at the reader's position."""
         end = min(self.offset + length, len(self.text))
         return NotJson(message, self.offset, end, hint, opened)
 
     def value(self, level: int) -> Node:
-        """The value that begins here, which lies in so many lists and objects."""
+        """The value that begins here, inside this number of lists and objects."""
         first = self.peek()
         if first == '"':
             return self.text_node()
@@ -263,7 +263,8 @@ class _Reader:
         return key, self.value(level + 1)
 
     def goes_on(self, node: Node, closing: str) -> bool:
-        """Whether another part follows; an end of the text is told with the place where the list or object begins."""
+        """Whether another part follows; the end of the text is reported with the place where the list or object
+        begins."""
         if self.peek() == "":
             raise self.never_closed(node, closing)
         return self.peek() != closing
@@ -273,7 +274,7 @@ class _Reader:
         return self.fault(f"the text ends, and a {what} isn't closed: `{closing}` is missing", opened=node.start)
 
     def to_next(self, node: Node, closing: str) -> None:
-        """Passes the comma before another part, or stands at the closing bracket."""
+        """Passes the comma before another part, or stops at the closing bracket."""
         self.skip_space()
         if self.peek() == ",":
             comma = self.offset
@@ -297,7 +298,7 @@ class _Reader:
 
 
 def shortened(written: str) -> str:
-    """What is written, fit for a message: cut where it is long, and without signs that a terminal would obey."""
+    """A text for a message: cut if it is long, and without control characters."""
     cut = written if len(written) <= 40 else written[:37] + "..."
     return "".join(letter if letter.isprintable() else "\ufffd" for letter in cut)
 

@@ -1,7 +1,7 @@
-"""The word `print`: a script as a person would read it aloud, one rule a paragraph.
+"""The word `print`: a script in words, one rule for each paragraph.
 
-Nothing is left out. From the printed text the script can be read back, form by form (the tests do so): each form has
-words of its own, an operand stands in parentheses wherever it could be taken otherwise, and a text has its quotes.
+Nothing is left out. The script can be read back from the printed text, form by form (the tests do so): each form has
+words of its own, an operand is in parentheses wherever it could be read otherwise, and a text has its quotes.
 """
 from __future__ import annotations
 
@@ -32,11 +32,11 @@ WHERE = {
 }
 """Where a task runs, for each coupling. "This one" is the transaction that made the task."""
 
-# How tightly a form holds together. An operand that holds less tightly than its place asks stands in parentheses.
+# The precedence of a form. An operand whose precedence is lower than its place requires is in parentheses.
 OR, AND, NOT, COMPARISON, MINUS, SUM, PRODUCT, ATOM = range(1, 9)
 LOOSE, OPERAND = OR, MINUS
 
-# For each operator with two sides: how tightly it holds, and what it asks of its left and of its right side.
+# For each binary operator: its precedence, and what it requires of its left and of its right side.
 BINARY = {
     "or": (OR, NOT, NOT), "and": (AND, NOT, NOT),
     **{operator: (COMPARISON, OPERAND, OPERAND) for operator in ("=", "!=", "<", "<=", ">", ">=")},
@@ -73,7 +73,7 @@ def script_text(rulebase: RuleBase) -> str:
 
 
 def head_text(rulebase: RuleBase) -> str:
-    """The version and the depth; a depth that isn't written is told as such."""
+    """The version and the depth; the default depth is marked as such."""
     unsaid = " (no depth is given)" if rulebase.depth is None else ""
     return f"script of version {rulebase.version}, firings nest at most {rulebase.depth_limit} deep{unsaid}"
 
@@ -88,7 +88,7 @@ def class_text(one: scripts.Class) -> str:
 # Rules.
 
 def rule_text(rule: Rule, rulebase: RuleBase | None = None) -> str:
-    """A rule as one paragraph: on one line where it fits, else with lines for its condition and its action."""
+    """A rule as one paragraph: on one line if it fits, else with lines for its condition and its action."""
     one_part = language.has_one_part(rule.event)
     head = rule_head(rule)
     conditions = condition_lines(rule, one_part)
@@ -110,7 +110,7 @@ def rule_text(rule: Rule, rulebase: RuleBase | None = None) -> str:
 
 
 def rule_head(rule: Rule) -> str:
-    """The rule's name, its event, and where the condition is tested. Without a condition also where the action runs."""
+    """The rule's name, its event, and where the condition is tested; without a condition, where the action runs."""
     numbered = not language.has_one_part(rule.event) and uses_parts(rule)
     action_place = "" if rule.queries or rule.ca == "immediate" else f", then {WHERE[rule.ca]}"
     return f"rule {rule.name}: {when_text(rule.event, numbered)}, {WHERE[rule.ec]}{action_place}:"
@@ -130,7 +130,7 @@ def condition_lines(rule: Rule, one_part: bool) -> list[str]:
 
 
 def then_words(rule: Rule) -> str:
-    """What stands between condition and action; nothing where there is no condition."""
+    """The words between condition and action; none if there is no condition."""
     if not rule.queries:
         return ""
     return "then" if rule.ca == "immediate" else f"then {WHERE[rule.ca]}:"
@@ -153,7 +153,7 @@ def when_text(event: Form, numbered: bool = False) -> str:
 
 
 def event_text(event: Form, numbered: bool = False) -> str:
-    """An event. With `numbered` each simple event in it tells which part of the occurrence it is."""
+    """An event. With `numbered` each simple event in it has its part number in the occurrence."""
     return _event(event, 0 if numbered else None)[0]
 
 
@@ -185,7 +185,8 @@ def _event(event: Form, part: int | None) -> tuple[str, int | None]:
 
 
 def _composite(event: Form, part: int | None) -> tuple[str, int | None]:
-    """An event of two events. Each that is composite itself stands in parentheses, save a chain of `or` on the left."""
+    """An event of two events. Each that is composite itself is in parentheses, except for a chain of `or` on the
+    left."""
     word, first, second = event
     first_text, middle = _event(first, part)
     second_text, last = _event(second, part if word == "or" else middle)
@@ -203,16 +204,16 @@ def _composite(event: Form, part: int | None) -> tuple[str, int | None]:
 # Expressions.
 
 def expression_text(expression: Form, one_part: bool = False, least: int = LOOSE) -> str:
-    """An expression, in parentheses where it holds less tightly than `least`.
+    """An expression, in parentheses if its precedence is below `least`.
 
-    With `one_part` the occurrence has one part alone, and part 0 needs no words.
+    With `one_part` the occurrence has only one part, and part 0 needs no words.
     """
     text, tightness = _expression(expression, one_part)
     return text if tightness >= least else f"({text})"
 
 
 def _expression(expression: Form, one_part: bool) -> tuple[str, int]:
-    """The words of an expression, and how tightly they hold together."""
+    """The words of an expression, and its precedence."""
     if not isinstance(expression, list):
         return _literal(expression)
     word = expression[0]
@@ -236,12 +237,13 @@ def _expression(expression: Form, one_part: bool) -> tuple[str, int]:
 
 
 def _is_chain(expression: Form) -> bool:
-    """Whether an `and` begins with an `and`, or an `or` with an `or`. Parentheses part the two where they are mixed."""
+    """Whether an `and` begins with an `and`, or an `or` with an `or`. Parentheses separate the two where they are
+    mixed."""
     return expression[0] in ("and", "or") and isinstance(expression[1], list) and expression[1][0] == expression[0]
 
 
 def _literal(value: Form) -> tuple[str, int]:
-    """A value as itself. A negative number is told from `neg` of a number, whose operand has parentheses."""
+    """A literal. A negative number differs from `neg` of a number, whose operand has parentheses."""
     if isinstance(value, bool):
         return ("true" if value else "false"), ATOM
     if isinstance(value, int):
@@ -250,7 +252,7 @@ def _literal(value: Form) -> tuple[str, int]:
 
 
 def _of_occurrence(expression: Form, one_part: bool) -> str:
-    """What a form takes from the occurrence: the part is told wherever it isn't the one part there is."""
+    """What a form takes from the occurrence: the part is named unless there is only one."""
     word = expression[0]
     if word == "count":
         return "the count"
@@ -264,7 +266,7 @@ def _of_occurrence(expression: Form, one_part: bool) -> str:
 
 
 def quoted(text: str) -> str:
-    """A text in its JSON form; also characters that can't be seen are written by their number."""
+    """A text in its JSON form, with invisible characters escaped."""
     def shown(character: str) -> str:
         if character.isprintable():
             return character
@@ -275,7 +277,7 @@ def quoted(text: str) -> str:
 # Statements.
 
 def body_lines(body: list[Form], indent: str, one_part: bool = False) -> list[str]:
-    """The statements of a body one below the other; an empty body says so."""
+    """The statements of a body, one on each line; an empty body says so."""
     if not body:
         return [f"{indent}do nothing"]
     return [line for statement in body for line in statement_lines(statement, indent, one_part)]
@@ -303,7 +305,7 @@ def statement_lines(statement: Form, indent: str = "", one_part: bool = False) -
 
 
 def block_lines(lead: str, body: list[Form], indent: str, one_part: bool) -> list[str]:
-    """A lead and its body: on one line where the body is one short statement without a body of its own."""
+    """A lead and its body: on one line if the body is one short statement without a body of its own."""
     if len(body) < 2 and not _is_nested(body):
         line = f"{indent}{lead} {body_lines(body, '', one_part)[0]}"
         if len(line) <= WIDTH:
@@ -370,9 +372,9 @@ def clock_text(time: int, moments: list[int], unit: int) -> str:
 # Long lines.
 
 def folded(line: str) -> str:
-    """A line broken at spaces where it is too long, but never within a text.
+    """A line, broken at spaces if it is too long, but never within a text.
 
-    A good place is before `and` and `or` and after a comma; the better one is in fewer parentheses, then further right.
+    A good place is before `and` and `or` and after a comma; better places are in fewer parentheses, then further right.
     """
     indent = line[:len(line) - len(line.lstrip(" "))]
     lines = []
@@ -389,7 +391,7 @@ def folded(line: str) -> str:
 
 
 def _spaces(line: str, start: int) -> list[tuple[int, int]]:
-    """The spaces after `start` that are in no text: how deep in parentheses, counted down from 0, and where."""
+    """The spaces after `start` outside texts: their depth in parentheses, counted down from 0, and their index."""
     spaces, depth, is_text, is_escaped = [], 0, False, False
     for place, character in enumerate(line):
         if is_escaped:

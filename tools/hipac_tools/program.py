@@ -1,4 +1,4 @@
-"""Runs the proved program. It alone decides whether a script is accepted; the tools say more about what it decided."""
+"""Runs the program. It alone decides whether a script is accepted; the tools explain its decision."""
 
 from __future__ import annotations
 
@@ -22,7 +22,7 @@ class Ended:
 
 
 def program_path() -> str:
-    """The program: $HIPAC where that is set, else `./hipac` at the repository's root."""
+    """The program: $HIPAC if that is set, else `./hipac` at the repository's root."""
     return os.environ.get("HIPAC") or str(REPOSITORY / "hipac")
 
 

@@ -36,7 +36,7 @@ def at(path: str) -> str:
 
 
 def name_of(node: Any) -> str:
-    """A node that holds others, in a few words."""
+    """A node that contains others, in a few words."""
     if isinstance(node, Sub):
         return "the `sub`" + (f" at {node.note.path}" if node.note.path else "")
     if isinstance(node, Transaction):
@@ -50,7 +50,7 @@ def aborted_words(node: Any) -> str:
 
 
 def deed_words(primitive: Primitive) -> str:
-    """What was signalled, with the values there: those that an update changed, or those of the object."""
+    """What was signalled, with its values: those that an update changed, or those of the object."""
     old, new = primitive.old, primitive.new
     if primitive.kind == "update" and old is not None and new is not None:
         changes = [f"{name} {_short(old[name])} -> {_short(new[name])}" for name in new if old[name] != new[name]]
@@ -68,7 +68,7 @@ def _short(value: Any) -> str:
 # ---- triggers
 
 def place_of(signal: Signal) -> str:
-    """Where something was signalled: the innermost transaction round it, and what that stands in."""
+    """Where something was signalled: the innermost transaction around it, and what contains that."""
     node = signal.within
     if isinstance(node, Transaction) and node.rule is None:
         if signal.primitive is not None and signal.primitive.kind in ("commit", "time"):
@@ -97,7 +97,7 @@ def trigger_words(signal: Optional[Signal], occurrence: Optional[Occurrence] = N
 
 
 def later_sentences(firing: Any) -> List[str]:
-    """When a firing ran, where that was later than its trigger."""
+    """When a firing ran, if that was later than its trigger."""
     if firing.mode == "immediate":
         return []
     who = "Its action" if isinstance(firing, Act) else "It"
@@ -125,7 +125,8 @@ def origins(firing: Any, who: str = "It") -> List[str]:
 
 
 def _action_round(node: Any) -> Any:
-    """The firing in whose action a node stands, or that its cascade's transaction is for; none in a unit's own body."""
+    """The firing whose action contains a node, or whose task is its cascade's transaction; None in a unit's own
+    body."""
     while isinstance(node, Sub):
         node = node.note.parent
     if isinstance(node, Transaction):
@@ -192,7 +193,7 @@ def condition_sentences(firing: Fire) -> List[str]:
 
 
 def action_sentence(node: Any, mode: str) -> str:
-    """What became of a firing's action, which is of that mode."""
+    """The fate of a firing's action, which has that mode."""
     if isinstance(node, Fire) and not isinstance(node.action, End):
         return "So it did nothing." if node.action == "none" else f"Its action is {mode}, so it was put off."
     if node.end.committed:
@@ -205,7 +206,7 @@ def action_sentence(node: Any, mode: str) -> str:
 # ---- aborts
 
 def stop_words(end: End, stop: Optional[Stop]) -> str:
-    """Why a transaction aborted, in a few words and without the chain that leads there."""
+    """Why a transaction aborted, in a few words, without the chain that leads there."""
     if end.cause == "A9":
         if stop is None:
             return f"rule {end.rule} vetoed; what triggered it {UNTOLD}"
@@ -218,13 +219,13 @@ def stop_words(end: End, stop: Optional[Stop]) -> str:
 
 
 def undone_words(node: Any) -> str:
-    """What undid an item; empty where it lasts."""
+    """What undid an item; empty if nothing did."""
     holder = undone_by(node)
     return "" if holder is None else aborted_words(holder)
 
 
 def chain(node: Any) -> List[str]:
-    """Sentences from an aborted node back to the statement of the unit's own body by which all began."""
+    """Sentences from an aborted node back to the statement of the unit's own body where it all began."""
     stop = node.note.stop
     sentences = [sentence(stop_words(node.end, stop))]
     if node.end.cause == "A9" and stop is not None and stop.firing is not None:

@@ -1,7 +1,7 @@
 """The report of a run, as `./hipac --tree` writes it, read into a tree of plain objects.
 
-Values stay the texts that the report has: a whole number of 64 bits is more than a page's script could hold as a
-number, and nothing here computes with them.
+Values stay texts as in the report: a page's script can't represent all 64-bit integers as numbers, and nothing here
+computes with them.
 """
 
 from __future__ import annotations
@@ -14,12 +14,12 @@ from .language import DETACHED, MODES, OBJECT_OPERATIONS, STATUS_OPERATIONS
 
 
 class ReportFault(Exception):
-    """A text that is no report; it says which line isn't one of a report."""
+    """A text that isn't a report; it says which line isn't one of a report."""
 
 
 @dataclass(frozen=True)
 class End:
-    """How a transaction ended: committed where there is no cause."""
+    """How a transaction ended: committed if there is no cause."""
 
     cause: Optional[str] = None
     rule: Optional[str] = None
@@ -65,7 +65,7 @@ class Operation:
 
 @dataclass
 class Emit:
-    """A value that was emitted, also where it was undone later."""
+    """A value that was emitted, even if it was undone later."""
 
     value: str
     note: Any = field(default=None, compare=False, repr=False)
@@ -164,7 +164,7 @@ class Report:
 
 
 def children(node: Any) -> List[Node]:
-    """The items of a node that can hold some, else none."""
+    """The items of a node that can have some, else none."""
     return getattr(node, "items", [])
 
 
@@ -178,7 +178,7 @@ def walk(node: Any) -> Iterator[Node]:
 
 
 def read(text: str) -> Report:
-    """Reads a report; raises ReportFault where it isn't one."""
+    """Reads a report; raises ReportFault if it isn't one."""
     lines = text.split("\n")
     if lines[-1] != "":
         raise ReportFault(f"line {len(lines)}: the report doesn't end with a line feed")
@@ -186,7 +186,7 @@ def read(text: str) -> Report:
 
 
 class _Reader:
-    """Goes through a report's lines once, keeping the nodes that are open."""
+    """Reads a report's lines once, keeping the open nodes."""
 
     def __init__(self, lines: List[str]):
         self.lines = lines
@@ -206,7 +206,7 @@ class _Reader:
         return result
 
     def _line(self, line: str, result: Report) -> bool:
-        """Takes one line in; answers whether it is the last."""
+        """Takes one line; returns whether it is the last."""
         if line.startswith("  "):
             self._item(line)
             return False
@@ -295,7 +295,7 @@ def _end(text: str) -> End:
 
 
 def _fields(text: str) -> Tuple[Tuple[str, str], ...]:
-    """The fields `name=value`, where a text value may hold spaces and equal signs."""
+    """The fields `name=value`; a text value may contain spaces and equal signs."""
     fields = []
     decoder = json.JSONDecoder()
     at = 0

@@ -1,8 +1,8 @@
 """A script as Python values: its classes, its rules, and its items.
 
 Events, expressions and statements stay in their JSON form, as lists; `language` says what each form is made of. `read`
-looks at the shape alone, so that the words which show a script never stumble over one that is malformed.
-`./hipac-tools check` is the word that tells what is wrong with a script.
+checks only the shape, so that the tools never fail on a malformed script. `./hipac-tools check` says what is wrong with
+a script.
 """
 from __future__ import annotations
 
@@ -17,7 +17,7 @@ TABLES = {"event": language.EVENTS, "expression": language.EXPRESSIONS, "stateme
 
 
 class Refused(Exception):
-    """What was read is no script. The message says where, and which word tells more."""
+    """The text isn't a script. The message says where, and which word says more."""
 
     status = command.REFUSED
 
@@ -97,7 +97,7 @@ def read_file(name: str) -> RuleBase:
 
 
 def _no_number(word: str) -> NoReturn:
-    """`NaN` and its like, which Python's reader takes and JSON doesn't have."""
+    """`NaN` and the like, which Python's reader accepts and JSON doesn't have."""
     raise ValueError(word)
 
 
@@ -200,7 +200,7 @@ class _Reader:
             self._whole(value, path, language.LEAST, language.GREATEST)
 
     def _text(self, value: str, path: str) -> None:
-        """A text that can be written at all: half of a pair of surrogates can't."""
+        """A text that can be written: half of a pair of surrogates can't."""
         if any("\ud800" <= character <= "\udfff" for character in value):
             self._refuse(path)
 

@@ -1,7 +1,7 @@
 """Values and expressions of a script, evaluated over named rows and the occurrence that triggered a rule.
 
-Scripts are the lists that JSON gives: the program has accepted the script before anything here looks at it, so forms
-and names are known to be right, and only what happens at run time is met here.
+Scripts are the lists that JSON gives. The program has accepted the script before this module reads it, so forms and
+names are right, and only run-time faults occur here.
 """
 
 from __future__ import annotations
@@ -14,7 +14,7 @@ from .language import GREATEST, LEAST
 
 
 class Fault(Exception):
-    """A cause A1 to A8, met while something was evaluated or done, with words for it."""
+    """A cause A1 to A8 of an evaluation or a statement, with words for it."""
 
     def __init__(self, cause: str, words: str):
         super().__init__(words)
@@ -56,8 +56,8 @@ class Primitive:
 
 @dataclass(frozen=True)
 class Occurrence:
-    """An event's occurrence. One of a rule that a statement `fire` asked for has no parts and the count 0. `is_counted`
-    says that a closure is in it, so that the count tells more than how many parts there are."""
+    """An event's occurrence. For the statement `fire` it has no parts and the count 0. `is_counted` says that it
+    contains a closure, so that the count is more than the number of parts."""
 
     parts: Tuple[Primitive, ...]
     count: int
@@ -111,7 +111,7 @@ def evaluate(expression: Any, environment: Environment) -> Any:
 
 
 def truth(expression: Any, environment: Environment, what: str) -> bool:
-    """The value of a predicate or a test, which must be a truth value."""
+    """The value of a predicate or a test, which must be a boolean."""
     value = evaluate(expression, environment)
     if not isinstance(value, bool):
         raise Fault("A3", f"{what} gives {value_text(value)}, which is no truth value")
@@ -162,7 +162,7 @@ _BINARY.update({word: _ordered for word in ("<", "<=", ">", ">=")})
 
 
 def _decided(expression: List[Any], environment: Environment) -> bool:
-    """`and` and `or`: the right side counts only where the left doesn't decide."""
+    """`and` and `or`: the right side counts only if the left doesn't decide."""
     word = expression[0]
     left = truth(expression[1], environment, f"the left of `{word}`")
     if left == (word == "or"):

@@ -1,4 +1,4 @@
-"""The word `view`: one page of HTML that shows what a script's transactions did. It needs nothing beside itself."""
+"""The word `view`: one self-contained page of HTML that shows what a script's transactions did."""
 
 from __future__ import annotations
 
@@ -29,7 +29,7 @@ CODE = ("data.js", "tree.js", "panels.js", "search.js", "overview.js", "main.js"
 
 @dataclass(frozen=True)
 class Words:
-    """The command line: the script, the report if one is given, and where the page goes."""
+    """The command line: the script, the report if one is given, and the file for the page."""
 
     script: str
     report: Optional[str] = None
@@ -57,7 +57,7 @@ def main(arguments: List[str]) -> int:
 
 
 def _words(arguments: List[str]) -> Optional[Words]:
-    """The words in any order; none where they are wrong."""
+    """The words in any order; None if they are wrong."""
     names = list(arguments)
     out = None
     if "--out" in names:
@@ -78,7 +78,7 @@ def page_of(words: Words) -> bytes:
 
 
 def page_text(account: Account, name: str) -> str:
-    """The page: its parts joined, with the script's own texts where they can be nothing but text."""
+    """The page: its parts joined, with the script's own texts in places where they can only be text."""
     base = account.base
     data: Dict[str, Any] = dict(vars(page_model(account)))
     data["name"] = name
@@ -96,13 +96,13 @@ def page_text(account: Account, name: str) -> str:
 
 
 def _policy(code: str) -> str:
-    """The page may load nothing, and run its own code alone, which is named by its hash."""
+    """The page may load nothing, and run only its own code, which is named by its hash."""
     digest = base64.b64encode(hashlib.sha256(code.encode("utf-8")).digest()).decode("ascii")
     return f"default-src 'none'; style-src 'unsafe-inline'; img-src data:; script-src 'sha256-{digest}'"
 
 
 def in_script(data: Any) -> str:
-    """Data as JSON that can stand in an element `script`: no `<` is left in it, so nothing in it ends the element."""
+    """Data as JSON for an element `script`: it contains no `<`, so nothing in it ends the element."""
     text = json.dumps(data, ensure_ascii=False, separators=(",", ":"))
     for mark in "<>&\u2028\u2029":
         text = text.replace(mark, f"\\u{ord(mark):04x}")
@@ -114,7 +114,7 @@ def _part(name: str) -> str:
 
 
 def _filled(page: str, parts: Dict[str, str]) -> str:
-    """The page with its parts in their places. Each place is looked for in the page alone, never in a part."""
+    """The page with its parts in their places. Places are searched in the page only, never in a part."""
     pieces = page.split("{{")
     filled = [pieces[0]]
     for piece in pieces[1:]:

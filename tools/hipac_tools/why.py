@@ -139,8 +139,8 @@ class UnitAnswer:
         self._rules(transaction)
 
     def _rules(self, transaction: Transaction) -> None:
-        """What became of the rules within a transaction. What was detached from it is told apart, save for exclusive
-        tasks that no abort released, of which there is nothing more to tell."""
+        """The fates of the rules within a transaction. What it detached is explained separately, except for
+        exclusive tasks that no abort released, for which there is nothing more to say."""
         tasks = Counter(fates.line_of(node) for node in walk(transaction)
                         if isinstance(node, (Fire, Act)) and node is not own_task(transaction))
         tasks.update(fates.dropped_line(one) for one in transaction.note.dropped
@@ -153,7 +153,7 @@ class UnitAnswer:
             self.lines.say(1, "No rule was triggered.")
 
     def _task(self, transaction: Transaction) -> None:
-        """What triggered a transaction of the cascade, and how its one task went. A veto is told as the abort."""
+        """What triggered a transaction of the cascade, and how its one task went. A veto is explained as the abort."""
         note, task = transaction.note, own_task(transaction)
         self.lines.say(1, f"Rule {transaction.rule} was {reasons.trigger_words(note.trigger, note.occurrence)}.")
         if isinstance(task, Fire) and task.condition != "satisfied":
@@ -162,8 +162,8 @@ class UnitAnswer:
             self.lines.say(1, reasons.action_sentence(task, self.account.mode_of_action(task.rule)))
 
     def _inner(self, transaction: Transaction) -> None:
-        """The parts that aborted by themselves while the transaction went on. A veto that aborts several nodes at once
-        is told of the outermost."""
+        """The parts that aborted by themselves while the transaction continued. A veto that aborts several nodes at
+        once is explained for the outermost."""
         own = own_task(transaction)
         aborted = [node for node in walk(transaction) if isinstance(node, (Sub, Fire, Act)) and not node.end.committed
                    and not is_part_of_veto(node) and not (node is own and node.end.cause != "A9")]
@@ -175,12 +175,12 @@ class UnitAnswer:
 
 
 def own_task(transaction: Transaction) -> Any:
-    """The task that a transaction of a cascade is for; none of a unit's own transaction."""
+    """The task of a transaction of a cascade; None for a unit's own transaction."""
     return None if transaction.rule is None else transaction.items[0]
 
 
 def new_in_chain(node: Any, transaction: Transaction) -> List[str]:
-    """What led to an abort, without what was said before of how the transaction of a cascade came to be."""
+    """What led to an abort, without what was already said about the origin of a cascade's transaction."""
     sentences, own = reasons.chain(node), own_task(transaction)
     if own is not None:
         for who in ("It", f"Rule {own.rule}"):
@@ -244,7 +244,7 @@ class RuleAnswer:
         if undone and node.items:
             say(2, f"What it did was undone, as {undone}.")
 
-    # Where it didn't fire
+    # If it didn't fire
 
     def _silence(self) -> None:
         signals = [signal for transaction in self.unit.transactions for signal in transaction.note.signals
@@ -305,7 +305,7 @@ class RuleAnswer:
                         yield node
 
     def _by_the_report(self) -> None:
-        """What the tree alone tells of a rule that has no line in a unit."""
+        """What the tree alone shows of a rule that has no line in a unit."""
         status: Dict[str, str] = {}
         for node in self._operations(self.unit.number - 1):
             if undone_by(node) is None:
@@ -327,5 +327,5 @@ def happened(signals: List[Signal]) -> str:
 
 
 def often(counts: Dict[str, int]) -> List[str]:
-    """Things with how often they were there, where that is more than once."""
+    """Things with the number of times they occurred, if that is more than once."""
     return [thing + ("" if number == 1 else f" ({times(number)})") for thing, number in counts.items()]

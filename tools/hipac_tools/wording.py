@@ -1,4 +1,4 @@
-"""Words that several tools need: lists in a sentence, numbers of things, a sentence's first letter and full stop."""
+"""Helpers for sentences that several tools need: lists, numbers of things, a sentence's first letter and full stop."""
 
 from __future__ import annotations
 

@@ -1,4 +1,4 @@
-"""Breaks scripts: changes one place of an accepted script at random, so that most of what comes out is refused."""
+"""Breaks scripts: changes an accepted script at one random place, so that most results are refused."""
 
 from __future__ import annotations
 
@@ -20,7 +20,7 @@ VALUES = NUMBERS + [
 
 
 def paths_of(value: object, path: tuple = ()) -> list[tuple]:
-    """The paths of all values in a value, its own first."""
+    """The paths of all values inside a value, its own first."""
     found = [path]
     steps = value.items() if isinstance(value, dict) else enumerate(value) if isinstance(value, list) else ()
     for step, part in steps:
@@ -51,7 +51,7 @@ def transplanted(script, path, chance):
 
 
 def renumbered(script, path, chance):
-    """Another number in place of one."""
+    """A number replaced by another."""
     path = chance.choice([path for path in paths_of(script) if path and type(at(script, path)) is int] or [path])
     return put(script, path, chance.choice(NUMBERS)) if path else script
 
@@ -63,7 +63,7 @@ def dropped(script, path, chance):
 
 
 def renamed(script, path, chance):
-    """Another letter in a text, or another text of the script in its place."""
+    """A text with another letter, or another text of the script."""
     path = chance.choice([path for path in paths_of(script) if path and isinstance(at(script, path), str)] or [path])
     word = at(script, path)
     if not isinstance(word, str) or word == "":
@@ -121,7 +121,7 @@ BREAKS = [
 
 
 def broken(script: object, chance: random.Random) -> object:
-    """A copy of a script that is changed at one place, or now and then at two."""
+    """A copy of a script that is changed at one place, or sometimes at two."""
     script = copy.deepcopy(script)
     for _ in range(chance.choice([1, 1, 1, 2])):
         script = chance.choice(BREAKS)(script, chance.choice(paths_of(script)), chance)

@@ -24,7 +24,7 @@ class NoBrowser(Exception):
 
 
 def browser_path():
-    """Chromium's path; $CHROMIUM names one that isn't found by itself."""
+    """Chromium's path; $CHROMIUM names one that isn't on the usual paths."""
     named = os.environ.get("CHROMIUM")
     found = named or next(filter(None, map(shutil.which, NAMES)), None)
     if found is None:
@@ -33,7 +33,8 @@ def browser_path():
 
 
 class WebSocket:
-    """As much of a client of RFC 6455 as the DevTools protocol needs: whole texts out, perhaps fragments in."""
+    """The part of an RFC 6455 client that the DevTools protocol needs: sends whole texts, and receives whole or
+    fragmented ones."""
 
     def __init__(self, url):
         host, _, path = url[len("ws://"):].partition("/")
@@ -95,7 +96,7 @@ class WebSocket:
 
 
 class Browser:
-    """One page of one Chromium. What goes wrong in the page is kept in `faults`."""
+    """One page of one Chromium. Errors in the page are collected in `faults`."""
 
     def __init__(self, width=1280, height=800):
         self.profile = tempfile.mkdtemp(prefix="hipac-view-")
@@ -166,7 +167,7 @@ class Browser:
             self.loaded += 1
 
     def open(self, path, address=""):
-        """Opens a page, and answers how many milliseconds it took until all of it was there and painted."""
+        """Opens a page, and returns how many milliseconds it took to load and paint all of it."""
         before = self.loaded
         self.faults, self.requests = [], []
         began = time.monotonic()
@@ -186,7 +187,7 @@ class Browser:
         return self.evaluate(f"document.querySelector({json.dumps(selector)})?.innerText ?? null")
 
     def click(self, selector, text=None):
-        """Clicks with the mouse on the first element that fits and is seen, with this text where one is given."""
+        """Clicks with the mouse on the first visible element that matches, with this text if one is given."""
         spot = self.evaluate(f"""(() => {{
             const text = {json.dumps(text)};
             const fits = (one) => one.getClientRects().length > 0 && (text === null || one.textContent.trim() === text);

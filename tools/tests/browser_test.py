@@ -151,7 +151,7 @@ class ExamplesTest(BrowserCase):
         self.assertFalse(self.browser.evaluate("document.getElementById('help').open"))
 
     def reach(self, text):
-        """Goes from focus to focus until a button with this text has it, and presses that."""
+        """Moves the focus until a button with this text has it, and presses that."""
         for _ in range(60):
             self.browser.key("Tab")
             if self.browser.evaluate("document.activeElement.textContent.trim()") == text:
@@ -309,7 +309,7 @@ class LargeTest(BrowserCase):
 
 
 class PicturesTest(BrowserCase):
-    """Makes the pictures of the documentation where $VIEW_PICTURES says so."""
+    """Makes the pictures of the documentation if $VIEW_PICTURES is set."""
 
     def test_pictures(self):
         folder = os.environ.get("VIEW_PICTURES")

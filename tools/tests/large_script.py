@@ -5,7 +5,7 @@ ITEMS = 40
 
 
 def large_script(units=UNITS):
-    """A shop: an order reserves items, a keeper vetoes what would be oversold, what was sold is billed and counted."""
+    """A shop: an order reserves items, a rule vetoes overselling, and sales are billed and counted."""
     items = [["tx", [["install", name] for name in ("reserve", "oversell", "tell", "count", "bill", "refill", "audit")]
               + [["create", "item", key, [["stock", 12]]] for key in range(1, ITEMS + 1)]
               + [["create", "tally", 1, [["sold", 0], ["note", "first </script><img src=x onerror=alert(1)>"]]]]]]
@@ -30,7 +30,7 @@ def order(number):
 
 
 def rules():
-    """In rule order: the keeper stands before those that tell and count."""
+    """In rule order: the vetoing rule comes before those that report and count."""
     item = ["with", "i", "item", ["arg", 0, 0],
             [["update", "item", ["arg", 0, 0], [["stock", ["-", ["of", "i", "stock"], ["arg", 0, 1]]]]]]]
     low = ["and", ["=", ["key", "low"], ["id", 0]], ["<", ["of", "low", "stock"], 0]]

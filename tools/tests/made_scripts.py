@@ -1,4 +1,4 @@
-"""Scripts made at random from a seed, for tests that compare what the tools say with what the program does."""
+"""Random scripts from a seed, for tests that compare the tools with the program."""
 
 import random
 
@@ -10,7 +10,7 @@ NUMBERS = {"acct": "bal", "item": "count", "bare": "none"}
 
 
 class ScriptMaker:
-    """Makes one script; all that it makes is accepted by the program."""
+    """Makes one script, which the program accepts."""
 
     def __init__(self, seed):
         self.random = random.Random(seed)

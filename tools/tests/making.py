@@ -28,7 +28,7 @@ def rule(name: str, event: list, action: list, ec: str = "immediate", ca: str = 
 
 
 class RandomScripts:
-    """Random scripts of the right shape, with names and texts that are easily mistaken for words of the printed text."""
+    """Random scripts of the right shape, with names and texts that resemble words of the printed text."""
 
     def __init__(self, seed: int) -> None:
         self.random = random.Random(seed)

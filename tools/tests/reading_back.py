@@ -1,4 +1,4 @@
-"""Reads the text that `print` writes back to the script's JSON form. Nothing that it needs isn't in the text."""
+"""Reads the text that `print` writes back to the script's JSON form, from nothing but the text."""
 from __future__ import annotations
 
 import json

@@ -1,7 +1,7 @@
-"""Scripts that are refused, each with what `check` says of it.
+"""Refused scripts, each with the messages of `check`.
 
-The marks « and » stand round the value that is named; they are no part of the script. `message` is what stands behind
-the refusal in the first line; `more` are the lines after the excerpt, without the excerpts of other places.
+The marks « and » around a value are not part of the script. `message` follows the refusal in the first line; `more` are
+the lines after the excerpt, without the excerpts of other places.
 """
 
 from __future__ import annotations
@@ -29,14 +29,14 @@ class Case:
         self.message, self.more = message, more
 
 
-# ---- scripts round the value that matters
+# ---- scripts around the tested value
 
 CLASSES = '["acct", [["bal", "int"], ["owner", "text"]]], ["mark", []]'
 RULE = '["r", ["signal", "go"], "immediate", [], "immediate", []]'
 
 
 def script(version="1", classes=CLASSES, rules="", items="", more=""):
-    """A whole script of these parts; `more` stands behind the version."""
+    """A whole script of these parts; `more` follows the version."""
     return (
         f'{{\n  "version": {version},{more}\n  "classes": [{classes}],\n  "rules": [{rules}],\n'
         f'  "items": [{items}]\n}}\n')

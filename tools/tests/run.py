@@ -1,7 +1,7 @@
 #!/usr/bin/env python3
-"""Runs the tests of the tools, all or those whose names have one of the words given: tools/tests/run.py [WORD ..]
+"""Runs the tests of the tools, all or those whose names contain one of the words: tools/tests/run.py [WORD ..]
 
-They run the program too: $HIPAC where that is set, else ./hipac, which is built first where it isn't built yet.
+They run the program too: $HIPAC if that is set, else ./hipac, which is built first if need be.
 """
 
 from __future__ import annotations

@@ -56,12 +56,12 @@ class BrokenScripts(unittest.TestCase):
 
 
 def member_named_in(text: str, first: str) -> int:
-    """Where the member stands that a script doesn't have: it is shown itself, though the path is that of the script."""
+    """The place of a member that a script doesn't have: it is shown itself, though the path is that of the script."""
     return text.index(json.dumps(first.rsplit("`", 2)[1]))
 
 
 class BrokenTexts(unittest.TestCase):
-    """Texts in which letters were lost or came in."""
+    """Texts in which letters were deleted or replaced."""
 
     def test_no_json_is_what_the_program_calls_so(self) -> None:
         chance = random.Random(SEED)

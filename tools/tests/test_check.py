@@ -23,7 +23,7 @@ class InDirectory(unittest.TestCase):
         self.directory = Path(directory.name)
 
     def check(self, text: str | bytes, name: str = "script.json") -> tuple[int, list[str]]:
-        """The status of `check` on a script, and its lines, in which the file has its name alone."""
+        """The status of `check` on a script, and its lines, with the file's name only."""
         file = self.directory / name
         file.write_bytes(text.encode("utf-8") if isinstance(text, str) else text)
         status, output, errors = run_word(check.main, str(file))
@@ -38,7 +38,7 @@ def place_of(case: Case) -> tuple[int, int]:
 
 
 class RefusedScripts(unittest.TestCase):
-    """What is told of each script of the table, where the refusal is what the program says of it."""
+    """The messages on each script of the table, whose refusal is the program's."""
 
     @classmethod
     def setUpClass(cls) -> None:
@@ -82,7 +82,7 @@ class RefusedScripts(unittest.TestCase):
 
 
 class WholeOutput(InDirectory):
-    """What is written, as a reader sees it."""
+    """The whole output, as a reader sees it."""
 
     def assert_written(self, text: str, status: int, expected: str) -> None:
         self.assertEqual(self.check(text, "bank.json"), (status, expected.strip("\n").split("\n")))
@@ -242,7 +242,7 @@ class AcceptedScripts(InDirectory):
 
 
 class TheProgramDecides(InDirectory):
-    """Where the tool's own reading comes to another end, it says what the program said."""
+    """If the tool's own reading has another result, it reports the program's line."""
 
     def told(self, ended: program.Ended, text: str) -> tuple[int, list[str]]:
         with mock.patch.object(program, "run", return_value=ended):

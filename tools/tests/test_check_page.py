@@ -1,4 +1,4 @@
-"""What docs/TOOLS.md shows of `check` is what it writes."""
+"""docs/TOOLS.md shows the actual output of `check`."""
 
 from __future__ import annotations
 

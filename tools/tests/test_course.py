@@ -43,8 +43,8 @@ class SameReportTest(unittest.TestCase):
 
 
 class JudgedQueriesTest(unittest.TestCase):
-    """Beside each rule whose condition has several queries stand rules with the same event that ask its first queries
-    only and do nothing. They fire where the rule fires, just before it: their conditions tell where its own ended."""
+    """For each rule whose condition has several queries there are probes: rules with the same event that ask its
+    first queries only and do nothing. They fire just before the rule: their conditions show where its own ended."""
 
     def test_the_query_that_ends_a_condition_is_the_one_noted(self):
         judged = 0
@@ -108,7 +108,7 @@ def noted(read, beside):
 
 
 def found(read, beside):
-    """The same by the conditions of the probes, as the program reports them."""
+    """The same, from the conditions of the probes in the program's report."""
     counts, satisfied = [], {name: 0 for name in beside}
     owners = {other: name for name, others in beside.items() for other in others}
     totals = {name: len(others) + 1 for name, others in beside.items()}

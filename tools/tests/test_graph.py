@@ -1,4 +1,4 @@
-"""The word `graph`: each kind of edge, cycles, chains, and what looks like an oversight. The program has the last word on A7."""
+"""The word `graph`: each kind of edge, cycles, chains, and what looks like an oversight. The program decides on A7."""
 from __future__ import annotations
 
 import io
@@ -182,7 +182,7 @@ class Chains(unittest.TestCase):
         self.assertEqual([step.target for step in found.chain.steps], ["a", "b", "c"])
 
     def test_random_runs_keep_to_the_graph(self) -> None:
-        """No run meets A7 where the graph says that none does, and none has a firing of a rule that never fires."""
+        """No run meets A7 if the graph says so, and no rule fires that never fires by the graph."""
         met = 0
         for seed in range(60):
             text = RandomRuns(seed).script()

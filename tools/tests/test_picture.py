@@ -20,7 +20,7 @@ ARROWS = [Arrow("the script", "a", "signal <s>"), Arrow("a", "b", "signal t"), A
 
 
 def own(boxes: list[Box], arrows: list[Arrow]) -> ElementTree.Element:
-    """The picture by the own layout."""
+    """The picture with the module's own layout."""
     with mock.patch("shutil.which", return_value=None):
         return ElementTree.fromstring(picture.draw(boxes, arrows))
 
@@ -67,7 +67,7 @@ class OwnLayout(unittest.TestCase):
 
 class Graphviz(unittest.TestCase):
     def drawn_with(self, program: str) -> str:
-        """The picture, where `dot` is this shell script."""
+        """The picture with this shell script as `dot`."""
         with tempfile.TemporaryDirectory() as folder:
             dot = Path(folder) / "dot"
             dot.write_text(f"#!/bin/sh\n{program}\n", encoding="utf-8")

@@ -1,4 +1,4 @@
-"""The reader of JSON that keeps places."""
+"""The reader of JSON that keeps positions."""
 
 from __future__ import annotations
 

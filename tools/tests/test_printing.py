@@ -235,7 +235,8 @@ class Wholes(unittest.TestCase):
             self.assertEqual(json.dumps(read_back(text), sort_keys=True), json.dumps(root, sort_keys=True), f"seed {seed}:\n{text}")
 
     def test_each_changed_leaf_changes_the_text(self) -> None:
-        """Each leaf of each example is changed in some ways; whatever is still a script must print otherwise."""
+        """Each leaf of each example is changed in some ways; each result that is still a script must print
+        differently."""
         changed = 0
         for example in EXAMPLES:
             root = json.loads(example.read_text(encoding="utf-8"))
@@ -251,7 +252,8 @@ class Wholes(unittest.TestCase):
 
 
 def changes(root: dict, chance: random.Random) -> list[dict]:
-    """The script with one leaf changed, for each of its leaves, and with one part of each list left out or doubled."""
+    """The script with one leaf changed, for each of its leaves, and with one part of each list removed or
+    duplicated."""
     found = []
     for path, value in leaves(root):
         if isinstance(value, bool):

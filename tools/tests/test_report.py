@@ -1,4 +1,4 @@
-"""The reader of reports: what it reads it writes back byte for byte, and what is no report it refuses."""
+"""The reader of reports: it writes back byte for byte what it reads, and refuses what isn't a report."""
 
 import json
 import unittest

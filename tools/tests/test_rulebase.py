@@ -1,4 +1,4 @@
-"""The reading of a script for the words that show one."""
+"""Reading a script for the tools that show one."""
 from __future__ import annotations
 
 import json

@@ -1,4 +1,4 @@
-"""The schema of scripts: it lets pass what the program accepts, and marks what it refuses as far as it can say."""
+"""The schema of scripts: it accepts what the program accepts, and marks what that refuses as far as a schema can."""
 
 from __future__ import annotations
 
@@ -125,7 +125,7 @@ def at(script: object, path: str) -> object:
 
 
 def goes_back(script: object, path: str) -> bool:
-    """Whether the path is that of a clock's time, and an item before has a later one."""
+    """Whether the path is that of a clock's time, and an earlier item has a later time."""
     steps = path.strip("/").split("/")
     if steps[0] != "items" or len(steps) != 3 or script["items"][int(steps[1])][0] != "clock":
         return False

@@ -47,7 +47,7 @@ class Page(unittest.TestCase):
                 self.assertEqual(tutorial.printed(command.text), output.text)
 
     def test_parts_of_scripts_are_in_their_files(self) -> None:
-        """A script is shown as it stands in its file, perhaps less indented and without the comma at its end."""
+        """A script is shown as in its file, except for indentation and a comma at its end."""
         for block in self.blocks:
             if block.word != "json":
                 continue
@@ -87,7 +87,7 @@ class Page(unittest.TestCase):
 
 
 def heading_anchor(line: str) -> str:
-    """The name by which a heading is linked to: small letters, digits and hyphens."""
+    """The anchor of a heading: lower-case letters, digits and hyphens."""
     kept = "".join(sign for sign in line.lstrip("#").strip().lower() if sign.isalnum() or sign in " -_")
     return kept.replace(" ", "-")
 

@@ -1,4 +1,4 @@
-"""The page of `view`: its data agree with the report, and no text of a script is anything but text in it."""
+"""The page of `view`: its data agree with the report, and each text of a script stays text in it."""
 
 import contextlib
 import io
@@ -23,7 +23,7 @@ FACTS = {FIRE: 6, ACT: 5}
 
 
 def account(script):
-    """An account whose report the course itself gives; that it is the program's is the matter of test_course."""
+    """An account whose report the course itself gives; test_course compares that with the program's."""
     return account_of(json.dumps(script).encode(), report.write(followed(script)))
 
 

@@ -1,4 +1,4 @@
-"""What `why` says, sentence by sentence: of each cause of an abort, and of each reason for a rule not to fire."""
+"""The sentences of `why`, for each cause of an abort, and for each reason that a rule doesn't fire."""
 
 import contextlib
 import io
@@ -178,7 +178,7 @@ class FiringTest(WhyCase):
             "It vetoed (at /rules/1/5/0)."], "oversell")
 
     def condition(self, predicate, occurrence=ORDER, more=()):
-        """What is told of a condition that asks for an item once one is there."""
+        """The sentences on a condition that asks for an item when there is one."""
         asks = simple("asks", ["signal", occurrence[1]], queries=[["i", "item", predicate], *more])
         of = script([asks], install("asks") + [ITEM, occurrence])
         return next(line for line in self.answer(of, 1, "asks") if line.startswith("Its condition"))
@@ -213,7 +213,7 @@ class FiringTest(WhyCase):
                       self.answer(script([asks], install("asks") + [ACCOUNT, GO]), 1, "asks"))
 
     def trigger(self, event, *statements):
-        """What is told of the trigger of a rule that the last of these statements triggers."""
+        """The sentences on the trigger of a rule that the last of these statements triggers."""
         told = simple("told", event)
         of = script([told], install("told") + [ITEM], list(statements))
         return next(line for line in self.answer(of, 2, "told") if line.startswith("It was"))
@@ -314,7 +314,7 @@ class SilenceTest(WhyCase):
             "Nothing of that happened. What did: create acct 1, update acct 1 (twice), the commit event."], "tell")
 
     def mentions(self, event, *signals):
-        """What is told of a rule that is never triggered, signal by signal."""
+        """The sentences on a rule that is never triggered, for each signal."""
         waits = simple("waits", event)
         answer = self.answer(script([waits], install("waits"), [["signal", name, []] for name in signals]), 2, "waits")
         self.assertEqual(answer[0], "rule waits wasn't triggered in unit 2")

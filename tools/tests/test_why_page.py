@@ -1,4 +1,4 @@
-"""What the pages on the tools show of `why` is what it writes."""
+"""The pages on the tools show the actual output of `why`."""
 
 import re
 import unittest

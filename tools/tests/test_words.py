@@ -1,4 +1,4 @@
-"""The launcher, and what it does with words."""
+"""The launcher and its words."""
 
 from __future__ import annotations
 

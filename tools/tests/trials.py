@@ -1,4 +1,4 @@
-"""What several tests use: the accepted scripts, and a word of the tool run in this process."""
+"""Shared by several tests: the accepted scripts, and a word of the tool run in this process."""
 
 from __future__ import annotations
 
@@ -27,7 +27,7 @@ def accepted_scripts() -> dict[str, object]:
 
 
 def refusals(texts: list[str]) -> list[str]:
-    """What the program says of each script: its refusal, or nothing where it is accepted."""
+    """The program's answer to each script: its refusal, or nothing if it is accepted."""
     def refusal(text: str) -> str:
         ended = program.run(text.encode("utf-8"), [])
         if ended.status not in (0, 2):
@@ -39,7 +39,7 @@ def refusals(texts: list[str]) -> list[str]:
 
 
 def followed(script: object) -> Report:
-    """The report that the tools' own course of a script gives."""
+    """The report of the tools' own course of a script."""
     return Course(rulebase.read(json.dumps(script))).report()
 
 

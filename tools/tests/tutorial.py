@@ -1,10 +1,10 @@
 #!/usr/bin/env python3
-"""The commands in docs/TUTORIAL.md and what they print. Run by itself it writes all stored outputs anew:
+"""The commands in docs/TUTORIAL.md and what they print. Run as a program it rewrites all stored outputs:
 
     tools/tests/tutorial.py
 
-A ```sh block of the page holds one command, and the ```text block after it what the command prints. A ```json block
-is a part of the script whose file is named last before it. Beside each script in examples/tutorial lies its report.
+A ```sh block of the page has one command, and the ```text block after it the command's output. A ```json block is a
+part of the script whose file is named last before it. Each script in examples/tutorial has a stored report beside it.
 """
 
 from __future__ import annotations
@@ -33,7 +33,7 @@ LINK = re.compile(r"\]\(([^)\s]+)\)")
 
 @dataclass(frozen=True)
 class Block:
-    """A fenced block: the word behind its fence, its text, its line, and the script that is named last before it."""
+    """A fenced block: the word after its fence, its text, its line, and the script that is named last before it."""
 
     word: str
     text: str
@@ -61,7 +61,7 @@ def report_of(script: Path) -> str:
 
 
 def printed(command: str) -> str:
-    """What a command of the page prints to standard output. The program is $HIPAC where that is set."""
+    """What a command of the page prints to standard output. The program is $HIPAC if that is set."""
     words = shlex.split(command)
     if words[0] == "./hipac" and words[-2] == "<":
         return program.run((REPOSITORY / words[-1]).read_bytes(), words[1:-2]).output
@@ -72,7 +72,7 @@ def printed(command: str) -> str:
 
 
 def with_outputs(page: str) -> str:
-    """The page with each command's output written anew."""
+    """The page with each command's output written again."""
     parts, end, command = [], 0, None
     for fenced in FENCED.finditer(page):
         if fenced[1] == "text" and command is not None:

@@ -1,4 +1,4 @@
-"""Writes a value as JSON in a layout drawn at random, and keeps where each part was written.
+"""Writes a value as JSON in a random layout, and keeps where each part was written.
 
 So the tests know the place of each value without the reader that they test.
 """

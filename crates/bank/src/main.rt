@@ -20,7 +20,7 @@ use std::process::ExitCode;
 use std::sync::Wait;
 use std::thread::Threads;
 
-/// What the bank has done, whatever the order in which its callers came.
+/// The result of a run, whatever the order of the callers.
 #[derive(Clone, Copy, Debug)]
 struct Totals {
     units: usize,
@@ -47,7 +47,7 @@ fn main(rt: HostRuntime) -> ExitCode {
     }
 }
 
-/// The totals of a bank that is opened, serves its callers, and closes.
+/// Opens a bank, serves its callers, closes it, and adds up the totals.
 fn bank<R: Threads + Wait + Sync>(rt: &R, alloc: Global) -> Result<Totals, Fault>
     ensures units { IfOk result (λ t. t.committed + t.aborted ≡ t.units) }
     ensures receipts { IfOk result (λ t. t.receipts ≡ 100) }
@@ -82,7 +82,7 @@ fn bank_of<K: BookName + Send + Sync, R: Threads + Wait + Sync>(
     })
 }
 
-/// Whether the body's own transaction committed, by the reply that its caller was given.
+/// Whether the body's own transaction committed, by the reply to its caller.
 fn is_committed(entry: &Entry) -> bool
     ensures { result ≡ is_committed entry.now }
 {
@@ -99,7 +99,7 @@ fn committed(entries: &[Entry]) -> usize
     entries.iter().filter(|e| is_committed(e)).count()
 }
 
-/// The balance of account 1, if it is there.
+/// The balance of account 1, if it exists.
 fn balance(store: &Store) -> Option<i64> {
     let CellValue::Row(row) = store.get(Cell::Object(0, 1))? else {
         return None;

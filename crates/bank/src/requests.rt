@@ -1,4 +1,4 @@
-//! What callers ask of the bank, and why it may end early.
+//! The requests of the bank's callers, and its faults.
 
 use hp_rule::{Body, Library, Unit};
 use hp_script::{DecodeError, Script, decode};
@@ -7,7 +7,7 @@ use std::alloc::{AllocError, Global};
 use std::sync::Arc;
 use thiserror::Error;
 
-/// The bank's rule, which vetoes what would leave less than nothing, and a body for each request.
+/// The bank's rule, which vetoes a negative balance, and a body for each request.
 const SCRIPT: &str = r#"{
   "version": 1,
   "classes": [["acct", [["bal", "int"]]]],
@@ -22,14 +22,14 @@ const SCRIPT: &str = r#"{
   ]
 }"#;
 
-/// A request, whose number is the place of its body in the script.
+/// A request. Its number is the index of its body in the script.
 #[derive(Clone, Copy, Debug)]
 pub enum Request {
-    /// Installs the rule and makes account 1.
+    /// Installs the rule and opens account 1.
     Open = 0,
-    /// Adds 1 to its balance.
+    /// Adds 1 to the account's balance.
     Deposit = 1,
-    /// Takes 1,000 from it, which it never has.
+    /// Withdraws 1,000 from the account, which never has that much.
     Withdraw = 2,
 }
 
@@ -59,7 +59,8 @@ pub fn library(alloc: Global) -> Result<Arc<Library>, Fault> {
     Ok(script(alloc)?.library)
 }
 
-/// The body of a request. Each is read anew: the book takes it, as its library is equal to the book's.
+/// The body of a request. It is decoded for each request, with a library of its own: the book accepts any body whose
+/// library is equal to the book's.
 pub fn body(alloc: Global, request: Request) -> Result<Body, Fault> {
     let place = request as usize;
     match script(alloc)?.items.into_iter().nth(place) {

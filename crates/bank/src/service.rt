@@ -11,13 +11,13 @@ use std::sync::{Mutex, Wait};
 use std::thread;
 use std::thread::Threads;
 
-/// How many callers there are, each with a session and a thread.
+/// The number of callers. Each has a session and a thread.
 const CALLERS: usize = 4;
 
-/// How many requests each caller makes.
+/// The number of requests of each caller.
 const REQUESTS: usize = 25;
 
-/// What is left when the last caller is done.
+/// The state of the service after the last request.
 #[derive(Drop)]
 pub struct Served<K: BookName> {
     /// All that was committed, in one order.
@@ -26,7 +26,8 @@ pub struct Served<K: BookName> {
     pub receipts: Vec<Receipt<K>>,
 }
 
-/// What one caller does: its requests in turn, each fifth a withdrawal. Each has a receipt, also where the rule vetoes it.
+/// One caller: makes its requests in turn, of which each fifth is a withdrawal. Each request gets a receipt, even if
+/// the rule vetoes it.
 fn call<K: BookName, R: Threads + Wait + Sync>(
     rt: &R,
     alloc: Global,
@@ -51,7 +52,7 @@ fn call<K: BookName, R: Threads + Wait + Sync>(
     Ok(receipts)
 }
 
-/// Adds a caller's receipts to those of the others, each looked up in the history.
+/// Adds a caller's receipts to the others, and checks each in the history.
 fn keep<K: BookName>(
     history: &mut History<K>,
     receipts: Vec<Receipt<K>>,
@@ -69,7 +70,7 @@ fn keep<K: BookName>(
     Ok(())
 }
 
-/// The receipts of all callers, each looked up in the history.
+/// The receipts of all callers, each checked in the history.
 fn gather<K: BookName>(
     alloc: Global,
     history: &mut History<K>,
@@ -89,8 +90,8 @@ fn gather<K: BookName>(
 
 /// Puts a book behind a lock, and lets the callers submit their requests to it, all at once.
 ///
-/// The history is legal, each request has its receipt, and each receipt names its entry in the history. An error is the fault
-/// of the first caller that met one; the book is then dropped.
+/// The history is legal, each request has its receipt, and each receipt names its entry in the history. An error is the
+/// first caller's fault, in the order of the callers; the book is then dropped.
 pub fn serve<K: BookName + Send + Sync, R: Threads + Wait + Sync>(
     rt: &R,
     alloc: Global,

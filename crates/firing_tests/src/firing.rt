@@ -1,4 +1,4 @@
-//! What `hp_fire` gives for statements, signals and firings over a small bank, with answers worked out by hand.
+//! Statements, signals and firings of `hp_fire` over a small bank. The expected values are worked out by hand.
 
 use crate::fixtures::{
     account, alone, bank, both, emit_balance, enriching, go, going, idle, idles, is_above, library,
@@ -69,7 +69,7 @@ fn signal_on(
     Ok(look(view, &course))
 }
 
-// Gives the signal in the bank with these rules, as no statement of a body.
+// Gives the signal in the bank with these rules, outside a body.
 fn signalled(
     rt: &(impl Threads + Sync),
     alloc: Global,
@@ -90,12 +90,12 @@ fn a_veto_stops_the_group(rt: HostRuntime) -> Result<(), Fail> {
     Ok(())
 }
 
-// Makes the account 4 and gives the signal.
+// Creates account 4 and gives the signal.
 fn making(alloc: Global) -> Result<Vec<Stmt>, AllocError> {
     both(alloc, make(alloc, 4, 40)?, go(alloc)?)
 }
 
-// The same in a subtransaction. Where that aborts, the account 1 gets the balance 11.
+// The same in a subtransaction. If that aborts, account 1 gets the balance 11.
 fn trying(alloc: Global) -> Result<Vec<Stmt>, AllocError> {
     let body = making(alloc)?;
     let otherwise = alone(alloc, set(alloc, 1, 11)?)?;
@@ -123,7 +123,7 @@ fn a_sub_that_is_done_stays(rt: HostRuntime) -> Result<(), Fail> {
     Ok(())
 }
 
-// Makes the account 4, gives the signal and aborts, in a subtransaction.
+// Creates account 4, gives the signal and aborts, in a subtransaction.
 fn aborting(alloc: Global) -> Result<Vec<Stmt>, AllocError> {
     let mut body = making(alloc)?;
     body.push(Stmt::Abort)?;
@@ -174,7 +174,7 @@ fn at_the_limit_a_signal_ends_by_depth(rt: HostRuntime) -> Result<(), Fail> {
     Ok(())
 }
 
-// A rule that gives its own signal after it has made the account 3.
+// A rule that creates account 3 and then gives its own signal.
 fn again(alloc: Global) -> Result<Rule, AllocError> {
     let action = both(alloc, make(alloc, 3, 30)?, go(alloc)?)?;
     on_go(alloc, "again", Coupling::Immediate, action)
@@ -187,7 +187,7 @@ fn a_rule_that_triggers_itself_ends(rt: HostRuntime) -> Result<(), Fail> {
     let lib = library(alloc, again(alloc), idle);
     let seen = run(&rt, alloc, lib, going(alloc), 0)?;
 
-    // The firing below finds the account 3 there, and that aborts it alone.
+    // The inner firing finds account 3, which aborts it alone.
     assert_eq!(rt; seen.end, End::Done);
     assert_eq!(rt; seen.balances, (Some(10), Some(20), Some(30), None, None));
     assert_eq!(rt; seen.queued, 2);
@@ -241,7 +241,7 @@ fn with_binds_a_row_that_is_there(rt: HostRuntime) -> Result<(), Fail> {
     Ok(())
 }
 
-// Makes the account 2 poor, and then emits the balance of each account that the query found.
+// Sets the balance of account 2 to a low one, and then emits the balance of each account that the query found.
 fn for_each(alloc: Global) -> Result<Vec<Stmt>, AllocError> {
     let each = Stmt::For {
         query: text(alloc, "rich")?,
@@ -329,8 +329,8 @@ fn put(alloc: Global, view: &mut View, balance: i64) -> Result<(), AllocError> {
     view.put(Cell::Object(0, 1), CellValue::Row(account(alloc, balance)?))
 }
 
-// Tries the firing of a rule, sets the balance of account 1 where one is given, and settles the attempt. Tells the balance
-// of account 2 before that and after.
+// Tries the firing of a rule, sets the balance of account 1 if one is given, and settles the attempt. Returns the
+// balance of account 2 before that and after it.
 fn settle_on(
     rt: &(impl Threads + Sync),
     alloc: Global,
@@ -348,7 +348,7 @@ fn settle_on(
     Ok((before, settled, shown(view, 2)))
 }
 
-// The same in the bank, where the second rule makes the account 2 rich.
+// The same in the bank, where the second rule makes account 2 rich.
 fn settled(
     rt: &(impl Threads + Sync),
     alloc: Global,
@@ -377,7 +377,7 @@ fn an_attempt_is_rejected_after_its_read_changed(rt: HostRuntime) -> Result<(), 
     Ok(())
 }
 
-// The balance of account 1 after a transaction that set it to 7 ended so.
+// The balance of account 1 after a transaction that set it to 7 and ended so.
 fn balance_after(alloc: Global, view: &mut View, how: End) -> Result<Option<i64>, AllocError> {
     let mark = view.enter();
     view.put(Cell::Object(0, 1), CellValue::Row(account(alloc, 7)?))?;
@@ -414,7 +414,7 @@ fn endings_are_told_by_their_cause(rt: HostRuntime) -> Result<(), Fail> {
     Ok(())
 }
 
-// How many tasks are left of a dependent one where the transaction ended so.
+// How many tasks are left of a dependent one, if the transaction ended so.
 fn left(alloc: Global, how: End) -> Result<usize, AllocError> {
     let mut tasks = Vec::new(alloc);
     tasks.push(Detached {

@@ -46,7 +46,7 @@ fn balance_is(alloc: Global, balance: i64) -> Result<Vec<Assignment>, AllocError
     Ok(pairs)
 }
 
-// Makes an account.
+// Creates an account.
 pub fn make(alloc: Global, key: Key, balance: i64) -> Result<Stmt, AllocError> {
     Ok(Stmt::Create {
         class: 0,
@@ -72,7 +72,7 @@ pub fn give(alloc: Global, signal: &str) -> Result<Stmt, AllocError> {
     })
 }
 
-// Gives the signal that most rules here wait for.
+// Gives the signal on which most rules here are triggered.
 pub fn go(alloc: Global) -> Result<Stmt, AllocError> {
     give(alloc, "go")
 }
@@ -133,7 +133,7 @@ pub fn on_signal(
     })
 }
 
-// One that is triggered by the signal that most rules here wait for.
+// A rule on the signal on which most rules here are triggered.
 pub fn on_go(
     alloc: Global,
     name: &str,
@@ -143,7 +143,7 @@ pub fn on_go(
     on_signal(alloc, name, "go", ec, action)
 }
 
-// The same with the query `rich`, of the accounts with more than 20.
+// The same with the query `rich`, for the accounts with more than 20.
 pub fn on_rich(alloc: Global, name: &str, action: Vec<Stmt>) -> Result<Rule, AllocError> {
     let mut rule = on_go(alloc, name, Coupling::Immediate, action)?;
     rule.condition.push(Query {
@@ -164,12 +164,18 @@ fn classes(alloc: Global) -> Result<Vec<ClassDef>, AllocError> {
     Ok(classes)
 }
 
-// These rules, and firings at most two deep.
+// A library of these rules, with a depth limit of 2.
 pub fn checked(alloc: Global, rules: Vec<Rule>) -> Result<Library, CheckError> {
-    Library::check(alloc, classes(alloc)?, rules, 2)
+    checked_to(alloc, rules, 2)
 }
 
-// Two rules. Here and below rules, bodies and libraries are handed on as they were made, refused or not: so a caller owns little.
+// These rules, and firings at most so deep.
+pub fn checked_to(alloc: Global, rules: Vec<Rule>, depth: u8) -> Result<Library, CheckError> {
+    Library::check(alloc, classes(alloc)?, rules, depth)
+}
+
+// A library of two rules. Here and below, rules, bodies and libraries are passed on as results, with their errors, so
+// that a caller owns few values.
 pub fn library(
     alloc: Global,
     first: Result<Rule, AllocError>,
@@ -192,7 +198,7 @@ pub fn idle(alloc: Global, first: Coupling, second: Coupling) -> Result<Library,
     library(alloc, first, idles(alloc, "second", second))
 }
 
-// Makes accounts with these keys and balances.
+// Creates accounts with these keys and balances.
 pub fn stock(alloc: Global, view: &mut View, accounts: &[(Key, i64)]) -> Result<(), Halt> {
     for (key, balance) in accounts {
         let _ = create(alloc, view, 0, *key, account(alloc, *balance)?)?;
@@ -231,7 +237,7 @@ pub fn task(alloc: Global, rule: RuleNo, place: Coupling) -> Result<Task, AllocE
     })
 }
 
-// The tasks of so many rules, in rule order.
+// The tasks of the first `count` rules, in rule order.
 pub fn tasks(alloc: Global, count: RuleNo) -> Result<Vec<Task>, AllocError> {
     let mut tasks = Vec::new(alloc);
     for rule in 0..count {
@@ -240,7 +246,7 @@ pub fn tasks(alloc: Global, count: RuleNo) -> Result<Vec<Task>, AllocError> {
     Ok(tasks)
 }
 
-// A body that gives the signal alone.
+// A body that only gives the signal.
 pub fn going(alloc: Global) -> Result<Vec<Stmt>, AllocError> {
     alone(alloc, go(alloc)?)
 }
@@ -250,13 +256,13 @@ pub fn setting(alloc: Global, key: Key, balance: i64) -> Result<Vec<Stmt>, Alloc
     both(alloc, set(alloc, key, balance)?, go(alloc)?)
 }
 
-// A rule that makes the account 2 rich.
+// A rule that makes account 2 rich.
 fn enriches(alloc: Global) -> Result<Rule, AllocError> {
     let action = alone(alloc, set(alloc, 2, 200)?)?;
     on_go(alloc, "enriches", Coupling::Immediate, action)
 }
 
-// A rule that makes the account 3 where there is a rich one.
+// A rule that creates account 3 if there is a rich one.
 fn makes_if_rich(alloc: Global) -> Result<Rule, AllocError> {
     on_rich(alloc, "makes", alone(alloc, make(alloc, 3, 30)?)?)
 }
@@ -271,13 +277,13 @@ pub fn enriching(alloc: Global, is_elder: bool) -> Result<Library, CheckError> {
     }
 }
 
-// A rule that vetoes after it has made the account 5.
+// A rule that creates account 5 and then vetoes.
 fn vetoes(alloc: Global) -> Result<Rule, AllocError> {
     let action = both(alloc, make(alloc, 5, 50)?, Stmt::Veto)?;
     on_go(alloc, "vetoes", Coupling::Immediate, action)
 }
 
-// A rule that makes the account 3.
+// A rule that creates account 3.
 fn makes(alloc: Global) -> Result<Rule, AllocError> {
     let action = alone(alloc, make(alloc, 3, 30)?)?;
     on_go(alloc, "makes", Coupling::Immediate, action)

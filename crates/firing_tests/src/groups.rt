@@ -10,8 +10,8 @@ use std::alloc::{AllocError, Global};
 use std::test::Fail;
 use std::thread::Threads;
 
-// What is seen of a group: how many fired and whose veto stopped it; how many were taken in from an attempt, how many were
-// run by the owner, and in how many waves; and its course.
+// What a test observes of a group: how many tasks fired and whose veto stopped it; how many were accepted from an
+// attempt, how many were run by the owner, and the number of waves; and its course.
 #[derive(Clone, Copy)]
 pub struct Siblings {
     pub fired: usize,

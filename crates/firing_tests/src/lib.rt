@@ -6,9 +6,13 @@ mod firing;
 #[cfg(test)]
 mod fixtures;
 #[cfg(test)]
+mod fronts;
+#[cfg(test)]
 mod groups;
 #[cfg(test)]
 mod policy;
+#[cfg(test)]
+mod replays;
 #[cfg(test)]
 mod seen;
 #[cfg(test)]

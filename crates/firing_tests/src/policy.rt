@@ -1,4 +1,4 @@
-//! Whether a group inside a unit has workers: by what its rules' firings took, counted.
+//! Whether a group inside a unit has workers, by the counted cost of its rules' firings.
 
 use crate::fixtures::{account, library, on_go, on_rich, task};
 use hp_fire::{Engine, Past};
@@ -17,7 +17,7 @@ fn rules(alloc: Global) -> Result<Library, CheckError> {
     library(alloc, rich, idle)
 }
 
-// So many accounts, of which none is rich.
+// A number of accounts, none of which is rich.
 fn accounts(alloc: Global, count: i64) -> Result<View, AllocError> {
     let mut view = View::new(alloc, Snapshot::empty(alloc)?)?;
     for key in 0..count {
@@ -34,7 +34,7 @@ fn of_the_first(alloc: Global, count: usize) -> Result<Vec<Task>, AllocError> {
     Ok(tasks)
 }
 
-// In how many waves workers helped with a group of such firings.
+// The number of waves in a group of these firings.
 fn waves<R: Threads + Sync>(
     engine: &Engine<R>,
     view: &mut View,
@@ -45,7 +45,7 @@ fn waves<R: Threads + Sync>(
     Ok(siblings.waves)
 }
 
-// To start threads takes longer than short firings do, however many they are.
+// Starting threads takes longer than short firings do, however many they are.
 #[test]
 fn short_siblings_have_no_workers(rt: HostRuntime) -> Result<(), Fail> {
     let alloc = rt.alloc();
@@ -59,7 +59,8 @@ fn short_siblings_have_no_workers(rt: HostRuntime) -> Result<(), Fail> {
     Ok(())
 }
 
-// Nobody knows yet how long the first group's firings take, and after the first of its two nothing is left beside the longest.
+// The cost of the first group's firings is unknown at first; after the first of its two tasks, nothing is left besides
+// the longest.
 #[test]
 fn long_siblings_have_workers_once_one_has_fired(rt: HostRuntime) -> Result<(), Fail> {
     let alloc = rt.alloc();

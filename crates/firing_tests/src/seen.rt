@@ -1,4 +1,4 @@
-//! What is seen of a course, and of the view after it.
+//! What a test observes of a course, and of the view after it.
 
 use hp_fire::{Course, End};
 use hp_rule::{Detached, Step, Task};
@@ -7,7 +7,7 @@ use hp_tree::{Ending, Item, What};
 use hp_value::{Cell, Key, RuleNo, Value};
 use hp_view::View;
 
-// The balance of an account, if the view shows it.
+// The balance of an account, if it exists in the view.
 pub fn shown(view: &View, key: Key) -> Option<i64> {
     if let Some(CellValue::Row(row)) = view.peek(Cell::Object(0, key)) {
         if let Ok(Value::Int(n)) = row.field("bal") {
@@ -36,12 +36,12 @@ pub fn all_shown(view: &View) -> Balances {
     )
 }
 
-// The last three of some numbers, the last first.
+// The last three numbers of a list, the last first.
 pub type Last = (Option<i64>, Option<i64>, Option<i64>);
 
 const NONE: Last = (None, None, None);
 
-// The whole numbers that a course emitted itself.
+// The integers that a course itself emitted.
 fn emitted(items: &[Item]) -> Last {
     let mut all = NONE;
     for item in items {
@@ -52,7 +52,7 @@ fn emitted(items: &[Item]) -> Last {
     all
 }
 
-// The numbers that the first firing emitted.
+// The integers that the first firing emitted.
 fn emitted_inside(items: &[Item]) -> Last {
     for item in items {
         if let Item::Node(node) = item {
@@ -72,7 +72,7 @@ pub fn first_node(items: &[Item]) -> Option<(What, Ending)> {
     None
 }
 
-// The keys of the rows that an action is to run with; none where the task is no action.
+// The keys of the rows that an action keeps; `None` if the task is no action.
 fn kept(task: &Task) -> Option<Last> {
     let Step::Action(answers) = &task.step else {
         return None;
@@ -86,7 +86,7 @@ fn kept(task: &Task) -> Option<Last> {
     Some(keys)
 }
 
-// A task's rule, its depth, and what it keeps.
+// A task's rule, its depth, and its kept keys.
 type Queued = (RuleNo, u8, Option<Last>);
 
 fn first_queued(tasks: &[Task]) -> Option<Queued> {
@@ -103,7 +103,7 @@ fn only_detached(tasks: &[Detached]) -> Option<(RuleNo, bool)> {
     Some((one.task.rule, one.released))
 }
 
-// What is seen of a course, and of the view after it.
+// What a test observes of a course, and of the view after it.
 #[derive(Clone, Copy)]
 pub struct Seen {
     pub end: End,

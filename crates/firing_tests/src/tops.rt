@@ -1,4 +1,5 @@
-//! Top-level transactions: their ends, what they detach, and which of that is due, with values worked out by hand.
+//! Top-level transactions: how they end, what they detach, and which of it is due. The expected values are worked out
+//! by hand.
 
 use crate::fixtures::{alone, checked, give, install, on_signal};
 use hp_rule::{CheckError, Library, Rule, RuleOperation, Stmt, Unit};
@@ -35,7 +36,7 @@ fn library(alloc: Global) -> Result<Arc<Library>, CheckError> {
     Ok(Arc::new(alloc, library)?)
 }
 
-// A sum past the range of numbers.
+// A sum outside the range of `i64`.
 fn overflow(alloc: Global) -> Result<Stmt, AllocError> {
     let largest = Box::new(alloc, Expr::literal(Value::Int(i64::MAX)))?;
     let one = Box::new(alloc, Expr::literal(Value::Int(1)))?;
@@ -51,7 +52,7 @@ fn tried(alloc: Global) -> Result<Stmt, AllocError> {
     Ok(Stmt::Sub { body, otherwise })
 }
 
-// How a transaction is to end.
+// How a transaction should end.
 #[derive(Clone, Copy)]
 enum Wanted {
     Commit,
@@ -59,8 +60,8 @@ enum Wanted {
     Veto,
 }
 
-// Disables rule 0, detaches a task of each mode, each of another rule, and then ends so. Of the two exclusive tasks the last
-// is released.
+// Disables rule 0, detaches a task of each mode, each of another rule, and then ends so. Of the two exclusive tasks the
+// last is released.
 fn body(alloc: Global, wanted: Wanted) -> Result<Vec<Stmt>, AllocError> {
     let disables = Stmt::OnRule {
         operation: RuleOperation::Disable,
@@ -126,7 +127,7 @@ fn what_remains(
     Ok(what_remains_in(rt, alloc, library, &mut view, unit)?)
 }
 
-// After the unit's own transaction come those of the tasks that were due, each of another rule.
+// The unit's own transaction is followed by those of the due tasks, each of another rule.
 fn assert_rules(rt: &impl Abort, tops: &[TopReport], wanted: &[RuleNo]) {
     assert_eq!(rt; tops.len().saturating_sub(1), wanted.len());
     for (top, rule) in tops.iter().skip(1).zip(wanted) {
@@ -147,13 +148,13 @@ fn assert_due(
     Ok(())
 }
 
-// The unit of a transaction that ends so.
+// The unit of a transaction with this end.
 fn unit(alloc: Global, library: &Arc<Library>, end: Wanted) -> Result<Unit, CheckError> {
     let body = Library::body(library, alloc, body(alloc, end)?)?;
     Ok(Unit::Transaction(body))
 }
 
-// Runs such a transaction, and then again with its cascade: tasks of the wanted rules are due.
+// Runs a transaction with this end, and then again with its cascade: tasks of the expected rules are due.
 fn left(
     rt: &(impl Threads + Abort + Sync),
     alloc: Global,

@@ -1,18 +1,29 @@
-//! What a unit leaves in the store beside its changes.
+//! Lists that a unit leaves in the store.
 
-use crate::fixtures::{alone, bank, going, idles, library, on_rich, set};
-use hp_rule::{CheckError, Library, Stmt, Unit};
+use crate::fixtures::{alone, bank, going, idles, library, on_go, set, text};
+use hp_rule::{CheckError, Library, Query, Rule, Stmt, Unit};
 use hp_store::Store;
 use hp_top::run_unit;
-use hp_value::{Coupling, Halt};
+use hp_value::{Coupling, Expr, Halt, Value};
 use std::alloc::{AllocError, Global};
 use std::sync::Arc;
 use std::test::Fail;
 use std::thread::Threads;
 
-// A rule whose condition asks for the rich accounts, and one that asks for nothing.
+// A rule whose condition asks for all accounts. No index serves it, so that it reads the class as a whole.
+fn on_all(alloc: Global) -> Result<Rule, AllocError> {
+    let mut rule = on_go(alloc, "first", Coupling::Immediate, Vec::new(alloc))?;
+    rule.condition.push(Query {
+        name: text(alloc, "all")?,
+        class: 0,
+        predicate: Box::new(alloc, Expr::literal(Value::Bool(true)))?,
+    })?;
+    Ok(rule)
+}
+
+// Such a rule, and one without a query.
 fn asking(alloc: Global) -> Result<Arc<Library>, CheckError> {
-    let first = on_rich(alloc, "first", Vec::new(alloc));
+    let first = on_all(alloc);
     let lib = library(alloc, first, idles(alloc, "second", Coupling::Immediate))?;
     Ok(Arc::new(alloc, lib)?)
 }
@@ -25,7 +36,7 @@ fn stocked(alloc: Global, lib: &Library) -> Result<Store, Halt> {
     Ok(store)
 }
 
-// Runs a transaction, and tells whether the store then has a list of the accounts.
+// Runs a transaction, and says whether the store then lists the accounts.
 fn are_listed_after(
     rt: &(impl Threads + Sync),
     alloc: Global,

@@ -1,5 +1,4 @@
-//! Groups that workers help with. A gate holds one worker until another has come as far as the test wants, for a million
-//! turns at most.
+//! Groups with workers. A gate holds one worker until another is as far as the test wants, for at most a million turns.
 
 use crate::fixtures;
 use crate::fixtures::{
@@ -22,7 +21,7 @@ use std::thread::Threads;
 
 const TURNS: u32 = 1_000_000;
 
-// Whether a count comes to so many.
+// Whether a count reaches a number.
 fn comes_to(count: &AtomicU64, many: u64) -> bool {
     for _ in 0..TURNS {
         if count.load(SeqCst) >= many {
@@ -33,14 +32,14 @@ fn comes_to(count: &AtomicU64, many: u64) -> bool {
     false
 }
 
-// Whom a gate waits for.
+// What a gate waits for.
 #[derive(Clone, Copy, PartialEq, Eq)]
 enum Awaited {
     Start(usize),
     End(usize),
 }
 
-// Holds the start of one task until the awaited.
+// Holds the start of one task until what it waits for.
 #[derive(Drop)]
 struct Hold {
     held: usize,
@@ -83,7 +82,7 @@ impl Gate for Hold {
     }
 }
 
-// An action that sets the balance of one account by that of another.
+// An action that sets the balance of one account from that of another.
 #[derive(Clone, Copy)]
 struct Deed {
     account: Key,
@@ -120,7 +119,7 @@ fn copies_to(account: Key) -> Deed {
     }
 }
 
-// The assignment of a sum, or a product, of the balance of `row` and a number.
+// The assignment of the sum or the product of the balance of `row` and a number.
 fn computed(alloc: Global, deed: Deed) -> Result<Vec<Assignment>, AllocError> {
     let balance = balance_in(alloc, "row")?;
     let value = Expr::Arithmetic(deed.how, balance, number(alloc, deed.number)?);
@@ -179,8 +178,8 @@ fn bank(alloc: Global, accounts: &[(Key, i64)]) -> Result<View, Halt> {
     Ok(view)
 }
 
-// What a group gave: how many firings were taken in from an attempt, how many were run by the owner or again, and in how
-// many waves; and the balances after it.
+// The result of a group: how many firings were accepted from an attempt, how many were run by the owner or tried again,
+// and the number of waves; and the balances after it.
 type Gave = ((usize, usize, usize), Balances);
 
 fn fire_in(
@@ -197,7 +196,7 @@ fn fire_in(
     Ok((siblings.counts, siblings.course.balances))
 }
 
-// Fires tasks of these rules over such accounts.
+// Fires tasks of these rules over these accounts.
 fn fire(
     rt: &(impl Threads + Sync),
     alloc: Global,
@@ -225,7 +224,7 @@ fn two_siblings_are_in_flight(rt: HostRuntime) -> Result<(), Fail> {
     Ok(())
 }
 
-// Fires two tasks, of which the gate holds one until the other has ended.
+// Fires two tasks. The gate holds one of them until the other has ended.
 fn fired(
     rt: &(impl Threads + Abort + Sync),
     alloc: Global,
@@ -243,11 +242,11 @@ fn fired(
 #[test]
 fn an_elder_is_seen(rt: HostRuntime) -> Result<(), Fail> {
     let alloc = rt.alloc();
-    // The younger starts from what the elder has posted.
+    // The second task starts from what the first has posted.
     assert_eq!(rt; fired(&rt, alloc, &[plus(1), DOUBLES], 1)?, (22, (2, 0, 1)));
-    // The younger has ended before the elder started: what it read is no longer so.
+    // The second task has ended before the first starts: what it read no longer holds.
     assert_eq!(rt; fired(&rt, alloc, &[plus(1), DOUBLES], 0)?, (22, (1, 1, 1)));
-    // The same where it reads nothing that the elder writes.
+    // The same where the second reads nothing that the first writes.
     assert_eq!(rt; fired(&rt, alloc, &[plus(1), plus(2)], 0)?, (11, (2, 0, 1)));
     Ok(())
 }
@@ -263,7 +262,7 @@ fn disjoint_siblings_are_accepted(rt: HostRuntime) -> Result<(), Fail> {
     Ok(())
 }
 
-// Two rules that each make an account.
+// Two rules that each create an account.
 fn creating(alloc: Global) -> Result<Library, CheckError> {
     let mut actions = Vec::new(alloc);
     for key in [1, 2] {
@@ -272,7 +271,7 @@ fn creating(alloc: Global) -> Result<Library, CheckError> {
     library(alloc, actions)
 }
 
-// Two that make objects of one class don't collide: a creation doesn't read the class's keys.
+// Two tasks that create objects of one class don't conflict: a creation doesn't read the class's keys.
 #[test]
 fn creations_do_not_collide(rt: HostRuntime) -> Result<(), Fail> {
     let alloc = rt.alloc();
@@ -363,8 +362,9 @@ impl Gate for Starts {
     }
 }
 
-// The elder starts late. One worker meanwhile tries three of the others, of which two read what an elder of theirs wrote; so the
-// last task isn't tried. One task of five is settled from its attempt: the owner runs the others, with no wave more.
+// The first task starts late. Meanwhile one worker tries three of the others, two of which read what a predecessor
+// wrote; so the last task isn't tried. One of five tasks is settled from its attempt: the owner runs the others,
+// without a further wave.
 #[test]
 fn a_wave_that_does_not_pay_is_the_last(rt: HostRuntime) -> Result<(), Fail> {
     let alloc = rt.alloc();
@@ -381,8 +381,8 @@ fn a_wave_that_does_not_pay_is_the_last(rt: HostRuntime) -> Result<(), Fail> {
     Ok(())
 }
 
-// In full conflict each attempt but the first goes stale, whatever the threads do; the counts add up, and the balance is
-// that of one thread.
+// In full conflict each attempt but the first becomes stale, whatever the threads do; the counts add up, and the
+// balance is that of one thread.
 #[test]
 fn siblings_in_conflict_give_the_same_at_any_width(rt: HostRuntime) -> Result<(), Fail> {
     let alloc = rt.alloc();
@@ -399,7 +399,7 @@ fn siblings_in_conflict_give_the_same_at_any_width(rt: HostRuntime) -> Result<()
     Ok(())
 }
 
-// So many tasks of the first rule.
+// A number of tasks of the first rule.
 fn of_the_first(alloc: Global, count: usize) -> Result<Vec<Task>, AllocError> {
     let mut tasks = Vec::new(alloc);
     for _ in 0..count {
@@ -408,14 +408,14 @@ fn of_the_first(alloc: Global, count: usize) -> Result<Vec<Task>, AllocError> {
     Ok(tasks)
 }
 
-// A rule whose condition asks a query, and another.
+// A rule whose condition has a query, and one without a query.
 fn asking(alloc: Global) -> Result<Library, CheckError> {
     let asks = on_rich(alloc, "asks", Vec::new(alloc));
     let other = on_go(alloc, "other", Coupling::Immediate, Vec::new(alloc));
     fixtures::library(alloc, asks, other)
 }
 
-// Who calls `run_group` has workers, however short the tasks are.
+// A caller of `run_group` has workers, however short the tasks are.
 #[test]
 fn short_siblings_have_workers_too(rt: HostRuntime) -> Result<(), Fail> {
     let alloc = rt.alloc();
@@ -430,8 +430,8 @@ fn short_siblings_have_workers_too(rt: HostRuntime) -> Result<(), Fail> {
     Ok(())
 }
 
-// One of two threads is held at the first task until the other has tried all others: that one's line has no room for so many
-// attempts, if it is the worker's, and yet none is lost.
+// One of two threads is held at the first task until the other has tried all others. If the other one is the worker,
+// its channel has no room for all attempts, and yet none is lost.
 #[test]
 fn a_line_without_room_loses_no_attempt(rt: HostRuntime) -> Result<(), Fail> {
     let alloc = rt.alloc();

@@ -1,4 +1,4 @@
--- A script's text, from what was reported of its units and the final state.
+-- A script's text, from the reports of its units and the final state.
 use Rattle.std.proofs.Common.{◌≡◌, refl, sym, ap, subst, ◌∙◌, List, [], ◌∷◌, ◌++◌, map, take, length, ℕ, Bool, Ok, Err, codes, arith}
 use Rattle.std.proofs.lemmas.List.{take_all}
 use Rattle.hp_model.specs.State as S
@@ -45,7 +45,7 @@ whole_text script before after reports objects ss with_tree opening ran replayed
     ∙ ap (λ (b : Bytes). units_text library with_tree 1 reports ++ (line 0 (codes "final" ∷ []) ++ (objects_text library objects ++ (b ++ line 0 (codes "end" ∷ [])))))
     (sym (same_rules library.rules _ _ rules_are))
 
--- the text of what was read is the output
+-- the text for the bytes read is the output
 pub output_of_script : (input : List ℕ) (with_tree : Bool) (script : Script) → script_of input ≡ Ok script → text_of with_tree (Ok script) ≡ output input with_tree
 output_of_script input with_tree script told = ap (text_of with_tree) (sym told)
 

@@ -1,4 +1,4 @@
--- More than the longest script is as good as any more.
+-- Reading one byte more than the longest script is enough.
 use Rattle.std.proofs.Common.{◌≡◌, ℕ, ◌<◌, ◌≤◌, List, length, take, cond, Err, inl, inr, sym, ap, ◌∙◌, arith, Bool}
 use Rattle.std.proofs.lemmas.Bool.{cases_lt, lt-ltb}
 use Rattle.std.proofs.lemmas.List.{take_all, length-take-le}

@@ -24,7 +24,7 @@ abbrev pub status_for : Result Script Refusal → Status
 status_for (Ok script) = Reported
 status_for (Err refusal) = Refused
 
--- a script is reported, and all else is refused
+-- a script that is read is reported, anything else is refused
 abbrev pub status_of : List ℕ → Status
 status_of input = status_for (script_of input)
 

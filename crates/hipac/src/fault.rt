@@ -17,16 +17,16 @@ pub enum Status {
     Refused,
 }
 
-/// Why a run ended before all was written. The writer then has a beginning of the text.
+/// Why a run ended before all was written. The writer then has a prefix of the text.
 #[derive(Clone, Copy, Debug, PartialEq, Eq, Error)]
 pub enum Fault {
-    /// A growth was refused.
+    /// An allocation was refused.
     #[error("fault F1")]
     NoMemory,
     /// A read failed; nothing was written.
     #[error("fault F2")]
     Read,
-    /// A write failed, or took nothing of a piece that isn't empty.
+    /// A write failed, or wrote nothing of a piece that isn't empty.
     #[error("fault F3")]
     Write,
 }
@@ -61,7 +61,7 @@ impl From<WriteFault> for Fault {
     }
 }
 
-/// The status with which the program ends: 0 where the report was written, 2 where the script was refused, 4 after a fault.
+/// The exit status of the program: 0 if the report was written, 2 if the script was refused, 4 after a fault.
 pub fn exit_code(ended: &Result<Status, Fault>) -> u8
     ensures { result ≡ code_of ended.now }
 {

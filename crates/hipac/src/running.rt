@@ -19,13 +19,13 @@ use std::alloc::{AllocError, Global};
 use std::mem;
 use std::thread::Threads;
 
-/// One byte more than a script may have: no more need be read to refuse it.
+/// The most bytes that are read: one more than a script may have is enough to refuse it.
 const MOST_READ: usize = 1_048_577;
 
 /// Reads a script up to the reader's end, runs it, and writes its report, or the line that refuses it.
 ///
-/// The reader and the writer must not have failed before. After `Fault::Read` nothing was written, and so after
-/// `Fault::NoMemory`; after any fault what went out is a beginning of the text. No call of a device is tried again.
+/// The reader and the writer must not have failed before. After `Fault::Read` and `Fault::NoMemory` nothing was
+/// written; after any fault what was written is a prefix of the text. No call of a device is repeated.
 #[tactic(auto, using(crate::proofs::Longest::output_of_take, crate::proofs::Longest::status_of_take))]
 pub fn run<T: Threads + Sync, R: Source, W: Sink>(
     rt: &T,
@@ -37,21 +37,21 @@ pub fn run<T: Threads + Sync, R: Source, W: Sink>(
     requires reader { R.has_failed reader.old ≡ false }
     requires writer { W.has_failed writer.old ≡ false }
 
-    // Where it answers `Ok`, it has written the definition's output for the bytes up to the reader's end, and nothing else.
+    // On `Ok` it has written the definition's output for the bytes up to the reader's end, and nothing else.
     ensures output { OnOk result (IfSome (R.remaining reader.old) (λ input.
         Appends (W.contents writer.old) (W.contents writer.new) (output input options.tree))) }
     ensures status { IfOk result (λ status. IfSome (R.remaining reader.old) (λ input. status ≡ status_of input)) }
 
-    // However it ends, what went out is a beginning of that output.
+    // However it ends, what was written is a prefix of that output.
     ensures begins { IfSome (R.remaining reader.old) (λ input.
         Begins (W.contents writer.old) (W.contents writer.new) (output input options.tree)) }
 
-    // The faults of devices come exactly where a call has failed, and after a failed read nothing was written.
+    // It returns a fault of a device exactly if a call has failed; after a failed read nothing was written.
     ensures read { result ≡ Err Fault.Read ↔ (R.has_failed reader.new ≡ true) }
     ensures unwritten { result ≡ Err Fault.Read → writer.new ≡ writer.old }
     ensures write { result ≡ Err Fault.Write ↔ (W.has_failed writer.new ≡ true) }
 
-    // Where memory ran out nothing was written.
+    // If memory ran out, nothing was written.
     ensures memory { result ≡ Err Fault.NoMemory → writer.new ≡ writer.old }
 {
     let input = read_up_to(alloc, reader, MOST_READ)?;
@@ -59,7 +59,7 @@ pub fn run<T: Threads + Sync, R: Source, W: Sink>(
     Ok(status)
 }
 
-/// Writes what the definitions give for a script's bytes.
+/// Writes the text that the definitions give for a script's bytes.
 fn respond<T: Threads + Sync, W: Sink>(
     rt: &T,
     alloc: Global,
@@ -79,7 +79,7 @@ fn respond<T: Threads + Sync, W: Sink>(
         Ok(script) => {
             let report = evaluated(rt, alloc, script, options.workers)?;
             write_report(alloc, &report, options.tree, writer)?;
-            // The program ends now: to give the report back list by list would take a tenth of its time.
+            // The program ends here: freeing the report list by list would take a tenth of its time.
             mem::forget(report);
             Ok(Status::Reported)
         }
@@ -92,7 +92,7 @@ fn respond<T: Threads + Sync, W: Sink>(
     }
 }
 
-/// Runs the units of a script from the initial state, by so many workers.
+/// Runs the units of a script from the initial state, with at most `workers` workers.
 ///
 /// An error means that memory ran out.
 fn evaluated<T: Threads + Sync>(
@@ -117,7 +117,7 @@ fn evaluated<T: Threads + Sync>(
     })
 }
 
-/// The reports of units, if all ran.
+/// The reports of all units; an error if some didn't run.
 fn whole(ran: Items) -> Result<Vec<UnitReport>, AllocError>
     ensures all { IfOk result (λ units. units ≡ ran.reports) }
     ensures unstopped { OnOk result (ran.stopped ≡ None) }

@@ -26,7 +26,7 @@ const ONE_WORKER: Options = Options {
     tree: false,
 };
 
-/// A device that moves at most `step` bytes a call, and fails at one call: it answers `Err`, or takes nothing.
+/// A device that moves at most `step` bytes per call, and fails at one call: it returns `Err`, or moves nothing.
 #[derive(Drop)]
 struct Device<'a> {
     input: &'a [u8],
@@ -86,7 +86,7 @@ fn slow_device<'a>(rt: &impl AllocGlobal, input: &'a [u8], step: usize) -> Devic
     }
 }
 
-/// The options that words ask for, which stand behind the program's name.
+/// The options in these words, after the program's name.
 fn asked<R: AllocGlobal>(rt: &R, given: &[&str]) -> Result<Result<Options, WordFault>, Fail> {
     let mut words = Vec::new(rt.alloc());
     words.push(String::from_str(rt.alloc(), "hipac")?)?;
@@ -167,7 +167,8 @@ fn byte_by_byte(rt: HostRuntime) -> Result<(), Fail> {
     Ok(())
 }
 
-/// A reader of so many bytes a call fails at each of its calls: the fault of reads, and nothing written.
+/// For each read, a run in which that read fails, with this number of bytes per call: `Fault::Read`, and nothing
+/// written.
 fn expect_read_faults<R: Abort + AllocGlobal + Threads + Sync>(
     rt: &R,
     script: &[u8],
@@ -194,8 +195,8 @@ fn each_read_fails(rt: HostRuntime) -> Result<(), Fail> {
     Ok(())
 }
 
-/// A writer of one byte a call fails, or takes nothing, at each of its calls: the fault of writes, and a beginning of the
-/// text.
+/// For each write, a run in which that write fails or writes nothing, with one byte per call: `Fault::Write`, and a
+/// prefix of the text.
 fn expect_write_faults<R: Abort + AllocGlobal + Threads + Sync>(
     rt: &R,
     script: &[u8],

@@ -6,10 +6,9 @@ use Rattle.hp_model.specs.Rules.{Library}
 use Rattle.hp_model.specs.Tree.{Task}
 use Rattle.hp_model.specs.Cells.{Cells, Holds}
 use Rattle.hp_model.specs.Firing.{siblings, fire_task}
-use Rattle.hp_model.specs.Soundness.{IsSound}
-use Rattle.hp_model.specs.Answers.{FaithfulFiring, SiblingsAnswer, FaithfulSiblings}
+use Rattle.hp_model.specs.Answers.{SiblingsAnswer}
 use Rattle.hp_model.proofs.Faithful.{Grows}
-use Rattle.hp_model.proofs.FaithfulFirings.{goes_on, GroupCompletes, group_more, group_end, group_vetoed}
+use Rattle.hp_model.proofs.FaithfulFirings.{goes_on}
 use Rattle.hp_view.specs.Adding.{AddsReads}
 use Rattle.hp_view.specs.Seeing.{Seeing, GoesOn, IsSame, written, now_in}
 use Rattle.hp_attempt.specs.Holding.{IsForAny}
@@ -19,7 +18,9 @@ use Rattle.hp_attempt.specs.declared.settling.Settled.TheVariants.{Accepted, Rej
 use Rattle.hp_attempt.specs.declared.outcome.Outcome.{Outcome}
 use Rattle.hp_attempt.specs.declared.outcome.Attempt.{Attempt}
 use Rattle.hp_attempt.specs.Mapped.{firing, attempt}
-use Rattle.hp_attempt.specs.Fronts.{AreSound, last_end, stopped_by, Stays, StopsAt, IsLongest, FrontIs, TakesAttempt, TakesSome, AreOutcomes, TakesFirst, LeavesFirst}
+use Rattle.hp_attempt.specs.States.{States, ordered_states, IsSoundFor, FaithfulFiringFor, FaithfulSiblingsFor}
+use Rattle.hp_attempt.proofs.ForStates.{sound_as, faithful_of, Completes, completes_more, completes_end, completes_vetoed}
+use Rattle.hp_attempt.specs.Fronts.{AreSound, AreSoundFor, last_end, stopped_by, Stays, StopsAt, IsLongest, FrontIs, FrontIsFor, StandsFor, TakesAttempt, TakesSome, AreOutcomes, TakesFirst, LeavesFirst}
 
 -- ---- the next of a list
 
@@ -35,10 +36,17 @@ take_next (suc i) (y ∷ xs) x rest h = let e : suc i + 1 ≡ suc (i + 1) = omeg
 
 -- ---- attempts that are sound, and outcomes
 
-sound-push : (library : Library) (attempts : List (Option Attempt)) (a : Attempt) → AreSound library (attempts ++ Some a ∷ []) → AreSound library attempts × IsSound library (attempt a)
-sound-push library [] a sound = (tt, sound.0)
-sound-push library (None ∷ attempts) a sound = sound-push library attempts a sound
-sound-push library (Some b ∷ attempts) a sound = let rest = sound-push library attempts a sound.1 in ((sound.0, rest.0), rest.1)
+sound-push : (states : States) (library : Library) (attempts : List (Option Attempt)) (a : Attempt) → AreSoundFor states library (attempts ++ Some a ∷ [])
+    → AreSoundFor states library attempts × IsSoundFor states library (attempt a)
+sound-push states library [] a sound = (tt, sound.0)
+sound-push states library (None ∷ attempts) a sound = sound-push states library attempts a sound
+sound-push states library (Some b ∷ attempts) a sound = let rest = sound-push states library attempts a sound.1 in ((sound.0, rest.0), rest.1)
+
+-- for ordered states they are what they are called sound for
+all_sound_as : (library : Library) (attempts : List (Option Attempt)) → AreSound library attempts → AreSoundFor ordered_states library attempts
+all_sound_as library [] sound = tt
+all_sound_as library (None ∷ attempts) sound = all_sound_as library attempts sound
+all_sound_as library (Some a ∷ attempts) sound = (sound_as sound.0, all_sound_as library attempts sound.1)
 
 last-push : (v : Option ℕ) (outcomes : List Outcome) (o : Outcome) → last_end v (outcomes ++ o ∷ []) ≡ o.end
 last-push v [] o = refl
@@ -57,14 +65,14 @@ going true v outcomes o on = last-push None outcomes o ∙ none o.end on
 -- whatever tasks follow, with the front they make a whole
 pub record SoFar (stops : Bool) (tasks : List Task) (attempts : List (Option Attempt)) (outcomes : List Outcome) (old now : Seeing) : Type 0 where
   pub goes : stopped_by stops outcomes ≡ None
-  pub by : (library : Library) → AreSound library (take (length outcomes) attempts) → (rest : List Task)
-      → GroupCompletes library (fire_task library) stops (take (length outcomes) tasks ++ rest) (written old) rest now.reads (written now) (map firing outcomes)
+  pub by : (states : States) (library : Library) → AreSoundFor states library (take (length outcomes) attempts) → (rest : List Task)
+      → Completes states library (fire_task library) stops (take (length outcomes) tasks ++ rest) (written old) rest now.reads (written now) (map firing outcomes)
 
 grown : {old new : Seeing} → GoesOn old new → Grows old.reads new.reads
 grown on = record { others = on.reads.0; are = on.reads.1 }
 
 pub none_yet : (stops : Bool) (tasks : List Task) (attempts : List (Option Attempt)) (outcomes : List Outcome) (v : Seeing) → outcomes ≡ [] → SoFar stops tasks attempts outcomes v v
-none_yet stops tasks attempts outcomes v is = subst (λ os. SoFar stops tasks attempts os v v) (sym is) (record { goes = none stops; by = λ library sound rest. record { by = λ more after g grows q. q } })
+none_yet stops tasks attempts outcomes v is = subst (λ os. SoFar stops tasks attempts os v v) (sym is) (record { goes = none stops; by = λ states library sound rest. record { by = λ more after g grows q. q } })
   where
     none : (stops : Bool) → stopped_by stops [] ≡ None
     none true = refl
@@ -142,29 +150,38 @@ module _ (stops : Bool) (tasks : List Task) (attempts : List (Option Attempt)) (
   firings_more : map firing (outcomes ++ o ∷ []) ≡ map firing outcomes ++ firing o ∷ []
   firings_more = map-append firing outcomes (o ∷ [])
 
-  sound_parts : (library : Library) → AreSound library (take (length (outcomes ++ o ∷ [])) attempts) → AreSound library (take (length outcomes) attempts) × IsSound library (attempt takes.taken)
-  sound_parts library sound = sound-push library (take (length outcomes) attempts) takes.taken (subst (AreSound library) attempts_more sound)
+  sound_parts : (states : States) (library : Library) → AreSoundFor states library (take (length (outcomes ++ o ∷ [])) attempts)
+      → AreSoundFor states library (take (length outcomes) attempts) × IsSoundFor states library (attempt takes.taken)
+  sound_parts states library sound = sound-push states library (take (length outcomes) attempts) takes.taken (subst (AreSoundFor states library) attempts_more sound)
+
+  fires : (states : States) (library : Library) → IsSoundFor states library (attempt takes.taken) → FaithfulFiringFor states library (λ S. fire_task library S t) new.reads (written old) (written new) (firing o)
+  fires states library sound =
+      subst (λ (x : Outcome). FaithfulFiringFor states library (λ S. fire_task library S t) new.reads (written old) (written new) (firing x)) takes.gives (takes.stands.faithful states library sound)
 
   pub one_more : goes_on stops o.end ≡ true → SoFar stops tasks attempts (outcomes ++ o ∷ []) first new
   one_more goes = record {
     goes = going stops None outcomes o goes;
-    by = λ library sound rest.
-        let parts = sound_parts library sound in
+    by = λ states library sound rest.
+        let parts = sound_parts states library sound in
         let whole : take (length outcomes) tasks ++ t ∷ rest ≡ take (length (outcomes ++ o ∷ [])) tasks ++ rest = sym (append_assoc (take (length outcomes) tasks) (t ∷ []) rest) ∙ sym (ap (λ l. l ++ rest) tasks_more) in
-        subst (λ l. GroupCompletes library (fire_task library) stops l (written first) rest new.reads (written new) (map firing (outcomes ++ o ∷ []))) whole
-        (subst (λ fs. GroupCompletes library (fire_task library) stops (take (length outcomes) tasks ++ t ∷ rest) (written first) rest new.reads (written new) fs) (sym firings_more)
-        (group_more library (fire_task library) stops (take (length outcomes) tasks ++ t ∷ rest) (written first) goes (grown on) (so_far.by library parts.0 (t ∷ rest)) (takes.faithful library parts.1)));
+        subst (λ l. Completes states library (fire_task library) stops l (written first) rest new.reads (written new) (map firing (outcomes ++ o ∷ []))) whole
+        (subst (λ fs. Completes states library (fire_task library) stops (take (length outcomes) tasks ++ t ∷ rest) (written first) rest new.reads (written new) fs) (sym firings_more)
+        (completes_more states library (fire_task library) stops (take (length outcomes) tasks ++ t ∷ rest) (written first) goes (grown on) (so_far.by states library parts.0 (t ∷ rest)) (fires states library parts.1)));
   }
 
 -- the front ends
-pub front_end : {stops : Bool} {tasks : List Task} {attempts : List (Option Attempt)} {outcomes : List Outcome} {old new : Seeing} → SoFar stops tasks attempts outcomes old new → FrontIs stops tasks attempts outcomes old new
+pub front_end : {stops : Bool} {tasks : List Task} {attempts : List (Option Attempt)} {outcomes : List Outcome} {old new : Seeing} → SoFar stops tasks attempts outcomes old new → FrontIsFor stops tasks attempts outcomes old new
 front_end {stops} {tasks} {attempts} {outcomes} {old} {new} so_far = record {
-  faithful = λ library sound.
+  faithful = λ states library sound.
       let n = length outcomes in
-      subst (λ l. FaithfulSiblings library (siblings (fire_task library) stops l) new.reads (written old) (written new) (record { firings = map firing outcomes; vetoed_by = stopped_by stops outcomes })) (append-nil (take n tasks))
-      (subst (λ v. FaithfulSiblings library (siblings (fire_task library) stops (take n tasks ++ [])) new.reads (written old) (written new) (record { firings = map firing outcomes; vetoed_by = v })) (sym so_far.goes)
-      (group_end library (fire_task library) stops (take n tasks ++ []) (written old) (so_far.by library sound [])));
+      subst (λ l. FaithfulSiblingsFor states library (siblings (fire_task library) stops l) new.reads (written old) (written new) (record { firings = map firing outcomes; vetoed_by = stopped_by stops outcomes })) (append-nil (take n tasks))
+      (subst (λ v. FaithfulSiblingsFor states library (siblings (fire_task library) stops (take n tasks ++ [])) new.reads (written old) (written new) (record { firings = map firing outcomes; vetoed_by = v })) (sym so_far.goes)
+      (completes_end states library (fire_task library) stops (take n tasks ++ []) (written old) (so_far.by states library sound [])));
 }
+
+-- what is so for each class of states is so for ordered ones
+pub front_ordered : {stops : Bool} {tasks : List Task} {attempts : List (Option Attempt)} {outcomes : List Outcome} {old new : Seeing} → FrontIsFor stops tasks attempts outcomes old new → FrontIs stops tasks attempts outcomes old new
+front_ordered {attempts = attempts} {outcomes} front = record { faithful = λ library sound. faithful_of (front.faithful ordered_states library (all_sound_as library (take (length outcomes) attempts) sound)) }
 
 -- ---- the first attempt
 
@@ -192,13 +209,13 @@ leaves_first t {old} {new} attempts a d r at is rejected accepted =
     }
 
 pub takes_first : (t : Task) {old new : Seeing} (before after : List (Option Attempt)) (a b : Attempt) (d : Option Attempt) → before ≡ Some b ∷ after → Some a ≡ get_or before 0 d
-    → ((library : Library) → IsSound library (attempt a) → FaithfulFiring library (λ S. fire_task library S t) new.reads (written old) (written new) (firing a.outcome)) → TakesAttempt a old new → TakesFirst t old new before after b.outcome
-takes_first t {old} {new} before after a b d is at faithful takes = record {
+    → StandsFor t a old new → TakesAttempt a old new → TakesFirst t old new before after b.outcome
+takes_first t {old} {new} before after a b d is at stands takes = record {
   taken = b;
   first = is;
   gives = refl;
   takes = subst (λ (x : Attempt). TakesAttempt x old new) (first_is before a b after d is at) takes;
-  faithful = subst (λ (x : Attempt). (library : Library) → IsSound library (attempt x) → FaithfulFiring library (λ S. fire_task library S t) new.reads (written old) (written new) (firing x.outcome)) (first_is before a b after d is at) faithful;
+  stands = subst (λ (x : Attempt). StandsFor t x old new) (first_is before a b after d is at) stands;
 }
 
 -- ---- why the front ends
@@ -216,22 +233,23 @@ longest_stays None now tasks ts t left next stays = subst (λ l. StopsAt now l l
 -- a veto
 module _ (tasks : List Task) (attempts : List (Option Attempt)) (outcomes : List Outcome) (o : Outcome) (t : Task) (ts : List Task) (left : List (Option Attempt)) {first old new : Seeing}
     (next : drop (length outcomes) tasks ≡ t ∷ ts) (takes : TakesFirst t old new (drop (length outcomes) attempts) left o) (on : GoesOn old new) where
-  vetoed_at : (r : ℕ) → o.end ≡ Some r → SoFar true tasks attempts outcomes first old → FrontIs true tasks attempts (outcomes ++ o ∷ []) first new
+  vetoed_at : (r : ℕ) → o.end ≡ Some r → SoFar true tasks attempts outcomes first old → FrontIsFor true tasks attempts (outcomes ++ o ∷ []) first new
   vetoed_at r vetoes so_far = record {
-    faithful = λ library sound.
-        let parts = sound_parts true tasks attempts outcomes o t ts left so_far next takes on library sound in
-        let fired = group_vetoed library (fire_task library) (take (length outcomes) tasks ++ t ∷ []) (written first) r vetoes (grown on) (so_far.by library parts.0 (t ∷ [])) (takes.faithful library parts.1) in
+    faithful = λ states library sound.
+        let parts = sound_parts true tasks attempts outcomes o t ts left so_far next takes on states library sound in
+        let fires_now = fires true tasks attempts outcomes o t ts left so_far next takes on states library parts.1 in
+        let fired = completes_vetoed states library (fire_task library) (take (length outcomes) tasks ++ t ∷ []) (written first) r vetoes (grown on) (so_far.by states library parts.0 (t ∷ [])) fires_now in
         let tasks_are = tasks_more true tasks attempts outcomes o t ts left so_far next takes on in
         let firings_are = firings_more true tasks attempts outcomes o t ts left so_far next takes on in
         let veto_is : stopped_by true (outcomes ++ o ∷ []) ≡ Some r = last-push None outcomes o ∙ vetoes in
-        subst (λ l. FaithfulSiblings library (siblings (fire_task library) true l) new.reads (written first) (written new) (record { firings = map firing (outcomes ++ o ∷ []); vetoed_by = stopped_by true (outcomes ++ o ∷ []) })) (sym tasks_are)
-        (subst (λ (a : SiblingsAnswer). FaithfulSiblings library (siblings (fire_task library) true (take (length outcomes) tasks ++ t ∷ [])) new.reads (written first) (written new) a) (λ i. record { firings = sym firings_are i; vetoed_by = sym veto_is i }) fired);
+        subst (λ l. FaithfulSiblingsFor states library (siblings (fire_task library) true l) new.reads (written first) (written new) (record { firings = map firing (outcomes ++ o ∷ []); vetoed_by = stopped_by true (outcomes ++ o ∷ []) })) (sym tasks_are)
+        (subst (λ (a : SiblingsAnswer). FaithfulSiblingsFor states library (siblings (fire_task library) true (take (length outcomes) tasks ++ t ∷ [])) new.reads (written first) (written new) a) (λ i. record { firings = sym firings_are i; vetoed_by = sym veto_is i }) fired);
   }
 
-  pub front_vetoed : (stops : Bool) → goes_on stops o.end ≡ false → SoFar stops tasks attempts outcomes first old → FrontIs stops tasks attempts (outcomes ++ o ∷ []) first new
+  pub front_vetoed : (stops : Bool) → goes_on stops o.end ≡ false → SoFar stops tasks attempts outcomes first old → FrontIsFor stops tasks attempts (outcomes ++ o ∷ []) first new
   front_vetoed stops halts so_far = by stops o.end refl halts so_far
     where
-      by : (stops : Bool) (v : Option ℕ) → o.end ≡ v → goes_on stops v ≡ false → SoFar stops tasks attempts outcomes first old → FrontIs stops tasks attempts (outcomes ++ o ∷ []) first new
+      by : (stops : Bool) (v : Option ℕ) → o.end ≡ v → goes_on stops v ≡ false → SoFar stops tasks attempts outcomes first old → FrontIsFor stops tasks attempts (outcomes ++ o ∷ []) first new
       by true None is halts so_far = cc
       by true (Some r) is halts so_far = vetoed_at r is so_far
       by false v is halts so_far = cc
@@ -259,7 +277,7 @@ tasks_left f (x ∷ xs) (suc i) a within is =
 pub record Stepped (stops : Bool) (tasks : List Task) (attempts : List (Option Attempt)) (outcomes : List Outcome) (o : Outcome) (rest : List (Option Attempt)) (first new : Seeing) : Type 0 where
   pub left : rest ≡ drop (length outcomes) attempts
   pub more : goes_on stops o.end ≡ true → SoFar stops tasks attempts outcomes first new
-  pub last : goes_on stops o.end ≡ false → FrontIs stops tasks attempts outcomes first new
+  pub last : goes_on stops o.end ≡ false → FrontIsFor stops tasks attempts outcomes first new
   pub longest : goes_on stops o.end ≡ false → (now : Cells) (ts : List Task) → IsLongest (stopped_by stops outcomes) now ts rest
   pub taken : TakesSome (length outcomes) attempts first new
   pub are : AreOutcomes outcomes attempts
@@ -291,7 +309,7 @@ not_halting false stopped is so = absurd (true≢false (sym is ∙ so))
 -- ---- the first attempt stays
 
 pub record Ended (stops : Bool) (tasks : List Task) (attempts : List (Option Attempt)) (outcomes : List Outcome) (rest : List (Option Attempt)) (first new : Seeing) : Type 0 where
-  pub front : FrontIs stops tasks attempts outcomes first new
+  pub front : FrontIsFor stops tasks attempts outcomes first new
   pub longest : IsLongest (stopped_by stops outcomes) (now_in new) (drop (length outcomes) tasks) rest
   pub taken : TakesSome (length outcomes) attempts first new
 
@@ -300,7 +318,7 @@ pub ended : (stops : Bool) (tasks : List Task) (attempts : List (Option Attempt)
 ended stops tasks attempts outcomes given t ts old_left left {first} {old} {new} so_far taken next stays none =
     let leaves = subst (λ p. IfNone p (LeavesFirst t old new old_left left)) none stays in
     record {
-      front = subst (FrontIs stops tasks attempts outcomes first) (sym leaves.view) (front_end so_far);
+      front = subst (FrontIsFor stops tasks attempts outcomes first) (sym leaves.view) (front_end so_far);
       longest = longest_stays (stopped_by stops outcomes) (now_in new) (drop (length outcomes) tasks) ts t left next leaves.stays;
       taken = subst (TakesSome (length outcomes) attempts first) (sym leaves.view) taken;
     }

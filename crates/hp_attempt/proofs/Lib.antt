@@ -1,4 +1,6 @@
 mod Passed
 mod Taking
+mod ForStates
+mod Accepting
 mod Fronting
 pub mod Joining

@@ -7,8 +7,7 @@ use Rattle.hp_model.specs.Values.{KeyedRow}
 use Rattle.hp_model.specs.ClassParts.{ClassPart}
 use Rattle.hp_model.specs.Cells.{Cells, cells, Changes, object_cell, belongs_in, over, Read, cell_read, keys_read, objects_read, part_read, IsTold, AllTold, Holds, AreKeys, AreObjects, ArePart}
 use Rattle.hp_model.specs.Firing.{fire_task}
-use Rattle.hp_model.specs.Soundness.{firing_answer, LeadsTo, Attempt, IsSound}
-use Rattle.hp_model.specs.Answers.{FaithfulFiring}
+use Rattle.hp_model.specs.Soundness.{firing_answer, Attempt}
 use Rattle.hp_model.proofs.BridgesCells.{stacked, over-over, Holds-front}
 use Rattle.hp_store.specs.Changes.{Entries, changes}
 use Rattle.hp_store.specs.Stack.{cells_in}
@@ -24,6 +23,7 @@ use Rattle.hp_view.specs.declared.reads.Seen.TheVariants.{Cell as OfCell, Keys a
 use Rattle.hp_view.specs.Mapped.{read}
 use Rattle.hp_view.specs.Adding.{AddsReads, IsOfClass}
 use Rattle.hp_view.proofs.Adding.{adds_noted, adds_then, adds_more}
+use Rattle.hp_attempt.specs.States.{States, LeadsToOne, IsSoundFor, FaithfulFiringFor}
 use Rattle.hp_attempt.specs.Holding.{IsReadOf, IsReadAgain, IsFor, IsForAny, IsTakenIn, ReadsMore, Covers}
 
 -- ---- a view that only read
@@ -180,15 +180,15 @@ forgotten {old} {more} count only is forgets =
 
 -- ---- an attempt
 
--- a sound attempt whose reads hold, and which is taken in, stands for the firing
-pub faithful_settled : (library : Library) (a : Attempt) (t : Task) (layer : Entries) {first read new : Seeing} → IsSound library a → a.task ≡ t → changes layer ≡ a.layer
-    → OnlyReads first read → Covers read a.reads → TakesIn read new layer
-    → FaithfulFiring library (λ S. fire_task library S t) new.reads (written first) (written new) a.answer
-faithful_settled library a t layer {first} {read} {new} sound for same only covers takes = record {
-  from = λ base held S ordered is.
+-- an attempt whose reads hold, and which is taken in, stands for the firing, for each class for which it is sound
+pub stands_settled : (a : Attempt) (t : Task) (layer : Entries) {first read new : Seeing} → a.task ≡ t → changes layer ≡ a.layer
+    → OnlyReads first read → Covers read a.reads → TakesIn read new layer → (states : States) (library : Library) → IsSoundFor states library a
+    → FaithfulFiringFor states library (λ S. fire_task library S t) new.reads (written first) (written new) a.answer
+stands_settled a t layer {first} {read} {new} for same only covers takes states library sound = record {
+  from = λ base held S one is.
       let at : cells library S ≡ over base (written read) = is ∙ ap (over base) (sym (same_written only)) in
       let here : Holds (cells library S) a.reads = subst (λ c. Holds c a.reads) (sym at) (covers.everywhere base (subst (Holds base) takes.reads held)) in
       let to : over (cells library S) a.layer ≡ over base (written new) = ap (λ c. over c a.layer) at ∙ over-over base (written read) a.layer ∙ ap (over base) (ap (stacked (written read)) (sym same) ∙ sym takes.changes) in
-      subst (λ u. LeadsTo library (firing_answer (fire_task library S u)) (fire_task library S u).state a.answer (over base (written new))) for
-      (subst (LeadsTo library (firing_answer (fire_task library S a.task)) (fire_task library S a.task).state a.answer) to (sound.from S ordered here));
+      subst (λ u. LeadsToOne states library (firing_answer (fire_task library S u)) (fire_task library S u).state a.answer (over base (written new))) for
+      (subst (LeadsToOne states library (firing_answer (fire_task library S a.task)) (fire_task library S a.task).state a.answer) to (sound.from S one here));
 }

@@ -5,13 +5,14 @@ use Rattle.hp_model.specs.Tree.{Task}
 use Rattle.hp_model.specs.Cells.{Cells, Holds}
 use Rattle.hp_model.specs.Firing.{siblings, fire_task}
 use Rattle.hp_model.specs.Soundness.{IsSound}
-use Rattle.hp_model.specs.Answers.{FaithfulFiring, FaithfulSiblings}
+use Rattle.hp_model.specs.Answers.{FaithfulSiblings}
 use Rattle.hp_rule.specs.Mapped.{task}
 use Rattle.hp_model.proofs.BridgesCells.{stacked}
 use Rattle.hp_store.specs.Changes.{changes}
 use Rattle.hp_view.specs.Adding.{AddsReads}
 use Rattle.hp_view.specs.Seeing.{Seeing, written, now_in, IsSame}
 use Rattle.hp_attempt.specs.Holding.{IsForAny}
+use Rattle.hp_attempt.specs.States.{States, IsSoundFor, FaithfulFiringFor, FaithfulSiblingsFor}
 use Rattle.hp_attempt.specs.Mapped.{firing, attempt}
 use Rattle.hp_attempt.specs.declared.outcome.Outcome.{Outcome}
 use Rattle.hp_attempt.specs.declared.outcome.Attempt.{Attempt}
@@ -21,6 +22,12 @@ abbrev pub AreSound : Library → List (Option Attempt) → Type 0
 AreSound library [] = Unit {0}
 AreSound library (None ∷ attempts) = AreSound library attempts
 AreSound library (Some a ∷ attempts) = IsSound library (attempt a) × AreSound library attempts
+
+-- each attempt that is there is sound for the class of states
+abbrev pub AreSoundFor : States → Library → List (Option Attempt) → Type 0
+AreSoundFor states library [] = Unit {0}
+AreSoundFor states library (None ∷ attempts) = AreSoundFor states library attempts
+AreSoundFor states library (Some a ∷ attempts) = IsSoundFor states library (attempt a) × AreSoundFor states library attempts
 
 -- the end of the last outcome; before the first it is the given one
 abbrev pub last_end : Option ℕ → List Outcome → Option ℕ
@@ -54,6 +61,17 @@ pub record FrontIs (stops : Bool) (tasks : List Task) (attempts : List (Option A
       → FaithfulSiblings library (siblings (fire_task library) stops (take (length outcomes) tasks)) new.reads (written old) (written new)
       (record { firings = map firing outcomes; vetoed_by = stopped_by stops outcomes })
 
+-- the same for each class of states for which their attempts are sound
+pub record FrontIsFor (stops : Bool) (tasks : List Task) (attempts : List (Option Attempt)) (outcomes : List Outcome) (old new : Seeing) : Type 0 where
+  pub faithful : (states : States) (library : Library) → AreSoundFor states library (take (length outcomes) attempts)
+      → FaithfulSiblingsFor states library (siblings (fire_task library) stops (take (length outcomes) tasks)) new.reads (written old) (written new)
+      (record { firings = map firing outcomes; vetoed_by = stopped_by stops outcomes })
+
+-- an attempt stands for a task's firing, for each class of states for which it is sound
+pub record StandsFor (t : Task) (a : Attempt) (old new : Seeing) : Type 0 where
+  pub faithful : (states : States) (library : Library) → IsSoundFor states library (attempt a)
+      → FaithfulFiringFor states library (λ S. fire_task library S t) new.reads (written old) (written new) (firing a.outcome)
+
 -- ---- what becomes of the view
 
 -- an attempt is taken in: of what it read, the view reads what its own writes up to then leave open, and nothing else; and the
@@ -84,7 +102,7 @@ pub record TakesFirst (t : Task) (old new : Seeing) (before after : List (Option
   pub first : before ≡ Some taken ∷ after
   pub gives : taken.outcome ≡ outcome
   pub takes : TakesAttempt taken old new
-  pub faithful : (library : Library) → IsSound library (attempt taken) → FaithfulFiring library (λ S. fire_task library S t) new.reads (written old) (written new) (firing outcome)
+  pub stands : StandsFor t taken old new
 
 -- it is left
 pub record LeavesFirst (t : Task) (old new : Seeing) (before after : List (Option Attempt)) : Type 0 where

@@ -1,3 +1,5 @@
 pub mod Mapped
 pub mod Holding
+pub mod States
 pub mod Fronts
+pub mod Accepting

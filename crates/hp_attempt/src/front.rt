@@ -4,7 +4,7 @@ ghost use Rattle.std.specs.Prelude.{◌≡◌, ℕ, not, IfOk, IfSome, IfNone, O
 ghost use Rattle.hp_model.proofs.FaithfulFirings.{goes_on};
 ghost use Rattle.hp_rule.specs.Mapped.{task as task_of};
 ghost use Rattle.hp_view.specs.Seeing.{now_in, GoesOn, IsSame};
-ghost use Rattle.hp_attempt.specs.Fronts.{stopped_by, IsLongest, FrontIs, TakesSome, AreOutcomes, TakesFirst, LeavesFirst};
+ghost use Rattle.hp_attempt.specs.Fronts.{stopped_by, IsLongest, FrontIs, FrontIsFor, TakesSome, AreOutcomes, TakesFirst, LeavesFirst};
 
 use crate::outcome::{Attempt, Outcome};
 use crate::settling::{Settled, settle};
@@ -31,6 +31,8 @@ pub fn settle_front(
     ensures left { IfOk result (λ r. r.1.items ≡ drop (length r.0.items) attempts.items) }
     ensures longest { IfOk result (λ r. IsLongest (stopped_by stop_at_veto r.0.items) (now_in view.new) (drop (length r.0.items) (map task_of tasks.now)) r.1.items) }
     ensures front { IfOk result (λ r. FrontIs stop_at_veto (map task_of tasks.now) attempts.items r.0.items view.old view.new) }
+    ensures for_states { let all = map task_of tasks.now in
+        IfOk result (λ r. FrontIsFor stop_at_veto all attempts.items r.0.items view.old view.new) }
     ensures taken { IfOk result (λ r. TakesSome (length r.0.items) attempts.items view.old view.new) }
     ensures outcomes { IfOk result (λ r. AreOutcomes r.0.items attempts.items) }
     ensures goes_on { GoesOn view.old view.new }

@@ -5,6 +5,7 @@
 
 mod front;
 mod holding;
+pub mod laws;
 mod outcome;
 mod settling;
 

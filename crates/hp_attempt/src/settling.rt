@@ -13,6 +13,7 @@ ghost use Rattle.hp_view.specs.Mapped.{read, class_read, part_found, objects_fou
 ghost use Rattle.hp_view.specs.Adding.{AddsReads};
 ghost use Rattle.hp_view.specs.Seeing.{beneath, now_in, written, IsSame, OnlyReads, GoesOn, Restores};
 ghost use Rattle.hp_attempt.specs.Mapped.{firing, attempt as attempt_of};
+ghost use Rattle.hp_attempt.specs.Fronts.{StandsFor};
 ghost use Rattle.hp_attempt.specs.Holding.{IsFor, IsForAny, IsReadAgain, IsTakenIn, ReadsMore, Covers};
 
 use crate::holding::holds;
@@ -47,6 +48,8 @@ pub fn settle(
     ensures rejected { IfOk result (λ r. r ≡ Settled.Rejected → view.new ≡ view.old) }
     ensures spares { ((task_of attempt.now.task ≡ task_of task.now) × Holds (now_in view.old) attempt.now.reads → ⊥) → IsOk result }
     ensures faithful { IfOk result (λ r. r ≡ Settled.Accepted → (library : Library) → IsSound library (attempt_of attempt.now) → FaithfulFiring library (λ S. fire_task library S (task_of task.now)) view.new.reads (written view.old) (written view.new) (firing attempt.now.outcome)) }
+    ensures for_states { let wanted = task_of task.now in
+        IfOk result (λ r. r ≡ Settled.Accepted → StandsFor wanted attempt.now view.old view.new) }
     ensures takes { IfOk result (λ r. r ≡ Settled.Accepted → written view.new ≡ stacked (written view.old) (changes attempt.now.layer.value)) }
     ensures reads { IfOk result (λ r. r ≡ Settled.Accepted → AddsReads (IsForAny (written view.old) attempt.now.reads) view.old.reads view.new.reads) }
     ensures so_it_was { IfOk result (λ r. r ≡ Settled.Accepted → Holds (beneath view.new) view.new.reads) }

@@ -1,4 +1,4 @@
--- Each step at the word keeps the rule.
+-- Each step on the counter keeps the rule.
 use Rattle.std.proofs.Common.{◌≡◌, ◌≢◌, ℕ, zero, suc, ◌+◌, ◌%◌, ◌^◌, ◌<◌, ◌≤◌, min, List, [], ◌∷◌, ◌++◌, get_or, set, Bool, true, false, cond, refl, sym, ap, ◌∙◌, subst, ⊎_elim, arith}
 use Rattle.std.specs.Prelude.{slice_index, slice_set, nat_lt, nat_eq}
 use Rattle.std.proofs.lemmas.Bool.Decides.{nat_tests}
@@ -18,7 +18,7 @@ once_below-suc x w = grind (arith, nat_tests)
 times-one : (x w : ℕ) → times x (w ∷ []) ≡ cond (nat_eq w x) 1 0
 times-one x w = omega arith
 
--- a view that no step of its own changed
+-- a hand that its seat's own step didn't change
 later : (n w w' : ℕ) (v : Hand) → w ≤ w' → IsHand n w v → IsHand n w' v
 later n w w' v up h = record { idle = h.idle; same = h.same; missed = h.missed; past = λ m. let p : n ≤ w = h.past m in omega arith }
 
@@ -145,7 +145,7 @@ knows shape w views d id v at = record {
 pub ends : (shape : Shape) (id : ℕ) (v : Hand) (ws xs : List ℕ) → Final (Seen (Dealt shape) id v) ws xs → (w : ℕ) × (ws ≡ w ∷ []) × Knows shape w v
 ends shape id v ws xs (s, (h, at), words, homes, rest) = (h.0, sym words ∙ h.1, knows shape h.0 s.views h.2 id v at)
 
--- the same, of a seat that holds no slot
+-- the same for a seat that holds no slot
 pub draws_as : (shape : Shape) (slots id : ℕ) (me : Me ℕ Hand) → me.1 ≡ [] → me.0.parts ≡ 1 → me.0.missed ≡ 0
     → Allows (Dealt shape) slots id me 0 (λ n. (n + 1) % 2 ^ 64) (λ found after. after ≡ (dealt me.0 found, me.1))
 draws_as shape slots id me none one miss =

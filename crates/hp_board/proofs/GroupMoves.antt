@@ -1,4 +1,4 @@
--- What each effect does to the fields of a group, and to what contracts see of it.
+-- The effect of each event on a group's fields and on its view in contracts.
 use Rattle.std.proofs.Common.{◌≡◌, ℕ, zero, suc, ◌<◌, ◌≤◌, List, [], ◌∷◌, ◌++◌, length, map, set, get_or, replicate, refl, sym, ap, ◌∙◌, subst, arith, Option, Some, None}
 use Rattle.std.specs.Prelude.{IsSome, IfSome, slice_get, Vec, vec_len, vec_capacity}
 use Rattle.std.specs.Option.{option_map, option_flatten}
@@ -31,7 +31,7 @@ module _ {T : Type 0} (a : Inside T) (g : GroupView T) (is : view_of a ≡ g) wh
     pub posts_whole : (i : ℕ) (x : T) → posted_at g i ≡ None → IsGroup (record a { posted = with_item a.posted i (Some x) })
     posts_whole i x none = record { tasks = h.tasks; drawn = h.drawn; draw_room = h.draw_room; settle_room = h.settle_room; settled = (keeps a.posted.items a.settlings.items i x h.settled (subst (λ (v : GroupView T). posted_at v i ≡ None) (sym is) none)).1 }
 
-    -- how many tasks are settled
+    -- the number of settled tasks
     pub settled_count : length g.settled ≡ vec_len a.settlings
     settled_count = ap (λ (v : GroupView T). length v.settled) (sym is) ∙ (settled_len a.posted.items a.settlings.items h.settled ∙ sym a.settlings.ok.0)
 
@@ -56,7 +56,7 @@ module _ {T : Type 0} (a : Inside T) (g : GroupView T) (is : view_of a ≡ g) wh
           subst (λ (v : GroupView T). slice_get v.settled k ≡ settled_layer p t) is
           (settled_at a.posted.items a.settlings.items k p t h.settled (slice_get-get_or a.posted.items k None (settled_within more)) here)
 
-    -- one settling more, in a vector that has kept its room
+    -- one more settling, in a vector that has kept its capacity
     module _ (p : Option T) (s : Settling T) (x : T) (at : slice_get g.posted (length g.settled) ≡ Some p) (by' : settled_layer p s ≡ Some x) (more : Vec (Settling T) Global) (pushed : more.items ≡ a.settlings.items ++ s ∷ []) where
       at' : slice_get a.posted.items (length a.settlings.items) ≡ Some p
       at' = subst (λ (v : GroupView T). slice_get v.posted (length a.settlings.items) ≡ Some p) (sym is)
@@ -83,7 +83,7 @@ posted_is [] i x e = absurd (none-some x e)
 posted_is (p ∷ ps) zero x e = ap Some e
 posted_is (p ∷ ps) (suc i) x e = posted_is ps i x e
 
--- what holds for the value that there is
+-- a property of the value, if there is one
 pub with_value : {X : Type 0} (o : Option X) (P : X → Type 0) → ((x : X) → o ≡ Some x → P x) → IfSome o P
 with_value None P h = tt
 with_value (Some x) P h = h x refl

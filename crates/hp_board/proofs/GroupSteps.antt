@@ -1,4 +1,4 @@
--- A group's step is the machine's: what an enabled event asks, and what the machine does then.
+-- A group's step is the machine's: when an event is enabled, and what its effect is.
 use Rattle.std.proofs.Common.{◌≡◌, ℕ, ◌<◌, List, [], ◌∷◌, ◌++◌, length, map, set, refl, sym, ap, ◌∙◌, subst, Option, Some, None, Bool, true, false, ◌&&◌, not, nat_lt, ◌==◌, arith, Vec}
 use Rattle.std.specs.Prelude.{is_some, IsSome, IfSome, slice_get}
 use Rattle.std.specs.Option.{option_map, option_flatten}
@@ -61,7 +61,7 @@ module _ {T : Type 0} (g : GroupView T) (base : Cells) (changes : T → Changes)
   accepts : (i : ℕ) (x : T) → posted_at g i ≡ Some x → machine base changes (record g { settled = g.settled ++ x ∷ [] }) ≡ M.effect (machine base changes g) (M.accept i)
   accepts i x is = settles x ∙ ap (M.settling (machine base changes g)) (sym (posted_at-machine i ∙ ap (option_map changes) is))
 
--- ---- an event that a group takes
+-- ---- an event that is taken
 
 steps_not : (m : M.Machine) (e : M.Event) → M.is_enabled m e ≡ false → M.step m e ≡ m
 steps_not m e h = rw h
@@ -79,7 +79,7 @@ module _ {T : Type 0} (g : GroupView T) (e : Event T) (b : Bool) (tells : (base 
         → machine base changes next ≡ M.step (machine base changes g) (event changes e)
     lands next base changes h = h ∙ sym (steps (machine base changes g) (event changes e) (sym (tells base changes) ∙ yes))
 
-    -- the test, on cells and layers that say nothing
+    -- the test, on empty cells and layers
     passed : (d : Event T) → e ≡ d → M.is_enabled (machine (λ _. None) (λ _. no_changes) g) (event (λ _. no_changes) d) ≡ true
     passed d is = ap (λ (x : Event T). M.is_enabled (machine (λ _. None) (λ _. no_changes) g) (event (λ _. no_changes) x)) (sym is) ∙ (sym (tells (λ _. None) (λ _. no_changes)) ∙ yes)
 
@@ -111,7 +111,7 @@ module _ {T : Type 0} (g : GroupView T) (e : Event T) (b : Bool) (tells : (base 
         let l : i < length g.posted = grind (arith, nat_tests) in
         subst (λ (k : ℕ). k < length g.posted) a l
 
-    -- the machine of the group that an effect leaves is the machine's step
+    -- the machine of the group after an effect is the machine after the step
     module _ (next : GroupView T) (base : Cells) (changes : T → Changes) where
       abbrev m : M.Machine
       m = machine base changes g

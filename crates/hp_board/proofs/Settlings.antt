@@ -1,4 +1,4 @@
--- The layers of settled tasks, as tasks are posted and settled.
+-- The layers of settled tasks, when tasks are posted and settled.
 use Rattle.std.proofs.Common.{◌≡◌, ℕ, zero, suc, ◌+◌, ◌≤◌, List, [], ◌∷◌, ◌++◌, length, set, refl, ap, ◌∙◌, subst, arith, Option, Some, None, false, true}
 use Rattle.std.specs.Prelude.{IsSome, is_some, slice_get}
 use Rattle.std.specs.List.{cons_option}
@@ -46,13 +46,13 @@ module _ {T : Type 0} where
   settled_at (q ∷ ps) (r ∷ ss) zero p s h at is = slice_get-head (settled_layer q r) (settled_layers ps ss) h.0 ∙ (λ i. settled_layer (same_Some q p at i) (same_Some r s is i))
   settled_at (q ∷ ps) (r ∷ ss) (suc k) p s h at is = slice_get-cons (settled_layer q r) (settled_layers ps ss) k h.0 ∙ settled_at ps ss k p s h.1 at is
 
-  -- what is settled was one of the tasks
+  -- a settled task is one of the tasks
   pub settled_fit : (ps : List (Option T)) (ss : List (Settling T)) → AreSettled ps ss → length ss ≤ length ps
   settled_fit ps [] h = omega arith
   settled_fit [] (s ∷ ss) h = absurd h
   settled_fit (p ∷ ps) (s ∷ ss) h = omega (arith, settled_fit ps ss h.1)
 
-  -- one task more is settled, by a layer that there is
+  -- one more task is settled, by a layer
   pub settles : (ps : List (Option T)) (ss : List (Settling T)) (p : Option T) (s : Settling T) (x : T) → AreSettled ps ss → slice_get ps (length ss) ≡ Some p → settled_layer p s ≡ Some x
       → (settled_layers ps (ss ++ s ∷ []) ≡ settled_layers ps ss ++ x ∷ []) × AreSettled ps (ss ++ s ∷ [])
   settles [] [] p s x h at is = absurd (none-some p at)
@@ -64,7 +64,7 @@ module _ {T : Type 0} where
       let t = settles ps ss p s x h.1 at is in
       (ap (cons_option (settled_layer q r)) t.0 ∙ cons-append (settled_layer q r) (settled_layers ps ss) (x ∷ []), (h.0, t.1))
 
-  -- a task that was not posted was settled by no posted layer, so a post changes nothing of what is settled
+  -- a task that wasn't posted wasn't settled by a posted layer, so a post changes nothing of what is settled
   pub keeps : (ps : List (Option T)) (ss : List (Settling T)) (i : ℕ) (x : T) → AreSettled ps ss → option_flatten (slice_get ps i) ≡ None
       → (settled_layers (set ps i (Some x)) ss ≡ settled_layers ps ss) × AreSettled (set ps i (Some x)) ss
   keeps ps [] i x h none = (refl, tt)

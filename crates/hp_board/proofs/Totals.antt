@@ -1,4 +1,4 @@
--- Totals over lists, and how often a number stands in one.
+-- Sums over lists, and how often a number occurs in one.
 use Rattle.std.proofs.Common.{◌≡◌, ℕ, zero, suc, ◌+◌, ◌<◌, ◌≤◌, List, [], ◌∷◌, ◌++◌, set, length, get_or, refl, sym, ap, arith}
 use Rattle.std.specs.Prelude.{All, Some}
 use Rattle.std.proofs.lemmas.List.Elements.{All-pop}
@@ -25,12 +25,12 @@ module _ {X : Type 0} where
   total_at f (x ∷ xs) zero v e = let same : f x ≡ f v = ap f (some-injective x v e) in omega arith
   total_at f (x ∷ xs) (suc k) v e = omega (arith, total_at f xs k v e)
 
-  -- where f is at most g of each, its total is at most that of g
+  -- if f is at most g for each element, its sum is at most that of g
   pub total_le : (f g : X → ℕ) (xs : List X) → ((k : ℕ) (u : X) → get_elem? xs k ≡ some u → f u ≤ g u) → total f xs ≤ total g xs
   total_le f g [] h = omega arith
   total_le f g (x ∷ xs) h = omega (arith, h 0 x refl, total_le f g xs (λ k u e. h (suc k) u e))
 
-  -- and is less where it is less of one
+  -- and less if it is less for one of them
   pub total_lt : (f g : X → ℕ) (xs : List X) (k : ℕ) (v : X) → get_elem? xs k ≡ some v → f v < g v → ((k : ℕ) (u : X) → get_elem? xs k ≡ some u → f u ≤ g u) → total f xs < total g xs
   total_lt f g [] k v e l h = absurd (some-ne-none v (sym e))
   total_lt f g (x ∷ xs) zero v e l h = let s : f x ≡ f v = ap f (some-injective x v e) in let t : g x ≡ g v = ap g (some-injective x v e) in omega (arith, total_le f g xs (λ k u i. h (suc k) u i))
@@ -40,7 +40,7 @@ module _ {X : Type 0} where
   total_none f g [] z h = refl
   total_none f g (x ∷ xs) z h = let a : f x ≡ 0 = h 0 x refl (omega arith) in omega (arith, total_none f g xs (omega arith) (λ k u e. h (suc k) u e))
 
-  -- where one has all of g, and f is 0 wherever g is, one has all of f
+  -- if one element has all of g, and f is 0 wherever g is, it has all of f
   pub total_alone : (f g : X → ℕ) (xs : List X) (k : ℕ) (v : X) → get_elem? xs k ≡ some v → total g xs ≡ g v → ((k : ℕ) (u : X) → get_elem? xs k ≡ some u → g u ≡ 0 → f u ≡ 0) → total f xs ≡ f v
   total_alone f g [] k v e all h = absurd (some-ne-none v (sym e))
   total_alone f g (x ∷ xs) zero v e all h = let s : f x ≡ f v = ap f (some-injective x v e) in let t : g x ≡ g v = ap g (some-injective x v e) in
@@ -48,7 +48,7 @@ module _ {X : Type 0} where
   total_alone f g (x ∷ xs) (suc k) v e all h = let least : g v ≤ total g xs = total_at g xs k v e in
       let a : f x ≡ 0 = h 0 x refl (omega arith) in omega (arith, total_alone f g xs k v e (omega arith) (λ j u i. h (suc j) u i))
 
-  -- of a list and its last element
+  -- a list and its last element
   pub total_popped : (f : X → ℕ) (xs ys : List X) (t : X) (n : ℕ) → xs ≡ ys ++ t ∷ [] → n ≡ f t → n + total f ys ≡ total f xs
   total_popped f xs ys t n e same = omega (arith, ap (total f) e, total-append f ys (t ∷ []))
 

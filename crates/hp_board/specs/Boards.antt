@@ -1,8 +1,8 @@
--- What contracts see of a board.
+-- Boards in contracts.
 use Rattle.std.specs.Prelude.{◌≡◌, ℕ, List, length}
 use Rattle.hp_board.specs.Deal.{Deal, IsDealer}
 
--- the dealer of its numbers, and the names of its cells, one a number
+-- the dealer of its numbers, and the names of its cells, one for each number
 pub record BoardView : Type 0 where
   pub deal : Deal
   pub cells : List ℕ

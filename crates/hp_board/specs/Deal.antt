@@ -1,8 +1,8 @@
--- Numbers that seats draw from one word.
+-- Numbers that seats draw from one counter.
 --
--- The word counts how often a number was asked for. Each seat has a view, its hand: what it drew, how often it found no
--- number left, and its parts of the right to know all that was drawn. The rule says that what all hands have drawn are the
--- numbers below the word, each once. Who has all parts in one hand at the end knows all that was drawn.
+-- The counter is the number of draws so far. Each seat has a view, its hand: what it drew, how often it found no number
+-- left, and its shares. The rule says that all hands together have drawn the numbers below the counter, each once. A
+-- hand with all shares has drawn all of them, and so knows all that was drawn.
 use Rattle.std.specs.Prelude.{◌≡◌, ℕ, ◌+◌, ◌-◌, ◌<◌, ◌≤◌, ◌^◌, List, [], ◌∷◌, ◌++◌, length, min, Bool, true, false, cond, nat_lt, nat_eq, All}
 use mathlib.Core.Option.{some}
 use lib.ListN.{get_elem?}
@@ -11,16 +11,16 @@ use Rattle.atomic_table.specs.Seated.{TableId}
 use Rattle.hp_board.specs.declared.deal.Hand.{Hand}
 use Rattle.hp_board.specs.declared.deal.Shape.{Shape}
 
--- how often x stands in the list
+-- how often x occurs in the list
 abbrev pub times : ℕ → List ℕ → ℕ
 times x [] = 0
 times x (y ∷ ys) = cond (nat_eq y x) 1 0 + times x ys
 
--- 1 for a number below n, and else 0
+-- 1 for a number below n, otherwise 0
 abbrev pub once_below : ℕ → ℕ → ℕ
 once_below x n = cond (nat_lt x n) 1 0
 
--- f of each element, added up
+-- the sum of f over the elements
 abbrev pub total : {X : Type 0} → (X → ℕ) → List X → ℕ
 total f [] = 0
 total f (v ∷ vs) = f v + total f vs
@@ -28,17 +28,18 @@ total f (v ∷ vs) = f v + total f vs
 abbrev pub hand : ℕ → ℕ → List ℕ → ℕ → Hand
 hand numbers parts drawn missed = record { numbers = numbers; parts = parts; drawn = drawn; missed = missed }
 
--- what each view says, where the word is w
+-- what each hand says, where the counter is w
 pub record IsHand (numbers w : ℕ) (v : Hand) : Type 0 where
-  -- one with no part has drawn nothing
+  -- a hand without shares has drawn nothing
   pub idle : v.parts ≡ 0 → v.drawn ≡ []
-  -- one with a part knows how many numbers there are
+  -- a hand with a share knows the number of tasks
   pub same : 0 < v.parts → v.numbers ≡ numbers
-  -- each part finds at most once that no number is left
+  -- each share finds at most once that no number is left
   pub missed : v.missed ≤ v.parts
   pub past : 0 < v.missed → numbers ≤ w
 
--- The rule, where the word is w. The word stays within 64 bits, since each seat finds at most once that no number is left.
+-- The rule, where the counter is w. The counter stays within 64 bits, since each seat finds at most once that no number
+-- is left.
 pub record IsDealt (shape : Shape) (w : ℕ) (views : List Hand) : Type 0 where
   pub fits : shape.numbers + shape.seats < 2 ^ 64
   pub parts : total (λ v. v.parts) views ≡ shape.seats
@@ -46,19 +47,19 @@ pub record IsDealt (shape : Shape) (w : ℕ) (views : List Hand) : Type 0 where
   pub bound : w ≤ shape.numbers + total (λ v. v.missed) views
   pub each : (k : ℕ) (v : Hand) → get_elem? views k ≡ some v → IsHand shape.numbers w v
 
--- the rule of the table: one word, under the rule above
+-- the rule of the table: one word, the counter, under the rule above
 abbrev pub Dealt : Shape → State ℕ Hand → Type 0
 Dealt shape s = (w : ℕ) × (s.words ≡ w ∷ []) × IsDealt shape w s.views
 
--- the hand after a draw that found this word
+-- the hand after a draw that found this counter
 abbrev pub dealt : Hand → ℕ → Hand
 dealt v found = cond (nat_lt found v.numbers) (hand v.numbers v.parts (v.drawn ++ found ∷ []) v.missed) (hand v.numbers v.parts v.drawn (v.missed + 1))
 
--- one part less
+-- one share less
 abbrev pub fewer : Hand → Hand
 fewer v = hand v.numbers (v.parts - 1) v.drawn v.missed
 
--- one part, and nothing drawn
+-- one share, and nothing drawn
 abbrev pub newcomer : Hand → Hand
 newcomer v = hand v.numbers 1 [] 0
 
@@ -81,16 +82,17 @@ pub record IsTable (id : TableId) (key : Shape) (n k : ℕ) : Type 0 where
   pub seats : key.seats ≡ k
   pub seated : 0 < k
 
--- What a seat keeps of its token: it holds one part and no slot, and it has found no number left, which it does once,
--- exactly if it is done.
+-- What a seat keeps of its token: one share and no slot. It has found at most once that no number is left, which makes
+-- it done.
 pub record IsToken (me : Me ℕ Hand) (done : Bool) : Type 0 where
   pub slots : me.1 ≡ []
   pub parts : me.0.parts ≡ 1
   pub missed : me.0.missed ≡ cond done 1 0
 
--- ---- what contracts see
+-- ---- contracts
 
--- A seat: its table, how many numbers there are, what it has drawn in order, and whether it has found that none is left.
+-- A seat: its table, how many numbers there are, what it has drawn in order, and whether it has found that none is
+-- left.
 pub record Taken : Type 0 where
   pub table : TableId
   pub numbers : ℕ
@@ -127,7 +129,7 @@ FindsNone before after = (after.drawn ≡ before.drawn) × (after.done ≡ true)
 abbrev pub times_in : ℕ → List Taken → ℕ
 times_in x ts = total (λ t. times x t.drawn) ts
 
--- ---- what is known at the end
+-- ---- the end
 
 -- the hand holds all that these seats have drawn
 pub record Gathers (v : Hand) (ts : List Taken) : Type 0 where

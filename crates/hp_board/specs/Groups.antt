@@ -1,19 +1,19 @@
--- What contracts see of a group: the machine of the definitions but for its base, with the layers left as they are.
+-- Groups in contracts: the machine of the definitions without its base, with the layers as they are.
 use Rattle.std.specs.Coded.{Coded, code_by, coded×, coded_ℕ, coded_list, coded_option}
 use Rattle.std.specs.Prelude.{ℕ, refl, List, length, Option, Bool, nat_lt, ◌&&◌, ◌==◌, slice_get}
 use Rattle.std.specs.List.{slice_index_or}
 use Rattle.std.specs.Option.{option_flatten}
 
 pub record GroupView (T : Type 0) : Type 0 where
-  -- who drew each task, the tasks being drawn in order
+  -- the worker that drew each task, in the order of the tasks
   pub drawn : List ℕ
-  -- for each task: which elders' layers were seen when it was looked at, and the layer posted
+  -- for each task: the elders whose layers it started from, if it was looked at, and the layer posted
   pub seen : List (Option (List ℕ))
   pub posted : List (Option T)
   -- the layers settled so far, the first task's first
   pub settled : List T
 
--- it is stored as the tuple of its fields
+-- stored as the tuple of its fields
 abbrev pub group_code : {T : Type 0} → Coded T → Coded (GroupView T)
 group_code {T} c =
     code_by (List ℕ × (List (Option (List ℕ)) × (List (Option T) × List T)))

@@ -8,11 +8,11 @@ use Rattle.hp_board.specs.Groups.{GroupView}
 use Rattle.hp_board.specs.declared.machine.Event.{Event}
 use Rattle.hp_board.specs.declared.machine.Event.TheVariants.{Draw, Look, Post, Accept, Rerun}
 
--- the machine over these cells, where layers are read as changes in this way
+-- the machine over these cells, with layers read as changes by this function
 abbrev pub machine : {T : Type 0} → Cells → (T → Changes) → GroupView T → Machine
 machine base changes g = record { base = base; drawn = g.drawn; seen = g.seen; posted = map (option_map changes) g.posted; settled = map changes g.settled }
 
--- the event, where layers are read as changes in this way
+-- the event, with layers read as changes by this function
 abbrev pub event : {T : Type 0} → (T → Changes) → Event T → M.Event
 event changes (Draw worker) = M.draw worker
 event changes (Look worker task elders) = M.look worker task elders.items

@@ -10,18 +10,20 @@ use crate::dealer::{Dealer, Drawn, Seat};
 use std::alloc::{AllocError, Global};
 use std::marker::Model;
 
-/// The board of a group of tasks: their numbers, from 0 on, for workers to draw, and a cell for each, which is set once.
+/// The board of a group of tasks: their numbers from 0, for workers to draw, and for each number a cell that is set
+/// once.
 ///
-/// Threads share it by `&`. Nobody waits at it: no call takes a lock, nor a handle that may wait. Each draw, look and post
-/// is one atomic step, and one event of the group's machine ([`Group`](crate::Group)):
+/// Threads share it by `&`, and none of them waits at it: no call takes a lock, nor a handle that may wait. Each draw,
+/// look and post is one atomic step, and one event of the group's machine ([`Group`](crate::Group)):
 ///
 /// | Call | Step | Event |
 /// |---|---|---|
-/// | [`draw`](Board::draw) | one `fetch_add` on the word of the numbers | a draw; the numbers drawn are the lesser of the word and the number of tasks |
-/// | [`look`](Board::look) | one read of a cell | one elder of a look |
-/// | [`post`](Board::post) | one setting of a cell | a post |
+/// | [`draw`](Board::draw) | one `fetch_add` on the counter | a draw; numbers below the counter are drawn |
+/// | [`look`](Board::look) | one read of a cell | one predecessor of a look |
+/// | [`post`](Board::post) | one store to a cell | a post |
 ///
-/// What no clause says: that a look finds what another thread has posted, or which of several threads draws a number.
+/// Only the body shows which thread draws a number, and that a look finds what another thread has posted; no contract
+/// does.
 #[derive(Drop)]
 pub struct Board<T> {
     dealer: Dealer,
@@ -40,9 +42,9 @@ impl<T> Model for Board<T> {
 }
 
 impl<T: Drop> Board<T> {
-    /// A board for `n` tasks, and its seats, 1 to 64 of them, which have drawn nothing. No cell is set.
+    /// A board for `n` tasks, and its seats, 1 to 64, which have drawn nothing. No cell is set.
     ///
-    /// `n` plus 64 is to fit 64 bits: the word goes up to `n` and once more for each seat.
+    /// `n` plus 64 has to fit in a `u64`: the counter goes up to `n`, plus once more for each seat.
     pub fn new(alloc: Global, n: usize, seats: usize) -> Result<(Board<T>, Vec<Seat>), AllocError>
         requires seats { (0 < seats) × (seats ≤ 64) }
         requires room { n + 64 < 2 ^ 64 }
@@ -54,7 +56,7 @@ impl<T: Drop> Board<T> {
         Ok((Board { dealer, cells }, all))
     }
 
-    /// A pass of this board, which knows nothing.
+    /// A pass of this board that knows nothing.
     pub fn pass(&self, alloc: Global) -> Result<Pass<T>, AllocError>
         ensures cells { IfOk result (IsPassOf self.now.cells) }
         ensures new { IfOk result (All (λ f. f.known ≡ None)) }
@@ -62,10 +64,10 @@ impl<T: Drop> Board<T> {
         self.cells.pass(alloc)
     }
 
-    /// Draws the number of a task: one that no seat has drawn or will draw. None means that all were drawn. A seat that
-    /// had None takes no step more, and has None again.
+    /// Draws the number of a task, which no other draw returns. `None` means that no number is left; once `draw`
+    /// returns `None` for a seat it always does, without another step on the counter.
     ///
-    /// That no number is drawn twice is said at the end, by [`close`](Board::close), of all that the seats have drawn.
+    /// [`close`](Board::close) states that no number is drawn twice, for all seats that it is given.
     pub fn draw(&self, seat: Seat) -> (Option<usize>, Seat)
         requires { IsSeatOf self.now.deal seat }
         ensures seat { IsSeatOf self.now.deal result.1 }
@@ -77,8 +79,8 @@ impl<T: Drop> Board<T> {
         self.dealer.draw(seat)
     }
 
-    /// Looks at what task `j` has posted. The pass knows a value that is found from then on: it never gets None for it
-    /// again, or another value. None means that the pass knows nothing of the cell, and it is as it was.
+    /// Looks at what task `j` has posted. The pass then knows the value that was found: a later look with it finds that
+    /// value again. `None` means that the pass knows nothing of the cell, and is as before.
     pub fn look(&self, j: usize, pass: Pass<T>) -> (Option<&T>, Pass<T>)
         requires cell { j < length self.now.cells }
         requires pass { IsPassOf self.now.cells pass }
@@ -91,7 +93,8 @@ impl<T: Drop> Board<T> {
 
     /// Posts what task `i` has written. The pass then knows that value of the cell.
     ///
-    /// An `Err` says that the cell was set before: both arguments come back, the pass knowing the value that the cell has.
+    /// An `Err` means that the cell was already set: both arguments come back, and the pass knows the value in the
+    /// cell.
     pub fn post(
         &self,
         i: usize,
@@ -108,11 +111,11 @@ impl<T: Drop> Board<T> {
         self.cells.post(i, posted, pass)
     }
 
-    /// Ends the drawing, and drops what was posted. The numbers that these seats have drawn are under `below`, each drawn
-    /// once. Given all seats of the board, they are all the numbers under `below`. If one of the seats has had None,
-    /// `below` is the number of tasks.
+    /// Ends the drawing, and drops what was posted. The numbers that these seats have drawn are less than `below`, each
+    /// drawn once. Given all seats of the board, they are all the numbers less than `below`. If one of the seats has
+    /// drawn `None`, `below` is the number of tasks.
     ///
-    /// A seat that was lost, as with a thread that could not be started, is no fault: what it drew is missing then.
+    /// A seat may be missing, for example that of a thread that could not be started: then its numbers are missing too.
     pub fn close(self, seats: Vec<Seat>) -> Drawn
         requires { All (IsSeatOf self.deal) seats.items }
         ensures below { result.below ≤ self.deal.numbers }

@@ -8,7 +8,7 @@ use once_cell::race::OnceBox;
 use std::alloc::{AllocError, Global};
 use std::marker::Model;
 
-/// A value in a box, ready to be posted: so posting it takes no memory.
+/// A boxed value, ready to be posted: posting it allocates nothing.
 #[derive(Drop)]
 pub struct Posted<T> {
     value: Box<T>,
@@ -23,7 +23,7 @@ impl<T> Model for Posted<T> {
 }
 
 impl<T> Posted<T> {
-    /// Boxes a value. Where there is no memory for the box, the value is dropped.
+    /// Boxes a value. If memory runs out, the value is dropped.
     pub fn new(alloc: Global, value: T) -> Result<Posted<T>, AllocError>
     where
         T: Drop,
@@ -42,7 +42,7 @@ impl<T> Posted<T> {
     }
 }
 
-/// Cells that are set once. Contracts see their names.
+/// Cells that are set once. In contracts they are their names.
 #[derive(Drop)]
 pub struct OnceCells<T> {
     cells: Vec<OnceBox<T>>,
@@ -57,9 +57,9 @@ impl<T> Model for OnceCells<T> {
     ghost view = { λ c. map cell_name c.cells.items };
 }
 
-/// What one thread knows of a board's cells. It only grows: of each cell nothing, or its one value.
+/// What one thread knows of a board's cells: for each cell nothing, or its value. It only grows.
 ///
-/// It holds nothing at run time but its length, so nothing that is done with it takes memory.
+/// It holds nothing at run time but its length, so using it allocates nothing.
 #[derive(Drop)]
 pub struct Pass<T> {
     known: Vec<Known<T>>,
@@ -77,7 +77,7 @@ impl<T> Model for Pass<T> {
 }
 
 impl<T: Drop> OnceCells<T> {
-    /// So many cells, none of them set.
+    /// A number of cells, none of which is set.
     pub fn new(alloc: Global, count: usize) -> Result<OnceCells<T>, AllocError>
         ensures { IfOk result (λ c. length c ≡ count) }
     {
@@ -100,7 +100,7 @@ impl<T: Drop> OnceCells<T> {
         Ok(Pass { known })
     }
 
-    /// Looks at cell `j`, by one read of it.
+    /// Looks at cell `j`, by one read.
     pub fn look(&self, j: usize, mut pass: Pass<T>) -> (Option<&T>, Pass<T>)
         requires cell { j < length self.now }
         requires pass { IsPassOf self.now pass }
@@ -112,7 +112,7 @@ impl<T: Drop> OnceCells<T> {
         (found, pass)
     }
 
-    /// Sets cell `i`. Where it was set, both arguments come back, and the pass knows the value that it has.
+    /// Sets cell `i`. If it was already set, both arguments come back, and the pass knows the value in the cell.
     pub fn post(
         &self,
         i: usize,
@@ -134,7 +134,8 @@ impl<T: Drop> OnceCells<T> {
     }
 }
 
-/// What two passes of the same cells know of a cell is the same. It does nothing at run time but count.
+/// Two passes of the same cells know the same value of a cell, where both know one. At run time it only runs an empty
+/// loop.
 pub fn meet<T: Drop>(one: &Pass<T>, other: &Pass<T>)
     requires { cells_of one.now ≡ cells_of other.now }
     ensures { (i : ℕ) → i < length one.now → AgreeAt one.now other.now i }

@@ -1,10 +1,10 @@
-//! The rule of the one word from which seats draw numbers: what each draw found, once and for good.
+//! The rule of the counter from which seats draw numbers, in the terms of `atomic_table`.
 
 use atomic_table::{Join, Play, Split, TableRule};
 use std::collections::LinkedList;
 
-// What a seat knows: how many numbers there are, its parts of the right to know all that was drawn, what it drew, and how
-// often it found no number left. Proofs alone speak of it; no value of it is made.
+// What a seat knows: the number of tasks, the shares that it holds (with all shares one knows all that was drawn), what
+// it drew, and how often it found no number left. It is used in proofs only; no value of it is made.
 pub struct Hand {
     pub numbers: u64,
     pub parts: u64,
@@ -12,14 +12,14 @@ pub struct Hand {
     pub missed: u64,
 }
 
-/// How many numbers there are to draw, and how many seats draw them.
+/// How many numbers there are, and how many seats draw them.
 #[derive(Clone, Copy)]
 pub struct Shape {
     pub numbers: u64,
     pub seats: u64,
 }
 
-/// The rule: the numbers drawn by all seats are those below the word, each once, and the word stays within 64 bits.
+/// The rule: the seats have drawn the numbers below the counter, each once, and the counter stays within 64 bits.
 pub struct Dealing;
 
 impl TableRule<u64, Hand, Shape> for Dealing {
@@ -31,7 +31,7 @@ impl TableRule<u64, Hand, Shape> for Dealing {
     ghost first = { λ k. hand k.numbers k.seats [] 0 };
 }
 
-/// A draw: the seat has the number that it found, or has found none once more.
+/// A draw: the seat gets the number that it found, or has found no number left once more.
 pub struct Draws;
 
 impl Play<u64, Hand> for Draws {
@@ -41,7 +41,7 @@ impl Play<u64, Hand> for Draws {
     ghost then = { λ step me found after. after ≡ (dealt me.0 found, me.1) };
 }
 
-/// One seat more, which takes over one part; or two seats in one.
+/// Splits a seat in two, of which the new one takes one share; or joins two seats.
 pub struct OneMore;
 
 impl Split<Hand> for OneMore {

@@ -8,9 +8,9 @@ use atomic_table::{Seat as Token, Table};
 use std::alloc::{AllocError, Global};
 use std::marker::Model;
 
-/// A worker's seat at a board: with it numbers are drawn, by one thread at a time.
+/// A worker's seat at a board. It draws numbers, from one thread at a time.
 ///
-/// A contract sees what the seat has drawn, in order, and whether it has found that no number is left.
+/// In contracts it is the numbers drawn, in order, and whether it has found that none is left.
 #[derive(Drop)]
 pub struct Seat {
     token: Token<u64, Hand>,
@@ -32,7 +32,7 @@ impl Model for Seat {
     ghost invariant = { λ s. IsToken s.token.me s.done };
 }
 
-/// The numbers below some bound, for seats to draw: one word, which holds how many were asked for so far.
+/// The numbers below a bound, for seats to draw: one counter of the draws so far.
 #[derive(Drop)]
 pub struct Dealer {
     table: Table<u64, Hand, Shape, Dealing, Global>,
@@ -57,7 +57,7 @@ impl Model for Dealer {
 /// What was drawn from a board in all.
 #[derive(Clone, Copy, Debug, PartialEq, Eq)]
 pub struct Drawn {
-    /// The numbers below this one were drawn, and no other.
+    /// Exactly the numbers below this one were drawn.
     pub below: usize,
     /// Whether these are all numbers of the board.
     pub all: bool,
@@ -97,7 +97,7 @@ impl Dealer {
         Ok((dealer, all))
     }
 
-    /// Draws a number, by one step on the word. A seat that found none left takes no step more.
+    /// Draws a number, by one step on the counter. A seat that has found none left takes no further step.
     pub fn draw(&self, mut seat: Seat) -> (Option<usize>, Seat)
         requires { IsSeatOf self.now seat }
         ensures seat { IsSeatOf self.now result.1 }
@@ -134,7 +134,7 @@ impl Dealer {
         Some(first)
     }
 
-    // The word at the end.
+    // The counter at the end.
     fn end(self, seats: Vec<Seat>) -> u64
         requires { All (IsSeatOf self) seats.items }
         ensures { Ended self.numbers self.seats seats.items result }
@@ -151,8 +151,8 @@ impl Dealer {
         }
     }
 
-    /// Ends the drawing. What these seats have drawn are numbers under `below`, each drawn once; with all seats they are
-    /// all of them.
+    /// Ends the drawing. The numbers that these seats have drawn are less than `below`, each drawn once; given all
+    /// seats, they are all of these numbers.
     pub fn close(self, seats: Vec<Seat>) -> Drawn
         requires { All (IsSeatOf self) seats.items }
         ensures below { result.below ≤ self.numbers }
@@ -174,7 +174,7 @@ impl Dealer {
 
 type Words = Table<u64, Hand, Shape, Dealing, Global>;
 
-// The word at the end, and what the token knows of it.
+// The counter at the end, and what the token knows of it.
 fn end_with(table: Words, token: Token<u64, Hand>) -> u64
     requires word { IsOneWord table.shared.table_id }
     requires token { token.table_id ≡ table.shared.table_id }
@@ -186,7 +186,7 @@ fn end_with(table: Words, token: Token<u64, Hand>) -> u64
     word
 }
 
-// The word at the end, where no seat came back.
+// The counter at the end, if no seat came back.
 fn end_alone(table: Words) -> u64
     requires { IsOneWord table.shared.table_id }
 {

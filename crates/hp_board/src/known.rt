@@ -1,4 +1,4 @@
-//! What is known of one set-once cell.
+//! What is known of one cell.
 
 ghost use Rattle.std.specs.Prelude.{◌≡◌, IfNone, IfSome, IfOk, IfErr, None, Some};
 ghost use Rattle.once_cell.specs.Once.{cell_name};
@@ -8,7 +8,8 @@ use crate::witness::Witness;
 use once_cell::race::{Note, OnceBox};
 use std::marker::Model;
 
-/// What is known of a cell: the note learns more of it, the witness can be read through a `&`. Neither has any bytes.
+/// What is known of a cell: the note learns more, the witness can be read through a `&`. Neither takes space at run
+/// time.
 #[derive(Drop)]
 pub(crate) struct Known<T> {
     note: Note<T>,
@@ -50,7 +51,7 @@ impl<T: Drop> Known<T> {
         found
     }
 
-    /// Sets the cell, once. A cell that was set keeps its value, which is then known, and the box comes back.
+    /// Sets the cell, once. A cell that is already set keeps its value, which is then known, and the box comes back.
     pub(crate) fn post(&mut self, cell: &OnceBox<T>, value: Box<T>) -> Result<(), Box<T>>
         requires { self.old.cell ≡ cell_name cell.now }
         ensures cell { self.new.cell ≡ self.old.cell }
@@ -63,7 +64,7 @@ impl<T: Drop> Known<T> {
         done
     }
 
-    /// Of one cell the two know the same value, where both know any.
+    /// Two that know a value of the same cell know the same value.
     pub(crate) fn agrees(&self, other: &Known<T>)
         requires { self.now.cell ≡ other.now.cell }
         ensures { IfSome other.now.known (Agrees self.now.known) }

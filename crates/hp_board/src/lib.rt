@@ -1,15 +1,17 @@
-//! The board of a group of sibling firings, and the machine that says what a group does.
+//! The board of a group of sibling firings, and the machine that defines what a group may do.
 //!
-//! Workers try the tasks of a group at the same time, and the group's owner settles them in order. Between them stands a
-//! [`Board`]. From it the workers draw the numbers of the tasks, each number once, and on it each posts what its task
-//! wrote, for the workers of younger siblings to find. Nobody waits at a board and no lock is round it: a draw is one
-//! `fetch_add`, a post is one setting of a cell that is set once, a look is one read of such a cell.
+//! Workers try the tasks of a group at the same time, and the group's owner settles them in order. They meet at a
+//! [`Board`]. Workers draw the numbers of tasks from it, each number once. Each posts there what its task wrote, where
+//! the workers of later tasks find it. No lock is taken and nobody waits: a draw is one `fetch_add`, a post one store
+//! to a cell that is set once, a look one read of such a cell.
 //!
-//! [`Group`] is the plain machine of one group, of which each draw, look and post is one event.
+//! [`Group`] is the sequential machine of one group, in which each draw, look and post is one event.
 //!
-//! That siblings are subtransactions which leave what some serial order leaves is HiPAC's. That workers try them ahead of
-//! their turn, where the owner keeps what still holds, is this project's own: it stands in place of the locks of Moss's
+//! In HiPAC sibling firings are subtransactions whose effect is that of some serial order. That workers try tasks ahead
+//! of their turn, and the owner keeps what still holds, is this project's own choice. It replaces the locks of Moss's
 //! nested transactions.
+//!
+//! `AllocError` means that memory ran out.
 #![tactic(auto)]
 
 mod boards;

@@ -1,4 +1,4 @@
-//! The machine of one group: what its workers and its owner do, an event at a time.
+//! The machine of one group: its workers and its owner, one event at a time.
 
 ghost use Rattle.std.specs.Prelude.{◌≡◌, ℕ, ◌+◌, ◌<◌, ◌≤◌, length, List, [], ◌∷◌, ◌++◌, slice_get, slice_set, IfOk, IfSome, IsSome, Some, None, true, is_some, nat_lt, ◌&&◌, ◌==◌, not, replicate};
 ghost use Rattle.std.specs.List.{list_all, slice_index_or};
@@ -11,19 +11,19 @@ ghost use Rattle.hp_board.specs.Mapped.{machine, event as event_of};
 use std::alloc::{AllocError, Global};
 use std::marker::Model;
 
-/// One atomic step of a group's workers or of its owner. Workers and tasks go by number, from 0 on.
+/// One atomic step of a group's workers or of its owner. Workers and tasks are numbered from 0.
 #[derive(Debug, Drop)]
 pub enum Event<T> {
     /// The worker draws the next task.
     ///
-    /// Enabled while fewer tasks are drawn than there are.
+    /// Enabled while a task is left to draw.
     Draw {
         worker: usize,
     },
-    /// The worker looks at a task and sees what these elders of it, tasks of lower number, have posted. The task starts
-    /// from the base with their layers over it, in task order.
+    /// The worker looks at a task, and sees what these elders, earlier tasks, have posted. The task starts from the
+    /// base with their layers over it, in task order.
     ///
-    /// Enabled if the worker drew the task and has not looked at it, and each of the elders is posted.
+    /// Enabled if the worker has drawn the task and not looked at it, and each of the elders is posted.
     Look {
         worker: usize,
         task: usize,
@@ -31,7 +31,7 @@ pub enum Event<T> {
     },
     /// The worker posts the layer of a task.
     ///
-    /// Enabled if the worker drew the task and looked at it, and nothing is posted for it.
+    /// Enabled if the worker has drawn the task and looked at it, and nothing is posted for it.
     Post {
         worker: usize,
         task: usize,
@@ -43,7 +43,7 @@ pub enum Event<T> {
     Accept {
         task: usize,
     },
-    /// The owner settles a task by another layer, that of its own run of the task.
+    /// The owner settles a task by the layer of its own run of the task.
     ///
     /// Enabled if the task is the next to settle.
     Rerun {
@@ -52,18 +52,18 @@ pub enum Event<T> {
     },
 }
 
-// How a task was settled: by the layer posted, or by that of its rerun.
+// How a task was settled: by the posted layer, or by that of its rerun.
 #[derive(Drop)]
 enum Settling<T> {
     Accepted,
     Reran(T),
 }
 
-/// The machine of one group of sibling tasks: who drew each, what was seen and posted, and what is settled.
+/// The machine of one group of sibling tasks: which worker drew each, what was seen and posted, and what is settled.
 ///
-/// It is the group machine of the definitions, with layers of any type `T`. What a layer stands for is the reader's: each
-/// contract speaks of every way to read a layer as changes of cells, and of every base that the group may have begun on.
-/// No step takes memory: the room for all of them is made by [`new`](Group::new).
+/// It is the group machine of the definitions, for layers of any type `T`. The contracts hold for every reading of a
+/// layer as changes of cells, and for every base. No step allocates: [`new`](Group::new) reserves the space for all of
+/// them.
 #[derive(Drop)]
 pub struct Group<T> {
     drawn: Vec<usize>,
@@ -87,7 +87,7 @@ impl<T> Model for Group<T> {
 }
 
 impl<T: Drop> Group<T> {
-    /// A group of so many tasks at its start.
+    /// The machine of a group of `tasks` tasks, before the first event.
     pub fn new(alloc: Global, tasks: usize) -> Result<Group<T>, AllocError>
         ensures { IfOk result (λ g. (base : Cells) (changes : T → Changes) →
             machine base changes g ≡ opening base tasks) }
@@ -100,7 +100,7 @@ impl<T: Drop> Group<T> {
         })
     }
 
-    /// Whether the event is enabled now. One that is not changes nothing.
+    /// Whether the event is enabled.
     pub fn is_enabled(&self, event: &Event<T>) -> bool
         ensures { (base : Cells) (changes : T → Changes) →
             result ≡ is_enabled (machine base changes self.now) (event_of changes event.now) }
@@ -122,7 +122,7 @@ impl<T: Drop> Group<T> {
         }
     }
 
-    /// Takes one event: the machine's step. An event that is not enabled changes nothing.
+    /// The machine's step. An event that isn't enabled changes nothing.
     pub fn step(&mut self, event: Event<T>)
         ensures { (base : Cells) (changes : T → Changes) →
             machine base changes self.new
@@ -197,7 +197,7 @@ impl<T: Drop> Group<T> {
         self.settlings.push_reserved(Settling::Reran(layer));
     }
 
-    // The worker drew the task, has not looked at it, and these elders of it are posted.
+    // The worker has drawn the task and not looked at it, and these elders are posted.
     fn can_look(&self, worker: usize, task: usize, elders: &[usize]) -> bool
         ensures { result ≡ (is_drawn self.now worker task && (not (is_some (seen_at self.now task))
             && list_all (λ j. nat_lt j task && is_some (posted_at self.now j)) elders.now)) }
@@ -207,14 +207,14 @@ impl<T: Drop> Group<T> {
             && self.are_posted_elders(task, elders)
     }
 
-    // Each of these comes before the task and is posted.
+    // Each of these tasks precedes the task and is posted.
     fn are_posted_elders(&self, task: usize, elders: &[usize]) -> bool
         ensures { result ≡ list_all (λ j. nat_lt j task && is_some (posted_at self.now j)) elders.now }
     {
         elders.iter().all(|j| *j < task && self.is_posted(*j))
     }
 
-    // The worker drew the task and looked at it, and it is not posted.
+    // The worker has drawn the task and looked at it, and nothing is posted for it.
     fn can_post(&self, worker: usize, task: usize) -> bool
         ensures { result ≡ (is_drawn self.now worker task
             && (is_some (seen_at self.now task) && not (is_some (posted_at self.now task)))) }
@@ -222,7 +222,7 @@ impl<T: Drop> Group<T> {
         self.is_drawn_by(worker, task) && self.is_looked_at(task) && !self.is_posted(task)
     }
 
-    // The task is the next to settle, and posted.
+    // The task is the next to settle, and is posted.
     fn can_accept(&self, task: usize) -> bool
         ensures { result ≡ (task == length self.now.settled && is_some (posted_at self.now task)) }
     {
@@ -261,7 +261,7 @@ impl<T: Drop> Group<T> {
     }
 }
 
-// So many places with nothing in them.
+// A vector of `None`s.
 fn nones<X: Drop>(alloc: Global, count: usize) -> Result<Vec<Option<X>>, AllocError>
     ensures { IfOk result (λ v. v.items ≡ replicate count None) }
 {

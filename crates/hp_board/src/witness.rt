@@ -1,4 +1,4 @@
-//! What a note knows of a set-once cell, to be read through a `&`.
+//! What a note knows of a cell, readable through a `&`.
 
 ghost use Rattle.std.specs.Prelude.{◌≡◌, ℕ, IfSome};
 ghost use Rattle.std.specs.declared.option.Option.{Option};
@@ -9,7 +9,8 @@ ghost use Rattle.once_cell.specs.Once.{noted, Agrees};
 use once_cell::race::Note;
 use std::marker::{Model, PhantomData};
 
-/// What a note knew of its cell when the witness was taken. It has no bytes, and unlike a note it can be read by many.
+/// What a note knew of its cell when the witness was taken. It takes no space at run time, and unlike a note it can be
+/// shared.
 pub struct Witness<T> {
     marker: PhantomData<T>,
     pub ghost cell: { ℕ },
@@ -23,7 +24,7 @@ impl<T> Model for Witness<T> {
 }
 
 impl<T> Witness<T> {
-    /// A witness of what the note knows, which the note keeps.
+    /// A witness of what the note knows. The note keeps it.
     pub fn of(note: &mut Note<T>) -> Witness<T>
         ensures { (note.new ≡ note.old) × (result.cell ≡ note.old.cell) × (result.known ≡ note.old.known) }
     {
@@ -32,7 +33,7 @@ impl<T> Witness<T> {
         }
     }
 
-    /// Of one cell the two know the same value, where both know any.
+    /// Two witnesses of the same cell know the same value, where both know one.
     pub fn agrees(&self, other: &Witness<T>)
         requires { self.now.cell ≡ other.now.cell }
         ensures { IfSome other.now.known (Agrees self.now.known) }

@@ -1,4 +1,4 @@
--- A detector that goes along a list.
+-- A detector along a list.
 use Rattle.std.proofs.Common.{◌≡◌, refl, sym, ap, ap₂, subst, ◌∙◌, ℕ, ◌+◌, ◌<◌, suc, List, [], ◌∷◌, ◌++◌, length, take, drop, get_or, map, append_assoc, arith, drop-cons, Option}
 use Rattle.std.specs.Prelude.{option_map}
 use Rattle.std.proofs.lemmas.List.{take_more, map-append}
@@ -9,7 +9,7 @@ use Rattle.hp_value.specs.declared.occurrence.Occurrence.{Occurrence}
 use Rattle.hp_value.specs.Mapped.{primitive, occurrence}
 use Rattle.hp_detect.specs.DetectorState.{DetectorState, Knows, occurrences_along}
 
--- the past after these
+-- the past followed by these
 abbrev pub grown : History → List Primitive → History
 grown past [] = past
 grown past (p ∷ ps) = grown (p ∷ past) ps
@@ -18,11 +18,11 @@ grown-push : (past : History) (ps : List Primitive) (p : Primitive) → grown pa
 grown-push past [] p = refl
 grown-push past (q ∷ ps) p = grown-push (q ∷ past) ps p
 
--- the past of a list's first i
+-- the past of the first i items of a list
 abbrev pub past_at : List Signalled → ℕ → History
 past_at all i = grown [] (map primitive (take i all))
 
--- the detector d knows the first i of the list, and what was answered so far goes on as the whole list's answers
+-- the detector d knows the first i items of the list, and the answers so far continue as the whole list's answers
 pub record GoesAlong (e : Event) (all : List Signalled) (i : ℕ) (d : DetectorState) (answered : List (Option Occurrence)) : Type 0 where
   pub event : d.event ≡ e
   pub knows : Knows d (past_at all i)

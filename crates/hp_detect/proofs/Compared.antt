@@ -1,4 +1,4 @@
--- What two detectors keep is compared as what they know is.
+-- Comparing what two detectors keep compares what they know.
 use Rattle.std.proofs.Common.{◌≡◌, refl, ap, sym, ◌∙◌, [], true, Option, None, Some}
 use Rattle.std.specs.Prelude.{is_none}
 use Rattle.std.specs.Option.{option_eq}

@@ -1,4 +1,4 @@
--- Parts of lists: those that begin at a place and aren't empty, and whether two lists are alike there.
+-- Non-empty parts of lists from an index, and whether two lists are equal there.
 use Rattle.std.proofs.Common.{◌≡◌, refl, ap, ap₂, sym, ◌∙◌, ℕ, zero, suc, ◌+◌, ◌-◌, ◌<◌, ◌≤◌, arith, List, [], ◌∷◌, ◌++◌, length, map, take, drop, length-append, length-drop, Bool, true, false, ◌&&◌}
 use Rattle.std.proofs.lemmas.List.{append-nil, drop-append-le, take-append-le, length-map, take-map, drop-map, drop-drop}
 use Rattle.std.proofs.Math.ListN.{drop_of_length-le}
@@ -9,12 +9,12 @@ use mathlib.Core.Bool.{true≢false}
 use Rattle.hp_value.proofs.Lists.{pointwise_map}
 use Rattle.hp_detect.specs.Ropes.{IsRun}
 
--- ---- what is left from a place on
+-- ---- the rest of a list from an index
 
 pub drop_more : {A : Type 0} (n : ℕ) (xs ys : List A) → n < length xs → drop (n + 1) xs ++ ys ≡ drop 1 (drop n xs ++ ys)
 drop_more n xs ys low = sym (drop-append-le 1 (drop n xs) ys (omega (arith, low, length-drop n xs)) ∙ ap (λ zs. zs ++ ys) (drop-drop 1 n xs))
 
--- the rest of a list of items is the rest of what they stand for
+-- the rest of a list of items maps to the rest of the mapped list
 pub rest_map : {X A : Type 0} (f : X → A) (xs : List X) (ys : List A) (at : ℕ) → map f xs ≡ ys
     → map f (take (length xs - at) (drop at xs)) ≡ drop at ys
 rest_map f xs ys at is =
@@ -43,7 +43,7 @@ module _ {A : Type 0} where
   pub within_right : (xs ys : List A) (at n : ℕ) → n ≡ length xs → n ≤ at → at < length (xs ++ ys) → at - n < length ys
   within_right xs ys at n e low within = omega (arith, e, low, within, length-append xs ys)
 
--- ---- whether two lists are alike
+-- ---- whether two lists are equal
 
 and_false : (a b : Bool) → b ≡ false → (a && b) ≡ false
 and_false true b h = h
@@ -79,7 +79,7 @@ module _ {A : Type 0} (E : A → A → Bool) where
   differ_from (suc n) (x ∷ xs) [] h = refl
   differ_from (suc n) (x ∷ xs) (y ∷ ys) h = and_false (E x y) _ (differ_from n xs ys h)
 
-  -- the first items of two runs, and whether these are alike
+  -- the first items of two runs, and whether they are equal
   module _ {X : Type 0} (f : X → A) (here there : List X) (xs ys : List A) (at n : ℕ) (h : IsRun (map f here) at xs) (k : IsRun (map f there) at ys) (low : n ≤ length here) (low' : n ≤ length there) where
     next : (run : List X) (zs : List A) → IsRun (map f run) at zs → n ≤ length run → take n (drop at zs) ≡ map f (take n run)
     next run zs h low =

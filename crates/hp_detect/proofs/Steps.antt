@@ -1,4 +1,4 @@
--- A step of what is known is a step of the past.
+-- A step of what is known matches a step of the past.
 use Rattle.std.proofs.Common.{◌≡◌, refl, ap, ap₂, sym, ◌∙◌, List, [], ◌∷◌, ◌++◌, length, drop, Bool, true, false, ◌&&◌, ◌||◌, Option, None, Some}
 use Rattle.std.specs.Prelude.{is_some, option_to_list, slice_get, if◌then◌else◌}
 use Rattle.std.specs.Option.{option_or}

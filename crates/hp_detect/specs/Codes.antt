@@ -1,4 +1,4 @@
--- How events and knowledge are stored: a code of each.
+-- Codes of events and knowledge: how they are stored.
 use Rattle.std.proofs.Common.{◌≡◌, refl, ap, ap₂, ◌∙◌}
 use Rattle.std.specs.Coded.{Coded, coded_list, coded_option, codes}
 use base.Stored.{Gv, gnil, gnum, gcons}

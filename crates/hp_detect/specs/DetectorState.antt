@@ -1,4 +1,4 @@
--- What a detector is to its callers.
+-- What a detector is in contracts.
 use Rattle.std.specs.Prelude.{◌≡◌, refl, List, [], ◌∷◌, Option}
 use Rattle.std.specs.Coded.{Coded, code_by, coded×}
 use Rattle.hp_model.specs.Occurrences.{Primitive, History, Occurrence}

@@ -1,4 +1,4 @@
--- What a rope has, as a list, and that its counts are right.
+-- The items of a rope as a list, and that its counts are right.
 use Rattle.std.specs.Prelude.{◌≡◌, ℕ, ◌<◌, ◌+◌, List, [], ◌++◌, drop, length, Option, Some, None}
 use Rattle.std.specs.declared.sync.Arc.{Arc}
 use Rattle.std.specs.declared.alloc.Global.{Global}
@@ -10,7 +10,7 @@ abbrev pub laid_out : Rope → List Occurrence
 laid_out (Leaf chunk) = chunk
 laid_out (Both' count p first q second) = laid_out first ++ laid_out second
 
--- no chunk is empty, and each node says how many it has
+-- no chunk is empty, and each node's count is right
 abbrev pub IsCounted : Rope → Type 0
 IsCounted (Leaf chunk) = 0 < length chunk
 IsCounted (Both' count p first q second) = (count ≡ length (laid_out first) + length (laid_out second)) × IsCounted first × IsCounted second
@@ -24,7 +24,7 @@ abbrev pub RestIsCounted : Option (Arc Rope Global) → Type 0
 RestIsCounted None = Unit {0}
 RestIsCounted (Some rope) = IsCounted rope.value
 
--- a part of a list that begins at a place and isn't empty
+-- a non-empty part of a list that begins at an index
 pub record IsRun {A : Type 0} (run : List A) (at : ℕ) (all : List A) : Type 0 where
   pub begins : drop at all ≡ run ++ drop (at + length run) all
   pub some : 0 < length run

@@ -9,7 +9,7 @@ use Rattle.hp_model.specs.Knowledge.{Knowledge, of_either, of_sequence, of_closu
 abbrev pub Stepped : Type 0
 Stepped = Option Occurrence × Knowledge
 
--- what is gathered after a place of the end or none, at which the body occurred or didn't
+-- what a closure has gathered after a step at which its end occurred or not, and its body occurred or not
 abbrev pub gathered_after : (ended : Bool) → (body gathered_before : Option Occurrence) → Option Occurrence
 gathered_after true o u = None
 gathered_after false None u = u

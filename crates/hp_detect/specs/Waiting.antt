@@ -1,4 +1,4 @@
--- What waits in a queue, and what is true of its parts.
+-- The items of a queue, and the invariants of its parts.
 use Rattle.std.specs.Prelude.{◌≡◌, ℕ, ◌≤◌, List, ◌++◌, drop, length, Option}
 use Rattle.std.specs.declared.sync.Arc.{Arc}
 use Rattle.std.specs.declared.alloc.Global.{Global}
@@ -9,7 +9,7 @@ use Rattle.hp_detect.specs.Ropes.{rest_laid_out, RestIsCounted}
 abbrev pub waiting : (taken : ℕ) → (head : List Occurrence) → (middle : Option (Arc Rope Global)) → (tail : List Occurrence) → List Occurrence
 waiting taken head middle tail = drop taken head ++ (rest_laid_out middle ++ tail)
 
--- how many wait is counted, and no more of the head is taken than it has
+-- the count is the number of items, and no more of the head is taken than it has
 pub record IsKept (count taken : ℕ) (head : List Occurrence) (middle : Option (Arc Rope Global)) (tail : List Occurrence) : Type 0 where
   pub counted : count ≡ length (waiting taken head middle tail)
   pub within_head : taken ≤ length head

@@ -1,4 +1,4 @@
-//! A few occurrences in order.
+//! Short lists of occurrences.
 
 ghost use Rattle.std.specs.Prelude.{◌≡◌, ◌++◌, ◌∷◌, ◌≤◌, [], drop, length, map, IfOk};
 ghost use Rattle.hp_value.specs.Mapped.{occurrence};
@@ -8,7 +8,7 @@ use std::alloc::{AllocError, Global};
 use std::marker::Model;
 use std::sync::Arc;
 
-/// A few occurrences in order. Copies share them, and an empty chunk takes no memory.
+/// A short list of occurrences. Clones share it, and an empty chunk allocates nothing.
 #[derive(Debug, Drop)]
 pub struct Chunk {
     kept: Option<Arc<Vec<Arc<Occurrence>>>>,
@@ -25,14 +25,13 @@ impl Model for Chunk {
 }
 
 impl Chunk {
-    /// A chunk of nothing.
+    /// An empty chunk.
     pub fn empty() -> Chunk
         ensures { result ≡ [] }
     {
         Chunk { kept: None }
     }
 
-    /// What it has.
     fn occurrences(&self) -> &[Arc<Occurrence>]
         ensures { map (λ o. occurrence o.value) result.now ≡ self.now }
     {
@@ -42,7 +41,7 @@ impl Chunk {
         }
     }
 
-    /// What it has from a place on.
+    /// The occurrences from an index.
     pub fn from(&self, at: usize) -> &[Arc<Occurrence>]
         requires { at ≤ length self.now }
         ensures { map (λ o. occurrence o.value) result.now ≡ drop at self.now }
@@ -50,14 +49,14 @@ impl Chunk {
         &self.occurrences()[at..]
     }
 
-    /// How many it has.
+    /// The number of occurrences.
     pub fn len(&self) -> usize
         ensures { result ≡ length self.now }
     {
         self.occurrences().len()
     }
 
-    /// The chunk with one more at its end. It costs a copy of the list, which shares the occurrences.
+    /// The chunk with one more occurrence at its end. It copies the list, which shares the occurrences.
     pub fn with(&self, alloc: Global, last: Occurrence) -> Result<Chunk, AllocError>
         ensures { IfOk result (λ c. c ≡ self.now ++ occurrence last ∷ []) }
     {
@@ -72,7 +71,7 @@ impl Chunk {
 impl Clone for Chunk {
     ghost is_clone = { λ c d. d ≡ c };
 
-    /// The same chunk, shared. It takes no memory.
+    /// The same chunk, shared. It allocates nothing.
     fn clone(&self) -> Result<Chunk, AllocError> {
         let kept = match &self.kept {
             Some(kept) => Some(Arc::try_clone(kept)?),

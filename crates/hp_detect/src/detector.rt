@@ -17,17 +17,17 @@ use std::alloc::{AllocError, Global};
 use std::marker::Model;
 use std::sync::Arc;
 
-/// What one event's rule remembers of its past: an event, with what matters of a past for the event's later places.
+/// An event, with what of the past matters for its later occurrences.
 ///
-/// This is the reference that the specification asks for, and no product calls it: a store keeps a rule's `Knowledge`,
-/// since the rule has the event.
+/// The specification defines the detector. The engine keeps only a rule's `Knowledge`, since the rule has the event.
 ///
-/// To a clause it is its event and what it knows (`specs/DetectorState.antt`). It keeps nothing else: for a sequence the
-/// occurrences that are not yet taken, for a closure what was gathered since its last end, and for a pure event nothing.
+/// In contracts a detector is its event and what it knows (`specs/DetectorState.antt`). It keeps no more than that: for
+/// a sequence the occurrences of the first arm that are not yet taken, for a closure what it has gathered since its
+/// last end, and for a pure event nothing.
 #[derive(Debug, Drop)]
 pub struct Detector {
     expr: Arc<EventExpr>,
-    // None for a pure event.
+    // `None` for a pure event.
     kept: Option<Arc<Known>>,
 }
 
@@ -48,14 +48,14 @@ impl Model for Detector {
 }
 
 impl Detector {
-    /// A detector of the event that knows of no past.
+    /// A detector of the event, with an empty past.
     ///
-    /// It shares the event, and takes no memory where the event is pure. An error means that memory ran out.
+    /// It shares the event. For a pure event it allocates nothing.
     pub fn fresh(alloc: Global, expr: &Arc<EventExpr>) -> Result<Detector, AllocError>
         ensures event { IfOk result (λ d. d.event ≡ event expr.now.value) }
         ensures knows { IfOk result (λ d. Knows d []) }
 
-        // Of a pure event there is nothing to know.
+        // A pure event needs no knowledge of the past.
         ensures pure { IfOk result (λ d. model.is_pure d.event ≡ true → (past : History) → Knows d past) }
     {
         let kept = if is_pure(expr) {
@@ -69,11 +69,11 @@ impl Detector {
         })
     }
 
-    /// Goes one place on: the occurrence of the event where `prim` is signalled next, if it occurs there.
+    /// One step: the occurrence of the event where `prim` is signalled next, if it occurs there.
     ///
-    /// Whatever past the detector knew before, the answer is that of the whole past with `prim` after it, and the detector
-    /// then knows that past. Where no pattern of the event matches the answer is `None`, nothing changes and no memory is
-    /// taken. An error means that memory ran out, and nothing has changed.
+    /// Whatever past the detector knew before, the answer is that of this past followed by `prim`, and the detector
+    /// then knows the longer past. If no pattern of the event matches, the answer is `None`, nothing changes and
+    /// nothing is allocated. An error means that memory ran out; the detector is then as before.
     pub fn step(&mut self, alloc: Global, prim: &Prim) -> Result<Option<Occurrence>, AllocError>
         ensures event { self.new.event ≡ self.old.event }
         ensures answers { IfOk result (λ o. (past : History) → Knows self.old past
@@ -104,9 +104,7 @@ impl PartialEq for Detector {
 
     ghost laws = { partial_equiv_from_equiv detector_equiv };
 
-    /// Whether two detectors have one event and know the same. Nothing else is compared, as they keep nothing else.
-    ///
-    /// It takes no memory.
+    /// Whether two detectors have the same event and know the same. It allocates nothing.
     fn eq(&self, other: &Detector) -> bool
         ensures test { result ≡ detector_same self.now other.now }
         ensures same { IsTrue result ↔ (self.now ≡ other.now) }
@@ -124,9 +122,9 @@ impl Eq for Detector {
 impl Clone for Detector {
     ghost is_clone = { λ d e. e ≡ d };
 
-    /// A copy, which shares all that the detector keeps and takes no memory.
+    /// A clone that shares all that the detector keeps, and allocates nothing.
     ///
-    /// An error means that std refused a copy of an `Arc`.
+    /// An error means that an `Arc` could not be cloned.
     fn clone(&self) -> Result<Detector, AllocError> {
         let kept = match &self.kept {
             Some(kept) => Some(Arc::try_clone(kept)?),
@@ -139,10 +137,8 @@ impl Clone for Detector {
     }
 }
 
-/// What a fresh detector of the event answers, place by place, where these are signalled: at each place the event's
-/// occurrence by the whole list so far.
-///
-/// An error means that memory ran out.
+/// What a fresh detector answers, step by step, when these are signalled: at each step the event's occurrence at the
+/// end of the list so far.
 pub fn detect(
     alloc: Global,
     expr: &Arc<EventExpr>,

@@ -11,22 +11,22 @@ use hp_event::Pattern;
 use hp_value::{Occurrence, Prim};
 use std::alloc::{AllocError, Global};
 
-/// An event: a pattern of primitive occurrences, or what HiPAC makes of two events by disjunction, sequence and closure.
+/// An event: a pattern of primitive occurrences, or HiPAC's disjunction, sequence or closure of two events.
 ///
-/// When and with which parts each occurs is this project's own choice.
+/// When a composite event occurs and with which parts is this project's own choice.
 #[derive(Debug, Drop)]
 pub enum EventExpr {
-    /// It occurs where a primitive occurrence matches.
+    /// It occurs where the pattern matches.
     One(Pattern),
-    /// It occurs where an arm does, with the parts and the count of the first arm that does.
+    /// It occurs where an arm does. Its parts and count are those of the first arm that does.
     Or(Box<EventExpr>, Box<EventExpr>),
-    /// It occurs where the second arm does, if an occurrence of the first arm stands before that place which no earlier
-    /// occurrence of the sequence took. It takes the oldest such one; its parts are that one's and then the second's,
-    /// and its count is the sum.
+    /// It occurs where the second arm does, if the first arm has an earlier occurrence that no occurrence of this
+    /// sequence has taken. It takes the oldest one. Its parts are that one's followed by the second arm's, and its
+    /// count is the sum.
     Seq(Box<EventExpr>, Box<EventExpr>),
-    /// It occurs where the second arm, its end, does, if an occurrence of the first arm, its body, stands before that
-    /// place and after the end's place before. It occurs once: its parts are those of the last such one and then the
-    /// end's, and its count is the sum over all such ones.
+    /// It occurs where its end, the second arm, does, if its body, the first arm, has occurred since the end's previous
+    /// occurrence. It occurs once: its parts are those of the body's last such occurrence followed by the end's, and
+    /// its count is the sum of the counts of all of them.
     Closure(Box<EventExpr>, Box<EventExpr>),
 }
 
@@ -60,10 +60,8 @@ impl Eq for EventExpr {
 }
 
 impl EventExpr {
-    /// Whether a pattern of the event matches. Where none does the event doesn't occur, and a detector of it doesn't
-    /// change.
-    ///
-    /// It takes no memory.
+    /// Whether a pattern of the event matches. If none does, the event doesn't occur and its detector doesn't change.
+    /// It allocates nothing.
     pub fn mentions(&self, prim: &Prim) -> bool
         ensures { result ≡ model.mentions (event self.now) (primitive prim.now) }
     {
@@ -76,10 +74,8 @@ impl EventExpr {
     }
 }
 
-/// Whether the event is made of patterns and disjunctions alone, so that no past matters and a detector of it keeps
-/// nothing.
-///
-/// It takes no memory.
+/// Whether the event consists of patterns and disjunctions alone. Then the past doesn't matter, and a detector keeps
+/// nothing. It allocates nothing.
 pub fn is_pure(expr: &EventExpr) -> bool
     ensures { result ≡ model.is_pure (event expr.now) }
 {
@@ -92,7 +88,7 @@ pub fn is_pure(expr: &EventExpr) -> bool
 
 /// The occurrence of a pure event where this is signalled, if it occurs there. It is the same after each past.
 ///
-/// Where no pattern of the event matches no memory is taken. An error means that memory ran out.
+/// If no pattern of the event matches, nothing is allocated.
 pub fn occurs_now(
     alloc: Global,
     expr: &EventExpr,

@@ -1,4 +1,4 @@
-//! What is known of a past, without the event that it matters for.
+//! What is known of a past, apart from its event.
 
 ghost use Rattle.std.specs.Prelude.{◌≡◌, option_map, IfOk, [], ◌∷◌};
 ghost use Rattle.hp_model.specs.Events as model;
@@ -15,8 +15,8 @@ use std::alloc::{AllocError, Global};
 use std::marker::Model;
 use std::sync::Arc;
 
-/// What of a past matters for an event's later places: what a detector of the event knows. It is kept where a rule names
-/// the event, so that the event isn't kept twice.
+/// What of a past matters for an event's later occurrences: what a detector keeps, without the event. The rule has the
+/// event, which so isn't kept twice.
 #[derive(Debug, Drop)]
 pub struct Knowledge {
     kept: Arc<Known>,
@@ -36,9 +36,7 @@ impl Model for Knowledge {
 }
 
 impl Knowledge {
-    /// What is known of no past.
-    ///
-    /// An error means that memory ran out.
+    /// What is known of an empty past.
     pub fn fresh(alloc: Global, expr: &EventExpr) -> Result<Knowledge, AllocError>
         ensures { IfOk result (λ k. k ≡ knowledge (event expr.now) []) }
     {
@@ -47,10 +45,8 @@ impl Knowledge {
         })
     }
 
-    /// Goes one place on: the occurrence of the event where `prim` is signalled next, if it occurs there, and what is known
-    /// then. Where this is what is known of a past, the answer is that of the whole past with `prim` after it.
-    ///
-    /// An error means that memory ran out.
+    /// One step: the occurrence of the event where `prim` is signalled next, if it occurs there, and what is known
+    /// then. If this is what is known of a past, the answer is that of this past followed by `prim`.
     pub fn step(
         &self,
         alloc: Global,
@@ -76,7 +72,7 @@ impl PartialEq for Knowledge {
 
     ghost laws = { partial_equiv_from_equiv knowledge_equiv };
 
-    /// Whether the same is known. It takes no memory.
+    /// Whether two know the same. It allocates nothing.
     fn eq(&self, other: &Knowledge) -> bool
         ensures test { result ≡ knowledge_same self.now other.now }
         ensures same { IsTrue result ↔ (self.now ≡ other.now) }
@@ -94,9 +90,9 @@ impl Eq for Knowledge {
 impl Clone for Knowledge {
     ghost is_clone = { λ k l. l ≡ k };
 
-    /// The same knowledge, shared. It takes no memory.
+    /// The same knowledge, shared. It allocates nothing.
     ///
-    /// An error means that std refused a copy of an `Arc`.
+    /// An error means that an `Arc` could not be cloned.
     fn clone(&self) -> Result<Knowledge, AllocError> {
         Ok(Knowledge {
             kept: Arc::try_clone(&self.kept)?,

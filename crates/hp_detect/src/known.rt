@@ -10,17 +10,17 @@ use hp_value::Occurrence;
 use std::alloc::{AllocError, Global};
 use std::sync::Arc;
 
-/// What matters of the past for an event's later places, part by part of the event. Copies share their parts.
+/// What of the past matters for an event's later occurrences, for each part of the event. Clones share their parts.
 #[derive(Debug, Drop)]
 pub enum Known {
-    /// Nothing matters for a pattern.
+    /// For a pattern nothing matters.
     Nothing,
-    /// What matters for the arms of a disjunction.
+    /// For a disjunction: what matters for its arms.
     Either(Arc<Known>, Arc<Known>),
-    /// What matters for the arms of a sequence, and the first arm's occurrences that are not yet taken.
+    /// For a sequence: what matters for its arms, and the occurrences of the first arm that are not yet taken.
     Sequence(Arc<Known>, Arc<Known>, Queue),
-    /// What matters for a closure's body and its end, and what was gathered since the last end: the parts of the body's
-    /// last occurrence, with the sum of their counts.
+    /// For a closure: what matters for its body and its end, and what was gathered since the last end. That is the
+    /// parts of the body's last occurrence, with the sum of the counts of all its occurrences.
     Closed(Arc<Known>, Arc<Known>, Option<Arc<Occurrence>>),
 }
 
@@ -49,7 +49,7 @@ impl PartialEq for Known {
     }
 }
 
-/// What is known of no past.
+/// What is known of an empty past.
 pub fn fresh(alloc: Global, expr: &EventExpr) -> Result<Arc<Known>, AllocError>
     ensures { IfOk result (λ k. known k.value ≡ model.knowledge (event expr.now) []) }
 {

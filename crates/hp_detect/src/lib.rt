@@ -1,8 +1,10 @@
-//! Composite events, and detectors that find their occurrences while primitive occurrences are signalled.
+//! Composite events, and detectors that find their occurrences as primitive occurrences are signalled.
 //!
-//! A detector forgets the past, and answers as the whole past says: `Detector::step` states it of one step, `detect` of a
-//! whole list. `specs/Mapped.antt` says what the types stand for in `hp_model`, `specs/DetectorState.antt` what a detector
-//! is to a clause.
+//! A detector keeps only what matters of the past, and answers as the whole past says: `Detector::step` states this for
+//! one step, `detect` for a whole list. `specs/Mapped.antt` says what the types stand for in `hp_model`,
+//! `specs/DetectorState.antt` what a detector is in contracts.
+//!
+//! `AllocError` means that memory ran out. All arguments are then as before.
 #![tactic(auto)]
 
 mod chunk;

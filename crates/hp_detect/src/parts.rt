@@ -1,4 +1,4 @@
-//! Occurrences made of others.
+//! Occurrences made from others.
 
 ghost use Rattle.std.specs.Prelude.{◌≡◌, ◌++◌, map, option_map, IfOk};
 ghost use Rattle.hp_model.specs.Events as model;
@@ -10,7 +10,7 @@ use hp_value::{Occurrence, Prim};
 use std::alloc::{AllocError, Global};
 use std::sync::Arc;
 
-/// A primitive occurrence as an occurrence: its own one part, with count 1 (this project's own choice).
+/// A primitive occurrence as an occurrence: it is the only part, and the count is 1 (this project's own choice).
 pub fn single(alloc: Global, prim: &Prim) -> Result<Occurrence, AllocError>
     ensures { IfOk result (λ o. occurrence o ≡ primitive_occurrence (primitive prim.now)) }
 {
@@ -19,7 +19,7 @@ pub fn single(alloc: Global, prim: &Prim) -> Result<Occurrence, AllocError>
     Ok(Occurrence { parts, count: 1 })
 }
 
-/// An occurrence of a sequence: the parts of both, and the sum of their counts.
+/// An occurrence of a sequence: the parts of both arms, and the sum of their counts.
 pub fn joined(
     alloc: Global,
     first: Option<&Occurrence>,
@@ -36,7 +36,7 @@ pub fn joined(
     }))
 }
 
-/// An occurrence of a closure: the parts of what was gathered and of the end, with the count that was gathered.
+/// An occurrence of a closure: the gathered parts followed by the end's, with the gathered count.
 pub fn closed(
     alloc: Global,
     gathered: Option<&Occurrence>,
@@ -53,8 +53,8 @@ pub fn closed(
     }))
 }
 
-/// What is gathered for a closure after a place at which its end occurred or didn't, and its body did or didn't: the parts
-/// of the body's last occurrence since the last end, with the sum of their counts.
+/// What a closure has gathered after a step at which its end and its body may have occurred: the parts of the body's
+/// last occurrence since the last end, with the sum of the counts since then.
 pub fn gathered(
     alloc: Global,
     ended: bool,
@@ -78,7 +78,7 @@ pub fn gathered(
     }
 }
 
-/// The parts of one occurrence and then those of another.
+/// The parts of one occurrence followed by those of another.
 fn followed(alloc: Global, first: &[Prim], mut last: Vec<Prim>) -> Result<Vec<Prim>, AllocError>
     ensures { IfOk result (λ v. map primitive v.items ≡ map primitive first.now ++ map primitive last.items) }
 {

@@ -1,4 +1,4 @@
-//! Occurrences that wait.
+//! Queues of occurrences.
 
 ghost use Rattle.std.specs.Prelude.{◌≡◌, [], ◌++◌, ◌∷◌, ◌<◌, ◌≤◌, ◌+◌, drop, length, map, option_map, option_to_list, if◌then◌else◌, slice_get, false, IfOk};
 ghost use lib.Pointwise.{pointwise};
@@ -13,13 +13,14 @@ use std::alloc::{AllocError, Global};
 use std::marker::Model;
 use std::sync::Arc;
 
-/// How many occurrences a chunk has at most. Each that arrives costs a copy of fewer than that.
+/// The most occurrences in a chunk. Adding an occurrence to a queue copies fewer than that.
 const MOST_IN_CHUNK: usize = 8;
 
-/// Occurrences that wait to be taken, the oldest first.
+/// A first-in, first-out queue of occurrences.
 ///
-/// A queue never changes: a step makes a new one, which shares nearly all that waits (`after`). They wait in the head
-/// behind those that are taken, then in the middle, then in the tail. What is taken is let go with its chunk.
+/// Queues are immutable: a step makes a new queue, which shares nearly all items with the old one (`after`). The items
+/// are those of the head that are not taken yet, then the middle's, then the tail's. A chunk is freed when all its
+/// items are taken.
 #[derive(Debug, Drop)]
 pub struct Queue {
     count: usize,
@@ -51,18 +52,18 @@ impl PartialEq for Queue {
 
     ghost laws = { partial_equiv_from_equiv waiting_equiv };
 
-    /// Whether the same waits in both. It takes no memory.
+    /// Whether both queues have the same items. It allocates nothing.
     ///
-    /// Queues of different lengths, and those whose newest differ, are told apart at once. Others are compared from the
-    /// oldest on, up to the first that differ, however each has them in chunks. So where the queues are equal the time
-    /// goes with their length, and each chunk costs a way down both trees.
+    /// Lengths and newest items are compared first. Then items are compared from the oldest up to the first difference,
+    /// however each queue divides them into chunks. So the time for equal queues is linear in their length, and each
+    /// chunk costs a walk down both trees.
     fn eq(&self, other: &Queue) -> bool {
         self.len() == other.len() && agree(self, other)
     }
 }
 
 impl Queue {
-    /// A queue in which nothing waits.
+    /// An empty queue.
     pub fn new() -> Queue
         ensures { result ≡ [] }
     {
@@ -75,14 +76,14 @@ impl Queue {
         }
     }
 
-    /// How many wait.
+    /// The number of items.
     fn len(&self) -> usize
         ensures { result ≡ length self.now }
     {
         self.count
     }
 
-    /// The one that has waited longest.
+    /// The oldest item.
     pub fn first(&self) -> Option<&Occurrence>
         ensures { option_map (λ o. occurrence o.now) result ≡ slice_get self.now 0 }
     {
@@ -95,11 +96,10 @@ impl Queue {
         }
     }
 
-    /// The queue after one more place: without the one that has waited longest if it is taken, and with the one that
-    /// arrives there, if one does.
+    /// The queue after one step: without its oldest item if that is taken, and with the item that arrives, if one does.
     ///
-    /// However many wait, it makes a few nodes and copies a part of one chunk. Where a chunk is used up or full, it also
-    /// makes nodes of the middle's tree, as many as its height. An error means that memory ran out.
+    /// It makes a few nodes and copies a part of one chunk, whatever the length. Where a chunk is used up or full, it
+    /// also makes a path of nodes of the middle's tree, as many as its height.
     pub fn after(
         &self,
         alloc: Global,
@@ -119,7 +119,6 @@ impl Queue {
         }
     }
 
-    /// The same queue, shared.
     fn shared(&self) -> Result<Queue, AllocError>
         ensures { IfOk result (λ q. q ≡ self.now) }
     {
@@ -132,7 +131,7 @@ impl Queue {
         })
     }
 
-    /// The queue without the one that has waited longest.
+    /// The queue without its oldest item.
     fn without_first(&self, alloc: Global) -> Result<Queue, AllocError>
         ensures { IfOk result (λ q. q ≡ drop 1 self.now) }
     {
@@ -167,7 +166,7 @@ impl Queue {
         })
     }
 
-    /// The queue with one more at its end. No memory can hold so many that they have no count.
+    /// The queue with one more item at its end. The length can't overflow, since memory holds fewer items than that.
     fn with(self, alloc: Global, last: Occurrence) -> Result<Queue, AllocError>
         ensures { IfOk result (λ q. q ≡ self ++ occurrence last ∷ []) }
     {
@@ -197,7 +196,7 @@ impl Queue {
         })
     }
 
-    /// What waits from a place on, as far as one chunk has it.
+    /// The items from an index up to the end of the chunk that holds it.
     fn run(&self, at: usize) -> &[Arc<Occurrence>]
         requires { at < length self.now }
         ensures { IsRun (map (λ o. occurrence o.value) result.now) at self.now }
@@ -211,7 +210,7 @@ impl Queue {
     }
 }
 
-/// What waits behind the head, from a place on, as far as one chunk has it.
+/// The same for the items after the head.
 fn behind<'a>(middle: &'a Option<Arc<Rope>>, tail: &'a Chunk, at: usize) -> &'a [Arc<Occurrence>]
     requires counted { RestIsCounted middle.now }
     requires within { at < length (rest_laid_out middle.now ++ tail.now) }
@@ -228,7 +227,6 @@ fn behind<'a>(middle: &'a Option<Arc<Rope>>, tail: &'a Chunk, at: usize) -> &'a 
     }
 }
 
-/// The same middle, shared.
 fn shared(middle: &Option<Arc<Rope>>) -> Result<Option<Arc<Rope>>, AllocError>
     ensures { IfOk result (λ m. (rest_laid_out m ≡ rest_laid_out middle.now) × (RestIsCounted middle.now → RestIsCounted m)) }
 {
@@ -238,7 +236,7 @@ fn shared(middle: &Option<Arc<Rope>>) -> Result<Option<Arc<Rope>>, AllocError>
     }
 }
 
-/// Whether the same waits in two queues of one length.
+/// Whether two queues of the same length have the same items.
 fn agree(one: &Queue, other: &Queue) -> bool
     requires { length one.now ≡ length other.now }
     ensures { result ≡ pointwise occurrence_same one.now other.now }
@@ -258,7 +256,7 @@ fn agree(one: &Queue, other: &Queue) -> bool
     true
 }
 
-/// How many from a place on are found to be alike in one go, which is none where the two differ.
+/// How many items from an index are found equal in one go; 0 where the two differ.
 fn alike_from(one: &Queue, other: &Queue, at: usize) -> usize
     requires within { at < length one.now }
     requires within_other { at < length other.now }

@@ -1,4 +1,4 @@
-//! Chunks in a tree, so that one is added or taken in time that goes with the logarithm of how many there are.
+//! Trees of chunks. Adding and taking a chunk takes time logarithmic in the number of chunks.
 
 ghost use Rattle.std.specs.Prelude.{◌≡◌, ◌<◌, ◌++◌, length, map, IfOk};
 ghost use Rattle.hp_value.specs.Mapped.{occurrence};
@@ -9,19 +9,19 @@ use hp_value::Occurrence;
 use std::alloc::{AllocError, Global};
 use std::sync::Arc;
 
-/// Chunks in order, as a tree that copies share.
+/// Chunks in order, as a tree whose nodes clones share.
 ///
-/// A chunk is added at the right end (`with`) and taken at the left (`split_first`). Each makes new nodes along one path and
-/// shares all others. A right part grows until it has as many as the left one, and then both become the left part of a
-/// new node. So the paths are about as long as the binary logarithm of the number of chunks.
+/// A chunk is added at the right end (`with`) and taken at the left (`split_first`). Both make new nodes along one path
+/// and share all others. A right part grows until it has as many items as the left one, and then both become the left
+/// part of a new node. So a path is about as long as the binary logarithm of the number of chunks.
 #[derive(Debug, Drop)]
 pub enum Rope {
     Leaf(Chunk),
-    /// How many occurrences both parts have, and the parts.
+    /// Two parts, and how many occurrences they have together.
     Both(usize, Arc<Rope>, Arc<Rope>),
 }
 
-/// The first chunk of a rope, and what follows it.
+/// The first chunk of a rope, and the rest.
 #[derive(Drop)]
 pub struct Split {
     pub first: Chunk,
@@ -36,7 +36,7 @@ pub fn leaf(alloc: Global, chunk: Chunk) -> Result<Arc<Rope>, AllocError>
     Ok(Arc::new(alloc, Rope::Leaf(chunk))?)
 }
 
-/// How many occurrences it has.
+/// The number of occurrences.
 pub fn count(rope: &Rope) -> usize
     requires { IsCounted rope.now }
     ensures { result ≡ length (laid_out rope.now) }
@@ -48,8 +48,6 @@ pub fn count(rope: &Rope) -> usize
 }
 
 /// The rope with one more chunk at its end.
-///
-/// An error means that memory ran out.
 pub fn with(alloc: Global, rope: &Arc<Rope>, last: Chunk) -> Result<Arc<Rope>, AllocError>
     requires counted { IsCounted rope.now.value }
     requires some { 0 < length last }
@@ -63,7 +61,7 @@ pub fn with(alloc: Global, rope: &Arc<Rope>, last: Chunk) -> Result<Arc<Rope>, A
     }
 }
 
-/// One rope and then another. No memory can hold so many occurrences that they have no count.
+/// Two ropes in one. The count can't overflow, since memory holds fewer occurrences than that.
 fn both(alloc: Global, first: &Arc<Rope>, second: Arc<Rope>) -> Result<Arc<Rope>, AllocError>
     requires first { IsCounted first.now.value }
     requires second { IsCounted second.value }
@@ -75,9 +73,7 @@ fn both(alloc: Global, first: &Arc<Rope>, second: Arc<Rope>) -> Result<Arc<Rope>
     Ok(Arc::new(alloc, Rope::Both(count, Arc::try_clone(first)?, second))?)
 }
 
-/// Takes the first chunk off: what it is, and what follows.
-///
-/// An error means that memory ran out.
+/// Splits the first chunk off.
 pub fn split_first(alloc: Global, rope: &Rope) -> Result<Split, AllocError>
     requires { IsCounted rope.now }
     ensures laid_out { IfOk result (λ s. laid_out rope.now ≡ s.first ++ rest_laid_out s.rest) }
@@ -103,7 +99,7 @@ pub fn split_first(alloc: Global, rope: &Rope) -> Result<Split, AllocError>
     }
 }
 
-/// The occurrences from a place on, as far as one chunk has them.
+/// The occurrences from an index up to the end of the chunk that holds it.
 pub fn run(rope: &Rope, at: usize) -> &[Arc<Occurrence>]
     requires counted { IsCounted rope.now }
     requires within { at < length (laid_out rope.now) }

@@ -1,4 +1,4 @@
-//! One step of what a detector knows.
+//! A detector's step.
 
 ghost use Rattle.std.specs.Prelude.{◌≡◌, option_map, IfOk, None};
 ghost use Rattle.hp_value.specs.Mapped.{primitive, occurrence};
@@ -15,16 +15,16 @@ use hp_value::{Occurrence, Prim};
 use std::alloc::{AllocError, Global};
 use std::sync::Arc;
 
-/// What one step gives.
+/// The result of a step.
 #[derive(Drop)]
 pub struct Step {
-    /// What occurs at the next place, if the event occurs there.
+    /// The occurrence of the event, if it occurs.
     pub occurrence: Option<Occurrence>,
-    /// What is known then.
+    /// What is known after the step.
     pub known: Arc<Known>,
 }
 
-/// One step: what occurs where this is signalled next, and what is known then. What was known before stays as it is.
+/// One step: what occurs where this is signalled next, and what is known then. `before` is unchanged.
 pub fn advance(
     alloc: Global,
     expr: &EventExpr,
@@ -50,12 +50,12 @@ pub fn advance(
             let end = advance(alloc, t, l, prim)?;
             closure_step(alloc, unfinished, body, end)
         }
-        // A detector keeps what its event needs, so it never comes here.
+        // Unreachable: a detector keeps what its event needs.
         _ => idle_step(before),
     }
 }
 
-/// Nothing occurs, and the same is known.
+/// The step at which nothing occurs and nothing changes.
 fn idle_step(before: &Arc<Known>) -> Result<Step, AllocError>
     ensures { IfOk result (λ s. step s ≡ (None, known before.now.value)) }
 {

@@ -1,4 +1,4 @@
-//! Patterns of primitive occurrences: the events that a single occurrence makes.
+//! Patterns of primitive occurrences: events that a single primitive occurrence makes.
 //!
 //! `specs/Mapped.antt` says what a pattern stands for in `hp_model`.
 #![tactic(auto)]

@@ -1,4 +1,4 @@
-//! Patterns, and whether one matches.
+//! Patterns and what they match.
 
 ghost use Rattle.std.specs.Prelude.{◌≡◌};
 ghost use Rattle.hp_model.specs.Events as model;
@@ -8,29 +8,29 @@ ghost use Rattle.hp_event.specs.Mapped.{pattern};
 use hp_value::{ClassNo, Prim};
 use std::alloc::AllocError;
 
-/// A primitive event: which primitive occurrences are occurrences of it.
+/// A primitive event: it occurs at each primitive occurrence that the pattern matches.
 ///
-/// HiPAC's primitive events are database operations, external notifications and temporal events. That there
-/// are these seven kinds is this project's own choice.
+/// HiPAC's primitive events are database operations, external notifications and temporal events. The choice of these
+/// seven kinds is this project's own.
 #[derive(Debug, Drop)]
 pub enum Pattern {
     /// An object of the class is created.
     Create(ClassNo),
-    /// An object of the class is updated, perhaps to what it was.
+    /// An object of the class is updated, even if no value changes.
     Update(ClassNo),
     /// An object of the class is deleted.
     Delete(ClassNo),
-    /// A signal of this name is given, with whatever arguments.
+    /// A signal of this name is given, with any arguments.
     Signal(String),
     /// A top-level transaction is about to commit.
     Commit,
     /// The logical clock reaches this moment.
     At(u64),
-    /// The logical clock reaches the first moment, or one that is a multiple of the period after it.
+    /// The logical clock reaches the first moment, or that moment plus a multiple of the period.
     Every {
         /// The first moment.
         first: u64,
-        /// How far each moment is from the next. A period of 0 gives the first moment alone.
+        /// The distance between two moments. A period of 0 gives the first moment alone.
         period: u64,
     },
 }
@@ -96,9 +96,7 @@ impl Clone for Pattern {
 }
 
 impl Pattern {
-    /// Whether the primitive occurrence is an occurrence of this pattern.
-    ///
-    /// It takes no memory.
+    /// Whether the pattern matches the primitive occurrence. It allocates nothing.
     pub fn matches(&self, prim: &Prim) -> bool
         ensures { result ≡ model.matches (pattern self.now) (primitive prim.now) }
     {
@@ -117,7 +115,7 @@ impl Pattern {
     }
 }
 
-/// Whether the moment is the first one, or a multiple of the period after it.
+/// Whether the moment is the first one plus a multiple of the period.
 fn is_multiple(first: u64, period: u64, time: u64) -> bool
     ensures { result ≡ model.is_multiple first period time }
 {

@@ -1,4 +1,4 @@
--- How a group comes further in a wave.
+-- The progress of a group in a wave.
 use Rattle.std.proofs.Common.{arith, ◌⊎◌, inl, inr, ◌≡◌, refl, sym, ap, ◌∙◌, subst, ℕ, ◌+◌, ◌<◌, ◌≤◌, Bool, true, List, length, None}
 use Rattle.std.proofs.lemmas.Bool.{cases_lt}
 use Rattle.std.specs.List.{slice_index_or}
@@ -9,7 +9,7 @@ use Rattle.hp_attempt.specs.Fronts.{AreSound}
 use Rattle.hp_fire.specs.declared.speculate.progress.Progress.{Progress}
 use Rattle.hp_fire.specs.Groups.{IsSoFar, IsRetried, IsAhead, Comes}
 
--- attempts alone change
+-- only attempts change
 ahead_put : (p q : Progress) → q ≡ record p { pending = q.pending } → IsAhead p q
 ahead_put p q e =
     let same : length q.settled.outcomes.items ≡ length p.settled.outcomes.items = ap (λ (x : Progress). length x.settled.outcomes.items) e in
@@ -22,7 +22,7 @@ ahead_put p q e =
       none = λ long was. ap (λ (x : Progress). x.settled.end) e ∙ was;
     }
 
--- the tasks of one step, and then those of another
+-- the tasks of one step, followed by those of another
 ahead_then : (p q r : Progress) → IsAhead p q → IsAhead q r → IsAhead p r
 ahead_then p q r a b = record {
   longer = omega (arith, a.longer, b.longer);
@@ -56,11 +56,11 @@ module _ {library : Library} {stops : Bool} {tasks : List Task} where
     so_far = λ first s. subst (λ (x : Progress). IsSoFar library stops tasks first v x.settled.outcomes.items x.settled.end) (sym e) s;
   }
 
-  -- it stays where it is
+  -- nothing changes
   pub comes_same : (v : Seeing) (p : Progress) → AreSound library p.pending.attempts.items → Comes library stops tasks v p v p
   comes_same v p sound = comes_put v p p refl sound
 
-  -- the longest front of them is taken in
+  -- the front of the attempts is accepted
   pub comes_settled : {v w : Seeing} (p q : Progress) (taken : ℕ) → length q.settled.outcomes.items ≡ length p.settled.outcomes.items + taken → (taken ≡ 0 → p.settled.end ≡ None → q.settled.end ≡ None) → (q.counts.waves ≡ p.counts.waves) × (q.counts.retried ≡ p.counts.retried)
       → q.counts.accepted ≤ p.counts.accepted + taken → (0 < taken → IsRetried p.counts (length p.settled.outcomes.items) → q.counts.accepted < p.counts.accepted + taken) → AreSound library q.pending.attempts.items
       → ((first : Seeing) → IsSoFar library stops tasks first v p.settled.outcomes.items p.settled.end → IsSoFar library stops tasks first w q.settled.outcomes.items q.settled.end) → Comes library stops tasks v p w q

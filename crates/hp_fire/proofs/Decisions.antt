@@ -1,4 +1,4 @@
--- What becomes of a task's firing before its action runs.
+-- A task's firing before its action runs.
 use Rattle.std.proofs.Common.{◌≡◌, refl, sym, subst, [], ◌∷◌}
 use Rattle.hp_model.specs.Values.{Cause}
 use Rattle.hp_model.specs.Conditions.{Answers, Verdict, unsatisfied, faulty, verdict}

@@ -1,4 +1,4 @@
--- Groups that workers help with.
+-- Groups with workers.
 use Rattle.std.proofs.Common.{arith, ◌⊎◌, inl, inr, ◌≡◌, refl, sym, ap, ◌∙◌, subst, ℕ, zero, suc, ◌-◌, ◌<◌, ◌≤◌, Bool, true, false, List, [], ◌∷◌, ◌++◌, length, take, drop, map, Option, Some, None, IfSome, slice_set, slice_get, length-append}
 use Rattle.std.proofs.lemmas.Bool.{cases_lt}
 use Rattle.std.specs.Prelude.{All}
@@ -52,7 +52,7 @@ sound_drop library (suc n) [] s = tt
 sound_drop library (suc n) (None ∷ xs) s = sound_drop library n xs s
 sound_drop library (suc n) (Some a ∷ xs) s = sound_drop library n xs s.1
 
--- a place gets another attempt, or none
+-- an entry becomes another attempt, or none
 pub sound_set : (library : Library) (xs : List (Option Attempt)) (i : ℕ) (o : Option Attempt) → AreSound library xs → IfSome o (λ a. IsSound library (attempt a)) → AreSound library (slice_set xs i o)
 sound_set library [] i o s h = tt
 sound_set library (None ∷ xs) zero None s h = s
@@ -62,14 +62,14 @@ sound_set library (Some b ∷ xs) zero (Some a) s h = (h, s.1)
 sound_set library (None ∷ xs) (suc i) o s h = sound_set library xs i o s h
 sound_set library (Some b ∷ xs) (suc i) o s h = (s.0, sound_set library xs i o s.1 h)
 
--- ---- what workers bring
+-- ---- what workers return
 
 pub tries_more : (library : Library) (xs : List Tried) (t : Tried) → AreSoundTries library xs → IsSound library (attempt t.attempt) → AreSoundTries library (xs ++ t ∷ [])
 tries_more library xs t all is = let P = λ (u : Tried). IsSound library (attempt u.attempt) in All-append P xs (t ∷ []) all (All-cons P t [] is (All-nil P))
 
--- ---- how far the group has come
+-- ---- the progress of the group
 
--- the last of some outcomes has the last end
+-- the last end is that of the last outcome
 last_at : (v : Option ℕ) (xs : List Outcome) (n : ℕ) (o : Outcome) → length xs ≡ suc n → slice_get xs n ≡ Some o → last_end v xs ≡ o.end
 last_at v [] n o e h = cc
 last_at v (x ∷ []) zero o e h = ap (λ (u : Option Outcome). end_or v u) h
@@ -93,7 +93,7 @@ stopped_by_none true [] e = refl
 stopped_by_none false [] e = refl
 stopped_by_none stops (x ∷ xs) e = cc
 
--- the veto at which a firing with this end stops the group, where it does
+-- the veto at which a firing with this end stops the group, if it does
 stopped_by_one : Bool → Option ℕ → Option ℕ
 stopped_by_one true v = v
 stopped_by_one false v = None
@@ -127,7 +127,7 @@ module _ {library : Library} {stops : Bool} {tasks : List Task} {first : Seeing}
         (front_stops library stops tasks (drop (length outcomes) tasks) (written first) attempts front (s.goes refl) on front_is sound r e);
   }
 
-  -- the same at a place of the tasks
+  -- the same at an index of the tasks
   pub so_far_settled : {now then : Seeing} (outcomes front all : List Outcome) (end after : Option ℕ) (left : List Task) (attempts : List (Option Attempt)) → end ≡ None → left ≡ drop (length outcomes) tasks
       → all ≡ outcomes ++ front → after ≡ stopped_by stops front → IsSoFar library stops tasks first now outcomes end → GoesOn now then → FrontIs stops left attempts front now then → AreSound library attempts
       → IsSoFar library stops tasks first then all after
@@ -137,7 +137,7 @@ module _ {library : Library} {stops : Bool} {tasks : List Task} {first : Seeing}
       (so_far_front outcomes front attempts (subst (IsSoFar library stops tasks first now outcomes) none s) on (subst (λ ts. FrontIs stops ts attempts front now then) left_is front_is)
       (sound_take library (length front) attempts sound)))
 
-  -- the first task that is left was run
+  -- the next task was run
   pub so_far_run : {now then : Seeing} (outcomes : List Outcome) (t : Task) (ts : List Task) (o : Outcome) → drop (length outcomes) tasks ≡ t ∷ ts → IsSoFar library stops tasks first now outcomes None
       → RunsFiring library (λ S. fire_task library S t) now then (firing o) → IsSoFar library stops tasks first then (outcomes ++ o ∷ []) (stopped_by stops (o ∷ []))
   unfolding stopped_by_one
@@ -165,7 +165,7 @@ module _ {library : Library} {stops : Bool} {tasks : List Task} {first : Seeing}
       halts true n e c = group_vetoed library (fire_task library) tasks (written first) n e (grows r.goes_on) c r.faithful
       halts false n e c = cc
 
-  -- the same at a place of the tasks
+  -- the same at an index of the tasks
   pub so_far_ran : {now then : Seeing} (outcomes all : List Outcome) (end after : Option ℕ) (t : Task) (ts : List Task) (o : Outcome) → end ≡ None → drop (length outcomes) tasks ≡ t ∷ ts → all ≡ outcomes ++ o ∷ []
       → after ≡ stopped_by stops (o ∷ []) → IsSoFar library stops tasks first now outcomes end → RunsFiring library (λ S. fire_task library S t) now then (firing o) → IsSoFar library stops tasks first then all after
   so_far_ran {now} {then} outcomes all end after t ts o none here all_is after_is s r =

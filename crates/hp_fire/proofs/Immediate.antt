@@ -1,4 +1,4 @@
--- Where tasks go that all fire at once.
+-- The places of tasks that all fire at once.
 use Rattle.std.proofs.Common.{◌≡◌, refl, sym, ap, ◌∙◌, Bool, true, false, cond, List, [], ◌∷◌, ◌&&◌}
 use Rattle.std.specs.Prelude.{filter}
 use Rattle.std.specs.List.{list_all}
@@ -10,7 +10,7 @@ use Rattle.hp_model.specs.Transactions.{deferred_of, detached_of}
 abbrev pub AllImmediate : List Task → Type 0
 AllImmediate ts = list_all (λ (t : Task). is_immediate t.place) ts ≡ true
 
--- a test that each task passes which fires at once
+-- a test that each immediate task passes
 all_pass : (f : Coupling → Bool) → f immediate ≡ true → (ts : List Task) → AllImmediate ts → filter (λ (t : Task). f t.place) ts ≡ ts
 all_pass f at_once [] h = refl
 all_pass f at_once (t ∷ ts) h = by_place t.place refl h (all_pass f at_once ts)
@@ -20,7 +20,7 @@ all_pass f at_once (t ∷ ts) h = by_place t.place refl h (all_pass f at_once ts
     by_place immediate e h rest = ap (λ (b : Bool). cond b (t ∷ filter (λ (u : Task). f u.place) ts) (filter (λ (u : Task). f u.place) ts)) (ap f e ∙ at_once) ∙ ap (λ us. t ∷ us) (rest h)
     by_place p e h rest = absurd (true≢false (sym h))
 
--- a test that no such task passes
+-- a test that no immediate task passes
 none_passes : (f : Coupling → Bool) → f immediate ≡ false → (ts : List Task) → AllImmediate ts → filter (λ (t : Task). f t.place) ts ≡ []
 none_passes f at_once [] h = refl
 none_passes f at_once (t ∷ ts) h = by_place t.place refl h (none_passes f at_once ts)

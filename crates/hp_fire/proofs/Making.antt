@@ -1,4 +1,4 @@
--- What statements do before an event is signalled.
+-- Statements before their event is signalled.
 use Rattle.std.proofs.Common.{◌≡◌, refl, sym, ap, ◌∙◌, ℕ, ℤ, List, [], ◌∷◌, ◌++◌, append_assoc}
 use Rattle.std.specs.Prelude.{Result, Ok, Err, Option, Some, None, ⊤}
 use Rattle.hp_model.specs.Values.{Value, Row, KeyedRow, Cause, missing, Outcome, ◌>>=◌, or_cause}
@@ -29,7 +29,7 @@ use Rattle.hp_view.proofs.Views.{GoesOn-same}
 use Rattle.hp_fire.specs.Runs.{Runs, Steps, Finding, Looks, Makes}
 use Rattle.hp_fire.proofs.Steps.{runs_as, runs_cause, runs_value}
 
--- ---- values that don't hang on the state
+-- ---- values that don't depend on the state
 
 -- a statement whose value is a cause, or for which memory ran out
 pub steps_halt : {A B : Type 0} (f : A → B) (next : State → B → Work) (o : Outcome B) (h : Halt) (library : Library) (v : Seeing) → Meets f (Err h) o → Steps library (λ S. with_value o (next S) S) v v (Err h)
@@ -87,7 +87,7 @@ module _ {X : Type 0} (g : X → Primitive) (library : Library) (level : Level) 
 
 -- ---- signals
 
--- values in front of those of the rest
+-- values in front of the others
 abbrev pub onto_values : List Value → Outcome (List Value) → Outcome (List Value)
 onto_values vs (Ok ws) = Ok (vs ++ ws)
 onto_values vs (Err c) = Err c
@@ -110,7 +110,7 @@ onto_none (Err c) = refl
 
 -- ---- what statements find
 
--- what is so in each world that a view allows
+-- what holds in each world that a view allows
 pub looks_of : {A X : Type 0} (f : X → A) (library : Library) (of : Objects → Outcome A) (v w : Seeing) (result : Result X Halt) → OnlyReads v w
     → ((world : Objects) → ObjectsRise world → Allows w world → Meets f result (of world)) → Looks f library (λ S. of S.objects) v w result
 looks_of f library of v w (Ok x) only shown = record {

@@ -1,4 +1,4 @@
--- What workers share and bring may go from thread to thread.
+-- What workers share and return may be sent from thread to thread.
 use denote.Param.Send.{IsSend, IsSync, shr_sync, sendable}
 use denote.Param.SendFields.{as_row_sync, declared_send, declared_sync}
 use denote.Struct.Field.{shr_ref_field}
@@ -131,7 +131,8 @@ shared_layer_send = search (layer_send, layer_sync, heap.crosses, sendable) dept
 pub shared_layer_sync : IsSync SharedLayer.the_field.row
 shared_layer_sync = search (layer_send, layer_sync, heap.crosses, sendable) depth 12
 
--- a vector that keeps a few elements in itself, step by step, since a search that goes down to its array runs out of steps
+-- a vector that keeps a few elements in itself, step by step, since a search that goes down to its array runs out of
+-- steps
 cells_send : (T N : RattleType) → IsSend T → IsSend (Cells.the_field T N).row
 cells_send T N s = search (sendable) depth 12
 
@@ -224,7 +225,7 @@ library_sync = search (rule_sync, expression_parts) depth 30 fits 20000
 pub tried_send : IsSend Tried.the_field.row
 tried_send = search (attempt_send, sendable) depth 12
 
--- the same of what is behind a reference
+-- the same for values behind a reference
 library_row : IsSync Library.the_row
 library_row = search (rule_sync, expression_parts) depth 30 fits 20000
 
@@ -262,7 +263,7 @@ sent_send κ = search (library_row, tried_send, sendable) depth 12
 pub job_send : (κ : NamedLft) → IsSend (Job.the_row κ)
 job_send κ = declared_send (Job.the_type κ) (search (seat.the_send, sendable) depth 12, (search (sent_send, sender.the_send, heap.crosses, heap.send, sendable) depth 12, tt))
 
--- the same of what the owner of a group brings into a wave
+-- the same for what the owner of a group uses in a wave
 pub view_send : IsSend View.the_row
 view_send = search (snapshot_send, reads_send, layer_row_send, layer_row_sync, cell_value_send, cell.the_send, heap.crosses, sendable) depth 30 fits 20000
 

@@ -64,7 +64,7 @@ alone_group {library} {v} {w} {f} t r = by f.vetoed_by refl
         let over : GroupLoop library true (t ∷ []) [] v w (f ∷ []) = group_goes {ts = []} t (f ∷ []) refl refl (goes_unvetoed true f.vetoed_by (ap is_some e)) whole r in
         subst (λ o. RunsGroup library (siblings (fire_task library) true (t ∷ [])) v w (record { firings = f ∷ []; vetoed_by = o })) (sym e) (group_ends refl over)
 
--- and the only one that starts
+-- it is the only one that starts
 pub start_alone : {library : Library} {depth : ℕ} {v w : Seeing} {f : FiringAnswer} (tasks : List Task) (t : Task) → AreReady library depth tasks → tasks ≡ t ∷ [] → AllImmediate tasks
     → RunsFiring library (λ S. fire_task library S t) v w f
     → Runs library (start (level_at library depth).below tasks) v w (group_answer (record { firings = f ∷ []; vetoed_by = f.vetoed_by }))
@@ -80,14 +80,14 @@ start_alone {library} {depth} {v} {w} {f} tasks t ready is at_once r =
     group : SiblingsAnswer
     group = record { firings = f ∷ []; vetoed_by = f.vetoed_by }
 
--- a group has less left than the signal that starts it
+-- a group has less left to run than the signal that starts it
 pub group_falls : (firings below deepest : ℕ) → suc below ≤ firings → 16 * (below * (deepest + 2) + deepest) + 13 < 16 * (firings * (deepest + 2) + 0) + 1
 group_falls firings below deepest less =
     let more : suc below * (deepest + 2) ≤ firings * (deepest + 2) = mul-le-mul_right (deepest + 2) less in
     let one : suc below * (deepest + 2) ≡ below * (deepest + 2) + (deepest + 2) = suc-mul below (deepest + 2) in
     omega (arith, more, one)
 
--- a task alone has less left than the signal that starts it
+-- a task alone has less left to run than the signal that starts it
 pub alone_measure : (lib : RustLibrary) (depth : ℕ) (tasks : List RustTask) (t : RustTask) → AreReady (library lib) depth (map task tasks) → map task tasks ≡ task t ∷ []
     → 16 * left lib (levels lib t.depth) (deepest lib) + 3 < 16 * left lib (levels lib depth) 0 + 1
 alone_measure lib depth tasks t ready is =
@@ -98,7 +98,7 @@ alone_measure lib depth tasks t ready is =
     let falls = group_falls (levels lib depth) (levels lib t.depth) (deepest lib) less in
     omega (arith, falls)
 
--- the tasks of a signal have less left than the signal
+-- the tasks of a signal have less left to run than the signal
 pub group_measure : (lib : RustLibrary) (depth : ℕ) (tasks : List RustTask) → AreReady (library lib) depth (map task tasks) → (tasks ≡ [] → ⊥)
     → 16 * left lib (levels lib (depth + 1)) (deepest lib) + 13 < 16 * left lib (levels lib depth) 0 + 1
 group_measure lib depth [] ready some = absurd (some refl)

@@ -23,7 +23,7 @@ use Rattle.hp_view.specs.Seeing.{Seeing, written, undone, GoesOn, GoesBack, Only
 use Rattle.hp_view.proofs.Views.{GoesOn-same, GoesOn-then}
 use Rattle.hp_fire.specs.Runs.{Runs, RunsFiring, RunsGroup, Finding, Made, SubOver, SubAborted, Closes}
 
--- ---- views that go on
+-- ---- views that continue others
 
 pub grows : {v w : Seeing} → GoesOn v w → Grows v.reads w.reads
 grows on = record { others = on.reads.0; are = on.reads.1 }
@@ -32,7 +32,7 @@ grows on = record { others = on.reads.0; are = on.reads.1 }
 pub only_written : {v w : Seeing} → OnlyReads v w → written w ≡ written v
 only_written only = ap changes only.writes
 
--- ---- works that end at once, or are written otherwise
+-- ---- works that end at once, or have another form
 
 pub runs_as : {library : Library} (f g : Work) {v w : Seeing} {a : Answer} → ((S : State) → g S ≡ f S) → Runs library f v w a → Runs library g v w a
 runs_as f g same r = record { goes_on = r.goes_on; faithful = faithful_as f g same r.faithful }
@@ -70,7 +70,7 @@ found_value {library = library} {of} f {x} {v} {w} {z} {a} found r = record {
 -- ---- loops
 
 module _ {A : Type 0} (library : Library) (work : A → Work) (whole : Work) where
-  -- what was done so far, and what is left, is the whole
+  -- the loop's effects so far, followed by those of what is left, are the whole's
   pub record Loop (left : List A) (first now : Seeing) (so_far : Answer) : Type 0 where
     pub goes_on : GoesOn first now
     pub is_done : so_far.end ≡ done
@@ -113,9 +113,9 @@ pub runs_signal : {library : Library} {level : Level} {work : Work} {v w z : See
     → Runs library work v z (followed (tells (without_detachments (operation_items p))) a)
 runs_signal made r = record { goes_on = GoesOn-then made.goes_on r.goes_on; faithful = made.then_signal (grows r.goes_on) r.faithful }
 
--- ---- transactions inside
+-- ---- nested transactions
 
--- the writes that a transaction inside goes back to are those from which it began
+-- the writes that a nested transaction undoes to are those from which it began
 pub back_written : {first now back : Seeing} (n : ℕ) → n ≡ length first.undo → GoesOn first now → GoesBack now back n → written back ≡ written first
 back_written {first} {now} {back} n is on goes =
     let within : n ≤ length first.undo = omega (arith, is) in
@@ -196,7 +196,7 @@ body_each level context (s ∷ ss) S = ap (then_do (run_statement (statement s) 
 -- ---- groups
 
 module _ (library : Library) (stops : Bool) (whole : List Task) where
-  -- the firings so far, with those of the tasks that are left, are those of the whole group
+  -- the firings so far, followed by those of the tasks that are left, are the whole group's
   pub record GroupLoop (tasks : List Task) (first now : Seeing) (so_far : List FiringAnswer) : Type 0 where
     pub goes_on : GoesOn first now
     pub completes : GroupCompletes library (fire_task library) stops whole (written first) tasks now.reads (written now) so_far
@@ -216,7 +216,7 @@ pub group_stop : (library : Library) (whole : List Task) {t : Task} {ts : List T
     → RunsGroup library (siblings (fire_task library) true whole) v z (record { firings = so_far ++ f ∷ []; vetoed_by = Some r })
 group_stop library whole r vetoes l p = record { goes_on = GoesOn-then l.goes_on p.goes_on; faithful = group_vetoed library (fire_task library) whole _ r vetoes (grows p.goes_on) l.completes p.faithful }
 
--- ---- the same at a place of a list
+-- ---- the same at an index of a list
 
 module _ {A : Type 0} {library : Library} {work : A → Work} {whole : Work} where
   pub loop_starts : (xs : List A) (v : Seeing) (so_far : Answer) → so_far ≡ ended done → ((S : State) → whole S ≡ for_each xs work S) → Loop library work whole xs v v so_far

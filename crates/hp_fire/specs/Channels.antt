@@ -22,6 +22,6 @@ abbrev pub IsSoundFor : Library → Sent → Type 0
 IsSoundFor l (OfLibrary given) = Unit {0}
 IsSoundFor l (OfTried t) = IsSound l (attempt t.attempt)
 
--- after these it may be sent: an attempt is sound for the library that was sent first
+-- it may be sent after these: an attempt is sound for the library that was sent first
 abbrev pub MayFollow : List Sent → Sent → Type 0
 MayFollow before x = (l : Library) → IsOf l before → IsSoundFor l x

@@ -1,4 +1,4 @@
--- A view that counts the rows that a query is given: it shows what the view shows.
+-- A view that counts the rows that a query looks at: it shows what the view shows.
 use Rattle.std.specs.Prelude.{◌≡◌, refl}
 use Rattle.std.proofs.Common.{◌∙◌}
 use Rattle.hp_model.specs.State.{Objects}
@@ -9,7 +9,7 @@ use Rattle.hp_fire.specs.declared.counting.Counting.{Counting}
 abbrev pub AllowsCounted : Counting → Objects → Type 0
 AllowsCounted c world = Allows c.view.now world
 
--- the view goes on, by reads alone, and it is still the same one
+-- the view is the same one, and only reads were made
 pub record OnlyCounts (a b : Counting) : Type 0 where
   pub same : b.view.ghost_name ≡ a.view.ghost_name
   pub only : OnlyReads a.view.now b.view.now

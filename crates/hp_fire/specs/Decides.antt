@@ -1,4 +1,4 @@
--- What is to come of a firing.
+-- What remains of a firing.
 use Rattle.std.specs.Prelude.{List}
 use Rattle.hp_model.specs.Rules.{Library}
 use Rattle.hp_model.specs.State.{State}
@@ -18,27 +18,27 @@ use Rattle.hp_fire.specs.declared.deciding.Decision.{Decision}
 use Rattle.hp_fire.specs.declared.deciding.Decision.TheVariants.{Over, Acts, ActsLater}
 use Rattle.hp_fire.specs.Runs.{RunsFiring}
 
--- the firing is what the action's is, once that has run
+-- the firing is the action's result, once that has run
 pub record ThenActs (library : Library) (fire : State → Firing) (t : Task) (old new : Seeing) (node : Node) (found : Answers) : Type 0 where
   pub goes_on : GoesOn old new
   pub then_action : {more : List Read} {after : Changes} {f : FiringAnswer} → Grows new.reads more → FaithfulFiring library (run_action node (level_at library t.depth) t found) more (written new) after f
       → FaithfulFiring library fire more (written old) after f
 
--- the firing is over, or its action is to run
+-- the firing is over, or its action remains to run
 abbrev pub DecidesFor : Library → (State → Firing) → Task → Seeing → Seeing → Decision → Type 0
 DecidesFor library fire t old new (Over o) = RunsFiring library fire old new (firing o)
 DecidesFor library fire t old new (Acts node found) = ThenActs library fire t old new (what node) (answers found.items)
 DecidesFor library fire t old new (ActsLater node found) = ThenActs library fire t old new (what node) (answers found.value.items)
 
--- of a task
+-- the same for a task's own firing
 abbrev pub Decides : Library → Task → Seeing → Seeing → Decision → Type 0
 Decides library t old new d = DecidesFor library (λ S. fire_task library S t) t old new d
 
--- by the verdict on the condition, on each view
+-- the same for a verdict on the condition, on each view
 abbrev pub Follows : Library → Task → Verdict → Decision → Type 0
 Follows library t v d = (view : Seeing) → DecidesFor library (decide v (level_at library t.depth) t) t view view d
 
--- by reads alone the verdict on the condition was found: it is so in each state that agrees with them
+-- the verdict was found by reads alone: it holds in each state that agrees with them
 pub record FindsVerdict (library : Library) (t : Task) (old new : Seeing) (v : Verdict) : Type 0 where
   pub only : OnlyReads old new
   pub finds : Finds library (λ S. verdict S.objects (task_environment t) (rule_at library t.rule).condition) new.reads (written new) v

@@ -1,4 +1,5 @@
--- What a group of firings is given: what fires a task on its owner's view, and what tries one on a snapshot.
+-- The functions that a group of firings is passed: one fires a task on its owner's view, one tries a task on a
+-- snapshot.
 use Rattle.std.specs.Prelude.{◌≡◌, ℕ, ◌<◌, ◌^◌, List, Result, IfOk, All}
 use Rattle.std.specs.declared.alloc.AllocError.{AllocError}
 use denote.Ref.{Bor, MutBor}

@@ -1,4 +1,4 @@
--- How far a group of firings has come that workers help with.
+-- How far a group of firings with workers has come.
 use Rattle.std.specs.Prelude.{◌≡◌, ℕ, ◌+◌, ◌<◌, ◌≤◌, Bool, true, List, Option, Some, None, All, IfSome, map, drop, length}
 use Rattle.std.specs.List.{slice_index_or}
 use Rattle.hp_model.specs.Rules.{Library}
@@ -28,8 +28,8 @@ use Rattle.rtrb.specs.Ring.{sent, received}
 use Rattle.rtrb.specs.declared.consumer.Consumer.{Consumer}
 use Rattle.std.specs.Global.{Global}
 
--- From one view to another the group has come so far: with the firings of the tasks that are left these are the whole's, or
--- these are the whole's, which a veto stopped.
+-- From one view to another the group has come this far: these outcomes and the firings of the tasks that are left make
+-- the whole group's outcomes. Or these are all outcomes, since a veto stopped the group.
 pub record IsSoFar (library : Library) (stops : Bool) (tasks : List Task) (first now : Seeing) (outcomes : List Outcome) (end : Option ℕ) : Type 0 where
   pub goes_on : GoesOn first now
   pub goes : end ≡ None
@@ -37,11 +37,11 @@ pub record IsSoFar (library : Library) (stops : Bool) (tasks : List Task) (first
   pub stopped : (r : ℕ) → end ≡ Some r
       → FaithfulSiblings library (siblings (fire_task library) stops tasks) now.reads (written first) (written now) (record { firings = map firing outcomes; vetoed_by = Some r })
 
--- whatever the view at which the group began: it has come further with the view
+-- the group and its view have come further, from whatever view the group began at
 abbrev pub ComesFurther : Library → (stops : Bool) → List Task → Seeing → Settled → Seeing → Settled → Type 0
 ComesFurther library stops tasks view s view' s' = (first : Seeing) → IsSoFar library stops tasks first view s.outcomes.items s.end → IsSoFar library stops tasks first view' s'.outcomes.items s'.end
 
--- no veto has stopped the group, and a task is left of so many
+-- no veto has stopped the group, and of this number of tasks one is left
 abbrev pub GoesOnBelow : Settled → ℕ → Type 0
 GoesOnBelow s tasks = (s.end ≡ None) × (length s.outcomes.items < tasks)
 
@@ -49,19 +49,19 @@ GoesOnBelow s tasks = (s.end ≡ None) × (length s.outcomes.items < tasks)
 abbrev pub AreSoundTries : Library → List Tried → Type 0
 AreSoundTries library tries = All (λ t. IsSound library (attempt t.attempt)) tries
 
--- the task of this number was tried anew after the first wave
+-- the task of this number was tried again after the first wave
 abbrev pub IsRetried : Counts → ℕ → Type 0
 IsRetried c number = slice_index_or c.retried.items number true ≡ true
 
--- no more is accepted than is settled
+-- no more tasks are counted as accepted than are settled
 abbrev pub IsAcceptedWithin : Progress → Type 0
 IsAcceptedWithin p = p.counts.accepted ≤ length p.settled.outcomes.items
 
--- no more is accepted than is settled, and each wave but the first has led to a rerun
+-- no more tasks are counted as accepted than are settled, and each wave but the first has led to a rerun
 abbrev pub IsCounted : Progress → Type 0
 IsCounted p = IsAcceptedWithin p × (p.counts.waves + p.counts.accepted ≤ length p.settled.outcomes.items + 1)
 
--- the same once the rerun that the last wave may lead to has taken place
+-- the same once the rerun that the last wave may lead to has run
 abbrev pub OwesOne : Progress → Type 0
 OwesOne p = IsAcceptedWithin p × (p.counts.waves + p.counts.accepted ≤ length p.settled.outcomes.items + 2)
 
@@ -73,7 +73,8 @@ IsJob library deal job = IsSeatOf deal job.seat × IsOf library (sent job.sender
 abbrev pub AreOf : Library → List (Consumer Sent Global Soundness) → Type 0
 AreOf library receivers = All (λ r. IsOf library (received r)) receivers
 
--- Tasks were settled from attempts: no more were accepted than were settled, and fewer where the first of them was tried anew
+-- Tasks were settled from attempts: no more were accepted than were settled, and fewer if the first of them was tried
+-- again
 pub record IsAhead (old new : Progress) : Type 0 where
   pub longer : length old.settled.outcomes.items ≤ length new.settled.outcomes.items
   pub waves : new.counts.waves ≡ old.counts.waves
@@ -82,13 +83,13 @@ pub record IsAhead (old new : Progress) : Type 0 where
   pub reran : length old.settled.outcomes.items < length new.settled.outcomes.items → IsRetried old.counts (length old.settled.outcomes.items) → new.counts.accepted + length old.settled.outcomes.items < old.counts.accepted + length new.settled.outcomes.items
   pub none : length new.settled.outcomes.items ≡ length old.settled.outcomes.items → old.settled.end ≡ None → new.settled.end ≡ None
 
--- the group has come further with the view, and the attempts that are there are sound
+-- the group and its view have come further, and the attempts are sound
 pub record Comes (library : Library) (stops : Bool) (tasks : List Task) (view : Seeing) (p : Progress) (view' : Seeing) (p' : Progress) : Type 0 where
   pub ahead : IsAhead p p'
   pub sound : AreSound library p'.pending.attempts.items
   pub so_far : ComesFurther library stops tasks view p.settled view' p'.settled
 
--- the same with the tasks of a wave
+-- the same for the tasks of a wave
 abbrev pub ComesInWave : Library → Wave → Seeing → Progress → Seeing → Progress → Type 0
 ComesInWave library w view p view' p' = Comes library w.stop_at_veto (map task w.tasks.now) view p view' p'
 

@@ -1,4 +1,4 @@
--- What it means that calls on a view go from one view to another as the definitions say.
+-- What calls on a view promise: they go from one view to another as the definitions say.
 use Rattle.std.specs.Prelude.{◌≡◌, ⊤, ℕ, suc, ◌<◌, Bool, true, false, List, ◌∷◌, Result, Ok, Err}
 use Rattle.hp_model.specs.Values.{Outcome}
 use Rattle.hp_model.specs.Occurrences.{Primitive}
@@ -20,22 +20,22 @@ use Rattle.hp_view.specs.Seeing.{Seeing, written, GoesOn, OnlyReads}
 use Rattle.hp_fire.specs.declared.course.Course.{Course}
 use Rattle.hp_fire.specs.Mapped.{course}
 
--- the call is faithful to the work, and the view goes on
+-- the call is faithful to the work, and the new view continues the old one
 pub record Runs (library : Library) (work : Work) (old new : Seeing) (answer : Answer) : Type 0 where
   pub goes_on : GoesOn old new
   pub faithful : FaithfulWork library work new.reads (written old) (written new) answer
 
--- to a firing
+-- the same for a firing
 pub record RunsFiring (library : Library) (fire : State → Firing) (old new : Seeing) (answer : FiringAnswer) : Type 0 where
   pub goes_on : GoesOn old new
   pub faithful : FaithfulFiring library fire new.reads (written old) (written new) answer
 
--- to sibling firings
+-- the same for sibling firings
 pub record RunsGroup (library : Library) (group : State → Siblings) (old new : Seeing) (answer : SiblingsAnswer) : Type 0 where
   pub goes_on : GoesOn old new
   pub faithful : FaithfulSiblings library group new.reads (written old) (written new) answer
 
--- the course is the work's, or the cause by which it ends before it does anything, unless memory ran out
+-- the course is the work's, or the cause for which it ends before any effect, unless memory ran out
 abbrev pub Steps : Library → Work → Seeing → Seeing → Result Course Halt → Type 0
 Steps library work old new (Ok c) = Runs library work old new (course c)
 Steps library work old new (Err (ByCause x)) = Runs library work old new (ended (abort_by (cause x)))
@@ -43,25 +43,25 @@ Steps library work old new (Err Memory) = ⊤
 
 -- ---- parts of statements
 
--- what a statement finds of the state, by reads alone
+-- what a statement finds in the state, by reads alone
 pub record Finding {A : Type 0} (library : Library) (of : State → Outcome A) (old new : Seeing) (found : Outcome A) : Type 0 where
   pub only : OnlyReads old new
   pub goes_on : GoesOn old new
   pub finds : Finds library of new.reads (written new) found
 
--- the result, with its value seen by f, is what the statement finds, unless memory ran out
+-- the result, with its value mapped by f, is what the statement finds, unless memory ran out
 abbrev pub Looks : {X A : Type 0} → (X → A) → Library → (State → Outcome A) → Seeing → Seeing → Result X Halt → Type 0
 Looks f library of old new (Ok x) = Finding library of old new (Ok (f x))
 Looks f library of old new (Err (ByCause c)) = Finding library of old new (Err (cause c))
 Looks f library of old new (Err Memory) = ⊤
 
--- an operation is made, and what is left of its statement is the signal of its event
+-- the operation succeeded, and what is left of its statement is the signal of its event
 pub record Made (library : Library) (level : Level) (work : Work) (old new : Seeing) (p : Primitive) : Type 0 where
   pub goes_on : GoesOn old new
   pub then_signal : {more : List Read} {after : Changes} {a : Answer} → Grows new.reads more → FaithfulWork library (signal_in level p) more (written new) after a
       → FaithfulWork library work more (written old) after (followed (tells (without_detachments (operation_items p))) a)
 
--- the operation's occurrence, or the cause by which the statement ends, unless memory ran out
+-- the operation's occurrence, or the cause for which the statement ends, unless memory ran out
 abbrev pub Makes : {X : Type 0} → (X → Primitive) → Library → Level → Work → Seeing → Seeing → Result X Halt → Type 0
 Makes f library level work old new (Ok p) = Made library level work old new (f p)
 Makes f library level work old new (Err (ByCause x)) = Runs library work old new (ended (abort_by (cause x)))
@@ -72,7 +72,7 @@ pub record SubOver (library : Library) (f : Work) (old new : Seeing) (a : Answer
   pub goes_on : GoesOn old new
   pub over : (otherwise : Work) → FaithfulWork library (λ S. sub_in f otherwise S) new.reads (written old) (written new) a
 
--- it has aborted, and the other body is to follow
+-- the body of a statement `sub` has aborted, and the other body follows
 pub record SubAborted (library : Library) (f : Work) (old new : Seeing) (a : Answer) : Type 0 where
   pub goes_on : GoesOn old new
   pub then_other : (otherwise : Work) {more : List Read} {after : Changes} {b : Answer} → Grows new.reads more → FaithfulWork library otherwise more (written new) after b
@@ -82,7 +82,7 @@ abbrev pub SubRuns : Library → Work → Seeing → Seeing → Answer → (abor
 SubRuns library f old new a false = SubOver library f old new a
 SubRuns library f old new a true = SubAborted library f old new a
 
--- a transaction inside, which began at one view and came to another, has ended so
+-- a nested transaction, which began at the first view and came to the second, has ended so
 pub record Closes (first now new : Seeing) (e : End) : Type 0 where
   pub goes_on : GoesOn first new
   pub reads : new.reads ≡ now.reads

@@ -1,4 +1,4 @@
--- What the engine's calls do, by a library and the context of a statement.
+-- What the engine's calls do, for a library and the context of a statement.
 use Rattle.std.specs.Prelude.{ℕ, Bool, List, Result, map}
 use Rattle.hp_model.specs.Values.{Name}
 use Rattle.hp_model.specs.Rules.{Statement, Body}
@@ -29,7 +29,7 @@ statement_in lib c s = run_statement s (level_at (library lib) c.depth) (context
 abbrev pub body_work : Library → Context → Body → Work
 body_work lib c b = run_body b (level_at (library lib) c.depth) (context c)
 
--- what a body does for each of some rows, which has a name in it
+-- what a body does for each of these rows, bound to a name
 abbrev pub body_for_each : Library → Context → Name → List KeyedRow → Body → Work
 body_for_each lib c name rows b = for_each (map keyed_row rows) (λ r. run_body b (level_at (library lib) c.depth) (with_row name r (context c)))
 

@@ -1,4 +1,4 @@
--- How much there is left to run: what a nested call has less of.
+-- How much is left to run, which decreases with each nested call.
 use Rattle.std.specs.Prelude.{ℕ, ◌+◌, ◌*◌, ◌-◌, List}
 use denote.Param.Weighed.{most}
 use Rattle.hp_rule.specs.declared.stmt.Stmt.{size-Stmt}
@@ -9,10 +9,10 @@ use Rattle.hp_rule.specs.declared.task.Task.{Task}
 abbrev pub deepest : Library → ℕ
 deepest lib = most (λ rule. most size-Stmt rule.action.items) lib.rules.items
 
--- how many firings can still nest in a transaction of a depth
+-- how many firings can still nest in a transaction of this depth
 abbrev pub levels : Library → (depth : ℕ) → ℕ
 levels lib depth = lib.depth_limit - depth
 
--- so many firings, and statements so deep: a firing counts for more than any action
+-- the weight of this many firings and this many levels of statements: a firing counts more than any action
 abbrev pub left : Library → ℕ → ℕ → ℕ
 left lib firings size = firings * (deepest lib + 2) + size

@@ -29,10 +29,10 @@ use std::alloc::{AllocError, Global};
 use std::thread::Threads;
 
 impl<R: Threads + Sync> Engine<'_, R> {
-    /// Runs the body of a script in a transaction of a depth: its statements in order, up to the first that isn't done.
+    /// Runs the body of a script in a transaction of depth `depth`: its statements in order, up to the first that isn't
+    /// done.
     ///
-    /// While a group of firings inside has workers, this thread sleeps. An error means that memory ran out; the view
-    /// may then hold a part of the effects.
+    /// While a group of firings inside has workers, this thread sleeps.
     pub fn run_body(&self, view: &mut View, body: &[Stmt], depth: u8) -> Result<Course, AllocError>
         ensures { IfOk result (λ c. Runs (library self.now.lib.now)
             (model.run_body (body_in body.now) (level_at (library self.now.lib.now) depth) no_context)
@@ -43,11 +43,10 @@ impl<R: Threads + Sync> Engine<'_, R> {
         Ok(course)
     }
 
-    /// Signals an occurrence in a transaction of a depth: the rules that it triggers are placed, and the immediate ones
-    /// fire as siblings.
+    /// Signals an occurrence in a transaction of depth `depth`: the rules that it triggers are placed, and the
+    /// immediate ones fire as siblings.
     ///
-    /// While a group of firings has workers, this thread sleeps. An error means that memory ran out; the view may then
-    /// hold a part of the effects.
+    /// While a group of firings has workers, this thread sleeps.
     pub fn run_signal(&self, view: &mut View, prim: &Prim, depth: u8) -> Result<Course, AllocError>
         ensures { IfOk result (λ c. Runs (library self.now.lib.now)
             (signal_in (level_at (library self.now.lib.now) depth) (primitive prim.now)) view.old view.new (course c)) }
@@ -59,8 +58,7 @@ impl<R: Threads + Sync> Engine<'_, R> {
 
     /// Fires a task on the view, as a subtransaction.
     ///
-    /// While a group of firings inside has workers, this thread sleeps. An error means that memory ran out; the view
-    /// may then hold a part of the effects.
+    /// While a group of firings inside has workers, this thread sleeps.
     pub fn run_firing(&self, view: &mut View, task: &Task) -> Result<Outcome, AllocError>
         ensures { IfOk result (λ o. RunsFiring (library self.now.lib.now)
             (λ S. fire_task (library self.now.lib.now) S (task_of task.now)) view.old view.new (firing_of o)) }
@@ -69,11 +67,10 @@ impl<R: Threads + Sync> Engine<'_, R> {
         Ok(outcome)
     }
 
-    /// Fires the tasks of a group on the view, as siblings. Where `stop_at_veto` is set, nothing fires after a vetoed
-    /// one.
+    /// Fires the tasks of a group on the view, as siblings. If `stop_at_veto` is set, nothing fires after a vetoed
+    /// task.
     ///
-    /// Workers are started only where they pay. While there are any, this thread sleeps. An error means that memory ran
-    /// out; the view may then hold a part of the effects.
+    /// Workers are started only where they pay. While there are any, this thread sleeps.
     pub fn run_siblings(
         &self,
         view: &mut View,
@@ -88,8 +85,8 @@ impl<R: Threads + Sync> Engine<'_, R> {
         Ok(outcome)
     }
 
-    /// The same with a gate, which is notified of the tasks that workers try. An eager group starts workers in any
-    /// case, for as many tasks and threads as there are.
+    /// The same with a gate, which is notified of the tasks that workers try. If `eager` is set, workers are started
+    /// even if they don't pay, as many as tasks and threads allow.
     fn run_with<G: Gate + Sync>(
         &self,
         view: &mut View,
@@ -133,16 +130,14 @@ impl<R: Threads + Sync> Engine<'_, R> {
 }
 
 /// Fires the tasks of a group on the view, as siblings. In HiPAC the rules that one event triggers fire as sibling
-/// subtransactions, whose effect is that of some serial order: here it is the order of the tasks. Where `stop_at_veto`
-/// is set, nothing fires after a vetoed one.
+/// subtransactions, whose effect is that of some serial order. Here it is the order of the tasks. If `stop_at_veto` is
+/// set, nothing fires after a vetoed task.
 ///
-/// Where there are two tasks and a width of two at least, up to `width` workers, at most 64, try the tasks ahead of
-/// their turn in threads of their own, while this one sleeps. What they bring is accepted where it still holds, and is
-/// tried again or run by the caller where it doesn't, so that no thread changes the outcome. The gate is notified of
-/// each task that a worker starts and ends, by its place in the group. A worker for which memory runs out leaves a task
-/// to the caller.
-///
-/// An error means that memory ran out; the view may then hold a part of the effects.
+/// If there are at least two tasks and `width` is at least two, up to `width` workers, at most 64, try the tasks ahead
+/// of their turn on threads of their own, while this thread sleeps. An attempt is accepted if it still holds; otherwise
+/// the task is tried again or run by the caller. So threads don't change the outcome. The gate is notified of each task
+/// that a worker starts and ends, by its index in the group. A worker that runs out of memory leaves its task to the
+/// caller.
 pub fn run_group<R: Threads + Sync, G: Gate + Sync>(
     rt: &R,
     alloc: Global,
@@ -165,9 +160,9 @@ pub fn run_group<R: Threads + Sync, G: Gate + Sync>(
     Ok(outcome)
 }
 
-/// Tries a task on a snapshot. The attempt may stand for the task's firing on each state where its reads hold.
+/// Tries a task on a snapshot. The attempt stands for the task's firing on each state in which its reads hold.
 ///
-/// A group of firings inside uses at most `width` threads, while this one sleeps. An error means that memory ran out.
+/// A group of firings inside uses at most `width` threads, while this thread sleeps.
 pub fn run_task<R: Threads + Sync>(
     rt: &R,
     alloc: Global,

@@ -1,4 +1,4 @@
-//! How transactions inside end.
+//! The ends of nested transactions.
 
 ghost use Rattle.std.specs.Prelude.{◌≡◌, ◌≤◌, IfOk, OnOk, map, length, option_map};
 ghost use Rattle.hp_model.specs.Conditions.{Answers};
@@ -25,10 +25,9 @@ use hp_value::{Cause, Coupling, RuleNo};
 use hp_view::{Mark, View};
 use std::alloc::{AllocError, Global};
 
-/// Ends the transaction that began at a mark: if it is done, what it wrote stays, and if it isn't, that is undone
-/// (Moss).
+/// Ends the transaction that began at a mark: if it is done, its writes stay; otherwise they are undone (Moss).
 ///
-/// An error means that memory ran out; the view is then as before.
+/// After an error the view is as before.
 pub fn end_transaction(view: &mut View, mark: Mark, how: End) -> Result<(), AllocError>
     requires { mark ≤ length view.old.undo }
     ensures { OnOk result ((first : Seeing) → GoesOn first view.old → length first.undo ≡ mark
@@ -46,7 +45,7 @@ pub fn end_transaction(view: &mut View, mark: Mark, how: End) -> Result<(), Allo
     }
 }
 
-/// How a transaction ends whose course ends like this. A veto aborts it by a cause that names the rule.
+/// The ending of a transaction whose course ends so. The cause of a veto names the rule.
 pub fn ending(how: End) -> Ending
     ensures { ending_of result ≡ answers.ending_of (mapped.end how) }
 {
@@ -57,7 +56,7 @@ pub fn ending(how: End) -> Ending
     }
 }
 
-/// The tasks that a transaction leaves queued: none where it is aborted.
+/// The tasks that a transaction leaves queued: none if it aborts.
 fn queued_after(alloc: Global, how: End, queued: Vec<Task>) -> Vec<Task>
     ensures { map task result.items ≡ queued_at (mapped.end how) (map task queued.items) }
 {
@@ -67,10 +66,8 @@ fn queued_after(alloc: Global, how: End, queued: Vec<Task>) -> Vec<Task>
     }
 }
 
-/// The tasks that a transaction leaves detached: where it is aborted, the separate ones, and the exclusive ones, which
-/// that releases.
-///
-/// An error means that memory ran out.
+/// The tasks that a transaction leaves detached: if it aborts, the separate ones, and the exclusive ones, which the
+/// abort releases.
 pub fn detached_after(
     alloc: Global,
     how: End,
@@ -85,7 +82,7 @@ pub fn detached_after(
     }
 }
 
-/// The detached tasks that outlive the abort of the transaction round them.
+/// The detached tasks that remain when the transaction around them aborts.
 fn survivors(alloc: Global, detached: Vec<Detached>) -> Result<Vec<Detached>, AllocError>
     ensures { IfOk result (λ ds. map detached_of ds.items ≡ model.survivors (map detached_of detached.items)) }
 {
@@ -98,7 +95,7 @@ fn survivors(alloc: Global, detached: Vec<Detached>) -> Result<Vec<Detached>, Al
     Ok(left)
 }
 
-/// A detached task after the abort of the transaction round it, if it outlives that.
+/// A detached task when the transaction around it aborts, if it remains.
 fn survivor(d: Detached) -> Option<Detached>
     ensures { option_map detached_of result ≡ model.survivor_by (detached_of d).task.place (detached_of d) }
 {
@@ -112,10 +109,8 @@ fn survivor(d: Detached) -> Option<Detached>
     }
 }
 
-/// A transaction inside as a part of the course round it, which then ends as `after` says: its node, and what it leaves
-/// queued and detached.
-///
-/// An error means that memory ran out.
+/// A nested transaction as a part of the course around it, which then ends as `after` says: its node, and the tasks
+/// that it leaves queued and detached.
 fn as_part(alloc: Global, what: What, course: Course, after: End) -> Result<Course, AllocError>
     ensures { IfOk result (λ c. course_in c ≡ closing (what_of what) (course_in course) (mapped.end after)) }
 {
@@ -140,8 +135,6 @@ fn as_part(alloc: Global, what: What, course: Course, after: End) -> Result<Cour
 }
 
 /// An action as its rule's firing.
-///
-/// An error means that memory ran out.
 fn as_firing(alloc: Global, what: What, course: Course) -> Result<Outcome, AllocError>
     ensures { IfOk result (λ o. firing o ≡ closing_action (what_of what) (course_in course)) }
 {
@@ -160,7 +153,7 @@ fn as_firing(alloc: Global, what: What, course: Course) -> Result<Outcome, Alloc
     })
 }
 
-/// The rule whose veto ended a course; none where no veto did.
+/// The rule whose veto ended a course; `None` if no veto did.
 pub fn vetoed_by(how: End) -> Option<RuleNo>
     ensures { result ≡ veto_of (mapped.end how) }
 {
@@ -171,8 +164,6 @@ pub fn vetoed_by(how: End) -> Option<RuleNo>
 }
 
 /// Ends an action, which began at a mark and took this course.
-///
-/// An error means that memory ran out.
 pub(crate) fn close_action(
     alloc: Global,
     view: &mut View,
@@ -191,9 +182,7 @@ pub(crate) fn close_action(
 }
 
 /// Ends the body of a statement `sub`, which began at a mark and took this course. The answer also says whether it
-/// aborted, so that the other body is to follow; a veto goes on outward.
-///
-/// An error means that memory ran out.
+/// aborted, so that the other body follows. A veto passes outward.
 pub(crate) fn close_sub(
     alloc: Global,
     view: &mut View,

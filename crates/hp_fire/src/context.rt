@@ -1,4 +1,4 @@
-//! What statements run in.
+//! The context of a statement.
 
 ghost use Rattle.std.specs.Prelude.{◌≡◌, IfSome, map, [], None, option_map};
 ghost use Rattle.hp_model.specs.Firing.{with_row, action_context, answer_named};
@@ -10,21 +10,21 @@ ghost use Rattle.hp_fire.specs.Mapped as mapped;
 use hp_rule::Task;
 use hp_value::{Answer, Env, Key, KeyedRow, Row, RuleNo};
 
-/// What a statement runs in, beside the view.
+/// The context of a statement, besides the view.
 #[derive(Clone, Copy)]
 pub(crate) struct Context<'a> {
-    /// What its expressions are evaluated in.
+    /// The environment of its expressions.
     pub(crate) env: Env<'a>,
     /// The kept answers of the rule's condition; none in the body of a script.
     pub(crate) answers: &'a [Answer],
-    /// The rule of whose action it is; none in the body of a script.
+    /// The rule whose action it is; `None` in the body of a script.
     pub(crate) rule: Option<RuleNo>,
-    /// The depth of the transaction round it.
+    /// The depth of the transaction around it.
     pub(crate) depth: u8,
 }
 
 impl<'a> Context<'a> {
-    /// What the body of a script runs in.
+    /// The context of the body of a script.
     pub(crate) fn of_script(depth: u8) -> Context<'a>
         ensures context { mapped.context result ≡ no_context }
         ensures depth { result.depth ≡ depth }
@@ -37,7 +37,7 @@ impl<'a> Context<'a> {
         }
     }
 
-    /// What the action of a task runs in, with the answers of the condition's queries.
+    /// The context of a task's action, with the answers of the condition's queries.
     pub(crate) fn of_action(task: &'a Task, found: &'a [Answer]) -> Context<'a>
         ensures context { mapped.context result ≡ action_context (task_of task.entry.now) (answers found.entry.now) }
         ensures depth { result.depth ≡ task.entry.now.depth }
@@ -50,7 +50,7 @@ impl<'a> Context<'a> {
         }
     }
 
-    /// The same with a name for a row.
+    /// The same context with a name for a row.
     pub(crate) fn bound<'b>(&'b self, name: &'b str, key: Key, row: &'b Row) -> Context<'b>
         ensures context { mapped.context result
             ≡ with_row name.entry.now (record { key = key; row = row.entry.now }) (mapped.context self.entry.now) }
@@ -64,7 +64,7 @@ impl<'a> Context<'a> {
         }
     }
 
-    /// The rows of the kept answer of a query; none where no answer has this name.
+    /// The rows of the kept answer of a query; none if no answer has this name.
     pub(crate) fn kept(&self, query: &str) -> &[KeyedRow]
         ensures { map keyed_row result.now ≡ answer_named (mapped.context self.now).answers query.now }
     {

@@ -1,4 +1,4 @@
-//! Queries over a view, whose rows are counted.
+//! A view that counts the rows that queries look at.
 
 ghost use Rattle.std.specs.Prelude.{◌≡◌};
 ghost use Rattle.hp_view.specs.Seeing.{OnlyReads};
@@ -10,7 +10,7 @@ use hp_view::View;
 use std::alloc::{AllocError, Global};
 use std::sync::Arc;
 
-/// A view that counts the rows that a query is given.
+/// A view that counts the rows that a query looks at.
 #[derive(Drop)]
 pub(crate) struct Counting<'a> {
     /// The view.
@@ -19,7 +19,7 @@ pub(crate) struct Counting<'a> {
 }
 
 impl<'a> Counting<'a> {
-    /// A view of which no row was looked at.
+    /// A view with a count of 0.
     pub(crate) fn new(view: &'a mut View) -> Counting<'a>
         ensures same { result.view.ghost_name ≡ view.entry.ghost_name }
         ensures now { result.view.now ≡ view.old }
@@ -27,7 +27,7 @@ impl<'a> Counting<'a> {
         Counting { view, rows: 0 }
     }
 
-    /// Adds what it took to look at the rows for these queries, by the operators of their predicates.
+    /// Adds the cost of the rows for these queries, by the operators of their predicates.
     pub(crate) fn add_queries(&self, queries: &[Query], effort: &Effort) {
         let mut longest = 0u64;
         for query in queries {
@@ -36,7 +36,7 @@ impl<'a> Counting<'a> {
         effort.add(self.rows.saturating_mul(longest.saturating_add(ROW)));
     }
 
-    /// Adds what it took to look at the rows for one predicate.
+    /// Adds the cost of the rows for one predicate.
     pub(crate) fn add_predicate(&self, predicate: &Expr, effort: &Effort) {
         let operators = operators(predicate);
         effort.add(self.rows.saturating_mul(operators.saturating_add(ROW)));
@@ -50,7 +50,7 @@ impl<'a> Counting<'a> {
     }
 }
 
-// How many operators there are in an expression.
+// The number of operators in an expression.
 fn operators(expr: &Expr) -> u64 {
     match expr {
         Expr::Arithmetic(_, a, b) | Expr::Comparison(_, a, b) | Expr::And(a, b) | Expr::Or(a, b) =>

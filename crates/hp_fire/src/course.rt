@@ -1,4 +1,4 @@
-//! What statements, signals and groups give.
+//! The results of statements, signals and groups.
 
 ghost use Rattle.std.specs.Prelude.{◌≡◌, ◌++◌, IsTrue, IfOk, OnOk, [], length};
 ghost use Rattle.hp_model.specs.Answers.{ended, followed, is_done};
@@ -13,18 +13,18 @@ use hp_tree::Item;
 use hp_value::{Cause, RuleNo};
 use std::alloc::{AllocError, Global};
 
-/// How a statement ends, and a body, which ends with the first statement that isn't done.
+/// How a statement or a body ends. A body ends with its first statement that isn't done.
 #[derive(Clone, Copy, Debug, PartialEq, Eq)]
 pub enum End {
     /// It is done.
     Done,
-    /// It aborts the innermost transaction round it, by this cause.
+    /// It aborts the innermost transaction around it, for this cause.
     Abort(Cause),
-    /// A veto is on its way out of this rule's action.
+    /// The action of this rule vetoed. The veto passes outward.
     Veto(RuleNo),
 }
 
-/// What a statement, a body or a signal gives, beside what it writes.
+/// The result of a statement, a body or a signal, besides its writes.
 #[derive(Debug, Drop)]
 pub struct Course {
     /// How it ended.
@@ -37,23 +37,23 @@ pub struct Course {
     pub items: Vec<Item>,
 }
 
-/// What a group of sibling firings gives, beside what it writes.
+/// The result of a group of sibling firings, besides its writes.
 #[derive(Debug, Drop)]
 pub struct GroupOutcome {
-    /// What each firing gave, in the order of the tasks, up to the one whose veto stopped the group.
+    /// The result of each firing, in the order of the tasks, up to the one whose veto stopped the group.
     pub outcomes: Vec<Outcome>,
-    /// The rule whose veto stopped the group; none where no veto did.
+    /// The rule whose veto stopped the group; `None` if no veto did.
     pub end: Option<RuleNo>,
-    /// How many firings were taken in from an attempt on a worker's thread.
+    /// The number of firings that were accepted from attempts of the first wave.
     pub accepted: usize,
-    /// How many were run by the owner of the group, or again.
+    /// The number of firings that the group's owner ran, or that were tried again.
     pub reran: usize,
-    /// In how many waves workers ran; 0 where none were started.
+    /// The number of waves in which workers ran; 0 if no worker was started.
     pub waves: usize,
 }
 
 impl GroupOutcome {
-    /// A group whose owner ran each firing.
+    /// The result of a group whose owner ran each firing.
     pub(crate) fn of_owner(outcomes: Vec<Outcome>, end: Option<RuleNo>) -> GroupOutcome
         ensures { let reran = length outcomes.items in
             result ≡ record { outcomes = outcomes; end = end; accepted = 0; reran = reran; waves = 0 } }
@@ -70,7 +70,7 @@ impl GroupOutcome {
 }
 
 impl Course {
-    /// Nothing but an end.
+    /// A course without effects.
     pub(crate) fn ended(alloc: Global, how: End) -> Course
         ensures { course result ≡ ended (end how) }
     {
@@ -82,9 +82,7 @@ impl Course {
         }
     }
 
-    /// Nothing but one thing that was done, with room for so many more.
-    ///
-    /// An error means that memory ran out.
+    /// A course of one item, with space for `more` items after it.
     pub(crate) fn of_item(alloc: Global, item: Item, more: usize) -> Result<Course, AllocError>
         ensures { IfOk result (λ c. course c
             ≡ record { end = end End.Done; queued = []; detached = []; items = before item no_items }) }
@@ -99,7 +97,7 @@ impl Course {
         })
     }
 
-    /// Whether what comes next is to be done.
+    /// Whether the next statement is to run.
     pub(crate) fn is_done(&self) -> bool
         ensures { result ≡ is_done (course self.now).end }
     {
@@ -109,7 +107,7 @@ impl Course {
         }
     }
 
-    /// Whether there is nothing in it but its end.
+    /// Whether the course has only an end.
     fn is_blank(&self) -> bool
         ensures { IsTrue result → (self.now.queued.items ≡ []) × (self.now.detached.items ≡ [])
             × (self.now.items.items ≡ []) }
@@ -117,9 +115,7 @@ impl Course {
         self.queued.is_empty() && self.detached.is_empty() && self.items.is_empty()
     }
 
-    /// Adds what followed this course.
-    ///
-    /// An error means that memory ran out; a part may then have been added.
+    /// Appends the course that followed this one. After an error a part may have been added.
     pub fn join(&mut self, more: Course) -> Result<(), AllocError>
         ensures { OnOk result (course self.new ≡ followed (course self.old) (course more)) }
     {
@@ -141,9 +137,7 @@ impl Course {
     }
 }
 
-/// Adds a list at the end of another. Where that one is empty, nothing is copied.
-///
-/// An error means that memory ran out.
+/// Appends a list to another. If that one is empty, nothing is copied.
 pub(crate) fn append<T: Drop>(all: &mut Vec<T>, mut more: Vec<T>) -> Result<(), AllocError>
     ensures items { OnOk result (all.new.items ≡ all.old.items ++ more.items) }
 {

@@ -1,4 +1,4 @@
-//! What a task's firing does before its action runs.
+//! The part of a firing before its action runs.
 
 ghost use Rattle.std.specs.Prelude.{◌≡◌, ◌≤◌, IfOk, map, [], ◌∷◌};
 ghost use Rattle.hp_model.specs.Rules.{rule_at};
@@ -29,22 +29,20 @@ use hp_view::View;
 use std::alloc::{AllocError, Global};
 use std::sync::Arc;
 
-/// What is to come of a task's firing.
+/// What remains of a task's firing.
 #[derive(Debug, Drop)]
 pub(crate) enum Decision {
     /// Nothing: the firing is over.
     Over(Outcome),
-    /// The action runs, as this node, with these answers, which nobody else needs.
+    /// The action runs, as this node, with these answers, which belong to the firing alone.
     Acts(What, Vec<Answer>),
-    /// The action runs, as this node, with the answers that its task kept.
+    /// The action runs, as this node, with the answers that its task shares.
     ActsLater(What, Arc<Vec<Answer>>),
 }
 
 impl<R> Engine<'_, R> {
-    /// Begins the firing of a task: a condition is evaluated, and where it is satisfied its action runs at once or is
-    /// placed.
-    ///
-    /// An error means that memory ran out.
+    /// Begins the firing of a task: evaluates a condition, and if it is satisfied, runs its action at once or places
+    /// it.
     pub(crate) fn decide(&self, view: &mut View, task: &Task) -> Result<Decision, AllocError>
         ensures { IfOk result (λ d. Decides (library self.now.lib.now) (task_of task.now) view.old view.new d) }
     {
@@ -65,8 +63,6 @@ impl<R> Engine<'_, R> {
     }
 
     /// Begins the firing of a condition.
-    ///
-    /// An error means that memory ran out.
     fn decide_condition(&self, view: &mut View, task: &Task) -> Result<Decision, AllocError>
         requires { (task_of task.now).step ≡ condition_step }
         ensures { IfOk result (λ d. Decides (library self.now.lib.now) (task_of task.now) view.old view.new d) }
@@ -76,9 +72,7 @@ impl<R> Engine<'_, R> {
         Ok(decision)
     }
 
-    /// What the condition of a task's rule comes to.
-    ///
-    /// An error means that memory ran out.
+    /// The verdict on the condition of a task's rule.
     fn condition_verdict(&self, view: &mut View, task: &Task) -> Result<Verdict, AllocError>
         ensures { let t = task_of task.now in
             IfOk result (λ v. FindsVerdict (library self.now.lib.now) t view.old view.new (verdict_of v)) }
@@ -90,9 +84,7 @@ impl<R> Engine<'_, R> {
         Ok(verdict)
     }
 
-    /// What comes of a condition.
-    ///
-    /// An error means that memory ran out.
+    /// What follows from a verdict.
     fn follow(&self, task: &Task, verdict: Verdict) -> Result<Decision, AllocError>
         ensures { IfOk result (Follows (library self.now.lib.now) (task_of task.now) (verdict_of verdict)) }
     {
@@ -114,9 +106,7 @@ impl<R> Engine<'_, R> {
         }
     }
 
-    /// What comes of a satisfied condition: its action at once, or the task of its action.
-    ///
-    /// An error means that memory ran out.
+    /// What follows from a satisfied condition: its action at once, or a task for its action.
     fn follow_satisfied(&self, task: &Task, answers: Vec<Answer>) -> Result<Decision, AllocError>
         ensures { let found = mapped.answers answers.items in
             IfOk result (Follows (library self.now.lib.now) (task_of task.now) (satisfied found)) }
@@ -145,9 +135,7 @@ fn fired(task: &Task, condition: ConditionEnd) -> What
     }
 }
 
-/// A firing that does nothing but what its node says.
-///
-/// An error means that memory ran out.
+/// A firing without effects, which has only its node.
 fn without_effects(alloc: Global, what: What) -> Result<Outcome, AllocError>
     ensures { IfOk result (λ o. firing o ≡ handing_on (what_of what) []) }
 {
@@ -165,9 +153,7 @@ fn without_effects(alloc: Global, what: What) -> Result<Outcome, AllocError>
     })
 }
 
-/// A satisfied condition's firing whose action is queued or detached.
-///
-/// An error means that memory ran out.
+/// The firing of a satisfied condition whose action is queued or detached.
 fn later(
     alloc: Global,
     task: &Task,
@@ -204,7 +190,7 @@ fn condition_of(lib: &Library, rule: RuleNo) -> &[Query]
     }
 }
 
-/// The mode of a rule's action. That of a rule that the library lacks is immediate.
+/// The coupling mode of a rule's action. For a rule that the library lacks it is immediate.
 fn action_coupling(lib: &Library, rule: RuleNo) -> Coupling
     ensures { coupling result ≡ (rule_at (library lib.now) rule).action_coupling }
 {
@@ -214,7 +200,7 @@ fn action_coupling(lib: &Library, rule: RuleNo) -> Coupling
     }
 }
 
-/// The action of a rule. A rule that the library lacks has an empty one.
+/// The action of a rule. For a rule that the library lacks it is empty.
 pub(crate) fn action_of(lib: &Library, rule: RuleNo) -> &[Stmt]
     ensures action { body_in result.now ≡ (rule_at (library lib.now) rule).action }
     ensures depth { most size-Stmt result.now ≤ deepest lib.now }

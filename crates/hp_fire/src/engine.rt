@@ -1,4 +1,4 @@
-//! The engine: what every statement, signal and firing is handed.
+//! The engine, which every statement, signal and firing is passed.
 
 ghost use Rattle.std.specs.Prelude.{◌≡◌};
 
@@ -6,26 +6,26 @@ use crate::speculate::{Effort, Past};
 use hp_rule::Library;
 use std::alloc::Global;
 
-/// What runs statements, signals and firings on a view, by the rules of a library.
+/// Runs statements, signals and firings on a view, by the rules of a library.
 #[derive_where(Clone, Copy)]
 pub struct Engine<'a, R> {
-    /// What starts threads.
+    /// Starts threads.
     pub(crate) rt: &'a R,
-    /// What memory is taken from.
+    /// The allocator.
     pub alloc: Global,
     /// The library.
     pub lib: &'a Library,
-    /// How many threads a group may use.
+    /// The most threads that a group may use.
     pub(crate) width: usize,
-    /// What the rules' last firings took.
+    /// The costs of the rules' last firings.
     pub(crate) past: &'a Past,
-    /// What is done, counted: for a unit, or for an attempt of a worker.
+    /// The work done, of a unit or of a worker's attempt.
     pub(crate) effort: &'a Effort,
 }
 
 impl<'a, R> Engine<'a, R> {
-    /// An engine for a library, with so many threads for a group. What rules' firings take is noted in `past`, which
-    /// may serve for several units, one after the other.
+    /// An engine for a library, with at most `width` threads for a group. The costs of firings are noted in `past`,
+    /// which may serve several units, one after another.
     pub fn new(
         rt: &'a R,
         alloc: Global,
@@ -46,7 +46,8 @@ impl<'a, R> Engine<'a, R> {
         }
     }
 
-    /// The engine for an attempt, which counts what that takes, with so many threads for a group inside.
+    /// The engine for an attempt, whose work is counted in `effort`, with at most `width` threads for a group inside
+    /// it.
     pub(crate) fn inside<'b>(&'b self, effort: &'b Effort, width: usize) -> Engine<'b, R>
         ensures { result.lib ≡ self.entry.now.lib }
     {

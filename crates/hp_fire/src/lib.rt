@@ -2,6 +2,9 @@
 //!
 //! The types stand for those of `hp_model`: `specs/Mapped.antt` has a function for each. `specs/Runs.antt` says what a
 //! call on a view promises.
+//!
+//! `AllocError` and `Halt::Memory` mean that memory ran out. A view that was passed to the call may then hold a part of
+//! the effects, and is only to be dropped, unless a function says otherwise.
 #![tactic(auto)]
 
 mod calls;

@@ -1,4 +1,4 @@
-//! What statements do before an event is signalled.
+//! The part of statements before their event is signalled.
 
 ghost use Rattle.std.specs.Prelude.{◌≡◌, IfOk, map};
 ghost use Rattle.hp_model.specs.Tree.{without_detachments};
@@ -29,21 +29,21 @@ use hp_value::{Cause, ClassNo, Env, Expr, Halt, KeyedRow, Prim, RuleNo};
 use hp_view::View;
 use std::alloc::{AllocError, Global};
 
-/// What a statement `each` asks for.
+/// The query of a statement `each`.
 #[derive(Clone, Copy)]
 pub(crate) struct Selection<'a> {
     /// The name of the row that is tested.
     pub(crate) variable: &'a str,
-    /// The class whose objects are asked for.
+    /// The class whose objects are tested.
     pub(crate) class: ClassNo,
-    /// What is tested of each row.
+    /// The test of each row.
     pub(crate) predicate: &'a Expr,
 }
 
-/// What a statement `with` binds.
+/// The binding of a statement `with`.
 #[derive(Clone, Copy)]
 pub(crate) struct Binding<'a> {
-    /// The name that the object's row has in the body.
+    /// The name of the object's row in the body.
     pub(crate) variable: &'a str,
     /// The class of the object.
     pub(crate) class: ClassNo,
@@ -52,7 +52,7 @@ pub(crate) struct Binding<'a> {
 }
 
 impl<R> Engine<'_, R> {
-    /// Makes the object of a statement `create`. The answer is the occurrence that is then signalled.
+    /// Creates the object of a statement `create`. The answer is the occurrence to signal.
     pub(crate) fn created(
         &self,
         view: &mut View,
@@ -68,7 +68,7 @@ impl<R> Engine<'_, R> {
         create(self.alloc, view, class, new.key, new.row)
     }
 
-    /// Sets the fields of a statement `update`. The answer is the occurrence that is then signalled.
+    /// Sets the fields of a statement `update`. The answer is the occurrence to signal.
     pub(crate) fn updated(
         &self,
         view: &mut View,
@@ -84,7 +84,7 @@ impl<R> Engine<'_, R> {
         update(self.alloc, view, class, key, &given)
     }
 
-    /// Deletes the object of a statement `delete`. The answer is the occurrence that is then signalled.
+    /// Deletes the object of a statement `delete`. The answer is the occurrence to signal.
     pub(crate) fn deleted(
         &self,
         view: &mut View,
@@ -116,7 +116,7 @@ impl<R> Engine<'_, R> {
         Ok(course)
     }
 
-    /// The rows of a statement `each`, found whole.
+    /// All rows of a statement `each`.
     pub(crate) fn selected(
         &self,
         view: &mut View,
@@ -142,7 +142,7 @@ impl<R> Engine<'_, R> {
         rows
     }
 
-    /// The object of a statement `with`, as it now is. `Missing` means that it isn't there.
+    /// The current row of the object of a statement `with`, and its key. `Missing` means that there is no such object.
     pub(crate) fn named_object(
         &self,
         view: &mut View,
@@ -162,7 +162,7 @@ impl<R> Engine<'_, R> {
     }
 }
 
-/// The value of an expression that is a whole number.
+/// The value of an expression that has to be an integer.
 fn integer(alloc: Global, env: &Env<'_>, expr: &Expr) -> Result<i64, Halt>
     ensures { Meets (λ k. k) result (model.integer_value (environment env.now) (expression expr.now)) }
 {
@@ -208,9 +208,7 @@ pub(crate) fn emitted(alloc: Global, context: &Context<'_>, expr: &Expr) -> Resu
     Ok(course)
 }
 
-/// An operation as what was done.
-///
-/// An error means that memory ran out. An occurrence that is no operation gives nothing.
+/// The course of an operation. An occurrence that isn't an operation gives an empty one.
 pub(crate) fn operation_course(alloc: Global, prim: &Prim) -> Result<Course, AllocError>
     ensures { IfOk result (λ c. course_in c ≡ tells (without_detachments (operation_items (primitive prim.now)))) }
 {
@@ -238,7 +236,7 @@ pub(crate) fn operation_course(alloc: Global, prim: &Prim) -> Result<Course, All
             return Ok(Course::ended(alloc, End::Done));
         }
     };
-    // What follows an operation is mostly one firing, or none.
+    // Mostly at most one firing follows an operation.
     let course = Course::of_item(alloc, Item::Operation(operation), 1)?;
     Ok(course)
 }

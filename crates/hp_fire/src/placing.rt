@@ -1,4 +1,4 @@
-//! Where new tasks go.
+//! Places new tasks.
 
 ghost use Rattle.std.specs.List.{list_all};
 ghost use Rattle.std.specs.Prelude.{◌≡◌, IfOk, IfErr, OnOk, [], ◌∷◌, map, filter, true};
@@ -19,20 +19,18 @@ use hp_rule::{Detached, Task};
 use hp_value::{Cause, Coupling, RuleNo};
 use std::alloc::{AllocError, Global};
 
-/// New tasks by where they go.
+/// New tasks by where they run.
 #[derive(Debug, Drop)]
 pub(crate) struct Placed {
-    /// Those that fire at once.
+    /// Tasks that fire at once.
     pub(crate) immediate: Vec<Task>,
-    /// Those for the deferred rounds.
+    /// Tasks for the deferred rounds.
     pub(crate) queued: Vec<Task>,
-    /// Those for transactions of their own.
+    /// Tasks for transactions of their own.
     pub(crate) detached: Vec<Detached>,
 }
 
-/// Sorts new tasks by the modes that made them, each kind in its order.
-///
-/// An error means that memory ran out.
+/// Divides new tasks by their coupling modes. The order within each kind stays.
 pub(crate) fn place_tasks(alloc: Global, tasks: Vec<Task>) -> Result<Placed, AllocError>
     ensures immediate { IfOk result (λ p. map task_of p.immediate.items
         ≡ filter (λ (t : ModelTask). is_immediate t.place) (map task_of tasks.items)) }
@@ -50,9 +48,7 @@ pub(crate) fn place_tasks(alloc: Global, tasks: Vec<Task>) -> Result<Placed, All
     })
 }
 
-/// Sorts tasks of several modes.
-///
-/// An error means that memory ran out.
+/// The same, where not all tasks are immediate.
 fn sort_tasks(alloc: Global, tasks: Vec<Task>) -> Result<Placed, AllocError>
     ensures immediate { IfOk result (λ p. map task_of p.immediate.items
         ≡ filter (λ (t : ModelTask). is_immediate t.place) (map task_of tasks.items)) }
@@ -91,9 +87,9 @@ fn are_immediate(tasks: &[Task]) -> bool
     true
 }
 
-/// The task of a list of one, if it fires at once; else the list, as it was.
+/// The only task of a list, if it fires at once; otherwise the list, unchanged.
 ///
-/// The list of one is freed, so that no memory is held for it while its task fires.
+/// The list is freed, so that it holds no memory while its task fires.
 pub(crate) fn single_immediate(mut tasks: Vec<Task>) -> Result<Task, Vec<Task>>
     ensures one { IfOk result (λ t. (tasks.items ≡ t ∷ [])
         × (list_all (λ (u : ModelTask). is_immediate u.place) (map task_of tasks.items) ≡ true)) }
@@ -108,9 +104,7 @@ pub(crate) fn single_immediate(mut tasks: Vec<Task>) -> Result<Task, Vec<Task>>
     }
 }
 
-/// One task alone.
-///
-/// An error means that memory ran out.
+/// A list of one task.
 pub(crate) fn one_task(alloc: Global, task: Task) -> Result<Vec<Task>, AllocError>
     ensures { IfOk result (λ ts. ts.items ≡ task ∷ []) }
 {
@@ -119,7 +113,7 @@ pub(crate) fn one_task(alloc: Global, task: Task) -> Result<Vec<Task>, AllocErro
     Ok(tasks)
 }
 
-/// A task that is detached now.
+/// A detached task that isn't released.
 fn unreleased(task: Task) -> Detached
     ensures { detached_of result ≡ unreleased (task_of task) }
 {
@@ -129,9 +123,7 @@ fn unreleased(task: Task) -> Detached
     }
 }
 
-/// A group of firings as a part of the transaction round it, which a veto that stopped the group aborts.
-///
-/// An error means that memory ran out.
+/// A group of firings as a part of the transaction around it. A veto that stopped the group aborts the transaction.
 pub fn group_course(alloc: Global, group: GroupOutcome) -> Result<Course, AllocError>
     ensures { IfOk result (λ c. course_in c ≡ group_answer (group_in group)) }
 {
@@ -143,7 +135,7 @@ pub fn group_course(alloc: Global, group: GroupOutcome) -> Result<Course, AllocE
     Ok(course)
 }
 
-/// A firing that has no siblings, as a part of the transaction round it, which its veto aborts.
+/// A firing without siblings as a part of the transaction around it. Its veto aborts the transaction.
 pub(crate) fn firing_course(outcome: Outcome) -> Course
     ensures { course_in result ≡ group_answer (record { firings = firing outcome ∷ []; vetoed_by = outcome.end }) }
 {
@@ -161,9 +153,7 @@ pub(crate) fn firing_course(outcome: Outcome) -> Course
     }
 }
 
-/// Adds what a firing gave to a course.
-///
-/// An error means that memory ran out; a part may then have been added.
+/// Adds a firing to a course. After an error a part may have been added.
 fn add_firing(course: &mut Course, outcome: Outcome) -> Result<(), AllocError>
     ensures { OnOk result (course_in course.new ≡ with_firings (course_in course.old) (firing outcome ∷ [])) }
 {
@@ -179,7 +169,7 @@ fn add_firing(course: &mut Course, outcome: Outcome) -> Result<(), AllocError>
     Ok(())
 }
 
-/// The end of the transaction round a group that this rule's veto stopped, or none.
+/// The end of the transaction around a group that this rule's veto stopped; `Done` if no veto did.
 fn stopped_by(veto: Option<RuleNo>) -> End
     ensures { mapped.end result ≡ end_of veto }
 {

@@ -1,4 +1,4 @@
-//! Signals, groups and firings. Statements signal, and a firing's action is statements: `statement` has them.
+//! Signals, groups and firings. They call the statements in `statement`, which call them.
 
 ghost use Rattle.std.specs.Prelude.{◌≡◌, ◌+◌, true, IfOk, All, map};
 ghost use Rattle.std.specs.Thread.{IsSync};
@@ -31,7 +31,7 @@ use std::alloc::AllocError;
 use std::thread::Threads;
 
 impl<R: Threads + Sync> Engine<'_, R> {
-    /// Signals an occurrence in a transaction of a depth.
+    /// Signals an occurrence in a transaction of depth `depth`.
     #[cycle(fire)]
     pub(crate) fn signal(&self, view: &mut View, prim: &Prim, depth: u8) -> Result<Course, Halt>
         ensures { SignalRuns self.now.lib.now depth prim.now view.old view.new result }
@@ -41,8 +41,8 @@ impl<R: Threads + Sync> Engine<'_, R> {
         Ok(course)
     }
 
-    /// Starts the tasks of a signal, or of a statement that fires a rule: they are placed, and the immediate ones fire
-    /// as siblings.
+    /// Starts the tasks of a signal, or of a statement that fires a rule: places them, and fires the immediate ones as
+    /// siblings.
     #[cycle(fire)]
     pub(crate) fn start(
         &self,
@@ -79,8 +79,8 @@ impl<R: Threads + Sync> Engine<'_, R> {
         Ok(course)
     }
 
-    /// Fires tasks of a signal in a transaction of a depth as siblings. Where there are several tasks and threads, and
-    /// enough to do for them, workers try tasks ahead of their turn.
+    /// Fires the tasks of a signal as siblings, in a transaction of depth `depth`. With several tasks and threads, and
+    /// enough work, workers try tasks ahead of their turn.
     #[cycle(fire)]
     fn group(&self, view: &mut View, tasks: &[Task], depth: u8) -> Result<GroupOutcome, AllocError>
         requires { All (λ t. t.depth ≡ depth + 1) tasks.now }

@@ -1,4 +1,4 @@
-//! How statements end that do nothing more.
+//! Statements that end without effects.
 
 ghost use Rattle.std.specs.Prelude.{◌≡◌, IfOk};
 ghost use Rattle.hp_model.specs.Rules.{Library};
@@ -12,7 +12,7 @@ use crate::course::{Course, End};
 use hp_value::{Halt, RuleNo};
 use std::alloc::{AllocError, Global};
 
-/// A course that ends at once, where a cause ended it before anything was done.
+/// A course, or the course that a cause ended before it did anything.
 pub(crate) fn settled(alloc: Global, given: Result<Course, Halt>) -> Result<Course, AllocError>
     ensures { IfOk result (λ c. (library : Library) (work : Work) (old new : Seeing)
         → Steps library work old new given → Runs library work old new (course_in c)) }
@@ -24,7 +24,7 @@ pub(crate) fn settled(alloc: Global, given: Result<Course, Halt>) -> Result<Cour
     }
 }
 
-/// The course of a veto. In the body of a script it does nothing; a checked body has none.
+/// The course of a veto. In the body of a script a veto does nothing; a checked body has none.
 pub(crate) fn vetoed(alloc: Global, rule: Option<RuleNo>) -> Course
     ensures { (library : Library) (view : Seeing) → Runs library (vetoes rule) view view (course_in result) }
 {

@@ -1,7 +1,7 @@
 //! Groups of sibling firings, which workers try ahead of their turn.
 //!
-//! All that is speculation stands here, and it knows nothing of statements: a group is given what fires a task and what
-//! tries one on a snapshot. `README.md` of the crate has the words, and the life of one sibling.
+//! All speculation is in this module, and it knows nothing of statements: a group is passed one function that fires a
+//! task, and one that tries a task on a snapshot. `docs/SPECULATION.md` has the terms, and the life of a group.
 
 mod channel;
 mod counts;

@@ -1,4 +1,4 @@
-//! Statements of each kind, and bodies of them.
+//! Statements of each kind, and bodies.
 
 ghost use Rattle.std.specs.Prelude.{IfOk, map};
 ghost use Rattle.hp_model.specs.Rules as rules;
@@ -50,7 +50,7 @@ impl<R: Threads + Sync> Engine<'_, R> {
         Ok(so_far)
     }
 
-    /// Runs a statement. A cause ends it before it has done anything.
+    /// Runs a statement. A cause ends it before it has any effect.
     #[cycle(fire)]
     fn statement(&self, view: &mut View, stmt: &Stmt, context: &Context<'_>) -> Result<Course, Halt>
         ensures { StatementRuns self.now.lib.now context.now (statement_of stmt.now) view.old view.new result }
@@ -110,8 +110,8 @@ impl<R: Threads + Sync> Engine<'_, R> {
         }
     }
 
-    // Statements of most kinds have functions of their own, so that a level of statements is small on the stack: all
-    // places for results are cleared on entry, those of arms that aren't taken too.
+    // Most kinds of statements have functions of their own, which keeps the stack frame of a level of statements small:
+    // a frame holds the temporaries of all its arms and clears them on entry, whichever arm runs.
 
     /// Runs a statement `signal`.
     #[cycle(fire)]
@@ -245,7 +245,7 @@ impl<R: Threads + Sync> Engine<'_, R> {
         Ok(course)
     }
 
-    /// Runs a body for each row, which has a name in it, up to the first time that it isn't done.
+    /// Runs a body for each row, bound to a name, up to the first run that isn't done.
     #[cycle(fire)]
     fn each_row(
         &self,
@@ -287,7 +287,7 @@ impl<R: Threads + Sync> Engine<'_, R> {
         Ok(closed)
     }
 
-    /// Signals the event of an operation, if it was made. A cause for which it wasn't ends the statement.
+    /// Signals the event of an operation that succeeded. A cause for which it failed ends the statement.
     #[cycle(fire)]
     fn operated(&self, view: &mut View, made: Result<Prim, Halt>, depth: u8) -> Result<Course, Halt>
         ensures { (work : Work) (before : Seeing)

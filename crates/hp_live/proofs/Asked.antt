@@ -1,4 +1,4 @@
--- The answer to a line after the first, by what is asked.
+-- The answer to a later line, by the kind of request.
 use Rattle.std.proofs.Common.{◌≡◌, ◌∙◌, ◌++◌, ap, sym, subst, ℕ, List, string_bytes, String, Global, Bool, Result, Ok, Err, IfOk, OnOk}
 use Rattle.hp_model.specs.Refusals.{Refusal, Decoded}
 use Rattle.hp_model.specs.Decode.{Schedule}
@@ -15,11 +15,11 @@ use Rattle.hp_live.specs.declared.base.RuleBase.{RuleBase}
 use Rattle.hp_live.specs.declared.desk.Stage.{Stage}
 use Rattle.hp_live.specs.declared.desk.Stage.TheVariants.{Up}
 
--- what is read with what is kept is read with what it stands for
+-- a line is read with what is kept as with what that stands for
 pub asked_of : (kept : RuleBase) (base : L.RuleBase) (line : List ℕ) (r : Decoded Request) → StandsFor kept base → request_of (library kept.library.value) kept.clock line ≡ r → request_of base.library base.clock line ≡ r
 asked_of kept base line r stands read = ap (λ l. request_of l base.clock line) stands.library_is ∙ ap (λ t. request_of (library kept.library.value) t line) (sym stands.clock_is) ∙ read
 
--- by what is asked
+-- by the kind of request
 answers_by : (text : String Global) (kept : RuleBase) (with_tree : Bool) (base : L.RuleBase) (line : List ℕ) (r : Decoded Request) → request_of base.library base.clock line ≡ r
     → Answers text (Up kept) (L.later_answer with_tree base r) → Answers text (Up kept) (L.answer with_tree (L.up base) line)
 answers_by text kept with_tree base line r read answers = subst (λ q. Answers text (Up kept) (L.later_answer with_tree base q)) (sym read) answers
@@ -44,7 +44,7 @@ pub both_ok : {T E : Type 0} (r : Result T E) (P : T → Type 0) (Q : Type 0) (R
 both_ok (Ok x) P Q R p q f = f x p q
 both_ok (Err e) P Q R p q f = tt
 
--- a rule base that is up is where one is up
+-- a kept rule base that is up stands for one that is up
 pub stands_up : (kept : RuleBase) (now : L.Stage) (A : L.Stage → Type 0) → IsStage (Up kept) now → ((base : L.RuleBase) → StandsFor kept base → A (L.up base)) → A now
 stands_up kept L.unopened A is f = absurd is
 stands_up kept (L.up base) A is f = f base is

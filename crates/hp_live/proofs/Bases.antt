@@ -1,4 +1,4 @@
--- A rule base that is kept, and what it stands for.
+-- A kept rule base, and what it stands for.
 use Rattle.std.proofs.Common.{◌≡◌, refl, sym, ap, subst, ◌∙◌, ℕ, ◌+◌, ◌≤◌, List, [], ◌∷◌, ◌++◌, map, take, length, arith}
 use Rattle.std.proofs.lemmas.List.{take_all, length-map}
 use Rattle.hp_model.specs.Rules.{Library}
@@ -32,7 +32,7 @@ objects_left library units before reports S replayed all ordered same =
     subst (λ us. (run_units library us S).state.objects ≡ replay_units S.objects reports) (take_all (length reports) units (omega (arith, all)))
     (replayed.from S ordered same)
 
--- both, where a rule base stands
+-- the units ran on both rule bases
 pub record Ran (base : L.RuleBase) (us : List Unit) (rs : List UnitReport) (after : Cells) : Type 0 where
   pub led : LeadsTo base.library (run_units base.library us base.state).units (run_units base.library us base.state).state rs after
   pub objects : (run_units base.library us base.state).state.objects ≡ replay_units base.state.objects rs
@@ -49,7 +49,7 @@ shown : (ss : List Status) → statuses (map rule_state ss) ≡ map status ss
 shown [] = refl
 shown (s ∷ ss) = ap (λ (l : List S.Status). status s ∷ l) (shown ss)
 
--- the text of a state that has the cells and the objects
+-- the text of a state with these cells and objects
 pub state_shown : (library : Library) (base : Cells) (objects : Objects) (ss : List Status) (S : State) → AreStatuses library base (map status ss) → IsOrdered library S → cells library S ≡ base → objects ≡ S.objects
     → state_text library objects (map rule_state ss) ≡ state_text library S.objects S.rules
 state_shown library base objects ss S are ordered same objects_are =

@@ -1,4 +1,4 @@
--- What was said of bytes that came in pieces.
+-- The answers to bytes that arrive in pieces.
 use Rattle.std.proofs.Common.{◌≡◌, ℕ, suc, drop-cons, ◌+◌, ◌<◌, List, [], ◌∷◌, ◌++◌, length, take, drop, slice_index_or, Option, Some, None, IfSome, Bool, false, refl, sym, ap, subst, ◌∙◌, append_assoc, append-nil, arith}
 use Rattle.std.specs.Io.KnownBytes.{Appends, Consumes, Keeps, IsAtEnd}
 use Rattle.std.proofs.Math.Seq.{take-suc}
@@ -18,7 +18,7 @@ use Rattle.hp_live.specs.declared.fault.Status.TheVariants.{Refused}
 
 -- ---- a piece
 
--- all was said of some bytes, and no write failed
+-- the answers to some bytes were written, and no write failed
 pub record Fed (old new : Option (List ℕ)) (failed : Bool) (before now : Desk) (bytes : List ℕ) : Type 0 where
   pub out : (d : L.Desk) → IsDesk before d → Appends old new (said d bytes)
   pub at : (d : L.Desk) → IsDesk before d → IsDesk now (after d bytes)
@@ -32,7 +32,7 @@ one_more xs i low =
     let one : i + 1 ≡ suc i = omega arith in
     ap (λ (n : ℕ). take n xs) one ∙ take-suc xs i 0 low
 
--- and of one byte more
+-- the same with one more byte
 pub fed_byte : (old mid new : Option (List ℕ)) (was is : Bool) (before now then : Desk) (xs : List ℕ) (i : ℕ) → Fed old mid was before now (take i xs)
     → ((d : L.Desk) → IsDesk now d → Appends mid new (told d (slice_index_or xs i 0))) → ((d : L.Desk) → IsDesk now d → IsDesk then (next d (slice_index_or xs i 0))) → is ≡ false → i < length xs
     → Fed old new is before then (take (i + 1) xs)
@@ -48,7 +48,7 @@ fed_byte old mid new was is before now then xs i fed out at whole low =
       whole = whole;
     })
 
--- what went out at one of the bytes is a beginning of what is said of all
+-- what was written by one of the bytes is a prefix of the answers to all
 pub begins_piece : (old mid new : Option (List ℕ)) (was : Bool) (before now : Desk) (xs : List ℕ) (i : ℕ) → Fed old mid was before now (take i xs)
     → ((d : L.Desk) → IsDesk now d → Begins mid new (told d (slice_index_or xs i 0))) → i < length xs → (d : L.Desk) → IsDesk before d → Begins old new (said d xs)
 begins_piece old mid new was before now xs i fed begins low d here =
@@ -62,7 +62,7 @@ begins_piece old mid new was before now xs i fed begins low d here =
 
 -- ---- a whole run
 
--- what was read so far was all told
+-- the answers to all that was read were written
 pub record Served (left rest : Option (List ℕ)) (lost : Bool) (old new : Option (List ℕ)) (failed : Bool) (first : L.Desk) (now : Desk) : Type 0 where
   pub bytes : List ℕ
   pub taken : Consumes left rest bytes
@@ -74,7 +74,7 @@ pub record Served (left rest : Option (List ℕ)) (lost : Bool) (old new : Optio
 pub none_served : (left old : Option (List ℕ)) (lost failed : Bool) (first : L.Desk) (desk : Desk) → lost ≡ false → failed ≡ false → IsDesk desk first → Served left left lost old old failed first desk
 none_served left old lost failed first desk sound whole at = record { bytes = []; taken = Consumes-nil left; sound = sound; out = Appends-nil old; at = at; whole = whole }
 
--- and then what one more read gave
+-- the same after one more read
 pub served_on : (left rest more : Option (List ℕ)) (lost gone : Bool) (old mid new : Option (List ℕ)) (was is : Bool) (first : L.Desk) (now then : Desk) (piece : List ℕ)
     → Served left rest lost old mid was first now → Consumes rest more piece → gone ≡ false
     → ((d : L.Desk) → IsDesk now d → Appends mid new (said d piece)) → ((d : L.Desk) → IsDesk now d → IsDesk then (after d piece)) → is ≡ false
@@ -88,7 +88,7 @@ served_on left rest more lost gone old mid new was is first now then piece s tak
   whole = whole;
 }
 
--- what is said of the bytes so far is a beginning of the output
+-- the answers to the bytes so far are a prefix of the output
 pub begins_output : (left rest old new : Option (List ℕ)) (with_tree : Bool) (bytes : List ℕ) → Consumes left rest bytes → Begins old new (said (new_desk with_tree) bytes)
     → IfSome left (λ input. Begins old new (output with_tree input))
 begins_output None rest old new with_tree bytes taken begins = tt
@@ -98,7 +98,7 @@ begins_output (Some input) (Some r) old new with_tree bytes taken begins =
     let all : said d bytes ++ in_all (after d bytes) r ≡ output with_tree input = sym (in_all-append d bytes r) ∙ ap (in_all d) (sym taken) ∙ in_all_of with_tree input in
     subst (Begins old new) all (begins_more old new (said d bytes) (in_all (after d bytes) r) begins)
 
--- what is said of all the bytes, and at their end, is a beginning of it, and the whole
+-- the answers to all bytes, followed by those at their end, are the output, and each prefix is one of it
 pub begins_end : (left rest old mid new : Option (List ℕ)) (with_tree : Bool) (bytes : List ℕ) → Consumes left rest bytes → IsAtEnd rest → Appends old mid (said (new_desk with_tree) bytes)
     → Begins mid new (said_at_end (after (new_desk with_tree) bytes)) → IfSome left (λ input. Begins old new (output with_tree input))
 begins_end None rest old mid new with_tree bytes taken ended out begins = tt
@@ -115,7 +115,7 @@ said_end (Some input) (Some r) old mid new with_tree bytes taken ended out last 
     let whole : bytes ≡ input = sym (append-nil bytes) ∙ ap (λ (l : List ℕ). bytes ++ l) (sym ended) ∙ sym taken in
     subst (Appends old new) (in_all_of with_tree bytes ∙ ap (output with_tree) whole) (Appends-trans old mid new (said (new_desk with_tree) bytes) (said_at_end (after (new_desk with_tree) bytes)) out last)
 
--- where the script was refused, all is said
+-- if the script was refused, the output is complete
 pub said_closed : (left rest old new : Option (List ℕ)) (with_tree : Bool) (bytes : List ℕ) → Consumes left rest bytes → Appends old new (said (new_desk with_tree) bytes)
     → (after (new_desk with_tree) bytes).stage ≡ closed → IfSome left (λ input. Appends old new (output with_tree input))
 said_closed None rest old new with_tree bytes taken out shut = tt
@@ -152,7 +152,7 @@ status_end (Some input) (Some r) with_tree bytes status taken ended told =
     let whole : bytes ≡ input = sym (append-nil bytes) ∙ ap (λ (l : List ℕ). bytes ++ l) (sym ended) ∙ sym taken in
     told ∙ ap status_at (stage_of with_tree bytes) ∙ ap (status_of with_tree) whole
 
--- ---- what reads leave
+-- ---- the rest after reads
 
 -- a read at the end gave nothing
 pub ended : (left rest more : Option (List ℕ)) (bytes buf : List ℕ) (n : ℕ) → n ≡ 0 → Consumes left rest bytes → Consumes rest more (take n buf) → Consumes left more bytes
@@ -166,7 +166,7 @@ kept_left (Some input) None new bytes taken keeps = absurd taken
 kept_left (Some input) (Some r) None bytes taken keeps = absurd keeps
 kept_left (Some input) (Some r) (Some q) bytes taken keeps = taken ∙ ap (λ (l : List ℕ). bytes ++ l) (sym keeps)
 
--- what went out of a piece is a beginning of the output
+-- what was written for a piece is a prefix of the output
 pub begins_fed : (left rest more old mid new : Option (List ℕ)) (with_tree : Bool) (bytes piece : List ℕ) → Consumes left rest bytes → Consumes rest more piece → Appends old mid (said (new_desk with_tree) bytes)
     → Begins mid new (said (after (new_desk with_tree) bytes) piece) → IfSome left (λ input. Begins old new (output with_tree input))
 begins_fed left rest more old mid new with_tree bytes piece taken next out begins =

@@ -18,11 +18,11 @@ status_at unopened = Ended
 status_at (up base) = Ended
 status_at closed = Refused
 
--- an input ends as such, unless its first line is refused
+-- the status at the end of an input, which is `Refused` if its first line is refused
 abbrev pub status_of : (with_tree : Bool) → List ℕ → Status
 status_of with_tree input = status_at (stage_after with_tree unopened (lines_of input))
 
--- a program's exit status
+-- the exit status of a program
 abbrev pub code_of : Result Status Fault → ℕ
 code_of (Ok Ended) = 0
 code_of (Ok Refused) = 2

@@ -1,4 +1,4 @@
--- What the program keeps of a rule base, and what it stands for.
+-- What the program keeps of a rule base, and what that stands for.
 use Rattle.std.specs.Prelude.{◌≡◌, ⊤, ℕ, List, ◌++◌, Option, string_bytes, Bool, false}
 use Rattle.std.specs.declared.string.String.{String}
 use Rattle.std.specs.declared.alloc.Global.{Global}
@@ -34,11 +34,11 @@ pub record IsDesk (kept : Desk) (d : L.Desk) : Type 0 where
   pub stage_is : IsStage kept.stage d.stage
   pub line_is : kept.line.items ≡ d.line
 
--- the text is the answer, and the stage is as it says
+-- the text is the answer, and the kept stage stands for the next one
 pub record Answers (text : String Global) (kept : Stage) (a : L.Answer) : Type 0 where
   pub text_is : string_bytes text ≡ a.body ++ a.last
   pub stage_is : IsStage kept a.stage
 
--- what was read, and all that is said of it was written
+-- the answers to all that was read were written
 abbrev pub WasTold : (left rest : Option (List ℕ)) → (old new : Option (List ℕ)) → L.Desk → Type 0
 WasTold left rest old new d = (bytes : List ℕ) × Consumes left rest bytes × Appends old new (L.said d bytes)

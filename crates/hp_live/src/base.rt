@@ -1,4 +1,4 @@
-//! A rule base that is up.
+//! Rule bases.
 
 ghost use Rattle.std.specs.Prelude.{◌≡◌, ◌++◌, List, IfOk, OnOk, None, map, string_bytes};
 ghost use Rattle.hp_model.specs.Cascade.{run_units};
@@ -25,9 +25,9 @@ use std::mem;
 use std::sync::Arc;
 use std::thread::Threads;
 
-/// A rule base: its library, its state, where its clock stands, and how many units have run.
+/// A rule base: its library, its state, its clock, and the number of units that have run.
 ///
-/// Of the units only the number is kept.
+/// Of the units only their number is kept.
 #[derive(Drop)]
 pub(crate) struct RuleBase {
     pub library: Arc<Library>,
@@ -36,14 +36,12 @@ pub(crate) struct RuleBase {
     pub objects: Objects,
     pub clock: u64,
     pub units: usize,
-    // What the rules' last firings took, which tells later lines where workers pay.
+    // The costs of the rules' last firings. By them later lines decide where workers pay.
     past: Past,
 }
 
 impl RuleBase {
-    /// The rule base of a library, before its first unit, for so many workers.
-    ///
-    /// An error means that memory ran out.
+    /// The rule base of a library before its first unit, for this number of workers.
     pub(crate) fn new(
         alloc: Global,
         library: Arc<Library>,
@@ -61,9 +59,7 @@ impl RuleBase {
         })
     }
 
-    /// Runs units on the state as it is, and gives what is reported of them.
-    ///
-    /// An error means that memory ran out; some of the units may have run.
+    /// Runs units on the current state. The answer is their reports. After an error some of the units may have run.
     fn run_units<T: Threads + Sync>(
         &mut self,
         rt: &T,
@@ -84,9 +80,9 @@ impl RuleBase {
         Ok(reports)
     }
 
-    /// Runs what an item runs, and gives the answer.
+    /// Runs the units of an item, and makes the answer.
     ///
-    /// An error means that memory ran out, or that 64 bits don't number the units; some of them may have run.
+    /// An error means that memory ran out, or that the number of units exceeds 64 bits; some of them may have run.
     pub(crate) fn run<T: Threads + Sync>(
         &mut self,
         rt: &T,
@@ -109,9 +105,7 @@ impl RuleBase {
         Ok(text)
     }
 
-    /// The lines of the state as it is, as an answer.
-    ///
-    /// An error means that memory ran out.
+    /// The current state, as the lines of an answer.
     pub(crate) fn shown(&self, alloc: Global) -> Result<String, AllocError>
         ensures { IfOk result (λ text. (base : L.RuleBase) → StandsFor self.now base →
             string_bytes text ≡ state_text base.library base.state.objects base.state.rules ++ L.ok_line base.units) }
@@ -123,7 +117,7 @@ impl RuleBase {
     }
 }
 
-/// The reports of units, if all ran.
+/// The reports of all units; an error if some didn't run.
 fn whole(ran: Items) -> Result<Vec<UnitReport>, AllocError>
     ensures all { IfOk result (λ units. units ≡ ran.reports) }
     ensures unstopped { OnOk result (ran.stopped ≡ None) }
@@ -134,7 +128,7 @@ fn whole(ran: Items) -> Result<Vec<UnitReport>, AllocError>
     }
 }
 
-/// The last line of an answer, with the number of units so far.
+/// Adds the last line of an answer, with the number of units so far.
 fn put_ok(out: &mut String, units: usize) -> Result<(), AllocError>
     ensures { OnOk result (Gains out.old out.new (L.ok_line units)) }
 {

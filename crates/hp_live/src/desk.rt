@@ -1,4 +1,4 @@
-//! Lines, one after the other.
+//! Answers lines one after another.
 
 ghost use Rattle.std.specs.Prelude.{◌≡◌, ◌≢◌, ◌↔◌, ◌++◌, List, ℕ, IfOk, OnOk, Ok, string_bytes, true, false};
 ghost use Rattle.std.specs.Io.KnownBytes.{Appends};
@@ -18,13 +18,13 @@ use hp_script::{DecodeError, Request, Schedule, Script, decode, decode_request, 
 use std::alloc::{AllocError, Global};
 use std::thread::Threads;
 
-/// The bytes of a line that are kept: one more than it may have tells that it is too long.
+/// The most bytes of a line that are kept: one more than a line may have shows that it is too long.
 const MOST_KEPT: usize = 1_048_577;
 
-/// How matters stand.
+/// The stage of a session.
 #[derive(Drop)]
 pub(crate) enum Stage {
-    /// No line was read yet.
+    /// No line has been read.
     Unopened,
     /// A rule base is up.
     Up(RuleBase),
@@ -32,9 +32,8 @@ pub(crate) enum Stage {
     Closed,
 }
 
-/// What answers lines, and what has come of the next line.
-///
-/// What a line's units did is dropped once its answer is written.
+/// Collects the bytes of lines and answers each line. It drops the reports of a line's units after the answer is
+/// written.
 #[derive(Drop)]
 pub struct Desk {
     pub(crate) options: Options,
@@ -42,9 +41,7 @@ pub struct Desk {
     pub(crate) line: Vec<u8>,
 }
 
-/// Runs the items of a script on a new rule base: the answer, and how matters stand after it.
-///
-/// An error means that memory ran out.
+/// Runs the items of a script on a new rule base. The result is the answer and the next stage.
 fn open_by<T: Threads + Sync>(
     rt: &T,
     alloc: Global,
@@ -63,9 +60,7 @@ fn open_by<T: Threads + Sync>(
     Ok((text, Stage::Up(base)))
 }
 
-/// Answers the first line: the answer, and how matters stand after it.
-///
-/// An error means that memory ran out.
+/// Answers the first line. The result is the answer and the next stage.
 fn open<T: Threads + Sync>(
     rt: &T,
     alloc: Global,
@@ -81,9 +76,7 @@ fn open<T: Threads + Sync>(
     }
 }
 
-/// Answers a line after the first.
-///
-/// An error means that memory ran out; some of the units may have run.
+/// Answers a later line. After an error some of its units may have run.
 fn answer_later<T: Threads + Sync>(
     rt: &T,
     alloc: Global,
@@ -101,9 +94,7 @@ fn answer_later<T: Threads + Sync>(
     }
 }
 
-/// Answers a line, and changes how matters stand.
-///
-/// An error means that memory ran out; some of what the line asks for may have happened.
+/// Answers a line, and changes the stage. After an error some of what the line asks for may have happened.
 fn answer_at<T: Threads + Sync>(
     rt: &T,
     alloc: Global,
@@ -125,7 +116,7 @@ fn answer_at<T: Threads + Sync>(
 }
 
 impl Desk {
-    /// A desk at which no line has come yet.
+    /// A desk before the first line.
     pub fn new(alloc: Global, options: Options) -> Desk
         ensures { IsDesk result (L.new_desk options.tree) }
     {
@@ -136,7 +127,7 @@ impl Desk {
         }
     }
 
-    /// How a run ends that ends now: where the script was refused nothing more is answered.
+    /// The status of a run that ends at this point: `Refused` if the script was refused.
     pub fn status(&self) -> Status
         ensures { (s : L.Stage) → IsStage self.now.stage s → result ≡ status_at s }
     {
@@ -146,9 +137,8 @@ impl Desk {
         }
     }
 
-    /// Answers the line as it has come, and is ready for the next.
-    ///
-    /// An error means that memory ran out; some of what the line asks for may have happened.
+    /// Answers the collected line, and clears it for the next. After an error some of what the line asks for may have
+    /// happened.
     fn answer<T: Threads + Sync>(&mut self, rt: &T, alloc: Global) -> Result<String, AllocError>
         ensures text { IfOk result (λ text. (d : L.Desk) → IsDesk self.old d → string_bytes text ≡ L.reply d) }
         ensures next { OnOk result ((d : L.Desk) → IsDesk self.old d → IsDesk self.new (L.answered d)) }
@@ -158,7 +148,7 @@ impl Desk {
         Ok(text)
     }
 
-    /// Answers the line as it has come, on a device.
+    /// Writes the answer to the collected line to a device.
     pub(crate) fn reply<T: Threads + Sync, W: Sink>(
         &mut self,
         rt: &T,
@@ -178,7 +168,7 @@ impl Desk {
         Ok(())
     }
 
-    /// Takes in one more byte.
+    /// Takes one more byte.
     fn tell<T: Threads + Sync, W: Sink>(
         &mut self,
         rt: &T,
@@ -203,10 +193,10 @@ impl Desk {
         Ok(())
     }
 
-    /// Takes in a piece of the input. All lines that are whole with it have been answered when it returns `Ok`.
+    /// Takes a piece of the input. When it returns `Ok`, all lines that are complete with the piece have been answered.
     ///
-    /// The writer must not have failed before. After an error what went out is a beginning of these answers, and the desk
-    /// is of no more use: some of what a line asks for may have happened without its answer.
+    /// The writer must not have failed before. After an error what was written is a prefix of these answers, and the
+    /// desk is of no further use: some of what a line asks for may have happened without an answer.
     pub fn feed<T: Threads + Sync, W: Sink>(
         &mut self,
         rt: &T,
@@ -228,9 +218,9 @@ impl Desk {
         Ok(())
     }
 
-    /// Takes in the end of the input: a last line without a line feed is answered.
+    /// Takes the end of the input: answers a last line without a line feed.
     ///
-    /// The writer must not have failed before. After an error what went out is a beginning of the answer.
+    /// The writer must not have failed before. After an error what was written is a prefix of the answer.
     pub fn finish<T: Threads + Sync, W: Sink>(
         &mut self,
         rt: &T,

@@ -8,7 +8,7 @@ use hp_report::WriteFault;
 use std::alloc::{AllocError, AllocFailed};
 use thiserror::Error;
 
-/// How a run ended that no fault has cut off.
+/// How a run without a fault ended.
 #[derive(Clone, Copy, Debug, PartialEq, Eq)]
 pub enum Status {
     /// At the end of the input.
@@ -17,16 +17,16 @@ pub enum Status {
     Refused,
 }
 
-/// Why a run ended before the input did. The writer then has a beginning of the answers.
+/// Why a run ended before its input. The writer then has a prefix of the answers.
 #[derive(Clone, Copy, Debug, PartialEq, Eq, Error)]
 pub enum Fault {
-    /// A growth was refused, or 64 bits don't number the units.
+    /// An allocation was refused, or the number of units exceeds 64 bits.
     #[error("fault F1")]
     NoMemory,
-    /// A read failed. All lines that were whole before it have been answered.
+    /// A read failed. All lines that were complete before it have been answered.
     #[error("fault F2")]
     Read,
-    /// A write failed, or took nothing of a piece that isn't empty.
+    /// A write failed, or wrote nothing of a piece that isn't empty.
     #[error("fault F3")]
     Write,
 }
@@ -58,7 +58,7 @@ impl From<WriteFault> for Fault {
     }
 }
 
-/// The status with which a program ends: 0 at the end of the input, 2 where the script was refused, 4 after a fault.
+/// The exit status of a program: 0 at the end of the input, 2 if the script was refused, 4 after a fault.
 pub fn exit_code(ended: &Result<Status, Fault>) -> u8
     ensures { result ≡ code_of ended.now }
 {

@@ -1,6 +1,7 @@
 //! A rule manager that stays up: lines in, answers out.
 //!
-//! The first line is a script, each later one an item, or `["show"]`. `specs/Live.antt` says what is answered.
+//! The first line is a script, each later one an item, or `["show"]`. `specs/Live.antt` of `hp_lines` defines the
+//! answers. `AllocError` means that memory ran out.
 #![tactic(auto)]
 
 mod base;

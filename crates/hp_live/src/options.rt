@@ -1,10 +1,10 @@
-//! What a user chooses.
+//! A user's options.
 
 /// How a rule base is run.
 #[derive(Clone, Copy, Debug, PartialEq, Eq)]
 pub struct Options {
-    /// How many workers may try sibling firings at once.
+    /// The most workers that may try sibling firings at once.
     pub workers: usize,
-    /// Whether answers tell what each transaction did.
+    /// Whether answers show what each transaction did.
     pub tree: bool,
 }

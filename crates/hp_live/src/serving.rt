@@ -14,10 +14,11 @@ use hp_report::{Sink, Source};
 use std::alloc::Global;
 use std::thread::Threads;
 
-/// Reads lines up to the reader's end, and answers each as soon as it is read. It ends early where the script is refused.
+/// Reads lines up to the reader's end, and answers each line as soon as it is read. It ends early if the script is
+/// refused.
 ///
-/// The reader and the writer must not have failed before. After a fault what went out is a beginning of the answers; after
-/// `Fault::Read` it is all answers to what was read. No call of a device is tried again.
+/// The reader and the writer must not have failed before. After a fault what was written is a prefix of the answers;
+/// after `Fault::Read` it is all answers to what was read. No call of a device is repeated.
 pub fn serve<T: Threads + Sync, R: Source, W: Sink>(
     rt: &T,
     alloc: Global,
@@ -28,20 +29,20 @@ pub fn serve<T: Threads + Sync, R: Source, W: Sink>(
     requires reader { R.has_failed reader.old ≡ false }
     requires writer { W.has_failed writer.old ≡ false }
 
-    // Where it answers `Ok`, it has written the definition's answers for all the bytes up to the reader's end.
+    // On `Ok` it has written the definition's answers for all bytes up to the reader's end.
     ensures output { OnOk result (IfSome (R.remaining reader.old) (λ input.
         Appends (W.contents writer.old) (W.contents writer.new) (L.output options.tree input))) }
     ensures status { IfOk result (λ status. IfSome (R.remaining reader.old) (λ input. status ≡ status_of options.tree input)) }
 
-    // However it ends, what went out is a beginning of them.
+    // However it ends, what was written is a prefix of these answers.
     ensures begins { IfSome (R.remaining reader.old) (λ input.
         Begins (W.contents writer.old) (W.contents writer.new) (L.output options.tree input)) }
 
-    // Where a read fails, all lines that were whole before it have been answered: no answer is held back.
+    // After a failed read, all lines that were complete before it have been answered: no answer is held back.
     ensures at_once { result ≡ Err Fault.Read → WasTold (R.remaining reader.old) (R.remaining reader.new)
         (W.contents writer.old) (W.contents writer.new) (L.new_desk options.tree) }
 
-    // The faults of devices come exactly where a call has failed.
+    // It returns a fault of a device exactly if a call has failed.
     ensures read { result ≡ Err Fault.Read ↔ (R.has_failed reader.new ≡ true) }
     ensures write { result ≡ Err Fault.Write ↔ (W.has_failed writer.new ≡ true) }
 {

@@ -72,7 +72,7 @@ siblings_next false library (u ∷ us) t S k h = siblings_next false library us 
 -- ---- the invariant of a run
 
 module _ (stops : Bool) (library : Library) (tasks : List Task) (attempts : ℕ → Attempt) (S : State) where
-  -- the state after the first k tasks, one after the other
+  -- the state after the first k tasks, one after another
   abbrev pub state_after : ℕ → State
   state_after k = (siblings (fire_task library) stops (take k tasks) S).state
 

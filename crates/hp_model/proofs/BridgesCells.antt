@@ -1,4 +1,4 @@
--- Cells told apart, layers over layers, and reads that hold.
+-- Distinct cells, layers over layers, and reads that hold.
 use Rattle.std.proofs.Common.{◌≡◌, refl, ap, ap₂, sym, ◌∙◌, subst, ℕ, ℤ, Bool, true, false, ◌&&◌, List, [], ◌∷◌, ◌++◌, Option, Some, None, int_eq, true≢false}
 use Rattle.std.specs.Prelude.{◌==◌, if◌then◌else◌}
 use Rattle.std.specs.Bool.{Decides}
@@ -37,7 +37,7 @@ same_self (object_cell c k) = ap₂ (λ x y. x && y) (nat_eq_equiv.refl c) (int_
 same_self (rule_cell n) = nat_eq_equiv.refl n
 same_self (detector_cell n) = nat_eq_equiv.refl n
 
--- the test either way round
+-- the test is symmetric
 pub same_turn : (a b : Cell) → same_cell a b ≡ same_cell b a
 same_turn (object_cell c k) (object_cell d l) = ap₂ (λ x y. x && y) (nat_eq_equiv.symm c d) (int_eq_equiv.symm k l)
 same_turn (rule_cell m) (rule_cell n) = nat_eq_equiv.symm m n
@@ -49,11 +49,11 @@ same_turn (rule_cell m) (detector_cell n) = refl
 same_turn (detector_cell m) (object_cell d l) = refl
 same_turn (detector_cell m) (rule_cell n) = refl
 
--- the same, in std's word for a test
+-- the same, as std's equality test
 pub Decides-same_cell : (a b : Cell) → Decides (same_cell a b) (a ≡ b)
 Decides-same_cell a b = (exact_cell a b, λ e. subst (λ q. same_cell a q ≡ true) e (same_self a))
 
--- cells that differ are told apart
+-- the test is false for distinct cells
 pub apart_cells : (a b : Cell) → (a ≡ b → ⊥) → same_cell a b ≡ false
 apart_cells a b apart = false_from_ne_true (same_cell a b) (λ h. apart (exact_cell a b h))
 
@@ -70,14 +70,14 @@ then_both Less s = refl
 then_both Equal s = refl
 then_both Greater s = refl
 
--- a name is found at a class and a key just where the cells are the same
+-- a name is found at a class and a key exactly if the cells are equal
 pub name_at : (class : ℕ) (key : ℤ) (name : ObjectName) → is_at (compare_names (object_name class key)) name ≡ same_cell (object_cell class key) (object_cell name.class name.key)
 name_at class key name =
     then_both (nat_cmp class name.class) _ ∙ ap (λ b. b && int_eq key name.key) (nat_at class name.class)
 
 -- ---- layers
 
--- a layer over another as one
+-- a layer over another as one layer
 abbrev pub stacked : (below above : Changes) → Changes
 stacked below above cell = option_or (above cell) (below cell)
 
@@ -89,7 +89,7 @@ changed_twice : (o : Option CellValue) (x y : Option (Option CellValue)) → cha
 changed_twice o x None = refl
 changed_twice o x (Some v) = refl
 
--- two layers, one after the other, are their stack
+-- two layers, one after another, are their stack
 pub over-over : (base : Cells) (below above : Changes) → over (over base below) above ≡ over base (stacked below above)
 over-over base below above i cell = changed_twice (base cell) (below cell) (above cell) i
 
@@ -128,7 +128,7 @@ with_change-here layer cell x = ap (λ b. if b then x else layer cell) (same_sel
 pub with_change-apart : (layer : Changes) (cell : Cell) (x : Option (Option CellValue)) (q : Cell) → same_cell cell q ≡ false → with_change layer cell x q ≡ layer q
 with_change-apart layer cell x q apart = ap (λ b. if b then x else layer q) apart
 
--- a change to what is there already
+-- a change to the present value
 pub with_change-same : (layer : Changes) (cell : Cell) → with_change layer cell (layer cell) ≡ layer
 with_change-same layer cell i q = by (same_cell cell q) refl i
   where
@@ -157,7 +157,7 @@ with_change-again layer cell x y i q = by (same_cell cell q) i
 pub with_change-back : (layer : Changes) (cell : Cell) (x : Option (Option CellValue)) → with_change (with_change layer cell x) cell (layer cell) ≡ layer
 with_change-back layer cell x = with_change-again layer cell x (layer cell) ∙ with_change-same layer cell
 
--- a value that is written where it is changes nothing
+-- writing the present value changes nothing
 pub over-same : (base : Cells) (layer : Changes) (cell : Cell) (v : Option CellValue) → over base layer cell ≡ v → over base (with_change layer cell (Some v)) ≡ over base layer
 over-same base layer cell v is i q = by (same_cell cell q) refl i
   where
@@ -196,7 +196,7 @@ Holds-head held = held.told.0
 pub Holds-tail : {base : Cells} {r : Read} {rs : List Read} → Holds base (r ∷ rs) → Holds base rs
 Holds-tail held = record { told = held.told.1 }
 
--- reads that hold with more reads hold
+-- reads that hold with more reads hold alone
 pub Holds-front : (base : Cells) (xs ys : List Read) → Holds base (xs ++ ys) → Holds base xs
 Holds-front base xs ys held = record { told = AllTold-front base xs ys held.told }
 
@@ -210,6 +210,6 @@ Holds-append base xs ys front back = record { told = AllTold-append base xs ys f
 pub Holds-push : (base : Cells) (rs : List Read) (r : Read) → Holds base rs → IsTold base r → Holds base (rs ++ r ∷ [])
 Holds-push base rs r held told = Holds-append base rs (r ∷ []) held (Holds-one base r told)
 
--- the read made last
+-- the last read
 pub Holds-last : (base : Cells) (rs : List Read) (r : Read) → Holds base (rs ++ r ∷ []) → IsTold base r
 Holds-last base rs r held = (Holds-back base rs (r ∷ []) held).told.0

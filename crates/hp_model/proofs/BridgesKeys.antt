@@ -54,7 +54,7 @@ any_kept true c key o rest found is h = by (int_eq key o.0.key) ∙ ap (λ t. is
     by false = h
 any_kept false c key o rest found is h = h ∙ ap (λ t. is_some (cond (t && int_eq key o.0.key) (Some o.1) found)) (sym is)
 
--- each key of the class is one at which an object is found
+-- at each key of the class an object is found
 pub has_keys : (class : ℕ) (key : ℤ) (objects : Objects) → list_any (int_eq key) (class_keys class objects) ≡ is_some (find_object objects class key)
 has_keys class key [] = refl
 has_keys class key (o ∷ os) =
@@ -86,11 +86,11 @@ rising_keys class (o ∷ os) rise = by (o.0.class == class) refl (rising_keys cl
     by true is rest = (above_keys class o.0 os ((Decides-eqb o.0.class class).0 is) rise.0, rest)
     by false is rest = rest
 
--- rising lists with the same keys are one
+-- ascending lists with the same keys are equal
 pub same_keys : (xs ys : List ℤ) → IsStrictlySortedBy int_cmp xs → IsStrictlySortedBy int_cmp ys → ((key : ℤ) → list_any (int_eq key) xs ≡ list_any (int_eq key) ys) → xs ≡ ys
 same_keys xs ys rx ry same = btree_set_from_contains int_cmp_total (record { keys = xs }) (record { keys = ys }) rx ry same exact_signed
 
--- a rising list of the keys at which objects are found
+-- an ascending list of the keys at which objects are found
 pub keys_are_class_keys : (class : ℕ) (objects : Objects) (keys : List ℤ) → ObjectsRise objects → IsStrictlySortedBy int_cmp keys
     → ((key : ℤ) → list_any (int_eq key) keys ≡ is_some (find_object objects class key)) → keys ≡ class_keys class objects
 keys_are_class_keys class objects keys rise rk has = same_keys keys (class_keys class objects) rk (rising_keys class objects rise) (λ key. has key ∙ sym (has_keys class key objects))
@@ -127,7 +127,7 @@ rows_found class objects rise =
         let o = slice_index_or objects i d in
         lookup_from_place (eq_by_cmp_equiv names_total) objects i o.0 o.1 (IsDistinct-from_sorted compare_names (names objects) rise) (slice_get-get_or objects i d below)
 
--- the row that is found at the key in the same place
+-- the row that is found at the key of the same index
 pub row_found : (class : ℕ) (objects : Objects) (i : ℕ) (key : ℤ) (r : KeyedRow) → ObjectsRise objects → i < length (rows_of class objects)
     → find_object objects class (slice_index_or (class_keys class objects) i key) ≡ Some (slice_index_or (rows_of class objects) i r).row
 row_found class objects i key r rise below =
@@ -146,7 +146,7 @@ pub rows_from_keys : (class : ℕ) (objects : Objects) → ObjectsRise objects
     → filter_map (λ key. option_map (keyed key) (find_object objects class key)) (class_keys class objects) ≡ rows_of class objects
 rows_from_keys class objects rise = found_again (find_object objects class) (rows_of class objects) (rows_found class objects rise)
 
--- the same by keys that a look at the state's cells gave
+-- the same for keys that a look at the state's cells gave
 pub rows_from_read : (library : Library) (S : State) (class : ℕ) (keys : List ℤ) → IsOrdered library S → AreKeys (cells library S) class keys
     → filter_map (λ key. option_map (keyed key) (find_object S.objects class key)) keys ≡ rows_of class S.objects
 rows_from_read library S class keys ordered are =

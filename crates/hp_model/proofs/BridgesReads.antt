@@ -1,4 +1,4 @@
--- What a step reads of a state, told by the state's cells.
+-- What a step reads of a state, in terms of the state's cells.
 use Rattle.std.proofs.Common.{◌≡◌, refl, ap, ap₂, sym, ◌∙◌, ℕ, ℤ, Bool, true, false, cond, Option, Some, None, unwrap_or}
 use Rattle.std.specs.Prelude.{option_map, []}
 use Rattle.std.proofs.lemmas.Bool.{and_parts}
@@ -23,7 +23,8 @@ abbrev pub knowledge_at : Option CellValue → Option Knowledge
 knowledge_at (Some (knowledge_value k)) = Some k
 knowledge_at value = None
 
--- what is known of an enabled rule's past, by its event and its detector's cell, which is empty for an event that doesn't look back
+-- what is known of an enabled rule's past, from its event and its detector's cell, which is empty for an event that
+-- doesn't look back
 abbrev pub known_by : Event → Option CellValue → Knowledge
 known_by event value = unwrap_or (knowledge_at value) (knowledge event [])
 
@@ -50,7 +51,7 @@ status-cells library S n = status_back (rule_state S n).status
 
 -- ---- detectors
 
--- of a pure event nothing is known that the event itself doesn't tell
+-- for a pure event nothing is known beyond the event itself
 pub knowledge-pure : (event : Event) (h : History) → is_pure event ≡ true → knowledge event h ≡ knowledge event []
 knowledge-pure (pattern_event pattern) h pure = refl
 knowledge-pure (or_event a b) h pure =

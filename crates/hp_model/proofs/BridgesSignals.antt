@@ -1,4 +1,4 @@
--- What a signal makes of a state's detectors, and the tasks that it triggers, told by the state's cells.
+-- The effect of a signal on a state's detectors, and the tasks that it triggers, in terms of the state's cells.
 use Rattle.std.proofs.Common.{arith, ◌≡◌, ◌≢◌, refl, ap, ap₂, sym, ◌∙◌, ℕ, suc, ◌+◌, ◌<◌, ◌≤◌, Bool, true, false, List, [], ◌∷◌, map, length, Option, Some, None, ltb-true, ltb-false, lt-ltb, le-ltb}
 use Rattle.std.specs.Prelude.{◌==◌, nat_lt, option_map, filter_map, if◌then◌else◌}
 use Rattle.std.specs.List.{slice_index_or}
@@ -56,7 +56,7 @@ heard_next rule p enabled h = by (is_pure rule.event)
     by true = refl
     by false = ap (λ (a : Option Occurrence × Knowledge). Some (knowledge_value a.1)) (sym (advance_lem rule.event p h))
 
--- a detector's cell after a signal, by what it was
+-- a detector's cell after a signal, from its value before
 pub extended-detector : (library : Library) (p : Primitive) (S : State) (n : ℕ)
     → cells library (extended p S) (detector_cell n) ≡ changed (cells library S (detector_cell n)) (heard (rule_at library n) p (cells library S (detector_cell n)))
 extended-detector library p S n =
@@ -70,12 +70,12 @@ extended-knowledge library p S n is pure =
     ∙ ap (λ v. changed v (heard (rule_at library n) p v)) (detector-cells library S n is pure)
     ∙ ap (λ (a : Option Occurrence × Knowledge). Some (knowledge_value a.1)) (advance_lem (rule_at library n).event p (rule_state S n).past)
 
--- the changes by a signal at the detectors of the first n rules
+-- the changes that a signal makes at the detectors of the first n rules
 abbrev pub signal_layer : Library → Primitive → Cells → ℕ → Changes
 signal_layer library p now n (detector_cell m) = if nat_lt m n then heard (rule_at library m) p (now (detector_cell m)) else None
 signal_layer library p now n cell = None
 
--- a detector whose rule is still to come
+-- the detector of a later rule
 pub signal_layer-later : (library : Library) (p : Primitive) (now : Cells) (n m : ℕ) → n ≤ m → signal_layer library p now n (detector_cell m) ≡ None
 signal_layer-later library p now n m later = ap (λ b. if b then heard (rule_at library m) p (now (detector_cell m)) else None) (le-ltb m n later)
 
@@ -88,7 +88,7 @@ at_none library p now (detector_cell m) = signal_layer-later library p now 0 m (
 pub signal_layer-none : (library : Library) (p : Primitive) (now : Cells) → signal_layer library p now 0 ≡ no_changes
 signal_layer-none library p now i q = at_none library p now q i
 
--- one rule more
+-- one more rule
 pub signal_layer-more : (library : Library) (p : Primitive) (now : Cells) (n : ℕ)
     → signal_layer library p now (n + 1) ≡ with_change (signal_layer library p now n) (detector_cell n) (heard (rule_at library n) p (now (detector_cell n)))
 signal_layer-more library p now n i q = at q i
@@ -154,12 +154,12 @@ signal_changed library p S n base before after long is from =
 
 -- ---- the tasks that a signal triggers
 
--- a rule's task, by its status and its event's occurrence
+-- a rule's task, from its status and its event's occurrence
 abbrev pub task_by : Status → Level → ℕ → Rule → Option Occurrence → Option Task
 task_by enabled level n rule o = option_map (triggered_by level n rule) o
 task_by status level n rule o = None
 
--- a rule's task, by what its two cells were before the signal
+-- a rule's task, from its two cells before the signal
 abbrev pub task_at : Level → ℕ → Rule → Primitive → (status detector : Option CellValue) → Option Task
 task_at level n rule p status detector = task_by (status_at status) level n rule (advance rule.event (known_by rule.event detector) p).0
 
@@ -170,7 +170,7 @@ task_heard level n rule p disabled h k known = refl
 task_heard level n rule p enabled h k known =
     ap (λ (a : Option Occurrence × Knowledge). option_map (triggered_by level n rule) a.0) (sym (ap (λ x. advance rule.event x p) (known refl) ∙ advance_lem rule.event p h))
 
--- what a signal makes a rule do, by the rule's cells
+-- what a signal makes a rule do, from the rule's cells
 pub task-cells : (level : Level) (p : Primitive) (S : State) (n : ℕ)
     → task_if (rule_state (extended p S) n).status level n (rule_at level.library n) (rule_state (extended p S) n).past
     ≡ task_at level n (rule_at level.library n) p (cells level.library S (rule_cell n)) (cells level.library S (detector_cell n))
@@ -182,7 +182,7 @@ task-cells level p S n =
     known : Knowledge
     known = known_by (rule_at level.library n).event (cells level.library S (detector_cell n))
 
--- the tasks of the rules from the n-th on, by what the rules' cells were before the signal
+-- the tasks of the rules from the n-th on, from the rules' cells before the signal
 abbrev pub tasks_at : Level → Primitive → Cells → ℕ → List Rule → List (Option Task)
 tasks_at level p now n [] = []
 tasks_at level p now n (rule ∷ rules) = task_at level n rule p (now (rule_cell n)) (now (detector_cell n)) ∷ tasks_at level p now (suc n) rules
@@ -203,7 +203,7 @@ tasks_from level p S n (rule ∷ rules) (r ∷ rs) same at there =
         ∙ task-cells level p S n
         ∙ ap (λ u. task_at level n u p (cells level.library S (rule_cell n)) (cells level.library S (detector_cell n))) (at 0 n (omega arith) (omega arith))
 
--- what a signal triggers
+-- the tasks that a signal triggers
 pub triggered-cells : (level : Level) (p : Primitive) (S : State) → IsOrdered level.library S
     → triggered level (extended p S) ≡ filter_map (λ t. t) (tasks_at level p (cells level.library S) 0 level.library.rules)
 triggered-cells level p S ordered =

@@ -1,4 +1,4 @@
--- What a write makes of a state's cells.
+-- The effect of a write on a state's cells.
 use Rattle.std.proofs.Common.{◌≡◌, refl, ap, sym, ◌∙◌, subst, ℕ, ℤ, ◌<◌, Bool, true, false, ◌≢◌, List, [], ◌∷◌, map, length, Option, Some, None}
 use Rattle.std.specs.Prelude.{◌==◌, option_map, if◌then◌else◌}
 use Rattle.std.specs.declared.cmp.Ordering.{Ordering}
@@ -105,11 +105,11 @@ rule_state-here S n r below = get_or-set_at S.rules n n r (with_status absent) r
 pub rule_state-apart : (S : State) (n m : ℕ) (r : RuleState) → m ≢ n → rule_state (with_rule S n r) m ≡ rule_state S m
 rule_state-apart S n m r apart = get_or-set_other S.rules n m r (with_status absent) apart
 
--- a rule's state that is written where it is changes nothing
+-- writing a rule's present state changes nothing
 pub with_rule-same : (S : State) (n : ℕ) → with_rule S n (rule_state S n) ≡ S
 with_rule-same S n i = record { objects = S.objects; rules = set-get_or S.rules n (with_status absent) i }
 
--- a rule's two cells, as they are in a rule's state
+-- a rule's two cells, from the rule's state
 abbrev pub rule_layer : Library → ℕ → RuleState → Changes
 rule_layer library n r =
     with_change (with_change no_changes (rule_cell n) (Some (status_in r.status))) (detector_cell n) (Some (knowledge_in (rule_at library n) r.status r))

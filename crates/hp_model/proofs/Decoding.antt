@@ -1,5 +1,5 @@
--- The reading of scripts by computation, from their bytes: what is refused, with the line that says so, and what is accepted,
--- with its report.
+-- Readings of scripts by computation, from their bytes: refused scripts with their refusals, and accepted ones with
+-- their reports.
 use Rattle.std.proofs.Common.{◌≡◌, refl, List, [], ◌∷◌, codes, false}
 use Rattle.std.specs.Prelude.{⊤}
 use Rattle.std.specs.Fmt.{digits}
@@ -17,7 +17,7 @@ use Rattle.hp_model.specs.Decode.{version_at, depth_at, field_at, fields_at, cla
 use Rattle.hp_model.specs.Output.{output}
 use Rattle.hp_model.proofs.Scripts.{lines}
 
--- what a proof unfolds to compute a script's reading
+-- what a proof unfolds to compute the reading of a script
 unfoldable pub script_on_literals : ⊤
 unfolding digits chars is_utf8 serde_json_on_literals
     new_name_at place_at integer_at index_at number_from short_list_at row_at new_row_at
@@ -28,7 +28,7 @@ unfolding digits chars is_utf8 serde_json_on_literals
     version_at depth_at field_at fields_at class_at classes_at D.query_at condition_at rule_at transaction_at clock_at unit_at units_at script_from decode json_at script_of
 script_on_literals = tt
 
--- a script is refused by a line
+-- a script is refused with this line
 abbrev pub Refuses : (script line : Bytes) → Type 0
 Refuses script line = output script false ≡ lines (line ∷ [])
 

@@ -73,7 +73,7 @@ faithful_placed ts = record {
 
 -- ---- what a step finds
 
--- the same of a part of what is found
+-- the same for a part of what is found
 pub finds_part : {A B : Type 0} (f : A → B) {library : Library} {of : State → A} {reads : List Read} {writes : Changes} {found : A}
     → Finds library of reads writes found → Finds library (λ S. f (of S)) reads writes (f found)
 finds_part f p = record { from = λ base held S ordered is. ap f (p.from base held S ordered is) }
@@ -87,7 +87,7 @@ pub finds_cell : (library : Library) (cell : Cell) {reads : List Read} {writes :
     → ((base : Cells) → Holds base reads → over base writes cell ≡ found) → Finds library (λ S. cells library S cell) reads writes found
 finds_cell library cell shows = record { from = λ base held S ordered is. ap (λ c. c cell) is ∙ shows base held }
 
--- a step that goes by what it finds
+-- a step that depends on what it finds
 pub faithful_found : {A X : Type 0} (given : A → State → X) (next : A → State → State) {library : Library} {of : State → A} {reads : List Read} {before after : Changes} {found : A} {answer : X}
     → Finds library of reads before found → Faithful library (given found) (next found) reads before after answer
     → Faithful library (λ S. given (of S) S) (λ S. next (of S) S) reads before after answer
@@ -104,7 +104,7 @@ pub firing_found : {A : Type 0} (f : A → State → Firing) {library : Library}
     → Finds library of reads before found → FaithfulFiring library (f found) reads before after answer → FaithfulFiring library (λ S. f (of S) S) reads before after answer
 firing_found f finds p = faithful_found (λ o S. firing_answer (f o S)) (λ o S. (f o S).state) finds p
 
--- what a faithful call tells, a step finds
+-- a step finds what a faithful call gives
 pub finds_answer : {A : Type 0} {library : Library} {given : State → A} {next : State → State} {reads : List Read} {before after : Changes} {answer : A}
     → Faithful library given next reads before after answer → Finds library given reads before answer
 finds_answer p = record { from = λ base held S ordered is. (p.from base held S ordered is).answers }
@@ -146,7 +146,7 @@ faithful_then f g {library} {reads} {more} {w0} {w1} {w2} {a} {b} is_end grows p
       (record { answers = joined_answer (f S) (g (f S).state) ∙ ap₂ followed first.answers second.answers; reaches = second.reaches; ordered = second.ordered });
 }
 
--- where the first isn't done, the second doesn't follow
+-- if the first isn't done, the second doesn't follow
 pub halted : (e : End) (c : Course) (g : Work) → is_done e ≡ false → after_end e c g ≡ c
 halted done c g h = cc
 halted (abort_by x) c g h = refl
@@ -161,7 +161,7 @@ faithful_halt f g {library} {reads} {before} {after} {a} halts p = record {
       subst (λ (c : Course). LeadsTo library (answer_of c) c.state a (over base after)) (sym (halted (f S).end (f S) g not_done)) first;
 }
 
--- the same step, or the same answer, written otherwise
+-- the same step, or the same answer, in another form
 pub faithful_as : (f g : Work) {library : Library} {reads : List Read} {before after : Changes} {a : Answer}
     → ((S : State) → g S ≡ f S) → FaithfulWork library f reads before after a → FaithfulWork library g reads before after a
 faithful_as f g {library} {reads} {before} {after} {a} same p = subst (λ h. FaithfulWork library h reads before after a) (λ i S. sym (same S) i) p
@@ -205,7 +205,7 @@ faithful_nested what out f {library} {reads} {before} {after} {a} p = record {
 -- ---- the statement `sub`
 
 module _ {library : Library} (f g : Work) where
-  -- what it does, by the end of its body
+  -- what it does, depending on the end of its body
   sub_found : {reads more : List Read} {w0 w1 after : Changes} {a b : Answer} (e : End) → a.end ≡ e → Grows reads more → FaithfulWork library f reads w0 w1 a
       → FaithfulWork library (λ S. sub_by e (closed S (f S)) g) more w0 after b → FaithfulWork library (λ S. sub_in f g S) more w0 after b
   sub_found {more = more} {w0 = w0} {after = after} {b = b} e is grows p q =
@@ -219,7 +219,7 @@ module _ {library : Library} (f g : Work) where
       sub_found done is (Grows-same reads) p
       (subst (λ e. FaithfulWork library (λ S. nested sub_node (closed S (f S)) done) reads w0 (kept e w0 w1) (closing sub_node a done)) is (faithful_nested sub_node done f p))
 
-  -- a veto goes on outward
+  -- a veto passes outward
   pub faithful_sub_veto : {reads : List Read} {w0 w1 : Changes} {a : Answer} (r : ℕ) → a.end ≡ veto_by r → FaithfulWork library f reads w0 w1 a
       → FaithfulWork library (λ S. sub_in f g S) reads w0 w0 (closing sub_node a (veto_by r))
   faithful_sub_veto {reads} {w0} {w1} {a} r is p =
@@ -261,12 +261,12 @@ followed-assoc a b c i = record {
 pub followed-none : (a : Answer) → a.end ≡ done → followed a (ended done) ≡ a
 followed-none a is i = record { end = sym is i; queued = append-nil a.queued i; detached = append-nil a.detached i; items = append-none a.items i }
 
--- a loop over a list: whatever what is left does, with what was done so far it makes the whole
+-- a loop over a list: whatever the rest does, with what was done so far it makes the whole
 module _ {A : Type 0} (library : Library) (work : A → Work) (whole : Work) (w0 : Changes) where
   pub record Completes (left : List A) (reads : List Read) (now : Changes) (so_far : Answer) : Type 0 where
     pub by : (more : List Read) (after : Changes) (b : Answer) → Grows reads more → FaithfulWork library (for_each left work) more now after b → FaithfulWork library whole more w0 after (followed so_far b)
 
-  -- one more is done
+  -- one more element is done
   pub each_more : {x : A} {xs : List A} {reads more : List Read} {w1 w2 : Changes} {so_far got : Answer} → got.end ≡ done → Grows reads more
       → Completes (x ∷ xs) reads w1 so_far → FaithfulWork library (work x) more w1 w2 got → Completes xs more w2 (followed so_far got)
   each_more {x} {xs} {reads} {more} {w1} {w2} {so_far} {got} is grows c p = record {

@@ -52,7 +52,7 @@ faithful_action what level t answers {library} {reads} {before} {after} {a} p = 
       };
 }
 
--- a condition's firing goes by its verdict
+-- a condition's firing depends on its verdict
 pub faithful_condition : (level : Level) (t : Task) {library : Library} {reads : List Read} {before after : Changes} {a : FiringAnswer} (v : Verdict)
     → Finds library (λ S. verdict S.objects (task_environment t) (rule_at level.library t.rule).condition) reads before v
     → FaithfulFiring library (decide v level t) reads before after a → FaithfulFiring library (take_step condition_step level t) reads before after a
@@ -111,7 +111,7 @@ faithful_sibling_vetoes fire t ts {library} {reads} {before} {after} {f} r vetoe
       (record { answers = ap (λ (x : FiringAnswer). record { firings = x ∷ []; vetoed_by = Some r }) first.answers; reaches = first.reaches; ordered = first.ordered });
 }
 
--- the loop over the tasks of a group: whatever what is left does, with what was done so far it makes the whole
+-- the loop over the tasks of a group: whatever the rest does, with what was done so far it makes the whole
 module _ (library : Library) (fire : Fire) (stops : Bool) (whole : List Task) (w0 : Changes) where
   pub record GroupCompletes (left : List Task) (reads : List Read) (now : Changes) (so_far : List FiringAnswer) : Type 0 where
     pub by : (more : List Read) (after : Changes) (g : SiblingsAnswer) → Grows reads more → FaithfulSiblings library (siblings fire stops left) more now after g
@@ -137,7 +137,7 @@ pub group_vetoed : (library : Library) (fire : Fire) (whole : List Task) (w0 : C
 group_vetoed library fire whole w0 {t} {ts} {reads} {more} {w1} {w2} {so_far} {f} r vetoes grows c p =
     c.by more w2 (record { firings = f ∷ []; vetoed_by = Some r }) grows (faithful_sibling_vetoes fire t ts r vetoes p)
 
--- ---- a group in the transaction round it
+-- ---- a group in the transaction around it
 
 queued_answer : (fs : List Firing) → queued_by fs ≡ queued_in (map firing_answer fs)
 queued_answer [] = refl
@@ -176,17 +176,17 @@ siblings_same library d f stops (t ∷ ts) S is at =
     ap (λ (x : Firing). after_firing stops x.vetoed_by x (siblings f stops ts)) (below_fires library d f S t is at.0)
     ∙ ap (after_firing stops (fire_task library S t).vetoed_by (fire_task library S t)) (λ i S'. siblings_same library d f stops ts S' is at.1 i)
 
--- the tasks of a signal or of a statement start: none
+-- no task of a signal or of a statement starts
 pub faithful_start_none : (below : Option Fire) {library : Library} {reads : List Read} {writes : Changes} → FaithfulWork library (start below []) reads writes writes (ended done)
 faithful_start_none below = faithful_ends done
 
--- too deep
+-- the tasks would be too deep
 pub faithful_start_deep : (d : ℕ) (t : Task) (ts : List Task) {library : Library} {reads : List Read} {writes : Changes} → library.depth_limit ≤ d
     → FaithfulWork library (start (level_at library d).below (t ∷ ts)) reads writes writes (ended (abort_by depth_exceeded))
 faithful_start_deep d t ts {library} {reads} {writes} deep =
     subst (λ b. FaithfulWork library (start b (t ∷ ts)) reads writes writes (ended (abort_by depth_exceeded))) (sym (below_none library d deep)) (faithful_ends (abort_by depth_exceeded))
 
--- they are placed, and the immediate ones run as siblings
+-- the tasks are placed, and the immediate ones fire as siblings
 pub faithful_start : (d : ℕ) (t : Task) (ts : List Task) {library : Library} {reads : List Read} {before after : Changes} {g : SiblingsAnswer} → d < library.depth_limit
     → AreAt (suc d) (filter (λ (u : Task). is_immediate u.place) (t ∷ ts))
     → FaithfulSiblings library (siblings (fire_task library) true (filter (λ (u : Task). is_immediate u.place) (t ∷ ts))) reads before after g

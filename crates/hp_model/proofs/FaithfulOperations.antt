@@ -37,8 +37,7 @@ finds_status library n shows =
 
 -- ---- objects
 
--- an operation that is refused
--- it gives the cause
+-- an operation that fails, with its cause
 abbrev refusing : {A : Type 0} → Cause → State → Operated A
 refusing c S = record { outcome = Err c; state = S }
 
@@ -96,7 +95,7 @@ faithful_delete class key old {library} {reads} {before} {after} finds writes = 
 
 -- ---- the statements on objects
 
--- an operation, and then its event
+-- an operation, followed by its event
 abbrev perform : Outcome Primitive → Level → Work
 perform (Err c) level S = aborts c S
 perform (Ok p) level S = then_do (with_items (operation_items p) S) (signal_in level p)
@@ -117,7 +116,7 @@ deleted_as level class key None S = refl
 deleted_as level class key (Some old) S = refl
 
 module _ (level : Level) (run : State → Operated Primitive) (work : Work) (same : (S : State) → work S ≡ performed level (run S)) {library : Library} where
-  -- a refused operation aborts
+  -- an operation that fails aborts
   refused : {reads : List Read} {before after : Changes} {c : Cause} → FaithfulOperation library run reads before after (Err c) → FaithfulWork library work reads before after (ended (abort_by c))
   refused {reads} {before} {after} {c} p = record {
     from = λ base held S ordered is.
@@ -126,7 +125,7 @@ module _ (level : Level) (run : State → Operated Primitive) (work : Work) (sam
         (record { answers = refl; reaches = made.reaches; ordered = made.ordered });
   }
 
-  -- after one that is made its event is signalled
+  -- an operation that succeeds is followed by the signal of its event
   made : {reads more : List Read} {w0 w1 w2 : Changes} {p : Primitive} {a : Answer} → Grows reads more → FaithfulOperation library run reads w0 w1 (Ok p) → FaithfulWork library (signal_in level p) more w1 w2 a
       → FaithfulWork library work more w0 w2 (followed (tells (without_detachments (operation_items p))) a)
   made {reads} {more} {w0} {w1} {w2} {p} {a} grows q h = record {
@@ -177,7 +176,7 @@ faithful_delete_made level class key grows p h =
 
 -- ---- rules
 
--- what an operation makes of a rule, by its status alone
+-- the effect of an operation on a rule depends on its status alone
 abbrev by_new_status : Outcome (Option Status) → RuleState → Outcome RuleState
 by_new_status (Err c) r = Err c
 by_new_status (Ok None) r = Ok r
@@ -233,7 +232,7 @@ module _ (op : RuleOperation) (n : ℕ) {library : Library} {reads : List Read} 
         (record { answers = refl; reaches = changes base S ordered at; ordered = rule_ordered library S n (with_status t) ordered });
   }
 
-  -- a new status, and a detector that knows nothing where the event looks back and the rule is now enabled
+  -- a new status, and a detector with an empty past if the event looks back and the rule becomes enabled
   pub faithful_rule_changed : {before after : Changes} {s : Status} (t : Status) → n < length library.rules → Finds library (λ S. (rule_state S n).status) reads before s → new_status op s ≡ Ok (Some t)
       → after ≡ with_change (with_change before (rule_cell n) (Some (status_in t))) (detector_cell n) (Some (knowledge_in (rule_at library n) t (with_status t)))
       → FaithfulOperation library (set_rule op n) reads before after (Ok tt)

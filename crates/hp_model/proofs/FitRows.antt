@@ -64,7 +64,7 @@ kind_takes : (b : Bool) (k : Kind) (o : Option Kind) → b ≡ true → (if b th
 kind_takes true k o e = refl
 kind_takes false k o e = cc
 
--- each field has the kind that is found by its name
+-- each field has the kind that its name is found with
 abbrev KindsAre : List Field → List Field → Type 0
 KindsAre fields fs = AllByRecursion (λ (f : Field). kind_in fields f.name ≡ Some f.kind) fs
 
@@ -91,7 +91,7 @@ set_found fields x (g ∷ gs) v h e = set_choice fields x g (bytes_eq x g.0) (lo
 set_kind : (k l : Kind) (v : Value) → Some k ≡ Some l → OfKind l v → OfKind k v
 set_kind k l v e h = let same : k ≡ l = cc in subst (λ j. OfKind j v) (sym same) h
 
--- the value that stands in a changed row
+-- the value in a changed row
 new_value : (fields : List Field) (f : Field) (x : Name) (old : Value) (o : Option Value) → kind_in fields f.name ≡ Some f.kind → f.name ≡ x → ((v : Value) → o ≡ Some v → SetsFit fields x v) → OfKind f.kind old → OfKind f.kind (unwrap_or o old)
 new_value fields f x old None is same sets h = h
 new_value fields f x old (Some v) is same sets h =

@@ -1,4 +1,4 @@
--- What operations and occurrences make of a state that fits: its objects, its rules' pasts, and what occurs in them.
+-- Operations and occurrences keep a state fit: its objects, its rules' pasts, and the occurrences in them.
 use Rattle.std.proofs.Common.{◌≡◌, refl, ap, sym, ◌∙◌, subst, ℕ, zero, suc, ℤ, List, [], ◌∷◌, ◌++◌, length, map, Option, None, Some, Bool, true, false, cond, IsTrue}
 use Rattle.std.proofs.lemmas.Bool.{and_parts, and_from}
 use Rattle.std.proofs.lemmas.List.{length-set}
@@ -74,7 +74,7 @@ found_fit library class key (o ∷ os) row h e =
 abbrev pub PastFits : Library → RuleState → Type 0
 PastFits library r = AllByRecursion (PrimitiveFits library) r.past
 
--- the parts of a state that fits, and what has such parts
+-- the parts of a fit state, and what has such parts
 pub objects_of_fit : (library : Library) (S : State) → IsFit library S → ObjectsFit library S.objects
 objects_of_fit library S fit = each_from (λ (o : ObjectName × Row). object_fits library o.0.class o.0.key o.1) S.objects fit.objects_fit
 
@@ -259,7 +259,7 @@ module _ (library : Library) where
   either_fits (Some a) b h k = h
   either_fits None b h k = k
 
-  -- what an event's occurrence is made of stands in the past
+  -- the parts of an event's occurrence are in the past
   pub occurrence_fits : (e : Event) → OccursFit library (occurrence_of e)
   occurrence_fits (pattern_event pattern) h fit = pattern_fits pattern h fit
   occurrence_fits (or_event a b) h fit = either_fits (occurrence_of a h) (occurrence_of b h) (occurrence_fits a h fit) (occurrence_fits b h fit)

@@ -1,4 +1,4 @@
--- Each firing, top-level transaction and unit that starts from a state that fits leaves one that fits.
+-- Each firing, top-level transaction and unit that starts from a fit state leaves a fit state.
 use Rattle.std.proofs.Common.{refl, ℕ, zero, suc, List, [], ◌∷◌, length, Option, Bool, true, false, ◌-◌, IsTrue}
 use Rattle.std.proofs.lemmas.Bool.{and_parts}
 use Rattle.std.specs.Prelude.{⊤, Ok, Err}
@@ -173,7 +173,7 @@ module _ (library : Library) (known : IsFitLibrary library) where
       let first = top_fits 0 (unit_work library u) (unit_work_fits u h) S fit in
       cascade_fits (most_rounds library) (due own.detached) (due_fits own.detached first.1) own.state first.0
 
-  -- units, one after the other
+  -- units, one after another
   pub units_keep_fit : (us : List Unit) → AllByRecursion (λ u. IsTrue (unit_fits library u)) us → (S : State) → IsFit library S → IsFit library (run_units library us S).state
   units_keep_fit [] h S fit = fit
   units_keep_fit (u ∷ us) h S fit = units_keep_fit us h.1 (run_unit library u S).state (unit_keeps_fit u h.0 S fit)

@@ -1,4 +1,4 @@
--- What expressions give fits, where the environment does: values, rows, and the answers of queries.
+-- Values of expressions, rows and answers of queries fit if the environment does.
 use Rattle.std.proofs.Common.{arith, ◌≡◌, refl, subst, ℕ, zero, suc, ◌^◌, ◌<◌, ◌≤◌, ℤ, pos, negsuc, List, [], ◌∷◌, ◌++◌, length, map, filter, Option, None, Some, Bool, true, false, ◌&&◌, cond, IsTrue, nat_lt}
 use Rattle.std.proofs.lemmas.Bool.{and_parts, and_from, ltb-true, lt-ltb}
 use Rattle.std.proofs.lemmas.Int.{rem_below}
@@ -16,7 +16,7 @@ use Rattle.hp_model.specs.Ranges.{expression_fits, assignments_fit}
 
 -- ---- outcomes
 
--- what comes out, if anything does, has a property
+-- the value of an outcome, if there is one, has a property
 pub record Gives {A : Type 0} (P : A → Type 0) (o : Outcome A) : Type 0 where
   pub fact : (x : A) → o ≡ Ok x → P x
 
@@ -172,7 +172,7 @@ integer_gives (integer z) h = Gives-value z h
 integer_gives (boolean b) h = Gives-none wrong_kind
 integer_gives (text s) h = Gives-none wrong_kind
 
--- what is read of an environment that fits
+-- what is read of a fit environment
 module _ (library : Library) (env : Environment) (fit : EnvironmentFits library env) where
   parts_give : (o : Option Occurrence) → OptionFits library o → (i : ℕ) (p : Primitive) → part_of (record { occurrence = o; rows = env.rows }) i ≡ Ok p → PrimitiveFits library p
   parts_give None h i p e = cc
@@ -246,7 +246,7 @@ otherwise_gives : (b c : Bool) (o : Outcome Value) → Gives ValueFits o → Giv
 otherwise_gives true c o h = Gives-value (boolean c) refl
 otherwise_gives false c o h = h
 
--- the value of an expression in an environment that fits
+-- the value of an expression in a fit environment
 module _ (library : Library) (env : Environment) (fit : EnvironmentFits library env) where
   pub value_gives : (e : Expression) → IsTrue (expression_fits e) → Gives ValueFits (value_of env e)
   value_gives (constant v) h = Gives-value v h

@@ -1,4 +1,4 @@
--- A signal, as it is told to the rules that mention it, one after the other.
+-- A signal notifies the rules that mention it, one after another.
 use Rattle.std.proofs.Common.{arith, ◌≡◌, ◌≢◌, refl, ap, ap₂, sym, ◌∙◌, subst, ℕ, zero, suc, ◌+◌, ◌<◌, ◌≤◌, Bool, true, false, true≢false, List, [], ◌∷◌, ◌++◌, map, length, Option, Some, None, append-nil, drop, take, get_or, ltb-true, ltb-false}
 use Rattle.std.specs.Prelude.{◌==◌, ◌||◌, option_map, option_to_list, filter_map, if◌then◌else◌, slice_get, nat_lt}
 use Rattle.std.specs.List.{slice_index_or, list_any}
@@ -26,7 +26,7 @@ use Rattle.hp_model.proofs.BridgesReads.{status_at, knowledge_at, known_by, stat
 use Rattle.hp_model.proofs.BridgesSignals.{heard, extended-detector, extended-status, task_by, task_at, tasks_at, triggered-cells}
 use Rattle.hp_model.proofs.Faithful.{Grows, held_before}
 
--- ---- what no pattern of an event matches teaches nothing
+-- ---- a step at which no pattern of an event matches changes nothing
 
 none_joined : (o : Option Occurrence) → joined o None ≡ None
 none_joined None = refl
@@ -74,7 +74,7 @@ unlisted n k i (rule ∷ rules) p apart is below = at i is below (mentions rule.
     at (suc j) is below true here out later = later j (or_parts (k == n) (is_in n (mentioning_from (suc k) rules p)) out).1 (omega arith) (omega arith)
     at (suc j) is below false here out later = later j out (omega arith) (omega arith)
 
--- each of them comes once
+-- each of them occurs once
 other_number : (k n : ℕ) → k ≢ n → (k == n) ≡ false
 other_number k n apart = by (k == n) refl
   where
@@ -124,11 +124,11 @@ once_from k i (rule ∷ rules) p below = at i (mentions rule.event p) below (λ 
         ap (λ b. b || is_in x (take j (mentioning_from (suc k) rules p))) (other_number k x (λ e. absurd (omega (arith, e, far)))) ∙ later j l
     at (suc j) false low later above = later (suc j) low
 
--- a rule of the list doesn't stand before its place
+-- a rule doesn't also precede its position in the list
 pub mentioned_once : (library : Library) (p : Primitive) (i : ℕ) → i < length (mentioning library p) → is_in (get_or (mentioning library p) i 0) (take i (mentioning library p)) ≡ false
 mentioned_once library p i below = once_from 0 i library.rules p below
 
--- ---- the cells, when the rules of a list have been told
+-- ---- the cells after the rules of a list have been notified
 
 abbrev pub told : Library → Primitive → List ℕ → Cells → Cells
 told library p ns base (object_cell c k) = base (object_cell c k)
@@ -147,7 +147,7 @@ told-none library p base i q = at q i
 in_more : (n m : ℕ) (ns : List ℕ) → is_in m (ns ++ n ∷ []) ≡ (is_in m ns || (n == m))
 in_more n m ns = list_any-append (λ k. k == m) ns (n ∷ []) ∙ ap (λ b. is_in m ns || b) (or-false (n == m))
 
--- a rule that learns nothing
+-- a rule whose knowledge doesn't change
 told-silent : (library : Library) (p : Primitive) (n : ℕ) (ns : List ℕ) (base : Cells) → changed (base (detector_cell n)) (heard (rule_at library n) p (base (detector_cell n))) ≡ base (detector_cell n)
     → told library p (ns ++ n ∷ []) base ≡ told library p ns base
 told-silent library p n ns base silent i q = at q i
@@ -166,7 +166,7 @@ told-silent library p n ns base silent i q = at q i
         ap (λ b. if b then changed (base (detector_cell m)) (heard (rule_at library m) p (base (detector_cell m))) else base (detector_cell m)) (in_more n m ns)
         ∙ by m (is_in m ns) (n == m) refl
 
--- a rule that learns something
+-- a rule whose knowledge changes
 told-more : (library : Library) (p : Primitive) (n : ℕ) (ns : List ℕ) (base : Cells) (v : CellValue) → changed (base (detector_cell n)) (heard (rule_at library n) p (base (detector_cell n))) ≡ Some v
     → (q : Cell) → changed (told library p ns base q) (if same_cell (detector_cell n) q then Some (Some v) else None) ≡ told library p (ns ++ n ∷ []) base q
 told-more library p n ns base v learns (object_cell c k) = refl
@@ -224,7 +224,7 @@ unheard_detector library p S n apart = by_status (rule_state S n).status refl
         disabled_apart : disabled ≡ enabled → ⊥
         disabled_apart e = cc
 
--- when all that mention it have been told, all have
+-- notifying all rules that mention it notifies all rules
 pub told-all : (library : Library) (p : Primitive) (S : State) → IsOrdered library S → told library p (mentioning library p) (cells library S) ≡ cells library (extended p S)
 told-all library p S ordered i q = at q i
   where
@@ -250,7 +250,7 @@ told-all library p S ordered i q = at q i
     at (rule_cell n) = ap status_in (sym (extended-status p S n))
     at (detector_cell n) = by n (is_in n (mentioning library p)) refl ∙ sym (extended-detector library p S n)
 
--- ---- the tasks, by the rules that have been told
+-- ---- the tasks of the rules that have been notified
 
 abbrev pub task_for : Level → Primitive → Cells → ℕ → Option Task
 task_for level p now n = task_at level n (rule_at level.library n) p (now (rule_cell n)) (now (detector_cell n))
@@ -258,7 +258,7 @@ task_for level p now n = task_at level n (rule_at level.library n) p (now (rule_
 abbrev pub tasks_for : Level → Primitive → Cells → List ℕ → List Task
 tasks_for level p now ns = filter_map (λ t. t) (map (task_for level p now) ns)
 
--- a rule's task by its status and what is known of its past
+-- a rule's task, from its status and what is known of its past
 task_of_state : (level : Level) (p : Primitive) (S : State) (n : ℕ) (s : Status) → (rule_state S n).status ≡ s
     → task_for level p (cells level.library S) n ≡ task_by s level n (rule_at level.library n) (advance (rule_at level.library n).event (known_by (rule_at level.library n).event (cells level.library S (detector_cell n))) p).0
 task_of_state level p S n s is =
@@ -313,7 +313,7 @@ tasks_all level p S ordered =
 -- ---- the loop over the rules that mention it
 
 module _ (level : Level) (p : Primitive) where
-  -- the rules of the list have been told, wherever the reads hold, and these are their tasks
+  -- the rules of the list have been notified, wherever the reads hold, and these are their tasks
   pub record Heard (ns : List ℕ) (reads : List Read) (before now : Changes) (tasks : List Task) : Type 0 where
     pub from : (base : Cells) → Holds base reads → (S : State) → IsOrdered level.library S → cells level.library S ≡ over base before
         → (over base now ≡ told level.library p ns (cells level.library S)) × (tasks ≡ tasks_for level p (cells level.library S) ns)
@@ -393,7 +393,7 @@ module _ (level : Level) (p : Primitive) where
         );
   }
 
-  -- an enabled rule whose event looks back, by what its detector's cell knows
+  -- an enabled rule whose event looks back, from its detector's cell
   pub heard_stepped : {ns : List ℕ} {reads more : List Read} {before now after : Changes} {tasks : List Task} (n : ℕ) {detector : Option CellValue} (o : Option Occurrence) (k : Option Knowledge) (next : Knowledge)
       → is_pure (rule_at level.library n).event ≡ false → is_in n ns ≡ false → k ≡ knowledge_at detector
       → ((past : History) → k ≡ Some (knowledge (rule_at level.library n).event past) → (o ≡ occurrence_of (rule_at level.library n).event (p ∷ past)) × (next ≡ knowledge (rule_at level.library n).event (p ∷ past)))
@@ -426,7 +426,7 @@ module _ (level : Level) (p : Primitive) where
         );
   }
 
-  -- all have been told
+  -- all rules have been notified
   pub faithful_heard : {ns : List ℕ} {reads : List Read} {before now : Changes} {tasks : List Task} → ns ≡ mentioning level.library p → Heard ns reads before now tasks
       → Faithful level.library (λ S. triggered level (extended p S)) (extended p) reads before now tasks
   faithful_heard {ns} {reads} {before} {now} {tasks} all so_far = record {

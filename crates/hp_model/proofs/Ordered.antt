@@ -1,4 +1,4 @@
--- All that runs keeps the objects in order and the rules' states as many as the rules.
+-- All that runs keeps the objects in order, and a state for each rule.
 use Rattle.std.proofs.Common.{arith, ◌≡◌, refl, ap, ◌∙◌, ℕ, suc, ◌+◌, ◌-◌, List, [], ◌∷◌, length, Bool, true, false}
 use Rattle.std.proofs.lemmas.List.{length-set}
 use Rattle.std.specs.Prelude.{map, cond}

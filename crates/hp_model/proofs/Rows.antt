@@ -15,7 +15,7 @@ text_of s = report_text s.library false (evaluate s)
 abbrev pub text_with_trees : Script → List ℕ
 text_with_trees s = report_text s.library true (evaluate s)
 
--- a rule that says by how much an update changed the balance
+-- a rule that reports by how much an update changed the balance
 abbrev pub thinnest_script : Script
 thinnest_script =
     script (acct_class ∷ []) 8
@@ -38,7 +38,7 @@ pub disjoint : text_of disjoint_script
 unfolding digits
 disjoint = refl
 
--- siblings that make different objects of one class
+-- siblings that create different objects of one class
 abbrev pub no_false_collision_script : Script
 no_false_collision_script =
     script (mark_class ∷ []) 8 (on (codes "a") (create 0 (number 1) [] then empty) ∷ on (codes "b") (create 0 (number 2) [] then empty) ∷ [])
@@ -49,7 +49,7 @@ pub no_false_collision : text_of no_false_collision_script
 unfolding digits
 no_false_collision = refl
 
--- a sum past the largest number aborts the action alone, and all that it did
+-- a sum outside the range of 64 bits aborts the action alone, with all that it did
 abbrev pub largest_number_script : Script
 largest_number_script =
     script (acct_class ∷ []) 8 (on (codes "o") (acct 2 0 then plus_one 1 then empty) ∷ [])
@@ -60,7 +60,7 @@ pub largest_number : text_of largest_number_script
 unfolding digits
 largest_number = refl
 
--- what an elder sibling did is seen by the younger: (10 + 1) * 2
+-- a sibling sees what an earlier one did: (10 + 1) * 2
 abbrev pub elder_script : Script
 elder_script =
     script (acct_class ∷ []) 8
@@ -74,7 +74,7 @@ pub elders_effect_is_seen : text_of elder_script
 unfolding digits
 elders_effect_is_seen = refl
 
--- an object that an elder sibling made satisfies the younger one's condition
+-- an object that an earlier sibling created satisfies a later one's condition
 abbrev pub phantom_script : Script
 phantom_script =
     script (mark_class ∷ []) 8
@@ -88,7 +88,7 @@ pub phantom : text_of phantom_script
 unfolding digits
 phantom = refl
 
--- a younger sibling decides in a `sub` that it aborts by what an elder wrote
+-- by what an earlier sibling wrote, a later one aborts in a `sub`
 abbrev pub outliving_script : Script
 outliving_script =
     script (acct_class ∷ []) 8
@@ -104,7 +104,7 @@ pub reads_outlive_aborts : text_of outliving_script
 unfolding digits
 reads_outlive_aborts = refl
 
--- a veto undoes the elder siblings' transaction, and younger ones don't run
+-- a veto undoes the earlier siblings' transaction, and later siblings don't run
 abbrev pub veto_script : Script
 veto_script =
     script [] 8
@@ -153,7 +153,7 @@ pub closure : text_of closure_script
 unfolding digits
 closure = refl
 
--- an abort takes back what a past was told
+-- an abort undoes the past that a rule was notified of
 abbrev pub undone_script : Script
 undone_script =
     script [] 8 (sequence_rule ∷ [])
@@ -164,7 +164,7 @@ pub undone_past : text_of undone_script
 unfolding digits
 undone_past = refl
 
--- of the tasks detached in an aborted transaction the separate one runs, the dependent one doesn't
+-- of the tasks that an aborted transaction detached the separate one runs, the dependent one doesn't
 abbrev pub separate_script : Script
 separate_script =
     script [] 8
@@ -191,7 +191,7 @@ pub depth_limit_with_tree : text_with_trees depth_limit_script
 unfolding digits
 depth_limit_with_tree = refl
 
--- a later action has the answers as its condition found them
+-- a later action has the answers that its condition found
 abbrev pub answers_script : Script
 answers_script =
     script (acct_class ∷ []) 8
@@ -246,7 +246,7 @@ pub deferred_after_the_body : text_of deferred_script
 unfolding digits
 deferred_after_the_body = refl
 
--- a veto in the body of a `sub` whose other body then doesn't hide it
+-- a veto in the body of a `sub`, whose other body doesn't hide it
 abbrev pub sub_veto_script : Script
 sub_veto_script =
     script [] 8 (on (codes "v") (veto then empty) ∷ on (codes "w") (say 2 then empty) ∷ [])

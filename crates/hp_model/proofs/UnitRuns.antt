@@ -1,4 +1,4 @@
--- Units one after the other, and the state before the first.
+-- Units one after another, and the state before the first.
 use Rattle.std.proofs.Common.{◌≡◌, refl, ap, ℕ, zero, suc, List, [], ◌∷◌, ◌++◌, None, length, get_or}
 use Rattle.std.specs.Prelude.{replicate}
 use Rattle.std.specs.List.Sorted.{IsStrictlySortedBy}

@@ -15,7 +15,7 @@ use Rattle.hp_model.specs.EventGrammar.{EventForm, event_form_at, on_create_at, 
 use Rattle.hp_model.specs.Checked.{Checked, known_name_check, name_check, field_check, operands_check, expression_parts_check, expression_check, event_parts_check, event_check}
 use Rattle.hp_model.proofs.WellFormedParts.{Reads, Reads-value, Reads-none, Reads-any, Reads-then, Reads-unless, passes_then, name_reads, name_passes, row_reads, place_reads, number_reads, limit_passes}
 
--- passes a check wherever it stands
+-- passes a check at any path
 abbrev pub Passes : {A : Type 0} → (Path → A → Checked) → A → Type 0
 Passes check x = (path : Path) → check path x ≡ Ok tt
 

@@ -40,7 +40,7 @@ pub Reads-then : {A B : Type 0} {P : A → Type 0} {Q : B → Type 0} {read : De
 Reads-then {read = Ok x} reads next = record { fact = λ y e. (next x (reads.fact x refl)).fact y e }
 Reads-then {read = Err e} reads next = record { fact = λ y e. cc }
 
--- what is refused where a test says so
+-- what a test refuses
 pub Reads-unless : {A : Type 0} {P : A → Type 0} (b : Bool) (e : Refusal) (x : A) → (b ≡ false → P x) → Reads P (if b then Err e else Ok x)
 Reads-unless true e x h = Reads-none e
 Reads-unless false e x h = Reads-value x (h refl)
@@ -139,7 +139,7 @@ position_within test (x ∷ xs) i n h = go (test x) h (position_within test xs (
 number_passes : (count : ℕ) (path : Path) (n : ℕ) → n < count → number_check count path n ≡ Ok tt
 number_passes count path n h = let below : nat_lt n count ≡ true = grind (arith, nat_tests) in rw below refl
 
--- the number of one of so many
+-- the number of an item of a list
 abbrev pub IsNumber : ℕ → ℕ → Type 0
 IsNumber count n = (path : Path) → number_check count path n ≡ Ok tt
 
@@ -170,14 +170,14 @@ short_list_reads most limit path d = Reads-then (Reads-any (list_at path d)) λ 
 pub limit_passes : (most : ℕ) (limit : Limit) (n m : ℕ) → n ≡ m → nat_lt most m ≡ false → limit_check most limit n ≡ Ok tt
 limit_passes most limit n m same few = rw (same, few) refl
 
--- items that were read, each of which is checked after those before it
+-- items that were read, each of which passes its check after those before it
 record Listed {A : Type 0} (check : List A → Path → A → Checked) (before : List A) (count : ℕ) (all : List A) : Type 0 where
   pub items : List A
   pub are : all ≡ before ++ items
   pub as_many : length items ≡ count
   pub pass : (path : Path) (i : ℕ) → each_check check path before i items ≡ Ok tt
 
--- how an item is read keeps to how it is checked
+-- reading an item agrees with checking it
 abbrev pub EachReads : {A D : Type 0} → (List A → Path → D → Decoded A) → (List A → Path → A → Checked) → Type 0
 EachReads {A} {D} read check = (before : List A) (path : Path) (d : D) → Reads (λ x. (q : Path) → check before q x ≡ Ok tt) (read before path d)
 

@@ -75,7 +75,7 @@ classes_reads path d =
 
 -- ---- the names of the rules
 
--- a name at the front of an item, which none before has
+-- a name at the front of an item, which no earlier item has
 abbrev pub front_check : List Name → Path → Name → Checked
 front_check before path x = new_name_check before (item_at path 0) x
 
@@ -145,7 +145,7 @@ rule_reads version scope path head =
           (passes_then _ _ (subst (λ n. queries_check n (item_at q 3) condition ≡ Ok tt) same (of_condition (item_at q 3))) (of_action (item_at q 5)));
     })
 
--- rules after those before, with the names of these heads
+-- rules after earlier ones, with the names of these heads
 record AreNamed (before : List Rule) (heads : List RuleHead) (rules : List Rule) : Type 0 where
   names : C.rule_names rules ≡ C.rule_names before ++ H.rule_names heads
 
@@ -185,7 +185,7 @@ rules_read version classes heads path =
 
 -- ---- the library
 
--- what a library's parts are before its rules are read
+-- the parts of a library before its rules are read
 pub record IsReady (depth : ℕ) (classes : List ClassDef) (heads : List RuleHead) : Type 0 where
   pub of_depth : IsDepth depth
   pub of_classes : (path : Path) → classes_check path classes ≡ Ok tt
@@ -208,7 +208,7 @@ library_passes depth classes heads rules ready are =
 
 -- ---- bodies of the script
 
--- what a scope and a library have in common where bodies of the script are read
+-- what a scope and a library have in common when bodies of the script are read
 pub record IsScriptScope (library : Library) (scope : S.Scope) : Type 0 where
   pub classes : scope.classes ≡ library.classes
   pub rules : length scope.rules ≡ length library.rules
@@ -330,7 +330,7 @@ pub read_rules : (version : Version) (classes : List ClassDef) (heads : List Rul
     → rules_at version (script_scope classes heads) path heads ≡ Ok rules → length rules ≡ length heads
 read_rules version classes heads rules path read = ((rules_read version classes heads path).fact rules read).as_many
 
--- a body that was read where a library's bodies are read
+-- a body that was read in the scope of a library
 pub read_body : (library : Library) (heads : List RuleHead) (path : Path) (d : Data) (ss : List Statement)
     → length library.rules ≡ length heads → statements_at (script_scope library.classes heads) [] path d ≡ Ok ss → script_body_check library [] (body_of ss) ≡ Ok tt
 read_body library heads path d ss as_many read = (body_passes library (script_scope library.classes heads) (its_scope library heads as_many) path d).fact ss read []

@@ -20,7 +20,7 @@ use Rattle.hp_model.proofs.WellFormedExpressions.{Passes, PartReads, expression_
 pub whole_expression_reads : (rows : List Name) → PartReads (expression_at rows) (whole_expression_check rows)
 whole_expression_reads names path d = expression_reads names 16 path d
 
--- ---- pairs of a field and what it is set to
+-- ---- assignments
 
 assigned_reads : (fields assigned : List Name) → PartReads (assigned_field_at fields assigned) (assigned_check fields assigned)
 unfolding assigned_field_at assigned_check
@@ -57,9 +57,9 @@ all_assignments_reads fields rows path d =
       not_fewer = subst (λ n. nat_lt (length pairs) n ≡ false) (length-map fields (λ (f : Field). f.name)) enough;
     }
 
--- ---- statements that hold no statement
+-- ---- statements without inner statements
 
--- a scope as checks see it
+-- a scope in terms of checks
 abbrev pub checking : S.Scope → C.Scope
 checking scope = record { classes = scope.classes; rules = length scope.rules; in_action = scope.in_action; queries = scope.queries }
 
@@ -135,7 +135,7 @@ same_check : (check : StatementCheck) (rows : List Name) (path : Path) (before :
 same_check check rows path before i [] = refl
 same_check check rows path before i (s ∷ ss) = ap (λ (rest : Checked). check rows (item_at path i) s >>= λ _. rest) (same_check check rows path (before ++ s ∷ []) (suc i) ss)
 
--- how a statement is read keeps to how it is checked
+-- reading a statement agrees with checking it
 abbrev pub StatementReads : Reading → StatementCheck → Type 0
 StatementReads statement check = (rows : List Name) → PartReads (statement rows) (check rows)
 
@@ -152,7 +152,7 @@ body_reads statement check each_statement rows path d =
     (λ ss all q. sym (same_check check rows q [] 0 ss) ∙ all.pass q)
     (each_reads (λ _. statement rows) (λ _. check rows) (λ _. each_statement rows) path ds)
 
--- ---- statements that hold statements
+-- ---- statements with inner statements
 
 module _ (scope : S.Scope) (statement : Reading) (check : StatementCheck) (each_statement : StatementReads statement check) (rows : List Name) where
   if_reads : (path : Path) (test then_body else_body : Data) → Reads (IsStatement scope check rows) (if_at statement rows path test then_body else_body)
@@ -197,7 +197,7 @@ module _ (scope : S.Scope) (statement : Reading) (check : StatementCheck) (each_
       Reads-then (body_reads statement check each_statement rows (item_at path 2) otherwise) λ c of_otherwise.
       Reads-value _ λ q. passes_then _ _ (of_body (item_at q 1)) (of_otherwise (item_at q 2))
 
-  -- a veto stands where it may
+  -- a veto is where it is allowed
   abbrev MayStand : StatementForm → Type 0
   MayStand form = (G.is_veto form && not scope.in_action) ≡ false
 

@@ -1,4 +1,4 @@
--- The answers of faithful calls: how they follow one another, and what becomes of them as transactions end.
+-- The answers of faithful calls: how they compose, and how the end of a transaction changes them.
 use Rattle.std.specs.Prelude.{◌≡◌, ℕ, List, [], ◌∷◌, ◌++◌, Bool, true, false, map, Option, None}
 use Rattle.hp_model.specs.Values.{vetoed}
 use Rattle.hp_model.specs.Rules.{Library}
@@ -10,7 +10,7 @@ use Rattle.hp_model.specs.Cascade.{Unit, Generation, TransactionReport, task_rep
 use Rattle.hp_model.specs.Cells.{Cells, cells, Changes, over, Read, Holds}
 use Rattle.hp_model.specs.Soundness.{Answer, answer_of, FiringAnswer, firing_answer, Faithful}
 
--- ---- faithful calls, by what they stand for
+-- ---- faithful calls, for each kind of step
 
 abbrev pub FaithfulWork : Library → Work → List Read → Changes → Changes → Answer → Type 0
 FaithfulWork library work reads before after answer = Faithful library (λ S. answer_of (work S)) (λ S. (work S).state) reads before after answer
@@ -18,7 +18,7 @@ FaithfulWork library work reads before after answer = Faithful library (λ S. an
 abbrev pub FaithfulFiring : Library → (State → Firing) → List Read → Changes → Changes → FiringAnswer → Type 0
 FaithfulFiring library fire reads before after answer = Faithful library (λ S. firing_answer (fire S)) (λ S. (fire S).state) reads before after answer
 
--- what sibling firings give beside the state
+-- the result of sibling firings, besides the state
 pub record SiblingsAnswer : Type 0 where
   pub firings : List FiringAnswer
   pub vetoed_by : Option ℕ
@@ -29,21 +29,22 @@ siblings_answer g = record { firings = map firing_answer g.firings; vetoed_by = 
 abbrev pub FaithfulSiblings : Library → (State → Siblings) → List Read → Changes → Changes → SiblingsAnswer → Type 0
 FaithfulSiblings library group reads before after answer = Faithful library (λ S. siblings_answer (group S)) (λ S. (group S).state) reads before after answer
 
--- What a step reads of the state: wherever the reads hold, and the state's cells are those under the writes, it is this
+-- What a step reads of the state: on each state whose cells are those under the writes, where the reads hold, it is
+-- this
 pub record Finds {A : Type 0} (library : Library) (of : State → A) (reads : List Read) (writes : Changes) (found : A) : Type 0 where
   pub from : (base : Cells) → Holds base reads → (S : State) → IsOrdered library S → cells library S ≡ over base writes → of S ≡ found
 
 -- ---- answers of works
 
--- nothing but an end
+-- an answer with nothing but an end
 abbrev pub ended : End → Answer
 ended e = record { end = e; queued = []; detached = []; items = no_items }
 
--- nothing but items
+-- an answer with nothing but items
 abbrev pub tells : Items → Answer
 tells items = record { end = done; queued = []; detached = []; items = items }
 
--- tasks that are queued or detached
+-- an answer that queues or detaches tasks
 abbrev pub placing : List Task → Answer
 placing ts = record { end = done; queued = deferred_of ts; detached = map unreleased (detached_of ts); items = no_items }
 
@@ -56,7 +57,7 @@ is_done done = true
 is_done (abort_by x) = false
 is_done (veto_by r) = false
 
--- of work that has ended as a transaction: its writes, or those before it
+-- the writes after work that has ended as a transaction: its own, or those before it
 abbrev pub kept : End → (before after : Changes) → Changes
 kept done before after = after
 kept (abort_by x) before after = before
@@ -77,7 +78,7 @@ detached_at done ds = ds
 detached_at (abort_by x) ds = survivors ds
 detached_at (veto_by r) ds = survivors ds
 
--- work that has ended as a nested transaction with this node, as a part of its parent's
+-- work that has ended as a nested transaction with this node, as a part of its parent's answer
 abbrev pub closing : Node → Answer → End → Answer
 closing what a e =
     record {
@@ -87,7 +88,7 @@ closing what a e =
       items = node what (ending_of a.end) a.items no_items;
     }
 
--- the same as an action's firing
+-- the same for an action's firing
 abbrev pub closing_action : Node → Answer → FiringAnswer
 closing_action what a =
     record {
@@ -97,7 +98,7 @@ closing_action what a =
       items = node what (ending_of a.end) a.items no_items;
     }
 
--- a firing that does nothing but what its node says, and hands on tasks
+-- a firing that only has its node and passes on tasks
 abbrev pub handing_on : Node → List Task → FiringAnswer
 handing_on what ts = record { vetoed_by = None; queued = deferred_of ts; detached = map unreleased (detached_of ts); items = node what committed no_items no_items }
 
@@ -115,13 +116,13 @@ abbrev pub items_in : List FiringAnswer → Items
 items_in [] = no_items
 items_in (f ∷ fs) = append f.items (items_in fs)
 
--- a group as a part of the transaction round it, which a veto aborts
+-- a group as a part of the transaction around it, which a veto aborts
 abbrev pub group_answer : SiblingsAnswer → Answer
 group_answer g = record { end = end_of g.vetoed_by; queued = queued_in g.firings; detached = detached_in g.firings; items = items_in g.firings }
 
 -- ---- answers of top-level transactions, generations and cascades
 
--- without the queue, which the next round runs
+-- an answer without the queue, which the next round runs
 abbrev pub drained_answer : Answer → Answer
 drained_answer a = record { end = done; queued = []; detached = a.detached; items = a.items }
 
@@ -132,7 +133,7 @@ is_settled done (t ∷ ts) = false
 is_settled (abort_by x) ts = true
 is_settled (veto_by r) ts = true
 
--- what a top-level transaction gives beside the state
+-- the result of a top-level transaction, besides the state
 pub record TopAnswer : Type 0 where
   pub ending : Ending
   pub items : Items
@@ -148,7 +149,7 @@ closing_top a = record { ending = ending_of a.end; items = a.items; detached = d
 abbrev pub FaithfulTop : Library → (State → Closed) → List Read → Changes → Changes → TopAnswer → Type 0
 FaithfulTop library transaction reads before after answer = Faithful library (λ S. top_answer (transaction S)) (λ S. (transaction S).state) reads before after answer
 
--- what a generation gives
+-- the result of a generation
 pub record GenerationAnswer : Type 0 where
   pub transactions : List TransactionReport
   pub detached : List Detached
@@ -159,7 +160,7 @@ generation_answer g = record { transactions = map transaction_report g.transacti
 abbrev pub FaithfulGeneration : Library → (State → Generation) → List Read → Changes → Changes → GenerationAnswer → Type 0
 FaithfulGeneration library run reads before after answer = Faithful library (λ S. generation_answer (run S)) (λ S. (run S).state) reads before after answer
 
--- a top-level transaction as it is reported
+-- the report of a top-level transaction
 abbrev pub reported : Option Task → TopAnswer → TransactionReport
 reported t a = record { task = task_report t; ending = a.ending; items = a.items }
 

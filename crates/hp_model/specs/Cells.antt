@@ -1,4 +1,4 @@
--- What of a state a program keeps in cells, layers of changes over cells, and the reads that hold in cells.
+-- The cells of a state, layers of changes over cells, and the reads that hold in cells.
 use Rattle.std.specs.Prelude.{◌≡◌, ℕ, ℤ, Bool, false, ◌&&◌, ◌==◌, List, [], ◌∷◌, map, All, Option, Some, None, option_map, is_some, Ok, if◌then◌else◌}
 use Rattle.std.specs.Ordering.{int_eq, int_cmp}
 use Rattle.std.specs.List.{list_any}
@@ -10,7 +10,7 @@ use Rattle.hp_model.specs.Knowledge.{Knowledge, knowledge}
 use Rattle.hp_model.specs.Rules.{Rule, Library, rule_at}
 use Rattle.hp_model.specs.State.{State, Status, absent, enabled, disabled, RuleState, rule_state, find_object}
 
--- a place of the store: an object's row, a rule's status, or what a rule's detector knows
+-- a cell: an object's row, a rule's status, or what a rule's detector knows
 pub data Cell : Type 0 where
   object_cell : (class : ℕ) → (key : ℤ) → Cell
   rule_cell detector_cell : (rule : ℕ) → Cell
@@ -20,7 +20,7 @@ pub data CellValue : Type 0 where
   status_value : Status → CellValue
   knowledge_value : Knowledge → CellValue
 
--- the value of each cell, or its absence. Two of them are the same where they are the same at each cell
+-- the value of each cell, or its absence. Two of these functions are the same if they are equal at each cell
 abbrev pub Cells : Type 0
 Cells = Cell → Option CellValue
 
@@ -33,7 +33,8 @@ abbrev pub knowledge_in : Rule → Status → RuleState → Option CellValue
 knowledge_in rule enabled r = if is_pure rule.event then None else Some (knowledge_value (knowledge rule.event r.past))
 knowledge_in rule status r = None
 
--- each object's row; each rule that isn't absent; for each enabled rule whose event looks back, what is known of its past
+-- each object's row; each rule that isn't absent; for each enabled rule whose event looks back, what is known of its
+-- past
 abbrev pub cells : Library → State → Cells
 cells library S (object_cell class key) = option_map row_value (find_object S.objects class key)
 cells library S (rule_cell n) = status_in (rule_state S n).status
@@ -41,14 +42,14 @@ cells library S (detector_cell n) = knowledge_in (rule_at library n) (rule_state
 
 -- ---- layers
 
--- a layer: the cells to which it gives a value, and those that it takes out
+-- a layer: the cells that it sets, and those that it removes
 abbrev pub Changes : Type 0
 Changes = Cell → Option (Option CellValue)
 
 abbrev pub no_changes : Changes
 no_changes cell = None
 
--- what is at a cell after a change
+-- the content of a cell after a change
 abbrev pub changed : Option CellValue → Option (Option CellValue) → Option CellValue
 changed before None = before
 changed before (Some after) = after
@@ -69,30 +70,30 @@ with_change changes cell change q = if same_cell cell q then change else changes
 
 -- ---- reads
 
--- the keys of a class's objects, each once, rising
+-- the keys of a class's objects, without duplicates, in ascending order
 pub record AreKeys (base : Cells) (class : ℕ) (keys : List ℤ) : Type 0 where
   pub rise : IsStrictlySortedBy int_cmp keys
   pub has : (key : ℤ) → list_any (int_eq key) keys ≡ is_some (base (object_cell class key))
 
--- a class's objects with their rows, by rising keys
+-- a class's objects with their rows, in ascending key order
 pub record AreObjects (base : Cells) (class : ℕ) (objects : List KeyedRow) : Type 0 where
   pub keys : AreKeys base class (map (λ (o : KeyedRow). o.key) objects)
   pub rows : All (λ (o : KeyedRow). base (object_cell class o.key) ≡ Some (row_value o.row)) objects
 
--- whether the object in a cell belongs to a part of its class; where there is none it doesn't
+-- whether the object in a cell belongs to a part of its class; an absent object doesn't
 abbrev pub belongs_in : ClassPart → ℤ → Option CellValue → Outcome Bool
 belongs_in p key (Some (row_value row)) = belongs p (record { key = key; row = row })
 belongs_in p key value = Ok false
 
--- the objects of a part of a class with their rows, by rising keys. Of each other object of the class it can be told,
--- without a fault, that it doesn't belong to the part
+-- the objects of a part of a class with their rows, in ascending key order. Each other object of the class is known,
+-- without a fault, not to belong to the part
 pub record ArePart (base : Cells) (class : ℕ) (p : ClassPart) (objects : List KeyedRow) : Type 0 where
   pub rise : IsStrictlySortedBy int_cmp (map (λ (o : KeyedRow). o.key) objects)
   pub has : (key : ℤ) → belongs_in p key (base (object_cell class key)) ≡ Ok (list_any (int_eq key) (map (λ (o : KeyedRow). o.key) objects))
   pub rows : All (λ (o : KeyedRow). base (object_cell class o.key) ≡ Some (row_value o.row)) objects
 
--- what was read: a cell with its value or its absence, a class with its keys, a class with all of its objects, or a part of
--- a class with the part's objects
+-- a read: a cell with its value or its absence, a class with its keys, a class with all of its objects, or a part of a
+-- class with the part's objects
 pub data Read : Type 0 where
   cell_read : Cell → Option CellValue → Read
   keys_read : (class : ℕ) → List ℤ → Read
@@ -109,7 +110,7 @@ abbrev pub AllTold : Cells → List Read → Type 0
 AllTold base [] = Unit {0}
 AllTold base (r ∷ rs) = IsTold base r × AllTold base rs
 
--- the reads hold in these cells: each recorded cell has the recorded value or absence, each recorded class the recorded keys
--- or objects, each recorded part of a class the recorded objects
+-- the reads hold in these cells: each recorded cell has the recorded value or absence, each recorded class the recorded
+-- keys or objects, each recorded part of a class the recorded objects
 pub record Holds (base : Cells) (reads : List Read) : Type 0 where
   pub told : AllTold base reads

@@ -1,5 +1,5 @@
--- Which libraries and bodies are well formed: each check passes, or gives the first fault, in the order in which a script's
--- parts are checked. At one part its form comes first, then what it exceeds, then its name, and then its own parts.
+-- Well-formed libraries and bodies. Each check passes, or gives the first fault, in the order in which a script's parts
+-- are checked. For one part the order is: its form, its limits, its name, and then its own parts.
 use Rattle.std.specs.Prelude.{ℕ, zero, suc, ◌==◌, nat_lt, Bool, true, false, not, ◌&&◌, ◌||◌, List, [], ◌∷◌, ◌++◌, length, map, codes, ⊤, Ok, Err, bytes_eq, if◌then◌else◌}
 use Rattle.std.specs.List.{slice_index_or, list_any}
 use Rattle.hp_model.specs.Values.{Name, Value, text, Field, ClassDef, ◌>>=◌}
@@ -11,7 +11,7 @@ use Rattle.hp_model.specs.Parts.{is_name}
 pub use Rattle.hp_model.specs.Scopes.{class_names, field_names, query_names}
 pub use Rattle.hp_model.specs.StatementGrammar.{assigned_names}
 
--- that something is well formed, or its first fault
+-- the result of a check: it passes, or gives the first fault
 abbrev pub Checked : Type 0
 Checked = Decoded ⊤
 
@@ -20,37 +20,37 @@ Checked = Decoded ⊤
 abbrev pub is_known : List Name → Name → Bool
 is_known names x = list_any (λ n. bytes_eq n x) names
 
--- a name has a name's form
+-- a name is spelled as a name
 abbrev pub name_check : Path → Name → Checked
 name_check path x = if is_name x then Ok tt else Err (wrong_shape path)
 
--- it has, and the name may stand there
+-- the same, and the name isn't refused
 unfoldable pub name_unless : (refused : Bool) → Path → Name → Checked
 name_unless refused path x = do
   _ ← name_check path x
   if refused then Err (bad_name path) else Ok tt
 
--- it is none of these
+-- the same, and it is none of these
 abbrev pub new_name_check : List Name → Path → Name → Checked
 new_name_check names path x = name_unless (is_known names x) path x
 
--- it is one of these
+-- the same, and it is one of these
 abbrev pub known_name_check : List Name → Path → Name → Checked
 known_name_check names path x = name_unless (not (is_known names x)) path x
 
--- a class or a rule is one of so many
+-- the number of a class or a rule is below their count
 abbrev pub number_check : (count : ℕ) → Path → ℕ → Checked
 number_check count path n = if nat_lt n count then Ok tt else Err (bad_name path)
 
 abbrev pub limit_check : (most : ℕ) → Limit → ℕ → Checked
 limit_check most limit n = if nat_lt most n then Err (over_limit limit) else Ok tt
 
--- the items of a list from a position on, each by the items that stand before it
+-- the items of a list from an index, each checked with the items before it
 abbrev pub each_check : {A : Type 0} → (List A → Path → A → Checked) → Path → List A → ℕ → List A → Checked
 each_check check path before i [] = Ok tt
 each_check check path before i (x ∷ xs) = check before (item_at path i) x >>= λ _. each_check check path (before ++ x ∷ []) (suc i) xs
 
--- ---- expressions, which name these rows
+-- ---- expressions over rows of these names
 
 abbrev pub constant_check : Value → Checked
 constant_check (text s) = limit_check 1024 text_limit (length s)
@@ -81,7 +81,7 @@ expression_parts_check part names path (new_field i f) = name_check (item_at pat
 expression_parts_check part names path (old_field i f) = name_check (item_at path 2) f
 expression_parts_check part names path e = Ok tt
 
--- an expression of at most so many levels
+-- an expression of at most this number of levels
 unfoldable pub expression_check : List Name → (levels : ℕ) → Path → Expression → Checked
 expression_check names zero path e = Err (over_limit expression_limit)
 expression_check names (suc levels) path e = expression_parts_check (expression_check names levels) names path e
@@ -89,7 +89,7 @@ expression_check names (suc levels) path e = expression_parts_check (expression_
 abbrev pub whole_expression_check : List Name → Path → Expression → Checked
 whole_expression_check names path e = expression_check names 16 path e
 
--- ---- events over so many classes
+-- ---- events over this number of classes
 
 abbrev pub pattern_check : (classes : ℕ) → Path → Pattern → Checked
 pattern_check classes path (on_create c) = number_check classes (item_at path 1) c
@@ -105,14 +105,14 @@ event_parts_check part classes path (or_event a b) = operands_check part path a 
 event_parts_check part classes path (seq_event a b) = operands_check part path a b
 event_parts_check part classes path (closure_event a t) = operands_check part path a t
 
--- an event of at most so many levels
+-- an event of at most this number of levels
 unfoldable pub event_check : (classes levels : ℕ) → Path → Event → Checked
 event_check classes zero path e = Err (over_limit event_limit)
 event_check classes (suc levels) path e = event_parts_check (event_check classes levels) classes path e
 
 -- ---- statements
 
--- what a body may name besides rows, and whether it is an action; an action may go over its rule's queries
+-- what a body may name besides rows, and whether it is an action; an action may use its rule's queries
 pub record Scope : Type 0 where
   pub classes : List ClassDef
   pub rules : ℕ
@@ -126,7 +126,7 @@ fields_of scope class = (slice_index_or scope.classes class no_class).fields
 abbrev pub class_check : Scope → Path → ℕ → Checked
 class_check scope path class = number_check (length scope.classes) path class
 
--- one of the fields, which no pair before sets
+-- a field of the class that no earlier assignment sets
 unfoldable pub assigned_check : (fields assigned : List Name) → Path → Name → Checked
 assigned_check fields assigned path x = do
   _ ← new_name_check assigned path x
@@ -168,11 +168,11 @@ signal_check names path x arguments = do
   _ ← name_check (item_at path 1) x
   arguments_check names (item_at path 2) arguments
 
--- how a statement at a path is checked, where these rows have names
+-- the check of a statement at a path, with these names of rows in scope
 abbrev pub StatementCheck : Type 0
 StatementCheck = List Name → Path → Statement → Checked
 
--- the statements of a body from a position on
+-- the statements of a body from an index
 abbrev pub statements_check : StatementCheck → List Name → Path → ℕ → Body → Checked
 statements_check check names path i empty = Ok tt
 statements_check check names path i (s then rest) = check names (item_at path i) s >>= λ _. statements_check check names path (suc i) rest
@@ -214,7 +214,7 @@ abbrev pub is_veto : Statement → Bool
 is_veto veto = true
 is_veto s = false
 
--- a veto stands in actions alone
+-- a veto stands in an action
 abbrev pub veto_check : Scope → Path → Statement → Checked
 veto_check scope path s = if is_veto s && not scope.in_action then Err (wrong_shape path) else Ok tt
 
@@ -234,7 +234,7 @@ statement_parts_check scope check names path (on_rule op n) = number_check scope
 statement_parts_check scope check names path (fire n) = number_check scope.rules (item_at path 1) n
 statement_parts_check scope check names path s = Ok tt
 
--- a statement of at most so many levels
+-- a statement of at most this number of levels
 unfoldable pub statement_check : Scope → (levels : ℕ) → StatementCheck
 statement_check scope zero names path s = veto_check scope path s >>= λ _. Err (over_limit nesting_limit)
 statement_check scope (suc levels) names path s = veto_check scope path s >>= λ _. statement_parts_check scope (statement_check scope levels) names path s
@@ -267,7 +267,7 @@ classes_check path classes = do
 abbrev pub rule_names : List Rule → List Name
 rule_names rules = map (λ (r : Rule). r.name) rules
 
--- a rule's name comes before all other parts of rules
+-- the names of all rules are checked before the other parts of rules
 unfoldable pub head_check : List Rule → Path → Rule → Checked
 head_check before path r = new_name_check (rule_names before) (item_at path 0) r.name
 
@@ -276,7 +276,7 @@ heads_check path rules = do
   _ ← limit_check 256 rules_limit (length rules)
   each_check head_check path [] 0 rules
 
--- a query's predicate names the rows of the queries before, and its own
+-- a query's predicate may name its own row and the rows of earlier queries
 unfoldable pub query_check : (classes : ℕ) → List Query → Path → Query → Checked
 query_check classes before path q = do
   _ ← new_name_check (query_names before) (item_at path 0) q.name
@@ -304,8 +304,8 @@ rules_check classes count path rules = each_check (λ _. rule_check classes coun
 abbrev pub depth_check : ℕ → Checked
 depth_check depth = if depth == 0 || nat_lt 16 depth then Err (over_limit depth_limit_word) else Ok tt
 
--- a library whose rules may go so deep: the first fault is that of the depth, the classes, the names of the rules, and then
--- of the other parts of each rule
+-- a library with this depth limit. The order of faults is: the depth, the classes, the names of the rules, and then the
+-- other parts of each rule
 unfoldable pub library_check : Library → Checked
 library_check library = do
   _ ← depth_check library.depth_limit
@@ -317,15 +317,15 @@ library_check library = do
 abbrev pub script_scope : Library → Scope
 script_scope library = record { classes = library.classes; rules = length library.rules; in_action = false; queries = [] }
 
--- the body of a script that stands at a path
+-- the body of a script at a path
 abbrev pub script_body_check : Library → Path → Body → Checked
 script_body_check library path body = whole_body_check (script_scope library) [] path body
 
--- ---- what is checked
+-- ---- checked values
 
 abbrev pub checked_library : Library → Decoded Library
 checked_library library = library_check library >>= λ _. Ok library
 
--- the body of a script, by paths from the body
+-- the body of a script, with paths from the body
 abbrev pub checked_body : Library → Body → Decoded Body
 checked_body library body = script_body_check library [] body >>= λ _. Ok body

@@ -3,7 +3,7 @@ use Rattle.std.specs.Prelude.{Bool, true, ◌&&◌, List, [], ◌∷◌, Option,
 use Rattle.hp_model.specs.Values.{Name, Value, integer, KeyedRow, Outcome, ◌>>=◌}
 use Rattle.hp_model.specs.Expressions.{at_least, at_most, compare, field_in}
 
--- what of an object is compared: its key, or its value in a field
+-- the attribute that is compared: an object's key, or its value in a field
 pub data Attribute : Type 0 where
   key_attribute : Attribute
   field_attribute : Name → Attribute
@@ -12,14 +12,13 @@ abbrev pub attribute_of : Attribute → KeyedRow → Outcome Value
 attribute_of key_attribute r = Ok (integer r.key)
 attribute_of (field_attribute f) r = field_in r.row f
 
--- the objects whose attribute lies from the low bound to the high one, both included; where a bound is None there is none on
--- that side
+-- the objects whose attribute lies within the bounds, both inclusive; `None` means unbounded
 pub record ClassPart : Type 0 where
   pub attribute : Attribute
   pub low : Option Value
   pub high : Option Value
 
--- as expressions compare: a value of another kind than the bound is a fault
+-- compares as expressions do: a value of another kind than the bound is a fault
 abbrev pub reaches : (low : Option Value) → Value → Outcome Bool
 reaches None v = Ok true
 reaches (Some bound) v = compare at_least v bound
@@ -34,11 +33,11 @@ lies_within low high v = do
   is_up_to ← stays_below high v
   Ok (is_from && is_up_to)
 
--- whether an object belongs to the part; a fault where that can't be said
+-- whether an object belongs to the part, or the fault of the comparison
 abbrev pub belongs : ClassPart → KeyedRow → Outcome Bool
 belongs p r = attribute_of p.attribute r >>= λ v. lies_within p.low p.high v
 
--- those of some objects that belong to the part, or the first fault
+-- the objects of a list that belong to the part, or the first fault
 abbrev pub picked : ClassPart → List KeyedRow → Outcome (List KeyedRow)
 picked p [] = Ok []
 picked p (r ∷ rs) = do

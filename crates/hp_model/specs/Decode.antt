@@ -1,5 +1,6 @@
--- The script's grammar, in the order of its checks: the root's shape, the version, the depth limit, the classes, the form
--- and name of each rule, each rule's other parts, and the items. Each part is read depth first, from left to right.
+-- The script's grammar, in the order of its checks: the root's shape, the version, the depth limit, the classes, the
+-- form and name of each rule, each rule's other parts, and the items. Each part is read depth first, from left to
+-- right.
 use Rattle.std.specs.Prelude.{ℕ, suc, ◌+◌, ◌-◌, ℤ, pos, negsuc, ◌==◌, ◌||◌, ◌&&◌, Bool, true, false, nat_lt, List, [], ◌∷◌, ◌++◌, length, map, filter, codes, Option, Some, None, option_map, option_and_then, Ok, Err, bytes_eq, if◌then◌else◌}
 use Rattle.std.specs.List.{list_any, range_with_len}
 use Rattle.serde_json.specs.Data.{Data}
@@ -43,7 +44,7 @@ depth_at path d = do
   z ← integer_at path d
   depth_in z
 
--- 8 where none stands
+-- the default is 8
 abbrev pub depth_if_any : Path → Option Data → Decoded ℕ
 depth_if_any path None = Ok 8
 depth_if_any path (Some d) = depth_at path d
@@ -56,7 +57,7 @@ kind_of_word word = beside word ((codes "int", integer_kind) ∷ (codes "bool", 
 abbrev pub kind_at : Path → Data → Decoded Kind
 kind_at path d = shaped path (option_and_then kind_of_word (as_str d))
 
--- a field, whose name no field before has
+-- a field, whose name no earlier field has
 unfoldable pub field_at : List Field → Path → Data → Decoded Field
 field_at before path d = do
   pair ← shaped path (pair_of d)
@@ -70,7 +71,7 @@ fields_at path d = do
   ds ← short_list_at 32 fields_limit path d
   read_each field_at path ds
 
--- a class, whose name no class before has
+-- a class, whose name no earlier class has
 unfoldable pub class_at : List ClassDef → Path → Data → Decoded ClassDef
 class_at before path d = do
   pair ← shaped path (pair_of d)
@@ -95,7 +96,7 @@ abbrev pub common_coupling : List ℕ → Option Coupling
 common_coupling word = beside word
     ((codes "immediate", immediate) ∷ (codes "deferred", deferred) ∷ (codes "separate", separate) ∷ (codes "dependent", dependent) ∷ [])
 
--- `exclusive` is of version 2 alone
+-- `exclusive` is only in version 2
 abbrev pub coupling_of_word : Version → List ℕ → Option Coupling
 coupling_of_word version word = if is_second version && bytes_eq word (codes "exclusive") then Some exclusive else common_coupling word
 
@@ -111,7 +112,7 @@ three_in ds = None
 abbrev pub triple_of : Data → Option (Data × Data × Data)
 triple_of d = option_and_then three_in (list_of d)
 
--- a query, whose name no query before has; its predicate knows them, and its own row by its name
+-- a query, whose name no earlier query has; its predicate may name the earlier queries' rows and its own
 unfoldable pub query_at : (classes : List Name) → List Query → Path → Data → Decoded Query
 query_at classes before path d = do
   parts ← shaped path (triple_of d)
@@ -127,7 +128,7 @@ condition_at classes path d = do
 
 -- ---- rules
 
--- in the action of a rule with this condition
+-- the scope of the action of a rule with this condition
 abbrev pub acting : Scope → List Query → Scope
 acting scope condition = record { classes = scope.classes; rules = scope.rules; queries = query_names condition; in_action = true }
 
@@ -146,11 +147,11 @@ rules_at version scope path heads = read_each (λ _. rule_at version scope) path
 
 -- ---- items: `["tx", body]` and `["clock", t]`
 
--- a rule's event names a moment, wherever in it, and whether or not the rule is enabled
+-- whether some rule's event contains a moment, even if the rule is disabled
 abbrev pub names_moment : List Rule → ℕ → Bool
 names_moment rules t = list_any (λ (r : Rule). mentions r.event (moment_reached t)) rules
 
--- the moments after one time and up to another that some rule's event names
+-- the moments after one time and up to another that some rule's event contains
 abbrev pub due_moments : List Rule → (after until : ℕ) → List ℕ
 due_moments rules after until = filter (names_moment rules) (range_with_len (after + 1) (until - after))
 
@@ -158,7 +159,7 @@ due_moments rules after until = filter (names_moment rules) (range_with_len (aft
 abbrev pub few_moments : List ℕ → Decoded (List ℕ)
 few_moments ts = if nat_lt 1000 (length ts) then Err (over_limit moments_limit) else Ok ts
 
--- the units of the items so far, and the time that the clock then has
+-- the units of the items so far, and the time of the clock after them
 pub record Schedule : Type 0 where
   pub units : List Unit
   pub clock : ℕ
@@ -187,7 +188,7 @@ transaction_at scope path before body = do
   statements ← statements_at scope [] (item_at path 1) body
   Ok (record { units = before.units ++ transaction (body_of statements) ∷ []; clock = before.clock })
 
--- a move of the clock, which doesn't go back, stands as its due moments, in order
+-- a move of the clock, which never goes back, means its due moments, in order
 unfoldable pub clock_at : List Rule → Path → Schedule → Data → Decoded Schedule
 clock_at rules path before time = do
   t ← number_from before.clock (item_at path 1) time
@@ -203,7 +204,7 @@ unit_at rules scope path before d = do
   form ← item_form_at path d
   item_from rules scope path before form
 
--- the items from a position on, after what was read before
+-- the items from an index, after those already read
 abbrev pub units_from : List Rule → Scope → Path → Schedule → ℕ → List Data → Decoded Schedule
 units_from rules scope path before i [] = Ok before
 units_from rules scope path before i (d ∷ ds) = do
@@ -215,9 +216,9 @@ units_at rules scope path d = do
   ds ← list_at path d
   units_from rules scope path no_item 0 ds
 
--- ---- the root: an object with the members `version`, `classes`, `rules` and `items`, and perhaps `depth`
+-- ---- the root: an object with the members `version`, `classes`, `rules` and `items`, and optionally `depth`
 
--- the members of the root as they stand in JSON
+-- the members of the root, in JSON
 pub record Root : Type 0 where
   pub version : Data
   pub depth : Option Data
@@ -228,7 +229,7 @@ pub record Root : Type 0 where
 abbrev pub member_count : Data → Option ℕ
 member_count d = option_map members_len (as_object d)
 
--- how many members there are, if all are there
+-- the number of members, if all are there
 abbrev pub wanted_count : (depth : Option Data) → ℕ
 wanted_count None = 4
 wanted_count (Some d) = 5
@@ -249,7 +250,7 @@ root_of d = option_and_then
 abbrev pub script_scope : List ClassDef → List RuleHead → Scope
 script_scope classes heads = record { classes = classes; rules = rule_names heads; queries = []; in_action = false }
 
--- the script of this version and depth limit, these classes and these heads of rules: the other parts of each rule, and
+-- the script of this version and depth limit, with these classes and heads of rules: the other parts of each rule, and
 -- the items
 unfoldable pub script_from : Version → (depth : ℕ) → List ClassDef → List RuleHead → (items : Data) → Decoded Script
 script_from version depth classes heads items = do
@@ -276,6 +277,6 @@ readable (Some d) = Ok d
 unfoldable pub json_at : List ℕ → Decoded Data
 json_at bytes = readable (json_of bytes)
 
--- the script that the bytes say, or the first refusal; the size comes before all else
+-- the script in these bytes, or the first refusal; the size is checked first
 unfoldable pub script_of : List ℕ → Decoded Script
 script_of bytes = if nat_lt 1048576 (length bytes) then Err (over_limit size_limit) else json_at bytes >>= decode

@@ -1,4 +1,5 @@
--- The grammar of events. At one value its form comes first, then its level, and then its parts from left to right.
+-- The grammar of events. For one value the order of checks is: its form, its level, and then its parts from left to
+-- right.
 use Rattle.std.specs.Prelude.{ℕ, zero, suc, List, [], ◌∷◌, codes, Option, Some, None, option_and_then, Ok, Err, bytes_eq, if◌then◌else◌}
 use Rattle.serde_json.specs.Data.{Data}
 use Rattle.hp_model.specs.Values.{Name, ◌>>=◌}
@@ -53,13 +54,13 @@ on_signal_at path name = do
   x ← name_at (item_at path 1) name
   Ok (pattern_event (on_signal x))
 
--- a moment of the clock, from 0 on
+-- a moment of the clock, at least 0
 unfoldable pub at_moment_at : Path → Data → Decoded Event
 at_moment_at path time = do
   t ← number_from 0 (item_at path 1) time
   Ok (pattern_event (at_moment t))
 
--- the first moment, from 0 on, and a period, from 1 on
+-- the first moment, at least 0, and a period, at least 1
 unfoldable pub every_moment_at : Path → Data → Data → Decoded Event
 every_moment_at path first period = do
   t ← number_from 0 (item_at path 1) first
@@ -92,7 +93,7 @@ event_from classes part path (closure_form a b) = do
   parts ← parts_at part path a b
   Ok (closure_event parts.0 parts.1)
 
--- an event of at most so many levels
+-- an event of at most this number of levels
 unfoldable pub event_within : (classes : List Name) → ℕ → Path → Data → Decoded Event
 event_within classes zero path d = event_form_at path d >>= λ form. Err (over_limit event_limit)
 event_within classes (suc levels) path d = event_form_at path d >>= λ form. event_from classes (event_within classes levels) path form

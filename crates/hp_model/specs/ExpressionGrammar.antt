@@ -1,5 +1,5 @@
--- The grammar of expressions. At one value its form comes first, then its level, then a text's length, and then its parts
--- from left to right.
+-- The grammar of expressions. For one value the order of checks is: its form, its level, a text's length, and then its
+-- parts from left to right.
 use Rattle.std.specs.Prelude.{ℕ, zero, suc, ℤ, Bool, nat_lt, List, [], ◌∷◌, length, codes, Option, Some, None, option_map, option_and_then, Ok, Err, bytes_eq, if◌then◌else◌}
 use Rattle.std.specs.Option.{option_or}
 use Rattle.serde_json.specs.Data.{Data, number, boolean, string}
@@ -146,11 +146,11 @@ expression_from rows operand path (argument_form part place) = argument_at path 
 expression_from rows operand path (time_form part) = time_of_at path part
 expression_from rows operand path count_form = Ok occurrence_count
 
--- an expression of at most so many levels
+-- an expression of at most this number of levels
 unfoldable pub expression_within : (rows : List Name) → ℕ → Path → Data → Decoded Expression
 expression_within rows zero path d = expression_form_at path d >>= λ form. Err (over_limit expression_limit)
 expression_within rows (suc levels) path d = expression_form_at path d >>= λ form. expression_from rows (expression_within rows levels) path form
 
--- an expression, in which these rows have names; a value by itself is a level
+-- an expression, with these names of rows in scope; a literal is one level
 abbrev pub expression_at : (rows : List Name) → Path → Data → Decoded Expression
 expression_at names = expression_within names 16

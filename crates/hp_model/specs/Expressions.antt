@@ -29,7 +29,7 @@ pub data Expression : Type 0 where
   time_of : (part : ℕ) → Expression
   occurrence_count : Expression
 
--- what an expression is evaluated in: the occurrence, if there is one, and the rows by their names, the innermost name first
+-- the environment of an expression: the occurrence, if there is one, and the rows by name, the innermost first
 pub record Environment : Type 0 where
   pub occurrence : Option Occurrence
   pub rows : List (Name × KeyedRow)
@@ -48,11 +48,11 @@ as_boolean (integer z) = Err wrong_kind
 as_boolean (boolean b) = Ok b
 as_boolean (text s) = Err wrong_kind
 
--- computed without bound, and then tested against the bounds of 64 bits
+-- the result of a computation without bounds, tested against the range of 64 bits
 abbrev pub in_range : ℤ → Outcome Value
 in_range z = if fits_64 z then Ok (integer z) else Err overflow
 
--- the quotient is cut towards zero
+-- the quotient is rounded towards zero
 abbrev pub calculate : Arithmetic → ℤ → ℤ → Outcome Value
 calculate plus x y = in_range (x +ℤ y)
 calculate minus x y = in_range (x -ℤ y)
@@ -62,13 +62,13 @@ calculate quotient x y = in_range (int_div x y)
 calculate remainder x (pos zero) = Err divide_by_zero
 calculate remainder x y = in_range (int_div x y) >>= λ _. Ok (integer (int_rem x y))
 
--- on two whole numbers, or two texts by their bytes
+-- on two integers, or two texts byte by byte
 abbrev pub is_below : Value → Value → Outcome Bool
 is_below (integer x) (integer y) = Ok (int_lt x y)
 is_below (text s) (text t) = Ok (is_lt (slice_cmp nat_cmp s t))
 is_below v w = Err wrong_kind
 
--- on two values of one kind
+-- on two values of the same kind
 abbrev pub is_equal : Value → Value → Outcome Bool
 is_equal (integer x) (integer y) = Ok (int_eq x y)
 is_equal (boolean b) (boolean c) = Ok (if b then c else not c)
@@ -83,7 +83,7 @@ compare at_most v w = is_below w v >>= λ b. Ok (not b)
 compare greater v w = is_below w v
 compare at_least v w = is_below v w >>= λ b. Ok (not b)
 
--- the values of a part of the occurrence
+-- a part of the occurrence, by its index
 abbrev pub part_of : Environment → ℕ → Outcome Primitive
 part_of env i = or_cause (parts_at env.occurrence i) no_parameter
   where
@@ -91,7 +91,7 @@ part_of env i = or_cause (parts_at env.occurrence i) no_parameter
     parts_at None i = None
     parts_at (Some o) i = slice_get o.parts i
 
--- the row named x; a checked expression names no other
+-- the row named x; a checked expression uses no other name
 abbrev pub row_named : Environment → Name → Outcome KeyedRow
 row_named env x = or_cause (lookup (bytes_eq x) env.rows) wrong_kind
 
@@ -127,8 +127,8 @@ abbrev pub count_in : Option Occurrence → Outcome Value
 count_in None = Err no_parameter
 count_in (Some o) = in_range (pos o.count)
 
--- the value of an expression, or the cause by which its statement aborts; operands from left to right, each wholly,
--- then their kinds, then the result
+-- the value of an expression, or the cause for which its statement aborts: operands are evaluated first, from left to
+-- right, then their kinds are tested, then the result
 abbrev pub value_of : Environment → Expression → Outcome Value
 value_of env (constant v) = Ok v
 value_of env (arithmetic op a b) = do

@@ -1,4 +1,4 @@
--- A group of sibling firings that workers try at once and an owner settles in order: one event is one atomic step.
+-- A group of sibling firings that workers try at once and an owner settles in order. Each event is one atomic step.
 use Rattle.std.specs.Prelude.{◌≡◌, ℕ, Bool, true, false, not, ◌&&◌, ◌==◌, nat_lt, List, [], ◌∷◌, ◌++◌, length, Option, Some, None, is_some, slice_get, slice_set, if◌then◌else◌, replicate, ⊤, ◌⊎◌, take}
 use Rattle.std.specs.List.{list_any, list_all, filter_map, range_with_len, slice_index_or}
 use Rattle.std.specs.Option.{option_flatten}
@@ -12,9 +12,9 @@ use Rattle.hp_model.specs.Soundness.{Attempt, IsSound}
 
 pub record Machine : Type 0 where
   pub base : Cells
-  -- who drew each task, the tasks being drawn in order
+  -- the worker that drew each task; tasks are drawn in order
   pub drawn : List ℕ
-  -- for each task: which elders' layers were seen when it was looked at, and the layer posted
+  -- for each task: the elders, earlier tasks, whose layers it started from, if it was looked at; and the layer posted
   pub seen : List (Option (List ℕ))
   pub posted : List (Option Changes)
   -- the layers settled so far, the first task's first
@@ -27,7 +27,7 @@ pub data Event : Type 0 where
   accept : (task : ℕ) → Event
   rerun : (task : ℕ) → Changes → Event
 
--- a group of n tasks at its start
+-- a group of n tasks before the first event
 abbrev pub opening : Cells → ℕ → Machine
 opening base n = record { base = base; drawn = []; seen = replicate n None; posted = replicate n None; settled = [] }
 
@@ -84,7 +84,7 @@ layers_seen m i elders =
 abbrev pub start_of : Machine → ℕ → List ℕ → Cells
 start_of m i elders = layered m.base (layers_seen m i elders)
 
--- no task before this one was vetoed, where a veto stops the group
+-- no task before this one was vetoed, if a veto stops the group
 abbrev pub MayGoOn : (stops : Bool) → Library → List Task → State → ℕ → Type 0
 MayGoOn false library tasks S i = ⊤
 MayGoOn true library tasks S i = (siblings (fire_task library) true (take i tasks) S).vetoed_by ≡ None
@@ -94,7 +94,7 @@ abbrev pub Leads : Library → Task → Cells → Changes → Type 0
 Leads library t base layer =
     (S : State) → IsOrdered library S → cells library S ≡ base → cells library (fire_task library S t).state ≡ over base layer
 
--- what makes an enabled event lawful, given an attempt of each task that is posted
+-- the condition that makes an enabled event lawful, for an attempt at each posted task
 abbrev pub IsLawfulEvent : (stops : Bool) → Library → List Task → (attempts : ℕ → Attempt) → State → Machine → Event → Type 0
 IsLawfulEvent stops library tasks attempts S m (draw w) = ⊤
 IsLawfulEvent stops library tasks attempts S m (look w i elders) = ⊤
@@ -117,7 +117,7 @@ IsLawful stops library tasks attempts S m [] = ⊤
 IsLawful stops library tasks attempts S m (e ∷ es) =
     IfEnabled (is_enabled m e) (IsLawfulEvent stops library tasks attempts S m e) × IsLawful stops library tasks attempts S (step m e) es
 
--- the law: the cells now are those of the state of the settled tasks' serial firing
+-- the law: the cells are those of the state after the settled tasks fired one after another
 abbrev pub IsAccepted : Type 0
 IsAccepted =
     (stops : Bool) (library : Library) (tasks : List Task) (attempts : ℕ → Attempt) (S : State) (es : List Event)

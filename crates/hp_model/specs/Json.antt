@@ -1,11 +1,11 @@
--- A script as JSON: the value that its bytes are, by `serde_json`'s reading, and the forms in which the grammar sees values.
+-- Scripts as JSON: the value of the bytes, as `serde_json` reads them, and the forms of values in the grammar.
 use Rattle.std.specs.Prelude.{ℕ, List, [], ◌∷◌, Option, Some, None, option_map, option_and_then, bytes_eq, if◌then◌else◌}
 use Rattle.std.specs.Str.{is_utf8}
 use Rattle.serde_json.specs.Data.{Data, Items, no_items, item}
 use Rattle.serde_json.specs.Find.{as_array, as_str}
 use Rattle.serde_json.specs.Read.{read}
 
--- the value that the bytes are, if they are a JSON text in UTF-8
+-- the value of the bytes, if they are a JSON text in UTF-8
 abbrev pub json_of : List ℕ → Option Data
 json_of bytes = if is_utf8 bytes then read bytes else None
 
@@ -37,7 +37,7 @@ two_in ds = None
 abbrev pub pair_of : Data → Option (Data × Data)
 pair_of d = option_and_then two_in (list_of d)
 
--- what stands beside a word in a table
+-- the entry of a word in a table
 abbrev pub beside : {A : Type 0} → List ℕ → List (List ℕ × A) → Option A
 beside word [] = None
 beside word (entry ∷ entries) = if bytes_eq word entry.0 then Some entry.1 else beside word entries

@@ -1,4 +1,4 @@
--- Operations on objects and rules, one at a time: what a statement does before its event is signalled.
+-- Operations on objects and rules: the part of a statement before its event is signalled.
 use Rattle.std.specs.Prelude.{ℕ, ℤ, List, Option, Some, None, Ok, Err, ⊤}
 use Rattle.hp_model.specs.Values.{Row, exists, missing, Outcome}
 use Rattle.hp_model.specs.Occurrences.{Primitive, created, updated, deleted, signalled, commit_reached, moment_reached}
@@ -9,7 +9,7 @@ use Rattle.hp_model.specs.Firing.{changed_row, operated_rule}
 use Rattle.hp_model.specs.Cells.{Changes, Read}
 use Rattle.hp_model.specs.Soundness.{Faithful}
 
--- what an operation gives, or the cause that refuses it, and the state after it
+-- the result of an operation, or the cause of its failure, and the state after it
 pub record Operated (A : Type 0) : Type 0 where
   pub outcome : Outcome A
   pub state : State
@@ -17,7 +17,7 @@ pub record Operated (A : Type 0) : Type 0 where
 abbrev pub FaithfulOperation : {A : Type 0} → Library → (State → Operated A) → List Read → Changes → Changes → Outcome A → Type 0
 FaithfulOperation library run reads before after outcome = Faithful library (λ S. (run S).outcome) (λ S. (run S).state) reads before after outcome
 
--- ---- objects: the occurrence that is to be signalled
+-- ---- objects: the result is the occurrence to signal
 
 abbrev pub create_where : Option Row → ℕ → ℤ → Row → State → Operated Primitive
 create_where (Some old) class key new S = record { outcome = Err exists; state = S }
@@ -31,7 +31,7 @@ update_where None class key given S = record { outcome = Err missing; state = S 
 update_where (Some old) class key given S =
     record { outcome = Ok (updated class key old (changed_row given old)); state = with_objects S (write_object S.objects class key (changed_row given old)) }
 
--- the given values are written over the object's
+-- the given values replace the object's
 abbrev pub update_object : ℕ → ℤ → (given : Row) → State → Operated Primitive
 update_object class key given S = update_where (find_object S.objects class key) class key given S
 
@@ -42,7 +42,7 @@ delete_where (Some old) class key S = record { outcome = Ok (deleted class key o
 abbrev pub delete_object : ℕ → ℤ → State → Operated Primitive
 delete_object class key S = delete_where (find_object S.objects class key) class key S
 
--- the operation's item in the tree, by its occurrence
+-- the operation's item in the tree, from its occurrence
 abbrev pub operation_items : Primitive → Items
 operation_items (created class key new) = operation (create_op class key new) no_items
 operation_items (updated class key old new) = operation (update_op class key new) no_items
@@ -53,7 +53,7 @@ operation_items (moment_reached t) = no_items
 
 -- ---- rules
 
--- the status that an operation gives a rule of a status, if it changes it
+-- the new status of a rule after an operation, if it changes
 abbrev pub new_status : RuleOperation → Status → Outcome (Option Status)
 new_status install absent = Ok (Some enabled)
 new_status install status = Ok None

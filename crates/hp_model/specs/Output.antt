@@ -1,4 +1,4 @@
--- What is written for an input.
+-- The output for an input.
 use Rattle.std.specs.Prelude.{Bool, List, [], ◌∷◌, flat_map, Result, Ok, Err, codes, decimal}
 use Rattle.hp_model.specs.Cascade.{Script, evaluate}
 use Rattle.hp_model.specs.Report.{Bytes, line, report_text}
@@ -22,7 +22,7 @@ abbrev pub step_text : Step → Bytes
 step_text (to_member name) = name
 step_text (to_item i) = decimal i
 
--- a slash before each step; the root is a slash alone
+-- a slash before each step; the root is a slash
 abbrev pub path_text : Path → Bytes
 path_text [] = codes "/"
 path_text (s ∷ path) = flat_map (λ step. 47 ∷ step_text step) (s ∷ path)
@@ -42,6 +42,6 @@ abbrev pub text_of : (with_tree : Bool) → Result Script Refusal → Bytes
 text_of with_tree (Err r) = refusal_text r
 text_of with_tree (Ok script) = report_text script.library with_tree (evaluate script)
 
--- the report of the script that the bytes say, or the refusal's line
+-- the report of the script in these bytes, or the refusal's line
 abbrev pub output : Bytes → (with_tree : Bool) → Bytes
 output bytes with_tree = text_of with_tree (script_of bytes)

@@ -1,4 +1,4 @@
--- The parts of which the grammar's forms are made: names, numbers, and lists whose items are read in turn.
+-- The parts of the grammar's forms: names, numbers, and lists whose items are read in order.
 use Rattle.std.specs.Prelude.{ℕ, suc, ℤ, pos, negsuc, nat_lt, ◌==◌, Bool, false, ◌&&◌, ◌||◌, List, [], ◌∷◌, ◌++◌, length, Option, Some, None, is_some, option_and_then, Ok, Err, bytes_eq, if◌then◌else◌}
 use Rattle.std.specs.List.{list_all, position_from}
 use Rattle.std.specs.Char.{is_ascii_alphabetic, is_ascii_alphanumeric}
@@ -13,7 +13,7 @@ use Rattle.hp_model.specs.Json.{list_of}
 abbrev pub is_name_byte : ℕ → Bool
 is_name_byte c = is_ascii_alphanumeric c || c == 95
 
--- 1 to 32 bytes: a letter, and then letters, digits and `_`
+-- 1 to 32 bytes: a letter, followed by letters, digits and `_`
 abbrev pub is_name : List ℕ → Bool
 is_name [] = false
 is_name (first ∷ others) = is_ascii_alphabetic first && (nat_lt (length others) 32 && list_all is_name_byte others)
@@ -28,7 +28,7 @@ name_of d = option_and_then name_in (as_str d)
 abbrev pub name_at : Path → Data → Decoded Name
 name_at path d = shaped path (name_of d)
 
--- the place of a name among these
+-- the index of a name among these
 abbrev pub place_of : List Name → Name → Option ℕ
 place_of names x = position_from (λ n. bytes_eq n x) 0 names
 
@@ -41,7 +41,7 @@ new_name_at names path d = do
   x ← name_at path d
   if contains_name names x then Err (bad_name path) else Ok x
 
--- the place of a name that is one of these
+-- the index of a name that is one of these
 unfoldable pub place_at : List Name → Path → Data → Decoded ℕ
 place_at names path d = do
   x ← name_at path d
@@ -49,7 +49,7 @@ place_at names path d = do
 
 -- ---- numbers
 
--- a whole number of 64 bits with sign
+-- a signed 64-bit integer
 unfoldable pub integer_at : Path → Data → Decoded ℤ
 integer_at path d = do
   n ← shaped path (as_number d)
@@ -59,7 +59,7 @@ abbrev pub index_in : ℤ → Option ℕ
 index_in (pos n) = if nat_lt 65535 n then None else Some n
 index_in (negsuc n) = None
 
--- the number of a part, 0 to 65,535
+-- the index of a part, 0 to 65,535
 unfoldable pub index_at : Path → Data → Decoded ℕ
 index_at path d = do
   z ← integer_at path d
@@ -69,7 +69,7 @@ abbrev pub not_below : (least : ℕ) → ℤ → Option ℕ
 not_below least (pos n) = if nat_lt n least then None else Some n
 not_below least (negsuc n) = None
 
--- a whole number that isn't below the least one allowed, which is 0 or more
+-- an integer of at least this number, which is 0 or more
 unfoldable pub number_from : (least : ℕ) → Path → Data → Decoded ℕ
 number_from least path d = do
   z ← integer_at path d
@@ -89,13 +89,13 @@ short_list_at most limit path d = do
   ds ← list_at path d
   at_most most limit ds
 
--- items from a position on, each read by what stands before it; what was read before stands in front
+-- items from an index, each read with the items before it, which come first in the result
 abbrev pub read_from : {A D : Type 0} → (List A → Path → D → Decoded A) → Path → List A → ℕ → List D → Decoded (List A)
 read_from read path before i [] = Ok before
 read_from read path before i (d ∷ ds) = do
   x ← read before (item_at path i) d
   read_from read path (before ++ x ∷ []) (suc i) ds
 
--- the items of a list, from left to right; how an item is read may depend on those before it
+-- the items of a list, from left to right; reading an item may depend on those before it
 abbrev pub read_each : {A D : Type 0} → (List A → Path → D → Decoded A) → Path → List D → Decoded (List A)
 read_each read path ds = read_from read path [] 0 ds

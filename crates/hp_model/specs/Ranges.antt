@@ -1,4 +1,4 @@
--- What keeps states fit: constants within their types' bounds, and objects that are made of classes that there are.
+-- What keeps states fit: constants within their types' bounds, and objects of existing classes.
 use Rattle.std.specs.Prelude.{ℕ, pos, nat_lt, Bool, true, IsTrue, ◌&&◌, List, length, bytes_eq}
 use Rattle.std.specs.List.{list_all, AllByRecursion, IsDistinct}
 use Rattle.hp_model.specs.Values.{ClassDef, fits_64, value_fits}
@@ -21,7 +21,7 @@ expression_fits e = true
 abbrev pub assignments_fit : List Assignment → Bool
 assignments_fit pairs = list_all (λ (a : Assignment). expression_fits a.value) pairs
 
--- so is each in the statement, and what it creates is of one of so many classes
+-- the same for each constant of the statement, and what it creates is of one of this number of classes
 abbrev mutual
   pub statement_fits : (classes : ℕ) → Statement → Bool
   statement_fits classes (create class key pairs) = nat_lt class classes && (expression_fits key && assignments_fit pairs)

@@ -1,5 +1,5 @@
--- The form of a rule, `[name, event, ec, queries, ca, action]`, and its name: all rules have them read before any other
--- part of a rule.
+-- The form of a rule, `[name, event, ec, queries, ca, action]`, and its name. These are read for all rules before any
+-- other part of a rule.
 use Rattle.std.specs.Prelude.{List, [], ◌∷◌, map, Option, Some, None, option_and_then, Ok}
 use Rattle.serde_json.specs.Data.{Data}
 use Rattle.hp_model.specs.Values.{Name, ◌>>=◌}
@@ -7,7 +7,7 @@ use Rattle.hp_model.specs.Refusals.{Path, item_at, rules_limit, Decoded, shaped}
 use Rattle.hp_model.specs.Json.{list_of}
 use Rattle.hp_model.specs.Parts.{new_name_at, short_list_at, read_each}
 
--- the parts of a rule as they stand in JSON
+-- the parts of a rule, in JSON
 pub record RuleParts : Type 0 where
   pub name : Data
   pub event : Data
@@ -31,7 +31,7 @@ pub record RuleHead : Type 0 where
 abbrev pub rule_names : List RuleHead → List Name
 rule_names heads = map (λ (h : RuleHead). h.name) heads
 
--- a rule's form and name, which no rule before has
+-- a rule's form and name, which no earlier rule has
 unfoldable pub rule_head_at : List RuleHead → Path → Data → Decoded RuleHead
 rule_head_at before path d = do
   parts ← shaped path (rule_parts_of d)

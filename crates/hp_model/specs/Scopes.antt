@@ -1,4 +1,4 @@
--- The names that the parts of a script may use, and which of them are known.
+-- The names that the parts of a script may use.
 use Rattle.std.specs.Prelude.{ℕ, Bool, false, ◌||◌, List, [], ◌∷◌, map, Ok, Err, bytes_eq, if◌then◌else◌}
 use Rattle.std.specs.List.{slice_index_or}
 use Rattle.serde_json.specs.Data.{Data}
@@ -16,11 +16,11 @@ field_names fields = map (λ (f : Field). f.name) fields
 abbrev pub query_names : List Query → List Name
 query_names queries = map (λ (q : Query). q.name) queries
 
--- what a body may name, besides the rows
+-- what a body may name besides rows
 pub record Scope : Type 0 where
   pub classes : List ClassDef
   pub rules : List Name
-  -- the queries of the rule whose action the body is; a body of the script has none
+  -- the queries of the rule whose action the body is; none in the body of a script
   pub queries : List Name
   pub in_action : Bool
 
@@ -28,13 +28,13 @@ pub record Scope : Type 0 where
 abbrev pub fields_of : Scope → (class : ℕ) → List Name
 fields_of scope class = field_names (slice_index_or scope.classes class no_class).fields
 
--- ---- the names of rows: the variables round an expression, the innermost first, and then the queries that it may use
+-- ---- the names of rows: the variables around an expression, the innermost first, and then the queries that it may use
 
 abbrev pub is_known : (rows : List Name) → Name → Bool
 is_known [] x = false
 is_known (newest ∷ outer) x = bytes_eq newest x || is_known outer x
 
--- the name of a row that is known
+-- the name of a row in scope
 unfoldable pub row_at : (rows : List Name) → Path → Data → Decoded Name
 row_at rows path d = do
   x ← name_at path d

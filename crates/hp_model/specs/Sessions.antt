@@ -1,4 +1,4 @@
--- The history of a book on which sessions submit bodies.
+-- The history of a book to which sessions submit bodies.
 use Rattle.std.specs.Prelude.{◌≡◌, ℕ, List, [], ◌∷◌}
 use Rattle.hp_model.specs.Rules.{Body, Library}
 use Rattle.hp_model.specs.State.{State, IsOrdered, IsFit}
@@ -10,7 +10,7 @@ pub record Entry : Type 0 where
   pub body : Body
   pub reply : UnitReport
 
--- from the state, the bodies run one after the other as units give the replies, and leave these cells
+-- from the state, the bodies, run one after another as units, give the replies and leave these cells
 abbrev pub IsSerialRun : Library → State → List Entry → Cells → Type 0
 IsSerialRun library S [] now = cells library S ≡ now
 IsSerialRun library S (e ∷ es) now =
@@ -21,7 +21,7 @@ IsSerialRun library S (e ∷ es) now =
 abbrev pub HasFitState : Library → Cells → Type 0
 HasFitState library now = (S : State) × IsFit library S × (cells library S ≡ now)
 
--- a fit state has the opening cells, and from each ordered one the history is a serial run
+-- a fit state has the opening cells, and from each ordered state with these cells the history is a serial run
 pub record IsLegal (library : Library) (opening now : Cells) (history : List Entry) : Type 0 where
   pub opened : HasFitState library opening
   pub serial : (S : State) → IsOrdered library S → cells library S ≡ opening → IsSerialRun library S history now

@@ -1,5 +1,5 @@
--- The grammar of statements and bodies. At one value its form comes first, then its level, and then its parts from left to
--- right.
+-- The grammar of statements and bodies. For one value the order of checks is: its form, its level, and then its parts
+-- from left to right.
 use Rattle.std.specs.Prelude.{ℕ, zero, suc, Bool, true, false, not, ◌&&◌, nat_lt, List, [], ◌∷◌, length, map, codes, Option, None, option_and_then, Ok, Err, if◌then◌else◌}
 use Rattle.serde_json.specs.Data.{Data}
 use Rattle.hp_model.specs.Values.{Name, ◌>>=◌}
@@ -11,12 +11,12 @@ use Rattle.hp_model.specs.Parts.{contains_name, name_at, new_name_at, place_at, 
 use Rattle.hp_model.specs.Scopes.{class_names, Scope, fields_of, is_known, new_row_at}
 use Rattle.hp_model.specs.ExpressionGrammar.{expression_at}
 
--- ---- pairs of a field and what it is set to
+-- ---- assignments: pairs of a field and the expression that it is set to
 
 abbrev pub assigned_names : List Assignment → List Name
 assigned_names pairs = map (λ (a : Assignment). a.field) pairs
 
--- one of the class's fields, which no pair before names
+-- a field of the class that no earlier assignment names
 unfoldable pub assigned_field_at : (fields assigned : List Name) → Path → Data → Decoded Name
 assigned_field_at fields assigned path d = do
   x ← new_name_at assigned path d
@@ -29,13 +29,13 @@ assignment_at fields rows before path d = do
   value ← expression_at rows (item_at path 1) pair.1
   Ok (record { field = field; value = value })
 
--- the pairs of an `update`: some of the fields, each at most once
+-- the assignments of an `update`: some of the fields, each at most once
 unfoldable pub assignments_at : (fields rows : List Name) → Path → Data → Decoded (List Assignment)
 assignments_at fields rows path d = do
   ds ← list_at path d
   read_each (assignment_at fields rows) path ds
 
--- the pairs of a `create`: each of the fields
+-- the assignments of a `create`: each of the fields
 unfoldable pub all_assignments_at : (fields rows : List Name) → Path → Data → Decoded (List Assignment)
 all_assignments_at fields rows path d = do
   pairs ← assignments_at fields rows path d
@@ -89,7 +89,7 @@ abbrev pub is_veto : StatementForm → Bool
 is_veto veto_form = true
 is_veto form = false
 
--- a veto stands in a rule's action alone
+-- a veto is allowed in a rule's action only
 abbrev pub allowed : Scope → Path → StatementForm → Decoded StatementForm
 allowed scope path form = if is_veto form && not scope.in_action then Err (wrong_shape path) else Ok form
 
@@ -98,7 +98,7 @@ statement_form_at scope path d = do
   form ← shaped path (option_and_then (λ (f : Form). statement_form f.word f.parts) (form_of d))
   allowed scope path form
 
--- ---- statements that hold no statement
+-- ---- statements without inner statements
 
 unfoldable pub create_at : Scope → (rows : List Name) → Path → Data → Data → Data → Decoded Statement
 create_at scope rows path class key pairs = do
@@ -149,7 +149,7 @@ fire_at scope path rule = do
 
 -- ---- bodies
 
--- what reads a statement, where these rows have names
+-- the reader of a statement, with these names of rows in scope
 abbrev pub Reading : Type 0
 Reading = (rows : List Name) → Path → Data → Decoded Statement
 
@@ -163,7 +163,7 @@ statements_by statement rows path d = do
   ds ← list_at path d
   read_each (λ _. statement rows) path ds
 
--- ---- statements that hold statements, which `statement` reads
+-- ---- statements with inner statements, which `statement` reads
 
 unfoldable pub if_at : Reading → (rows : List Name) → Path → Data → Data → Data → Decoded Statement
 if_at statement rows path test then_body else_body = do
@@ -172,7 +172,7 @@ if_at statement rows path test then_body else_body = do
   c ← statements_by statement rows (item_at path 3) else_body
   Ok (when e (body_of b) (body_of c))
 
--- the predicate and the body know the variable
+-- the predicate and the body may use the variable
 unfoldable pub each_at : Scope → Reading → (rows : List Name) → Path → Data → Data → Data → Data → Decoded Statement
 each_at scope statement rows path variable class predicate body = do
   x ← new_row_at rows (item_at path 1) variable
@@ -193,7 +193,7 @@ for_at scope statement rows path query body = do
   b ← statements_by statement rows (item_at path 2) body
   Ok (for_answer x (body_of b))
 
--- the body knows the variable
+-- the body may use the variable
 unfoldable pub with_at : Scope → Reading → (rows : List Name) → Path → Data → Data → Data → Data → Decoded Statement
 with_at scope statement rows path variable class key body = do
   x ← new_row_at rows (item_at path 1) variable
@@ -227,7 +227,7 @@ statement_from scope statement rows path veto_form = Ok veto
 statement_from scope statement rows path (rule_form op rule) = on_rule_at scope op path rule
 statement_from scope statement rows path (fire_form rule) = fire_at scope path rule
 
--- a statement of at most so many levels
+-- a statement of at most this number of levels
 unfoldable pub statement_within : Scope → ℕ → Reading
 statement_within scope zero rows path d = statement_form_at scope path d >>= λ form. Err (over_limit nesting_limit)
 statement_within scope (suc levels) rows path d = statement_form_at scope path d >>= λ form. statement_from scope (statement_within scope levels) rows path form

@@ -17,7 +17,7 @@ use Rattle.hp_view.specs.Seeing.{Seeing, written, OnlyReads, Writes}
 abbrev pub ObjectFound : ℕ → ℤ → Seeing → Option Row → Type 0
 ObjectFound class key w found = (library : Library) → Finds library (λ S. find_object S.objects class key) w.reads (written w) found
 
--- an operation that begins at a view's writes before a read
+-- an operation that begins with a view's writes before a read
 pub from_before : {A : Type 0} {library : Library} {run : State → Operated A} {reads : List Read} {after : Changes} {outcome : Outcome A} {v w : Seeing} → OnlyReads v w
     → FaithfulOperation library run reads (written w) after outcome → FaithfulOperation library run reads (written v) after outcome
 from_before {library = library} {run} {reads} {after} {outcome} only p = subst (λ es. FaithfulOperation library run reads (changes es) after outcome) only.writes p

@@ -1,4 +1,4 @@
--- Rules that are told of an occurrence, by a view.
+-- Notifying rules of an occurrence, on a view.
 use Rattle.std.proofs.Common.{arith, ◌≡◌, refl, ap, ap₂, sym, ◌∙◌, subst, ℕ, suc, ◌+◌, ◌<◌, ◌≤◌, true, false, cond, List, [], ◌∷◌, ◌++◌, map, filter, length, length-append, take, drop, get_or, append-nil, append_assoc, Option, Some, None}
 use Rattle.std.specs.Prelude.{option_map, option_to_list, slice_get}
 use Rattle.std.proofs.lemmas.List.{map-append, take_all, take-append-drop}
@@ -86,7 +86,7 @@ abbrev pub ShowsStatus : Seeing → ℕ → Status → Type 0
 ShowsStatus w n s = (base : Cells) → Holds base w.reads → status_at (over base (written w) (rule_cell n)) ≡ s
 
 module _ (library : Library) (p : Primitive) (n : ℕ) (v w : Seeing) (s : Status) (only : OnlyReads v w) (shows : ShowsStatus w n s) where
-  -- with the writes from before the read of the status
+  -- with the writes before the read of the status
   before_read : {depth : ℕ} {ns : List ℕ} {before : Changes} {tasks : List Task} → Heard (level_at library depth) p ns v.reads before (written v) tasks
       → Heard (level_at library depth) p ns v.reads before (written w) tasks
   before_read {depth} {ns} {before} {tasks} so_far = subst (λ es. Heard (level_at library depth) p ns v.reads before (changes es) tasks) (sym only.writes) so_far
@@ -122,7 +122,7 @@ module _ (library : Library) (p : Primitive) (n : ℕ) (v w : Seeing) (s : Statu
 
 -- ---- all rules
 
--- those of a list have been told
+-- the rules of a list have been notified
 pub record HaveHeard (library : Library) (p : Primitive) (ns : List ℕ) (old new : Seeing) (tasks : List Task) : Type 0 where
   pub heard : (depth : ℕ) → Heard (level_at library depth) p ns new.reads (written old) (written new) (map (at_depth (suc depth)) tasks)
 
@@ -145,7 +145,7 @@ module _ (library : Library) (p : Primitive) where
       made : (depth : ℕ) → map (at_depth (suc depth)) tasks ++ option_to_list (option_map (at_depth (suc depth)) task) ≡ map (at_depth (suc depth)) (tasks ++ option_to_list task)
       made depth = ap (λ ts. map (at_depth (suc depth)) tasks ++ ts) (sym (map_option (at_depth (suc depth)) task)) ∙ sym (map-append (at_depth (suc depth)) tasks (option_to_list task))
 
-  -- a rule that is mentioned doesn't stand before its place
+  -- a mentioned rule doesn't also precede its position in the list
   apart_before : (before : List ℕ) (n : ℕ) (rest : List ℕ) → before ++ n ∷ rest ≡ mentioning library p → is_in n before ≡ false
   apart_before before n rest all =
       sym (ap₂ is_in (get_or-append_seam before n rest 0) (take-append_seam before (n ∷ rest)))
@@ -154,7 +154,7 @@ module _ (library : Library) (p : Primitive) where
       within : length before < length (before ++ n ∷ rest)
       within = omega (arith, length-append before (n ∷ rest))
 
--- ---- of the rules that are listed, those that are mentioned
+-- ---- the mentioned rules among the listed ones
 
 module _ (library : Library) (p : Primitive) (ns : List ℕ) where
   -- those among the first

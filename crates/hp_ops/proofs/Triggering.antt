@@ -32,7 +32,7 @@ is_there None h e = cc
 is_there (Some Enabled) h e = cc
 is_there (Some Disabled) h e = cc
 
--- a list that stands for another, where that is empty, and where it isn't
+-- a mapped list is empty exactly if its source is
 pub none_seen : {A B : Type 0} (f : A → B) (xs : List A) → length xs ≡ 0 → map f xs ≡ []
 none_seen f [] h = refl
 none_seen f (x ∷ xs) h = absurd (omega arith)

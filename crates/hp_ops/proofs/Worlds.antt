@@ -1,4 +1,4 @@
--- What a view shows, as what a step finds.
+-- Relates what a view shows to what a step finds.
 use Rattle.std.proofs.Common.{arith, ◌≡◌, ◌+◌, ◌<◌, refl, ap, sym, ◌∙◌, subst, length, get_or, drop, drop-cons, ℕ, ℤ, zero, suc, List, [], ◌∷◌, Option, None}
 use Rattle.std.specs.Prelude.{slice_get}
 use Rattle.std.specs.List.{slice_index_or}
@@ -15,7 +15,7 @@ use Rattle.hp_store.specs.Stack.{cells_in}
 use Rattle.hp_view.specs.Seeing.{Seeing, written, now_in, OnlyReads, Shows}
 use Rattle.hp_view.specs.Looks.{Allows}
 
--- what is so in each world that a view allows
+-- what holds in each world that a view allows
 pub finds_world : {A : Type 0} (library : Library) (of : Objects → A) (v : Seeing) (found : A) → ((world : Objects) → ObjectsRise world → Allows v world → of world ≡ found)
     → Finds library (λ S. of S.objects) v.reads (written v) found
 finds_world library of v found shown = record {
@@ -28,7 +28,7 @@ index_none [] n d is = refl
 index_none (y ∷ ys) zero d is = cc
 index_none (y ∷ ys) (suc n) d is = index_none ys n d is
 
--- a cell that was read is shown as it now is
+-- a cell that was read is shown with its current value
 pub shown_now : {v w : Seeing} {cell : Cell} → OnlyReads v w → Shows w cell (now_in v cell) → (base : Cells) → Holds base w.reads → over base (written w) cell ≡ now_in w cell
 shown_now {v} {w} {cell} on shows base held = shows.everywhere base held ∙ (λ i. over (cells_in (sym on.base i)) (changes (sym on.writes i)) cell)
 

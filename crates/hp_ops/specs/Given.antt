@@ -1,4 +1,4 @@
--- What a statement gives: values for some fields.
+-- The values that a statement gives to fields.
 use Rattle.std.specs.Prelude.{ℤ, List, map, bytes_eq}
 use Rattle.std.specs.Map.{lookup}
 use Rattle.hp_model.specs.Values.{Value, Field, Row, KeyedRow, Outcome, wrong_kind, ◌>>=◌, or_cause}

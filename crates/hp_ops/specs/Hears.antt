@@ -1,4 +1,4 @@
--- What telling rules of an occurrence promises.
+-- What notifying rules of an occurrence promises.
 use Rattle.std.specs.Prelude.{◌≡◌, ℕ, ℤ, suc, List, [], ◌∷◌, ◌++◌, map, false, Option, Some, IfSome, option_map, option_to_list}
 use Rattle.hp_model.specs.Occurrences.{Primitive, History, Occurrence, primitive_occurrence}
 use Rattle.hp_model.specs.Events.{Event, occurrence_of}
@@ -14,7 +14,7 @@ use Rattle.hp_model.proofs.Faithful.{Grows}
 use Rattle.hp_model.proofs.Hearing.{is_in, Heard}
 use Rattle.hp_view.specs.Seeing.{Seeing, written}
 
--- a rule's condition, for an occurrence of its event
+-- the task of a rule's condition, for an occurrence of its event
 abbrev pub condition_task : ℕ → Coupling → ℕ → Occurrence → Task
 condition_task n place depth o = record { rule = n; step = condition_step; place = place; depth = depth; occurrence = o }
 
@@ -22,11 +22,11 @@ condition_task n place depth o = record { rule = n; step = condition_step; place
 abbrev pub at_depth : ℕ → Task → Task
 at_depth depth t = record { rule = t.rule; step = t.step; place = t.place; depth = depth; occurrence = t.occurrence }
 
--- what a cell knows of a past goes one place on
+-- one step of what a cell knows of a past
 abbrev pub GoesOnePlace : Event → Primitive → Option CellValue → Option Occurrence → Knowledge → Type 0
 GoesOnePlace event p value o next = (past : History) → knowledge_at value ≡ Some (knowledge event past) → (o ≡ occurrence_of event (p ∷ past)) × (next ≡ knowledge event (p ∷ past))
 
--- a detector's cell was read, and what it knows of a past went one place on
+-- a detector's cell was read, and stepped
 pub record StepsOn (event : Event) (p : Primitive) (n : ℕ) (old new : Seeing) (o : Option Occurrence) : Type 0 where
   pub found : Option CellValue
   pub next : Knowledge
@@ -39,22 +39,22 @@ pub record OnlySteps (old new : Seeing) : Type 0 where
   pub objects : (class : ℕ) → (key : ℤ) → written new (object_cell class key) ≡ written old (object_cell class key)
   pub rules : (n : ℕ) → written new (rule_cell n) ≡ written old (rule_cell n)
 
--- what events share that don't look back, if it has been made: the primitive occurrence alone
+-- the occurrence that events share that don't look back, if it has been made: the primitive occurrence alone
 abbrev pub Shares : Primitive → Option Occurrence → Type 0
 Shares p shared = IfSome shared (λ o. o ≡ primitive_occurrence p)
 
--- after any rules that were told before, this enabled one has been told too, and its event occurs so
+-- this enabled rule has been notified, after any others, and its event occurs so
 pub record HearsOccurrence (library : Library) (p : Primitive) (n : ℕ) (old new : Seeing) (o : Option Occurrence) : Type 0 where
   pub tells : (depth : ℕ) (ns : List ℕ) (reads : List Read) (before : Changes) (tasks : List Task) → is_in n ns ≡ false → Grows reads old.reads
       → ((base : Cells) → Holds base old.reads → status_at (over base (written old) (rule_cell n)) ≡ enabled)
       → Heard (level_at library depth) p ns reads before (written old) tasks
       → Heard (level_at library depth) p (ns ++ n ∷ []) new.reads before (written new) (tasks ++ option_to_list (option_map (triggered_by (level_at library depth) n (rule_at library n)) o))
 
--- after any rules that were told before, this one has been told too, and this is its task, in a transaction of any depth
+-- this rule has been notified, after any others, and this is its task, in a transaction of any depth
 pub record Hears (library : Library) (p : Primitive) (n : ℕ) (old new : Seeing) (task : Option Task) : Type 0 where
   pub tells : (depth : ℕ) (ns : List ℕ) (before : Changes) (tasks : List Task) → is_in n ns ≡ false → Heard (level_at library depth) p ns old.reads before (written old) tasks
       → Heard (level_at library depth) p (ns ++ n ∷ []) new.reads before (written new) (tasks ++ option_to_list (option_map (at_depth (suc depth)) task))
 
--- all rules that an occurrence concerns have been told, and these are the tasks, in a transaction of any depth
+-- all rules that the occurrence concerns have been notified, and these are the tasks, in a transaction of any depth
 pub record AllHear (library : Library) (p : Primitive) (old new : Seeing) (tasks : List Task) : Type 0 where
   pub heard : (depth : ℕ) → Faithful library (λ S. triggered (level_at library depth) (extended p S)) (extended p) new.reads (written old) (written new) (map (at_depth (suc depth)) tasks)

@@ -15,7 +15,7 @@ use Rattle.hp_store.specs.declared.value.Status.{Status}
 use Rattle.hp_store.specs.Mapped.{status}
 use Rattle.hp_view.specs.Seeing.{Seeing, written}
 
--- the result, with its value seen by f, is the operation's, faithfully, unless memory ran out
+-- the result, with its value mapped by f, is the operation's, faithfully, unless memory ran out
 abbrev pub Performs : {X A : Type 0} → (X → A) → Library → (S.State → Operated A) → Seeing → Seeing → Result X Halt → Type 0
 Performs f library run old new (Ok x) = FaithfulOperation library run new.reads (written old) (written new) (Ok (f x))
 Performs f library run old new (Err (ByCause c)) = FaithfulOperation library run new.reads (written old) (written new) (Err (cause c))
@@ -26,18 +26,18 @@ abbrev pub status_of : Option Status → S.Status
 status_of None = S.absent
 status_of (Some s) = status s
 
--- a change of status, as the model has it
+-- a change of status in the model
 abbrev pub new_status : Result (Option (Option Status)) Cause → Outcome (Option S.Status)
 new_status (Ok None) = Ok None
 new_status (Ok (Some s)) = Ok (Some (status_of s))
 new_status (Err c) = Err (cause c)
 
--- what a detector's cell holds once its rule has a new status, where the event looks back
+-- the value of a detector's cell after a change of its rule's status, if the event looks back
 abbrev pub new_knowledge : Event → S.Status → Option CellValue
 new_knowledge event S.enabled = Some (knowledge_value (knowledge event []))
 new_knowledge event s = None
 
--- what a new status makes of a rule's cells
+-- the changes of a rule's cells for a new status
 abbrev pub new_rule_cell : ℕ → S.Status → Changes
 new_rule_cell n s = with_change no_changes (rule_cell n) (Some (status_in s))
 

@@ -4,12 +4,12 @@ use Rattle.std.specs.List.{AllByRecursion}
 use Rattle.hp_model.specs.Cells.{Cell, Read}
 use Rattle.hp_view.specs.Seeing.{reads_cell}
 
--- the reads are the old ones and more, each of which is one that P allows
+-- the reads are the old ones followed by others, each of which P allows
 pub record AddsReads (P : Read → Type 0) (old new : List Read) : Type 0 where
   pub more : List Read
   pub reads : new ≡ old ++ more
   pub each : AllByRecursion P more
 
--- it is one of this cell
+-- it is a read of this cell
 abbrev pub IsReadOf : Cell → Read → Type 0
 IsReadOf cell read = IsTrue (reads_cell cell read)

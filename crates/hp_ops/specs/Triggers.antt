@@ -1,4 +1,4 @@
--- What a signal, and the statement that fires a rule, promise.
+-- What a signal promises, and the statement that fires a rule.
 use Rattle.std.specs.Prelude.{◌≡◌, ⊤, ℕ, suc, ◌<◌, List, ◌∷◌, map, Result, Ok, Err}
 use Rattle.std.specs.Global.{Vec}
 use Rattle.hp_model.specs.Occurrences.{Primitive}
@@ -18,21 +18,21 @@ use Rattle.hp_rule.specs.Mapped.{task}
 use Rattle.hp_view.specs.Seeing.{Seeing, written}
 use Rattle.hp_ops.specs.Hears.{OnlySteps}
 
--- the occurrence has been told to all rules that it concerns, and these are the tasks of those that it triggers
+-- all rules that the occurrence concerns have been notified, and these are the tasks of those that it triggers
 pub record IsTriggered (library : Library) (depth : ℕ) (p : Primitive) (old new : Seeing) (tasks : List Task) : Type 0 where
   pub heard : Faithful library (λ S. triggered (level_at library depth) (extended p S)) (extended p) new.reads (written old) (written new) tasks
   pub at : AreAt (suc depth) tasks
   -- a task isn't too deep
   pub within : (t : Task) (ts : List Task) → tasks ≡ t ∷ ts → depth < library.depth_limit
 
--- the tasks that a signal triggers, or the cause by which it aborts the transaction round it; where memory ran out nothing is written
--- but detectors
+-- the tasks that a signal triggers, or the cause for which it aborts the transaction around it; if memory ran out,
+-- nothing is written but detectors
 abbrev pub Triggers : Library → ℕ → Primitive → Seeing → Seeing → Result (Vec RustTask) Halt → Type 0
 Triggers library depth p old new (Ok tasks) = IsTriggered library depth p old new (map task tasks.items)
 Triggers library depth p old new (Err (ByCause c)) = FaithfulWork library (signal_in (level_at library depth) p) new.reads (written old) (written new) (ended (abort_by (cause c)))
 Triggers library depth p old new (Err Memory) = OnlySteps old new
 
--- a rule that is there is fired without an occurrence, and this is its task
+-- a rule that exists is fired without an occurrence, and this is its task
 pub record IsFired (library : Library) (depth n : ℕ) (now : Seeing) (t : Task) : Type 0 where
   pub status : Status
   pub finds : Finds library (λ S. (rule_state S n).status) now.reads (written now) status
@@ -40,7 +40,7 @@ pub record IsFired (library : Library) (depth n : ℕ) (now : Seeing) (t : Task)
   pub is : t ≡ fired_task (level_at library depth) n
   pub within : depth < library.depth_limit
 
--- the task, or the cause by which the statement aborts the transaction round it, unless memory ran out
+-- the task, or the cause for which the statement aborts the transaction around it, unless memory ran out
 abbrev pub Fires : Library → (depth n : ℕ) → Seeing → Result RustTask Halt → Type 0
 Fires library depth n now (Ok t) = IsFired library depth n now (task t)
 Fires library depth n now (Err (ByCause c)) =

@@ -1,4 +1,4 @@
-//! What a view shows of objects and rules.
+//! Objects and rules as a view shows them.
 
 ghost use Rattle.std.specs.Prelude.{◌≡◌, IfOk, OnOk, OnErr, option_map};
 ghost use Rattle.hp_model.specs.Rules.{Library};
@@ -16,9 +16,9 @@ use hp_value::{Cell, ClassNo, Key, Row, RuleNo};
 use hp_view::View;
 use std::alloc::{AllocError, Global};
 
-/// The row of an object, or none where it isn't there. The row is shared.
+/// The row of an object, or `None` if there is no such object. The row is shared.
 ///
-/// Only the object's cell is read. An error means that memory ran out; the read may then have been recorded.
+/// Only the object's cell is read. After an error the read may have been recorded.
 pub fn find_object(
     alloc: Global,
     view: &mut View,
@@ -35,9 +35,7 @@ pub fn find_object(
     Ok(row)
 }
 
-/// The row that an object's cell holds. It is shared.
-///
-/// An error means that memory ran out.
+/// The row in an object's cell, shared.
 fn row_in(value: Option<&CellValue>) -> Result<Option<Row>, AllocError>
     ensures { IfOk result (λ row. row ≡ row_at (option_map (λ v. cell_value v.now) value.entry)) }
 {
@@ -47,9 +45,9 @@ fn row_in(value: Option<&CellValue>) -> Result<Option<Row>, AllocError>
     }
 }
 
-/// The status of a rule, or none where it is absent.
+/// The status of a rule, or `None` if it is absent.
 ///
-/// Only the rule's cell is read. An error means that memory ran out; the view is then as before.
+/// Only the rule's cell is read. After an error the view is as before.
 pub fn find_status(view: &mut View, rule: RuleNo) -> Result<Option<Status>, AllocError>
     ensures finds { IfOk result (λ status. (lib : Library) → Finds lib (λ S. (model.rule_state S rule).status) view.new.reads (written view.new) (status_of status)) }
     ensures shows { IfOk result (λ status. (base : Cells) → Holds base view.new.reads → status_at (over base (written view.new) (rule_cell rule)) ≡ status_of status) }
@@ -63,7 +61,7 @@ pub fn find_status(view: &mut View, rule: RuleNo) -> Result<Option<Status>, Allo
     Ok(status)
 }
 
-/// The status that a rule's cell holds.
+/// The status in a rule's cell.
 fn status_in(value: Option<&CellValue>) -> Option<Status>
     ensures { status_of result ≡ status_at (option_map (λ v. cell_value v.now) value.entry) }
 {

@@ -1,4 +1,7 @@
-//! Operations on a view: what statements do to objects and rules, and what a signal triggers.
+//! Operations on a view: what statements do to objects and rules, and which tasks a signal triggers.
+//!
+//! `AllocError` and `Halt::Memory` mean that memory ran out. A function that is passed a view says what of it may then
+//! have changed.
 #![tactic(auto)]
 
 mod finding;

@@ -17,10 +17,10 @@ use hp_value::{Cause, Cell, ClassNo, Halt, Key, Prim, Row};
 use hp_view::View;
 use std::alloc::Global;
 
-/// Makes a new object. The answer is the occurrence that is to be signalled.
+/// Creates an object. The answer is the occurrence to signal.
 ///
-/// `Exists` means that the object is there; then nothing is written. Only the object's cell is read, and not the keys of
-/// its class. `Memory` means that memory ran out; then nothing is written.
+/// `Exists` means that the object exists. Only the object's cell is read, not the keys of its class. After an error
+/// nothing is written.
 pub fn create(
     alloc: Global,
     view: &mut View,
@@ -41,10 +41,9 @@ pub fn create(
     Ok(Prim::Create { class, key, new })
 }
 
-/// Writes the given values over an object's. The answer is the occurrence that is to be signalled.
+/// Sets fields of an object. The answer is the occurrence to signal.
 ///
-/// `Missing` means that the object isn't there; then nothing is written. Only the object's cell is read. `Memory` means
-/// that memory ran out; then nothing is written.
+/// `Missing` means that there is no such object. Only the object's cell is read. After an error nothing is written.
 pub fn update(
     alloc: Global,
     view: &mut View,
@@ -71,10 +70,9 @@ pub fn update(
     })
 }
 
-/// Deletes an object. The answer is the occurrence that is to be signalled.
+/// Deletes an object. The answer is the occurrence to signal.
 ///
-/// `Missing` means that the object isn't there; then nothing is written. Only the object's cell is read. `Memory` means
-/// that memory ran out; then nothing is written.
+/// `Missing` means that there is no such object. Only the object's cell is read. After an error nothing is written.
 pub fn delete(alloc: Global, view: &mut View, class: ClassNo, key: Key) -> Result<Prim, Halt>
     ensures operation { (lib : Library) → Performs primitive lib (delete_object class key) view.old view.new result }
     ensures reads { AddsReads (IsReadOf (object_cell class key)) view.old.reads view.new.reads }

@@ -23,8 +23,8 @@ pub struct Given<'a> {
     pub value: Value,
 }
 
-/// The key and the row of the object that a `create` makes: the key, then each value in written order, and then their
-/// kinds, as operands' kinds are tested after all operands.
+/// The key and the row of the object that a `create` makes. The key is evaluated first, then each value as written;
+/// their kinds are tested after that, as those of operands are.
 pub fn new_object(
     alloc: Global,
     lib: &Library,
@@ -43,7 +43,7 @@ pub fn new_object(
     Ok(KeyedRow { key, row })
 }
 
-/// The key and the values that an `update` gives, in the same order.
+/// The key and the values that an `update` gives, evaluated and tested in the same order.
 pub fn given_values<'a>(
     alloc: Global,
     lib: &Library,
@@ -81,7 +81,7 @@ fn assigned<'a>(
     Ok(given)
 }
 
-/// The fields of a class; none where the library has no such class.
+/// The fields of a class; none if the library has no such class.
 fn class_fields(alloc: Global, lib: &Library, class: ClassNo) -> Result<Arc<Vec<Field>>, AllocError>
     ensures { IfOk result (λ fs. map field fs.value.items ≡ (class_at (library lib.now) class).fields) }
 {
@@ -91,7 +91,7 @@ fn class_fields(alloc: Global, lib: &Library, class: ClassNo) -> Result<Arc<Vec<
     }
 }
 
-/// A new row of a class: the given value of each field, of the field's kind.
+/// A new row of a class: for each field the given value, which has to be of the field's kind.
 fn made_row(alloc: Global, fields: &Arc<Vec<Field>>, given: &[Given<'_>]) -> Result<Row, Halt>
     ensures { Meets (λ r. r) result (model.made_row (map field fields.now.value.items) (given_in given.now)) }
 {
@@ -113,7 +113,7 @@ fn field_value<'a>(f: &Field, given: &'a [Given<'_>]) -> Result<&'a Value, Cause
     }
 }
 
-/// The value that is given to a field.
+/// The given value for a field of this name.
 fn given_value<'a>(given: &'a [Given<'_>], name: &str) -> Option<&'a Value>
     ensures { option_map (λ v. value v.now) result ≡ lookup (bytes_eq name.now) (given_in given.now) }
 {
@@ -125,7 +125,6 @@ fn given_value<'a>(given: &'a [Given<'_>], name: &str) -> Option<&'a Value>
     None
 }
 
-/// Whether a value is of a kind.
 fn is_of_kind(v: &Value, wanted: Kind) -> bool
     ensures { result ≡ is_kind (kind wanted) (kind_of (value v.now)) }
 {
@@ -137,7 +136,7 @@ fn is_of_kind(v: &Value, wanted: Kind) -> bool
     }
 }
 
-/// Tests that each given value is of its field's kind. `Kind` means that one is not, or that the class lacks its field.
+/// Tests that each given value is of its field's kind. `Kind` means that one isn't, or that the class lacks its field.
 fn check_kinds(fields: &[Field], given: &[Given<'_>]) -> Result<(), Cause>
     ensures { outcome (λ _. given_in given.now) result ≡ model.checked_kinds (map field fields.now) (given_in given.now) }
 {
@@ -150,7 +149,7 @@ fn check_kinds(fields: &[Field], given: &[Given<'_>]) -> Result<(), Cause>
     Ok(())
 }
 
-/// The kind of the field with a name.
+/// The kind of the field of this name.
 fn kind_in(fields: &[Field], name: &str) -> Option<Kind>
     ensures { option_map (λ k. kind k) result ≡ model.kind_in (map field fields.now) name.now }
 {
@@ -162,7 +161,7 @@ fn kind_in(fields: &[Field], name: &str) -> Option<Kind>
     None
 }
 
-/// An old row with the given values in it.
+/// A row with the given values in place of its own.
 pub(crate) fn changed_row(alloc: Global, old: &Row, given: &[Given<'_>]) -> Result<Row, AllocError>
     ensures { IfOk result (λ r. r ≡ model.changed_row (given_in given.now) old.now) }
 {

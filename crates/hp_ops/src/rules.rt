@@ -19,10 +19,10 @@ use hp_value::{Cause, Cell, Halt, RuleNo};
 use hp_view::View;
 use std::alloc::{AllocError, Global};
 
-/// Installs, enables, disables or removes a rule. A rule that is thereby enabled begins with an empty past.
+/// Installs, enables, disables or removes a rule. A rule that becomes enabled begins with an empty past.
 ///
-/// Only the rule's status is read. `Missing` means that an absent rule is to be enabled or disabled. `Memory` means that
-/// memory ran out. In both cases no cell has changed.
+/// Only the rule's status is read. `Missing` means that the operation enables or disables an absent rule. After an
+/// error no cell has changed.
 pub fn set_rule(
     alloc: Global,
     view: &mut View,
@@ -42,13 +42,13 @@ pub fn set_rule(
     let Some(known) = lib.rule(rule) else {
         return Ok(());
     };
-    // Both cells at once, so that a refused write changes neither.
+    // Both cells are written at once, so that an error leaves both as they were.
     let layer = changed_cells(alloc, known, rule, new)?;
     view.take_in(&layer)?;
     Ok(())
 }
 
-/// What a change of status makes of a rule's cells. Only a rule whose event looks back has a detector's cell.
+/// The cells of a rule after a change of its status. Only a rule whose event looks back has a detector's cell.
 fn changed_cells(
     alloc: Global,
     rule: &Rule,
@@ -67,7 +67,7 @@ fn changed_cells(
     Ok(layer)
 }
 
-/// What a rule's cell holds for a status: nothing for an absent rule.
+/// The value of a rule's cell for a status; `None` for an absent rule.
 fn status_value(status: Option<Status>) -> Option<CellValue>
     ensures { change result ≡ status_in (status_of status) }
 {
@@ -77,7 +77,8 @@ fn status_value(status: Option<Status>) -> Option<CellValue>
     }
 }
 
-/// What a detector's cell holds once its rule has a new status: where the rule is enabled, what is known of no past.
+/// The value of a detector's cell after a change of its rule's status: for an enabled rule, what is known of an empty
+/// past.
 fn new_detector(
     alloc: Global,
     event: &EventExpr,
@@ -94,8 +95,8 @@ fn new_detector(
     }
 }
 
-/// What an operation makes of a rule of a status: its new status, or none where it changes nothing. `Missing` means that
-/// an absent rule can't be enabled or disabled. The table is this project's own choice.
+/// The new status of a rule after an operation, or `None` if it doesn't change. `Missing` means that an absent rule
+/// can't be enabled or disabled. The table is this project's own choice.
 fn changed_status(
     operation: RuleOperation,
     status: Option<Status>,

@@ -1,4 +1,4 @@
-//! What a signal triggers, and the statement that fires a rule.
+//! Signals, and the statement that fires a rule.
 
 ghost use Rattle.std.specs.Prelude.{◌≡◌, IfOk};
 ghost use Rattle.hp_model.specs.Cells.{rule_cell};
@@ -17,11 +17,11 @@ use hp_view::View;
 use std::alloc::{AllocError, Global};
 use std::sync::Arc;
 
-/// Signals an occurrence in a transaction of a depth: the detectors of the enabled rules that it concerns go one place on.
+/// Signals an occurrence in a transaction of depth `depth`: steps the detectors of the enabled rules that it concerns.
 /// The answer is the tasks of those whose event occurs, in rule order.
 ///
-/// `Depth` means that a rule is triggered, and that its firing would be too deep. `Memory` means that memory ran out; some
-/// of the detectors may then have gone on, and nothing else is written.
+/// `Depth` means that a rule is triggered whose firing would exceed the depth limit. `Memory` means that memory ran
+/// out: some of the detectors may then have been stepped, and nothing else is written.
 pub fn trigger(
     alloc: Global,
     view: &mut View,
@@ -42,10 +42,10 @@ pub fn trigger(
     Ok(tasks)
 }
 
-/// The task of a rule that a statement fires, in a transaction of a depth, without an occurrence of its event.
+/// The task of a rule that the statement `fire` names, in a transaction of depth `depth`. No event has occurred.
 ///
-/// `Missing` means that the rule is absent, `Depth` that its firing would be too deep; `Missing` comes first. `Memory` means
-/// that memory ran out. Nothing is written, and only the rule's status is read.
+/// `Missing` means that the rule is absent, `Depth` that its firing would exceed the depth limit; `Missing` comes
+/// first. Nothing is written, and only the rule's status is read.
 pub fn fire(
     alloc: Global,
     view: &mut View,
@@ -72,9 +72,7 @@ pub fn fire(
     Ok(new_task(rule, known.ec, depth + 1, occurrence))
 }
 
-/// No occurrence: that of a rule which a statement fires.
-///
-/// An error means that memory ran out.
+/// The occurrence without parts, of a rule that the statement `fire` names.
 fn nothing(alloc: Global) -> Result<Arc<Occurrence>, AllocError>
     ensures { IfOk result (λ o. occurrence_of o.value ≡ no_occurrence) }
 {

@@ -1,4 +1,4 @@
-//! Telling rules of an occurrence.
+//! Notifies rules of an occurrence.
 
 ghost use Rattle.std.specs.Prelude.{◌≡◌, ◌↔◌, [], ◌∷◌, ◌++◌, true, Some, IsTrue, IfOk, OnOk, OnErr, map, option_map};
 ghost use Rattle.hp_model.specs.Events.{is_pure as model_is_pure, occurrence_of as model_occurrence};
@@ -24,10 +24,10 @@ use hp_view::View;
 use std::alloc::{AllocError, Global};
 use std::sync::Arc;
 
-/// Tells all rules of an occurrence that it concerns. The answer is the tasks, of this depth, of those that are enabled and
+/// Notifies all rules that an occurrence concerns. The answer is the tasks, of depth `depth`, of the enabled rules
 /// whose event occurs, in rule order.
 ///
-/// Nothing is written but detectors. An error means that memory ran out; some of the rules may have been told.
+/// Nothing is written but detectors. After an error some of the rules may have been notified.
 pub(crate) fn tell_all(
     alloc: Global,
     view: &mut View,
@@ -53,9 +53,7 @@ pub(crate) fn tell_all(
     Ok(tasks)
 }
 
-/// Puts a task behind those found so far. Mostly there is one, so the first takes room for itself alone.
-///
-/// An error means that memory ran out.
+/// Appends a task. The first one reserves space for itself alone, since there is mostly one.
 fn add(tasks: &mut Vec<Task>, task: Task) -> Result<(), AllocError>
     ensures { OnOk result (tasks.new.items ≡ tasks.old.items ++ task ∷ []) }
 {
@@ -66,11 +64,11 @@ fn add(tasks: &mut Vec<Task>, task: Task) -> Result<(), AllocError>
     Ok(())
 }
 
-/// Tells a rule of an occurrence. The answer is its task, of this depth, if it is enabled and its event occurs.
+/// Notifies a rule of an occurrence. The answer is its task, of depth `depth`, if the rule is enabled and its event
+/// occurs.
 ///
-/// Events that don't look back share what they occur with; it is made for the first of them.
-///
-/// An error means that memory ran out; the rule's detector is then as before.
+/// Rules whose events don't look back share one occurrence, which is made for the first of them. After an error the
+/// rule's detector is as before.
 fn tell(
     alloc: Global,
     view: &mut View,
@@ -101,16 +99,15 @@ fn tell(
     Ok(Some(new_task(number, rule.ec, depth, occurrence)))
 }
 
-/// Whether a status is that of an enabled rule.
 fn is_enabled(status: Option<Status>) -> bool
     ensures { IsTrue result ↔ (status_of status ≡ enabled) }
 {
     matches!(status, Some(Status::Enabled))
 }
 
-/// Tells an enabled rule of an occurrence: the occurrence of the rule's event, if it occurs.
+/// Notifies an enabled rule of an occurrence. The answer is the occurrence of the rule's event, if it occurs.
 ///
-/// An error means that memory ran out; the detector is then as before.
+/// After an error the detector is as before.
 fn hear(
     alloc: Global,
     view: &mut View,
@@ -134,9 +131,8 @@ fn hear(
     Ok(stepped)
 }
 
-/// The occurrence of an event that doesn't look back, if it occurs: the one that is shared, or a new one, which is shared then.
-///
-/// An error means that memory ran out.
+/// The occurrence of an event that doesn't look back, if it occurs: the shared one, which is made here if it is the
+/// first.
 fn share(
     alloc: Global,
     event: &EventExpr,
@@ -163,9 +159,9 @@ fn share(
     Ok(Some(made))
 }
 
-/// Steps a rule's detector: the occurrence of its event, if it occurs.
+/// Steps a rule's detector. The answer is the occurrence of its event, if it occurs.
 ///
-/// An error means that memory ran out; the detector is then as before.
+/// After an error the detector is as before.
 fn step_detector(
     alloc: Global,
     view: &mut View,
@@ -181,15 +177,13 @@ fn step_detector(
     view.read(Cell::Detector(number))?;
     let known = view.peek(Cell::Detector(number));
     let (occurrence, next) = stepped(alloc, known, event, prim)?;
-    // Before the detector is written, so that a refusal leaves it as it was.
+    // Made before the detector is written, so that an error leaves the detector as it was.
     let made = to_share(alloc, occurrence)?;
     view.put(Cell::Detector(number), CellValue::Detector(next))?;
     Ok(made)
 }
 
-/// An occurrence, if there is one, as tasks share it.
-///
-/// An error means that memory ran out.
+/// Puts an occurrence, if there is one, into an `Arc` for tasks to share.
 fn to_share(
     alloc: Global,
     occurrence: Option<Occurrence>,
@@ -202,10 +196,8 @@ fn to_share(
     }
 }
 
-/// One step of what a detector's cell knows: the occurrence of its event, if it occurs, and what is known then. A cell that
-/// knows nothing, which no enabled rule has, counts as one that knows of no past.
-///
-/// An error means that memory ran out.
+/// One step of a detector's cell: the occurrence of its event, if it occurs, and what is known then. An empty cell,
+/// which no enabled rule has, counts as an empty past.
 fn stepped(
     alloc: Global,
     value: Option<&CellValue>,

@@ -1,4 +1,4 @@
--- Predicates that begin by asking for a part of a class, and what answers them.
+-- Predicates that begin by asking for a part of a class, and their answers.
 use Rattle.std.proofs.Common.{◌≡◌, refl, sym, ap, ap₂, ◌∙◌, ℕ, ℤ, Bool, true, false, not, ◌&&◌, List, [], ◌∷◌, Ok, Err, if◌then◌else◌, int_eq, int_lt, arith}
 use Rattle.std.specs.Prelude.{bytes_eq}
 use Rattle.std.specs.declared.cmp.Ordering.{Ordering}
@@ -18,7 +18,7 @@ use Rattle.hp_query.specs.Parts.{IsFalseOutside, AsksForPart, expression_of, tur
 use Rattle.hp_query.proofs.ByKeyLemmas.{value_stays, no_more, own_row}
 use Rattle.hp_query.proofs.SelectLemmas.{selected-cons, bind_ok}
 
--- ---- two values that are in order aren't in the other order, and aren't the same
+-- ---- two values that are in order aren't in the other order, and aren't equal
 
 lower_once : (r : Ordering) → is_lt (ordering_reverse r) ≡ true → is_lt r ≡ false
 lower_once Less h = cc
@@ -124,7 +124,7 @@ own_attribute : (env : Environment) (x : Name) (a : Attribute) (r : KeyedRow) �
 own_attribute env x key_attribute r = ap (λ (o : Outcome KeyedRow). o >>= λ q. Ok (integer q.key)) (own_row env x r)
 own_attribute env x (field_attribute f) r = ap (λ (o : Outcome KeyedRow). o >>= λ q. field_in q.row f) (own_row env x r)
 
--- what a comparison of two outcomes is, as a truth value
+-- what a comparison of two outcomes is, as a boolean
 abbrev compared_outcomes : Comparison → Outcome Value → Outcome Value → Outcome Bool
 compared_outcomes op o p = (o >>= λ v. p >>= λ w. compare op v w >>= λ t. Ok (boolean t)) >>= λ v. as_boolean v
 
@@ -160,10 +160,10 @@ asks_through_both x first second a op wanted asked = record {
   };
 }
 
--- ---- what answers them
+-- ---- answers
 
 module _ (env : Environment) (x : Name) (predicate : Expression) (p : ClassPart) (false_outside : IsFalseOutside env x predicate p) where
-  -- the part alone is asked, where of each object it is told whether it belongs to it
+  -- the part alone is tested, where for each object it is known whether it belongs to the part
   pub of_part : (rows objects : List KeyedRow) → picked p rows ≡ Ok objects → selected env x predicate rows ≡ selected env x predicate objects
   of_part [] objects is = let same : [] ≡ objects = cc in ap (selected env x predicate) same
   of_part (r ∷ rs) objects is = by (belongs p r) (picked p rs) refl refl (λ rows later. of_part rs rows later) is

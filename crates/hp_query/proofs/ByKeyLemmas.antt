@@ -1,4 +1,4 @@
--- Predicates that begin by asking for one key, and what answers them.
+-- Predicates that begin by asking for one key, and their answers.
 use Rattle.std.proofs.Common.{◌≡◌, refl, sym, ap, ap₂, ◌∙◌, ℕ, ℤ, Bool, true, false, cond, List, [], ◌∷◌, filter, Option, Some, None, Ok, Err, if◌then◌else◌, int_eq}
 use Rattle.std.specs.Prelude.{bytes_eq, neg_ℤ, not}
 use Rattle.std.specs.Map.{lookup}
@@ -17,7 +17,7 @@ use Rattle.hp_query.proofs.SelectLemmas.{selected-cons, bind_ok}
 
 -- ---- what stays when one more row is bound
 
--- what comes of the first, if it is no fault, comes of the second
+-- if the first is no fault, the second is the same
 pub record Stays {A : Type 0} (o p : Outcome A) : Type 0 where
   pub so : (x : A) → o ≡ Ok x → p ≡ Ok x
 
@@ -36,12 +36,12 @@ otherwise : (t b : Bool) (o p : Outcome Value) → Stays o p → Stays (if t the
 otherwise true b o p h = stays (Ok (boolean b))
 otherwise false b o p h = h
 
--- the parts of an occurrence don't hang on the rows
+-- the parts of an occurrence don't depend on the rows
 same_part : (o : Option Occurrence) (rows more : List (Name × KeyedRow)) (i : ℕ) → part_of (record { occurrence = o; rows = rows }) i ≡ part_of (record { occurrence = o; rows = more }) i
 same_part None rows more i = refl
 same_part (Some o) rows more i = refl
 
--- under a name that meant nothing
+-- under a name that has no meaning yet
 module _ (env : Environment) (x : Name) (r : KeyedRow) (c : Cause) (free : row_named env x ≡ Err c) where
   named_stays : (y : Name) → Stays (row_named env y) (row_named (bound x r env) y)
   named_stays y = by (bytes_eq y x) refl
@@ -56,7 +56,7 @@ module _ (env : Environment) (x : Name) (r : KeyedRow) (c : Cause) (free : row_n
   part_stays : (i : ℕ) → Stays (part_of env i) (part_of (bound x r env) i)
   part_stays i = record { so = λ p e. sym (same_part env.occurrence env.rows ((x, r) ∷ env.rows) i) ∙ e }
 
-  -- an expression that has a value has it still
+  -- an expression that has a value keeps it
   pub value_stays : (e : Expression) → Stays (value_of env e) (value_of (bound x r env) e)
   value_stays (constant v) = stays (Ok v)
   value_stays (arithmetic op a b) =
@@ -94,7 +94,7 @@ own_key : (env : Environment) (x : Name) (r : KeyedRow) → value_of (bound x r 
 own_key env x r =
     ap (λ (o : Outcome KeyedRow). o >>= λ q. Ok (integer q.key)) (own_row env x r)
 
--- whether two values are the same, as an equation tells it
+-- whether two values are equal, as an equation says
 abbrev equated : Outcome Value → Outcome Value → Outcome Bool
 equated o p = (o >>= λ v. p >>= λ w. compare equal v w >>= λ t. Ok (boolean t)) >>= λ v. as_boolean v
 
@@ -113,7 +113,7 @@ asks_second x a = record {
   };
 }
 
--- what follows after a false first part isn't looked at
+-- after a false first operand the second isn't evaluated
 pub no_more : (o next : Outcome Value) → (o >>= λ v. as_boolean v) ≡ Ok false
     → ((o >>= λ v. as_boolean v >>= λ t. (if t then next else Ok (boolean false)) >>= λ w. as_boolean w >>= λ y. Ok (boolean y)) >>= λ v. as_boolean v) ≡ Ok false
 no_more (Ok (integer z)) next h = cc
@@ -129,9 +129,9 @@ asks_both x a b wanted first = record {
   };
 }
 
--- ---- what answers them
+-- ---- answers
 
--- rows of which the predicate is false can be left out
+-- rows for which the predicate is false can be left out
 module _ (env : Environment) (x : Name) (predicate : Expression) (hit : KeyedRow → Bool) (false_elsewhere : (r : KeyedRow) → hit r ≡ false → boolean_value (bound x r env) predicate ≡ Ok false) where
   pub of_hits : (rows : List KeyedRow) → selected env x predicate rows ≡ selected env x predicate (filter hit rows)
   of_hits [] = refl

@@ -1,4 +1,4 @@
--- The objects of a class, collected one after the other.
+-- The objects of a class, collected one after another.
 use Rattle.std.proofs.Common.{suc, ◌+◌, ◌<◌, length, get_or, drop, pos, add-one, subst, ◌≡◌, ℕ, ℤ, List, [], ◌∷◌, ◌++◌, Some, None, refl, sym, ap, ◌∙◌, append_assoc, append-nil}
 use Rattle.std.proofs.Math.Seq.{drop-cons}
 use Rattle.hp_model.specs.Values.{Row, KeyedRow}

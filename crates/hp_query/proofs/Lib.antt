@@ -7,3 +7,4 @@ pub mod VerdictLemmas
 pub mod ByKeyLemmas
 pub mod PartLemmas
 pub mod AskedLemmas
+pub mod Told

@@ -1,4 +1,4 @@
--- The objects of a part of a class: what they are under a layer, and in a world.
+-- The objects of a part of a class, under a layer and in a world.
 use Rattle.std.proofs.Common.{◌≡◌, refl, sym, ap, ap₂, ◌∙◌, ℕ, zero, suc, ◌<◌, ℤ, Bool, true, false, ◌||◌, ◌&&◌, cond, List, [], ◌∷◌, length, map, filter, slice_index_or, Option, Some, None, is_some, option_map, Ok, Err, if◌then◌else◌, int_eq, arith}
 use Rattle.std.specs.Prelude.{All}
 use Rattle.std.specs.Ordering.{int_cmp}
@@ -31,7 +31,7 @@ is_among (o ∷ os) zero d below = any_true o.key o.key (map (λ (o : KeyedRow).
 is_among (o ∷ os) (suc i) d below =
     any_later (int_eq (slice_index_or os i d).key o.key) (slice_index_or os i d).key (map (λ (o : KeyedRow). o.key) os) (is_among os i d (omega arith))
 
--- at each key of some objects two cells hold the same, where both hold the objects' rows
+-- at each key of some objects two cells are equal, if both hold the objects' rows
 same_at : (f g : ℤ → Option CellValue) (objects : List KeyedRow) → All (λ (o : KeyedRow). f o.key ≡ Some (row_value o.row)) objects → All (λ (o : KeyedRow). g o.key ≡ Some (row_value o.row)) objects
     → (key : ℤ) → list_any (int_eq key) (map (λ (o : KeyedRow). o.key) objects) ≡ true → f key ≡ g key
 same_at f g [] fs gs key among = cc
@@ -50,7 +50,7 @@ same_ok : (o : Outcome Bool) (a b : Bool) → o ≡ Ok a → o ≡ Ok b → a �
 same_ok (Ok c) a b p q = cc
 same_ok (Err c) a b p q = cc
 
--- what a part is under a layer hangs on what it is beneath, and on the layer
+-- a part under a layer depends only on the part beneath and on the layer
 module _ (before base : Cells) (layer : Changes) (class : ℕ) (p : ClassPart) (hits now : List KeyedRow) (beneath : ArePart before class p hits) (above : ArePart (over before layer) class p now) (told : ArePart base class p hits) where
   has_over : (key : ℤ) (change : Option (Option CellValue)) → layer (object_cell class key) ≡ change
       → belongs_in p key (over base layer (object_cell class key)) ≡ belongs_in p key (over before layer (object_cell class key))
@@ -141,7 +141,7 @@ module _ (base : Cells) (class : ℕ) (p : ClassPart) (objects : List KeyedRow) 
       by true is = class_keys_has class key world ∙ is_there key (find_object world class key) (sym (ap (belongs_in p key) (same key)) ∙ are.has key ∙ ap Ok is)
       by false is = refl
 
-  -- it is what is picked of the class's rows, without a fault
+  -- it is the part of the class's rows, without a fault
   pub part_picked : picked p (rows_of class world) ≡ Ok objects
   part_picked =
       let keys : keys_of (filter (λ (r : KeyedRow). listed r.key) (rows_of class world)) ≡ keys_of objects =

@@ -58,7 +58,7 @@ removed_at (e ∷ es) class key = by (is_at (compare_names (object_name class ke
     by true rest = refl
     by false rest = ap (λ os. named e ∷ os) rest
 
--- a call is passed a key in another spelling
+-- a key may be passed in another form
 pub found_in : (entries : Entries) (class : ℕ) (key passed : ℤ) → passed ≡ key → lookup (is_at (name_cmp (record { class = class; key = passed }))) entries ≡ find_object (objects_in entries) class key
 found_in entries class key passed same = ap (λ k. lookup (is_at (name_cmp (record { class = class; key = k }))) entries) same ∙ found_at entries class key
 

@@ -24,7 +24,7 @@ then_equal Equal Equal h = (refl, refl)
 then_equal Equal Greater h = cc
 then_equal Greater s h = cc
 
--- names that compare equal are one
+-- names that compare equal are equal
 exact_name : (a b : ObjectName) → is_eq (compare_names a b) ≡ true → a ≡ b
 exact_name a b h =
     let both = then_equal (nat_cmp a.class b.class) (int_cmp a.key b.key) h in
@@ -36,12 +36,12 @@ find_named name os = lookup (is_at (compare_names name)) os
 abbrev names : Objects → List ObjectName
 names os = map (λ (o : ObjectName × Row). o.0) os
 
--- a name below all others is not among them
+-- a name below all others isn't among them
 absent_above : (name : ObjectName) (os : Objects) → AllByRecursion (λ y. compare_names name y ≡ Less) (names os) → find_named name os ≡ None
 absent_above name [] above = refl
 absent_above name (o ∷ os) above = ap (λ r. cond (is_eq r) (Some o.1) (find_named name os)) above.0 ∙ absent_above name os above.1
 
--- what is found behind the first object is found with it
+-- what is found after the first object is found with it
 find_later : (name : ObjectName) (o : ObjectName × Row) (os : Objects) (row : Row) → ObjectsRise (o ∷ os) → find_named name os ≡ Some row → find_named name (o ∷ os) ≡ Some row
 find_later name o os row rise found = by (is_at (compare_names name) o.0) refl
   where
@@ -87,7 +87,7 @@ rows_found class (o ∷ os) rise =
         (ap (λ r. cond (is_eq r) (Some o.1) (find_named (object_name class o.0.key) os)) here, later)
     by false same later = later
 
--- ---- a class's keys are those of its objects, in rising order
+-- ---- a class's keys are those of its objects, in ascending order
 
 abbrev keyed : ObjectName × Row → KeyedRow
 keyed o = record { key = o.0.key; row = o.1 }
@@ -160,12 +160,12 @@ class_keys_has class k (o ∷ os) =
     by true rest = hit (int_eq k o.0.key) rest
     by false rest = rest
 
--- lists of keys in rising order with the same keys are one
+-- lists of keys in ascending order with the same keys are equal
 pub same_keys : (xs ys : List ℤ) → IsStrictlySortedBy int_cmp xs → IsStrictlySortedBy int_cmp ys → ((k : ℤ) → list_any (int_eq k) xs ≡ list_any (int_eq k) ys) → xs ≡ ys
 same_keys xs ys rise_x rise_y same =
     btree_set_from_contains int_cmp_total (record { keys = xs }) (record { keys = ys }) rise_x rise_y same exact_signed
 
--- keys that rise, and are in the list exactly where an object is there, are the class's
+-- keys in ascending order, in the list exactly if there is an object, are the class's
 pub one_list : (class : ℕ) (os : Objects) (ks : List ℤ) → ObjectsRise os → IsStrictlySortedBy int_cmp ks
     → ((k : ℤ) → list_any (int_eq k) ks ≡ is_some (find_object os class k)) → ks ≡ class_keys class os
 one_list class os ks rise keys_rise has =

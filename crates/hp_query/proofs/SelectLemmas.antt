@@ -1,4 +1,4 @@
--- The selection of a class's rows, one after the other.
+-- The selection of a class's rows, one after another.
 use Rattle.std.proofs.Common.{◌+◌, ◌<◌, length, get_or, drop, subst, ◌≡◌, ℕ, Bool, true, false, List, [], ◌∷◌, ◌++◌, map, Ok, Err, if◌then◌else◌, refl, sym, ap, ◌∙◌, append_assoc, append-nil}
 use Rattle.std.proofs.lemmas.List.{at_drop_more}
 use Rattle.hp_model.specs.Values.{Name, KeyedRow, Cause, Outcome, ◌>>=◌}
@@ -11,11 +11,11 @@ use Rattle.hp_value.specs.declared.row.KeyedRow.{KeyedRow as RustRow}
 use Rattle.hp_value.specs.Mapped.{Meets, cause, keyed_row}
 use Rattle.hp_query.specs.Mapped.{keyed_rows}
 
--- the truth value of a predicate at a row
+-- the value of a predicate at a row
 abbrev pub test : Environment → Name → Expression → KeyedRow → Outcome Bool
 test env x predicate r = boolean_value (bound x r env) predicate
 
--- rows that were selected, before those of what is left
+-- selected rows in front of those of the rest
 abbrev pub with_front : List KeyedRow → Outcome (List KeyedRow) → Outcome (List KeyedRow)
 with_front front rest = rest >>= λ rows. Ok (front ++ rows)
 
@@ -45,7 +45,7 @@ module _ (env : Environment) (x : Name) (predicate : Expression) where
   selected-cons r rest o is =
       bind_assoc (value_of (bound x r env) predicate) as_boolean (λ keep. kept_by keep r rest) ∙ ap (λ p. p >>= λ keep. kept_by keep r rest) is
 
-  -- the selection of the rows that are left, after the front, is that of all
+  -- the front followed by the selection of the rows that are left is the selection of all
   abbrev pub IsLeft : (all left front : List KeyedRow) → Type 0
   IsLeft all left front = with_front front (selected env x predicate left) ≡ selected env x predicate all
 

@@ -83,7 +83,7 @@ module _ {objects : Objects} {env : Environment} {queries : List Query} where
   pub continues_last : (kept : Answers) → Continues objects env queries kept [] → satisfied kept ≡ verdict objects env queries
   continues_last kept continues = ap satisfied (sym (append-nil kept)) ∙ sym (after_satisfied kept []) ∙ continues.same
 
-  -- the queries that are left from a place on
+  -- the queries that are left from an index on
   pub continues_at : {A : Type 0} (f : A → Query) (xs : List A) (i : ℕ) (x : A) (kept : Answers) → i < length xs → x ≡ get_or xs i x
       → Continues objects env queries kept (map f (drop i xs)) → Continues objects env queries kept (f x ∷ map f (drop (i + 1) xs))
   continues_at f xs i x kept within is continues = subst (λ ys. Continues objects env queries kept (map f ys)) (split_at xs i x within is) continues

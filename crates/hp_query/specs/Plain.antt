@@ -1,4 +1,4 @@
--- A plain map of objects.
+-- Plain maps of objects.
 use Rattle.std.specs.Prelude.{List, map, IsTrue}
 use Rattle.std.specs.List.{list_all}
 use Rattle.hp_model.specs.Values.{Row, fits_64}

@@ -1,4 +1,4 @@
-//! Predicates that begin by asking for one key.
+//! Predicates that begin with a test of the key.
 
 ghost use Rattle.std.specs.Prelude.{IsTrue, IfOk, IfSome, ◌≡◌};
 ghost use Rattle.hp_model.specs.Expressions.{compared, equal, key_of};
@@ -8,11 +8,11 @@ ghost use Rattle.hp_query.specs.ByKey.{IsFalseElsewhere, AsksFor};
 use hp_value::{Comparison, Env, Expr, Halt, Key, Value};
 use std::alloc::{AllocError, Global};
 
-/// The key whose row alone a predicate may be true of, where the predicate begins by comparing the key of its row with what
-/// doesn't hang on that row. It is then false of each other row, and no other row has a fault.
+/// The only key for which a predicate can be true, where the predicate begins by comparing the key of its row with an
+/// expression that doesn't depend on the row. For all other rows it is then false, without a fault.
 ///
-/// None where it isn't so, or isn't seen to be: also where what the key is compared with is no whole number or has a fault,
-/// since the first row then has that fault too. An error means that memory ran out.
+/// `None` where this isn't so or isn't recognized. It is also `None` where the expression isn't an integer or has a
+/// fault, since the predicate then has that fault on the first row too.
 pub(crate) fn asked_key(
     alloc: Global,
     name: &str,
@@ -24,7 +24,7 @@ pub(crate) fn asked_key(
     let Some(wanted) = wanted_key(name, predicate) else {
         return Ok(None);
     };
-    // What is evaluated before a row is bound must not see another row under its name.
+    // The expression is evaluated before a row is bound, so its name must not mean another row.
     let Err(_) = env.row(name) else {
         return Ok(None);
     };
@@ -35,12 +35,13 @@ pub(crate) fn asked_key(
     }
 }
 
-/// Whether a predicate begins by asking for one key, so that mostly one row is looked at, whatever the class has.
+/// Whether a predicate begins by comparing the key. A query then mostly looks at one row, whatever the size of the
+/// class.
 pub(crate) fn asks_key(name: &str, predicate: &Expr) -> bool {
     wanted_key(name, predicate).is_some()
 }
 
-// What a predicate compares the key of the row with this name with, if it begins so.
+// The expression with which a predicate compares the key of the row of this name, if it begins so.
 fn wanted_key<'e>(name: &str, predicate: &'e Expr) -> Option<&'e Expr>
     ensures { IfSome result (λ wanted. AsksFor name.now (expression predicate.now) (expression wanted.now)) }
 {
@@ -51,7 +52,7 @@ fn wanted_key<'e>(name: &str, predicate: &'e Expr) -> Option<&'e Expr>
     }
 }
 
-// The side of an equation whose other side is the key of the row with this name.
+// The other side of an equation, if one side is the key of the row of this name.
 fn other_side<'e>(name: &str, a: &'e Expr, b: &'e Expr) -> Option<&'e Expr>
     ensures { IfSome result (λ wanted. AsksFor name.now (compared equal (expression a.now) (expression b.now)) (expression wanted.now)) }
 {
@@ -64,7 +65,7 @@ fn other_side<'e>(name: &str, a: &'e Expr, b: &'e Expr) -> Option<&'e Expr>
     None
 }
 
-// Whether an expression is the key of the row with this name.
+// Whether an expression is the key of the row of this name.
 fn is_key_of(name: &str, expr: &Expr) -> bool
     ensures { IsTrue result → expression expr.now ≡ key_of name.now }
 {

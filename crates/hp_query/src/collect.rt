@@ -9,7 +9,7 @@ use hp_value::{ClassNo, ObjectList};
 use std::alloc::{AllocError, Global};
 use std::sync::Arc;
 
-/// The objects of a class with their rows, by rising keys: the look's own list where it has one.
+/// The objects of a class with their rows, in ascending key order: the look's own list if it has one.
 ///
 /// An error means that memory ran out. The look may then allow fewer worlds, and nothing else has changed.
 pub(crate) fn objects_of<L: Look>(
@@ -27,7 +27,7 @@ pub(crate) fn objects_of<L: Look>(
     }
 }
 
-// The same, asked for one by one: the class's keys first, and then the row of each.
+// The same objects, read one by one: the class's keys first, and then the row of each.
 fn collected<L: Look>(
     alloc: Global,
     look: &mut L,

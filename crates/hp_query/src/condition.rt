@@ -12,22 +12,23 @@ use crate::query::{Query, answer};
 use hp_value::{Answer, Cause, Env, Halt, Occurrence};
 use std::alloc::{AllocError, Global};
 
-/// What a rule's condition comes to.
+/// The result of evaluating a rule's condition.
 #[derive(Debug, Drop)]
 pub enum Verdict {
-    /// Each query has a non-empty answer. HiPAC hands the answers on to the action.
+    /// Each query has a non-empty answer. HiPAC passes the answers on to the action.
     Satisfied(Vec<Answer>),
     /// A query has an empty answer.
     Unsatisfied,
-    /// A query has a fault: this firing has no action, and the transaction round it goes on (this project's own choice).
+    /// A query has a fault: this firing has no action, and the transaction around it continues (this project's own
+    /// choice).
     Faulty(Cause),
 }
 
-/// What a condition comes to, for the occurrence by which its rule was triggered.
+/// Evaluates a condition for the occurrence that triggered its rule.
 ///
-/// HiPAC: a condition is a list of queries, and is satisfied where each has a non-empty answer. The queries are asked in
-/// order, up to the first empty answer or fault, and a later one may name an earlier one's first row: this project's own
-/// choices. A condition without queries is satisfied.
+/// HiPAC: a condition is a list of queries, and is satisfied if each has a non-empty answer. This project's own
+/// choices: the queries are asked in order, up to the first empty answer or fault, and a later query may name an
+/// earlier one's first row. A condition without queries is satisfied.
 ///
 /// An error means that memory ran out. The look may then allow fewer worlds, and nothing else has changed.
 pub fn evaluate_condition<L: Look>(

@@ -1,7 +1,9 @@
 //! Queries over objects, and conditions made of them.
 //!
-//! A query is answered over any [`Look`]: a plain ordered map of objects, or a view that records what is read of it. What
-//! the answers say is said of each world that the look still allows after the call.
+//! A query is answered over any [`Look`]: a plain ordered map of objects, or a view that records its reads. An answer
+//! holds in each world that the look allows after the call.
+//!
+//! `AllocError` and `Halt::Memory` mean that memory ran out.
 #![tactic(auto)]
 
 mod by_key;

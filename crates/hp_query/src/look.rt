@@ -11,37 +11,32 @@ use hp_value::{ClassNo, ClassPart, Key, KeyedRow, ObjectList, Row};
 use std::alloc::{AllocError, Global};
 use std::sync::Arc;
 
-/// A look at objects.
+/// Read access to objects.
 ///
-/// What it shows may be true of more than one world, that is, of more than one list of objects: a view that records its
-/// reads shows what holds wherever these reads hold. `allows` says of which worlds all that was seen so far is true, and
-/// each call answers what is true in all of them. A call may make them fewer, also one that runs out of memory.
+/// A *world* is a list of objects. What a look has shown may hold in several worlds: a view that records its reads
+/// shows what holds wherever these reads hold. `allows` names the worlds in which all answers so far hold, and each
+/// call's answer holds in all worlds that are allowed after it. Each call may leave fewer worlds, even one that runs
+/// out of memory.
 ///
-/// A world's objects stand in order (`ObjectsRise`); nothing is said of others.
+/// The contracts speak only of worlds whose objects stand in order (`ObjectsRise`).
 pub trait Look {
     ghost allows: { Self → Objects → Type 0 };
 
-    // what a call may do to the look; a view says here that it goes on with the same writes
+    // what a call may do to the look; for a view: its writes stay the same
     ghost goes_on: { Self → Self → Type 0 };
 
-    /// The row of the object of a class with a key, or none where no such object is there.
-    ///
-    /// An error means that memory ran out.
+    /// The row of the object with this key in this class, or `None` if there is no such object.
     fn row(&mut self, alloc: Global, class: ClassNo, key: Key) -> Result<Option<Row>, AllocError>
         ensures goes_on { goes_on self.old self.new }
         ensures found { IfOk result (λ found. (world : Objects) → ObjectsRise world → allows self.new world → found ≡ find_object world class key) };
 
-    /// The keys of a class's objects, in rising order.
-    ///
-    /// An error means that memory ran out.
+    /// The keys of a class's objects, in ascending order.
     fn keys(&mut self, alloc: Global, class: ClassNo) -> Result<Vec<Key>, AllocError>
         ensures goes_on { goes_on self.old self.new }
         ensures listed { IfOk result (λ keys. (world : Objects) → ObjectsRise world → allows self.new world → keys.items ≡ class_keys class world) };
 
-    /// All objects of a class with their rows, by rising keys, where the look has such a list, which is then shared. None
-    /// where they have to be asked for one by one.
-    ///
-    /// An error means that memory ran out.
+    /// All objects of a class with their rows, in ascending key order, if the look keeps such a list. The list is
+    /// shared. `None` if the objects have to be read one by one.
     fn objects(
         &mut self,
         alloc: Global,
@@ -50,10 +45,8 @@ pub trait Look {
         ensures goes_on { goes_on self.old self.new }
         ensures listed { IfOk result (λ found. IfSome found (λ objects. (world : Objects) → ObjectsRise world → allows self.new world → objects.value ≡ rows_of class world)) };
 
-    /// The objects of a part of a class with their rows, by rising keys, where the look finds them without looking at
-    /// the others, and can tell of each other object that it isn't of the part. None where the look can't.
-    ///
-    /// An error means that memory ran out.
+    /// The objects of a part of a class with their rows, in ascending key order, if the look finds them without reading
+    /// the others and knows that no other object is in the part. `None` if it can't.
     fn part(
         &mut self,
         alloc: Global,
@@ -67,6 +60,6 @@ pub trait Look {
 
     ghost goes_on_then: { (first second third : Self) → goes_on first second → goes_on second third → goes_on first third };
 
-    // a look that goes on allows no world that it did not allow before
+    // a later state of the look allows no world that an earlier one didn't
     ghost narrows: { (first second : Self) → goes_on first second → (world : Objects) → allows second world → allows first world };
 }

@@ -8,7 +8,7 @@ ghost use Rattle.hp_query.specs.Parts.{IsFalseOutside, AsksForPart, expression_o
 use hp_value::{Attribute, Bounds, ClassPart, Comparison, Env, Expr, Halt, Value};
 use std::alloc::{AllocError, Global};
 
-/// A comparison by which a predicate begins: of an attribute of its row, with a value that doesn't hang on the row.
+/// The comparison by which a predicate begins: an attribute of its row against a value that doesn't depend on the row.
 #[derive(Drop)]
 pub(crate) struct AskedPart<'e> {
     attribute: Attribute<'e>,
@@ -17,9 +17,9 @@ pub(crate) struct AskedPart<'e> {
 }
 
 impl AskedPart<'_> {
-    /// The part of the class outside which the comparison is false. None where the value is a truth value.
+    /// The part of the class outside which the comparison is false. `None` if the value is a boolean.
     ///
-    /// Both bounds are included, whatever the comparison is: the predicate is tested on the part's rows.
+    /// Both bounds are inclusive, whatever the comparison is: the predicate is still tested on the part's rows.
     pub(crate) fn class_part(&self) -> Option<ClassPart<'_>>
         ensures { IfSome result (λ part. class_part part ≡ part_compared (attribute self.now.attribute) (comparison self.now.comparison) (value self.now.value)) }
     {
@@ -41,7 +41,7 @@ impl AskedPart<'_> {
     }
 }
 
-// The bounds between which a value lies where it compares so with another.
+// The bounds of the values for which the comparison with `other` can be true.
 fn bounds<T: Copy>(compared: Comparison, other: T) -> (Option<T>, Option<T>)
     ensures { result ≡ (low_bound (comparison compared) other, high_bound (comparison compared) other) }
 {
@@ -53,11 +53,11 @@ fn bounds<T: Copy>(compared: Comparison, other: T) -> (Option<T>, Option<T>)
     }
 }
 
-/// What part of its class a predicate asks for, where it begins by comparing the key or a field of its row with what
-/// doesn't hang on that row.
+/// The part of its class that a predicate asks for, if it begins by comparing the key or a field of its row with an
+/// expression that doesn't depend on the row.
 ///
-/// None where it isn't so, or isn't seen to be: also where what is compared with has a fault, since the first row then
-/// has that fault too. An error means that memory ran out.
+/// `None` where this isn't so or isn't recognized, and where the expression has a fault, since the predicate then has
+/// that fault on the first row too.
 pub(crate) fn asked_part<'e>(
     alloc: Global,
     name: &str,
@@ -69,7 +69,7 @@ pub(crate) fn asked_part<'e>(
     let Some(compared) = compared_attribute(name, predicate) else {
         return Ok(None);
     };
-    // What is evaluated before a row is bound must not see another row under its name.
+    // The expression is evaluated before a row is bound, so its name must not mean another row.
     let Err(_) = env.row(name) else {
         return Ok(None);
     };
@@ -84,9 +84,9 @@ pub(crate) fn asked_part<'e>(
     }
 }
 
-/// The field by which the rows are found of which a predicate may be true, each tested under a name: where the
-/// predicate begins by comparing a field of its row with what doesn't hang on the row. With an index of that field the
-/// query costs what it finds. No answer depends on it.
+/// The field whose index finds the rows for which a predicate can be true: the predicate begins by comparing this field
+/// of its row with an expression that doesn't depend on the row. With an index of the field a query costs what it
+/// finds. No answer depends on it.
 pub fn asked_field<'e>(name: &str, predicate: &'e Expr) -> Option<&'e str> {
     match compared_attribute(name, predicate)?.attribute {
         Attribute::Field(field) => Some(field),
@@ -94,7 +94,7 @@ pub fn asked_field<'e>(name: &str, predicate: &'e Expr) -> Option<&'e str> {
     }
 }
 
-// A comparison of an attribute of a row, on the left, with an expression.
+// A comparison with an attribute of the row on its left side.
 #[derive(Clone, Copy)]
 struct Compared<'e> {
     attribute: Attribute<'e>,
@@ -102,7 +102,7 @@ struct Compared<'e> {
     other: &'e Expr,
 }
 
-// The comparison by which a predicate begins, if it is one of an attribute of the row with this name.
+// The comparison by which a predicate begins, if it is one of an attribute of the row of this name.
 fn compared_attribute<'e>(name: &str, predicate: &'e Expr) -> Option<Compared<'e>>
     ensures { IfSome result (λ c. AsksForPart name.now (expression predicate.now) (attribute c.attribute) (comparison c.comparison) (expression c.other.now)) }
 {
@@ -114,7 +114,7 @@ fn compared_attribute<'e>(name: &str, predicate: &'e Expr) -> Option<Compared<'e
     }
 }
 
-// The same of a comparison with these two sides.
+// The same for a comparison with these two sides.
 fn compared_side<'e>(
     name: &str,
     compares: Comparison,
@@ -138,7 +138,7 @@ fn compared_side<'e>(
     })
 }
 
-// The attribute that an expression is of the row with this name.
+// The attribute of the row of this name that an expression is, if it is one.
 fn own_attribute<'e>(name: &str, expr: &'e Expr) -> Option<Attribute<'e>>
     ensures { IfSome result (λ a. expression expr.now ≡ expression_of name.now (attribute a)) }
 {
@@ -151,7 +151,7 @@ fn own_attribute<'e>(name: &str, expr: &'e Expr) -> Option<Attribute<'e>>
     }
 }
 
-// The comparison that holds of two values where this one holds of them in the other order.
+// The comparison with its sides swapped.
 fn sides_changed(compares: Comparison) -> Comparison
     ensures { comparison result ≡ turned (comparison compares) }
 {

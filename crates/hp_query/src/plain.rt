@@ -13,7 +13,7 @@ use std::collections::BTreeMap;
 use std::marker::Model;
 use std::sync::Arc;
 
-/// The name of an object: its class, and its key within the class. Names are in order of class, and then of key.
+/// The name of an object: its class, and its key within the class. Names are ordered by class, then by key.
 #[derive(Clone, Copy, Debug, PartialEq, Eq, PartialOrd, Ord)]
 pub struct ObjectName {
     /// The object's class.
@@ -22,7 +22,7 @@ pub struct ObjectName {
     pub key: Key,
 }
 
-/// Objects in a plain ordered map: a look that allows its own objects alone.
+/// Objects in a plain ordered map: a look that allows one world, its own objects.
 #[derive(Debug, Drop)]
 pub struct PlainObjects {
     rows: BTreeMap<ObjectName, Row>,
@@ -41,7 +41,7 @@ impl Model for PlainObjects {
 }
 
 impl PlainObjects {
-    /// No objects.
+    /// An empty map.
     pub fn new(alloc: Global) -> PlainObjects
         ensures { result ≡ [] }
     {
@@ -50,7 +50,7 @@ impl PlainObjects {
         }
     }
 
-    /// How many objects there are.
+    /// The number of objects.
     pub fn len(&self) -> usize
         ensures len { result ≡ length self.now }
         ensures rise { ObjectsRise self.now }
@@ -65,16 +65,16 @@ impl PlainObjects {
         self.rows.is_empty()
     }
 
-    /// The row of the object of a class with a key, if it is there.
+    /// The row of the object with this key in this class, if there is one.
     pub fn get(&self, class: ClassNo, key: Key) -> Option<&Row>
         ensures { option_copied result ≡ find_object self.now class key }
     {
         self.rows.get(&ObjectName { class, key })
     }
 
-    /// Gives the object of a class with a key this row, whether it was there or not.
+    /// Sets the row of the object with this key in this class, whether or not it exists.
     ///
-    /// An error means that memory ran out, and that nothing has changed.
+    /// An error means that memory ran out; the objects are then as before.
     pub fn insert(&mut self, class: ClassNo, key: Key, row: Row) -> Result<(), AllocError>
         ensures ok { OnOk result (self.new ≡ write_object self.old class key row) }
         ensures err { OnErr result (self.new ≡ self.old) }
@@ -83,7 +83,7 @@ impl PlainObjects {
         Ok(())
     }
 
-    /// Takes the object of a class with a key out, and gives its row, if it was there.
+    /// Removes the object with this key from this class, and returns its row, if there was one.
     pub fn remove(&mut self, class: ClassNo, key: Key) -> Option<Row>
         ensures row { result ≡ find_object self.old class key }
         ensures others { self.new ≡ remove_object self.old class key }
@@ -135,7 +135,7 @@ impl Look for PlainObjects {
     }
 }
 
-// The keys of a class: its names are those from the least key to the largest.
+// The range of a class's names: from the least key to the largest.
 fn class_range(
     alloc: Global,
     rows: &BTreeMap<ObjectName, Row>,

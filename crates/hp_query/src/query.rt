@@ -19,19 +19,19 @@ use hp_value::{ClassNo, Env, Expr, Halt, Key, KeyedRow, Row};
 use std::alloc::{AllocError, Global};
 
 /// A query: the rows of a class for which a predicate is true. HiPAC's conditions are lists of queries.
-#[derive(Debug, Drop)]
+#[derive(Debug, PartialEq, Eq, Drop)]
 pub struct Query {
-    /// The query's name. In its predicate it means the row that is tested, and later the first row of its answer.
+    /// The query's name. In its predicate it means the row that is tested, and later on the first row of its answer.
     pub name: String,
-    /// The class whose objects are asked for.
+    /// The class whose objects are tested.
     pub class: ClassNo,
-    /// What is tested of each row; it has to give a truth value.
+    /// The test of each row. It has to give a boolean.
     pub predicate: Box<Expr>,
 }
 
 impl Query {
-    /// Whether the query begins by asking for one key, so that mostly one row is looked at, whatever its class has. No
-    /// answer depends on it.
+    /// Whether the predicate begins by comparing the key. The query then mostly looks at one row, whatever the size of
+    /// its class. No answer depends on it.
     pub fn asks_key(&self) -> bool {
         asks_key(self.name.as_str(), &self.predicate)
     }
@@ -42,11 +42,11 @@ impl Query {
     }
 }
 
-/// The answer of a query: the rows of its class, by rising keys, for which its predicate is true.
+/// The answer of a query: the rows of its class for which its predicate is true, in ascending key order.
 ///
-/// Each row is tested under the query's name, which hides what the environment means by it. The first fault in key order
-/// is the query's fault, and a predicate that gives no truth value is the cause `Kind`: this project's own choices.
-/// After an error the look may allow fewer worlds, and nothing else has changed.
+/// Each row is tested under the query's name, which hides an outer name. This project's own choices: the first fault in
+/// key order is the query's fault, and a predicate that gives no boolean is the cause `Kind`. After an error the look
+/// may allow fewer worlds, and nothing else has changed.
 pub fn answer<L: Look>(
     alloc: Global,
     query: &Query,
@@ -68,10 +68,10 @@ pub fn answer<L: Look>(
     )
 }
 
-/// The rows of a class, by rising keys, for which a predicate is true, each tested under a name.
+/// The rows of a class, in ascending key order, for which a predicate is true, each tested under a name.
 ///
-/// This is what [`answer`] does, for a caller that has no [`Query`]. Where the predicate begins by asking for one key,
-/// or for a part of the class that the look finds, the rows asked for are looked at and no others.
+/// This does what [`answer`] does, for a caller that has no [`Query`]. If the predicate begins by asking for one key,
+/// or for a part of the class that the look finds, no other rows are read.
 pub fn selected_rows<L: Look>(
     alloc: Global,
     name: &str,
@@ -101,7 +101,7 @@ pub fn selected_rows<L: Look>(
     selected(alloc, name, objects.rows(), predicate, env)
 }
 
-/// What is asked for: the rows of a class for which a predicate is true, each tested under a name.
+/// A class, and a predicate that is tested on its rows under a name.
 #[derive(Clone, Copy)]
 struct Asked<'a> {
     name: &'a str,
@@ -110,7 +110,7 @@ struct Asked<'a> {
     env: &'a Env<'a>,
 }
 
-/// The same where the predicate is false of all rows but those with one key.
+/// The answer where the predicate is false of all rows but those with one key.
 fn selected_at<L: Look>(
     alloc: Global,
     asked: &Asked<'_>,
@@ -132,7 +132,7 @@ fn selected_at<L: Look>(
     }
 }
 
-/// The rows of a part of the class outside which the predicate is false. None where the predicate asks for no part, or
+/// The rows of the part of the class outside which the predicate is false. `None` if the predicate asks for no part, or
 /// the look doesn't find it.
 fn part_rows<L: Look>(
     alloc: Global,
@@ -155,7 +155,7 @@ fn part_rows<L: Look>(
     }
 }
 
-/// Those of some objects for which a predicate is true, each tested under a name.
+/// Those of the given objects for which a predicate is true, each tested under a name.
 fn selected(
     alloc: Global,
     name: &str,
@@ -174,7 +174,7 @@ fn selected(
     Ok(rows)
 }
 
-/// Whether a predicate is true of a row, which the name means in it.
+/// Whether a predicate is true of a row, which its name means.
 fn is_selected(
     alloc: Global,
     name: &str,

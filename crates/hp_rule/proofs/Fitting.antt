@@ -1,5 +1,5 @@
--- What the crate's types stand for fits: each constant is within its type's bounds, and what is checked is made of classes that
--- there are.
+-- What the crate's types stand for fits: each constant is within its type's bounds, and checked parts use existing
+-- classes.
 use Rattle.std.proofs.Common.{◌≡◌, refl, ℕ, true, List, [], ◌∷◌, length, map, Ok, string_bytes}
 use Rattle.std.proofs.lemmas.Bool.{and_parts, and_from}
 use Rattle.std.specs.List.{list_all}

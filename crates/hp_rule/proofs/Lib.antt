@@ -3,3 +3,5 @@ pub mod Mentioned
 pub mod Bodies
 pub mod WellNamedLemmas
 pub mod Fitting
+pub mod Compared
+pub mod Told

@@ -31,7 +31,7 @@ same_number n = grind (arith, nat_tests)
 other_number : (m n : ℕ) → suc n ≤ m → (n == m) ≡ false
 other_number m n below = grind (arith, nat_tests)
 
--- a number is noted once
+-- adding a number twice adds it once
 noted_twice : (n : ℕ) (ns : List ℕ) → noted n (noted n ns) ≡ noted n ns
 noted_twice n ns = by (is_number n (slice_get ns (length ns - 1))) refl
   where
@@ -67,7 +67,7 @@ noted_from_is test n ns (rule ∷ rules) below =
 pub noted_are : (test : Event → Bool) (rules : List Rule) → noted_from test 0 [] rules ≡ numbers_from test 0 rules
 noted_are test rules = noted_from_is test 0 [] rules (λ m above. refl)
 
--- a map in which a name's list was taken out, noted in and put back
+-- a map in which a name's list was removed, extended and put back
 pub name_noted : (before removed after : BTreeMap (String Global) (Vec ℕ)) (name first second : List ℕ) (list : Vec ℕ) (number : ℕ) → first ≡ name → second ≡ name
     → UpdatesBy string_cmp (λ k. slice_cmp nat_cmp first (string_bytes k)) before removed None
     → UpdatesBy string_cmp (λ k. slice_cmp nat_cmp second (string_bytes k)) removed after (Some list)

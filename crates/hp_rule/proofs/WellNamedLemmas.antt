@@ -1,4 +1,4 @@
--- What is checked is well named.
+-- Checked libraries and bodies are well named.
 use Rattle.std.proofs.Common.{◌≡◌, ℕ, zero, suc, nat_lt, Bool, true, false, not, cond, ◌&&◌, ◌||◌, List, [], ◌∷◌, ◌++◌, length, map, Ok, Err, refl, sym, ap, ◌∙◌, bytes_eq, subst, append_assoc, append-nil}
 use Rattle.std.specs.Prelude.{⊤, codes}
 use Rattle.std.specs.List.{list_all, list_any, IsDistinct, AllByRecursion}
@@ -115,7 +115,7 @@ event_knows classes (suc levels) path (closure_event a t) is =
 
 -- ---- lists
 
--- a test that each item's check makes sure of
+-- a property that each item's check establishes
 each_passes : {A : Type 0} (check : List A → Path → A → Decoded ⊤) (test : A → Bool) → ((before : List A) (path : Path) (x : A) → Passed (check before path x) → test x ≡ true)
     → (path : Path) (before : List A) (i : ℕ) (xs : List A) → Passed (C.each_check check path before i xs) → list_all test xs ≡ true
 each_passes check test sure path before i [] is = refl
@@ -177,7 +177,7 @@ signal_knows : (names : List Name) (path : Path) (x : Name) (arguments : List Ex
 unfolding C.signal_check
 signal_knows names path x arguments is = arguments_know names (item_at path 2) arguments (then_passed (C.name_check (item_at path 1) x) _ is)
 
--- statements whose inner statements are checked by `check`, which makes sure that they know
+-- statements whose inner statements are checked by `check`, which establishes the property
 module _ (scope : C.Scope) (check : C.StatementCheck) (sure : (names : List Name) (path : Path) (s : Statement) → Passed (check names path s) → W.knows_statement scope names s ≡ true) where
   body_knows : (names : List Name) (path : Path) (i : ℕ) (b : Body) → Passed (C.statements_check check names path i b) → W.knows_body scope names b ≡ true
   body_knows names path i empty is = refl
@@ -358,7 +358,7 @@ library_is_well_named library is =
           (λ before path r. rule_knows library.classes (length library.rules) path r) (under_root (codes "rules")) [] 0 library.rules last;
     }
 
--- no class of it has two fields of one name
+-- no class has two fields of one name
 pub library_fields_differ : (library : Library) → Passed (C.library_check library) → AllByRecursion (λ (c : ClassDef). IsDistinct bytes_eq (C.field_names c.fields)) library.classes
 unfolding C.library_check
 library_fields_differ library is =

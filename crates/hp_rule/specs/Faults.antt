@@ -1,4 +1,4 @@
--- What the faults of a check stand for in the model, and what a check's result says.
+-- Faults of checks in the model, and the results of checks.
 use Rattle.std.specs.Prelude.{◌≡◌, ⊤, List, map, codes, Result, Ok, Err}
 use Rattle.hp_model.specs.Values.{Name}
 use Rattle.hp_model.specs.Refusals as M
@@ -50,11 +50,11 @@ abbrev pub Fails : {Y : Type 0} → CheckError → Decoded Y → Type 0
 Fails Memory check = ⊤
 Fails (Fault f) check = check ≡ Err (fault f)
 
--- the result, with its value seen by f, is the check's, unless memory ran out
+-- the result, with its value mapped by f, is the check's, unless memory ran out
 abbrev pub Gives : {X Y : Type 0} → (X → Y) → Result X CheckError → Decoded Y → Type 0
 Gives f (Ok x) check = check ≡ Ok (f x)
 Gives f (Err e) check = Fails e check
 
--- it passes exactly where the check does, and else it has the check's fault
+-- it passes exactly if the check does, and otherwise has the check's fault
 abbrev pub Passes : Result ⊤ CheckError → Decoded ⊤ → Type 0
 Passes done check = Gives (λ u. u) done check

@@ -6,7 +6,7 @@ use Rattle.hp_model.specs.Rules.{Rule}
 use Rattle.hp_rule.specs.Noted.{of_class, of_name, noted_if}
 use Rattle.hp_rule.specs.declared.index.Index.{Index}
 
--- whether the pattern may match: each pattern of moments may match at each moment
+-- whether the pattern may match: any pattern of moments may match at any moment
 abbrev pub may_match : Pattern → Primitive → Bool
 may_match (at_moment t) (moment_reached u) = true
 may_match (every_moment first period) (moment_reached t) = true
@@ -19,7 +19,7 @@ may_mention (or_event a b) p = may_mention a p || may_mention b p
 may_mention (seq_event a b) p = may_mention a p || may_mention b p
 may_mention (closure_event a t) p = may_mention a p || may_mention t p
 
--- the numbers of the rules with such an event, where the first of them is the n-th rule
+-- the numbers of the rules with such an event; the first rule of the list is the n-th
 abbrev pub numbers_from : (Event → Bool) → ℕ → List Rule → List ℕ
 numbers_from test n [] = []
 numbers_from test n (rule ∷ rules) = if test rule.event then n ∷ numbers_from test (suc n) rules else numbers_from test (suc n) rules
@@ -36,7 +36,7 @@ listed index (signalled name arguments) = of_name index.signalled name
 listed index commit_reached = index.commit.items
 listed index (moment_reached t) = index.moments.items
 
--- what is listed once the rules from the n-th on are noted
+-- the list after the rules from the n-th on are added
 abbrev pub noted_from : (Event → Bool) → ℕ → List ℕ → List Rule → List ℕ
 noted_from test n ns [] = ns
 noted_from test n ns (rule ∷ rules) = noted_from test (suc n) (noted_if (test rule.event) n ns) rules

@@ -1,6 +1,7 @@
 pub mod Mentions
 pub mod SameTasks
 pub mod Statements
+pub mod SameStatements
 pub mod Libraries
 pub mod Mapped
 pub mod Noted

@@ -10,6 +10,6 @@ abbrev pub names_step : Names-F (List Name) → List Name
 names_step (Names-F.Queries qs) = query_names (map query qs.now)
 names_step (Names-F.Bound newest outer) = newest.now ∷ outer.now
 
--- the names, the newest first
+-- the names, the innermost first
 abbrev pub names_in : Names → List Name
 names_in = fold-Names (List Name) names_step

@@ -1,4 +1,4 @@
--- Lists of rule numbers: a number is noted once, at the end.
+-- Lists of rule numbers without duplicates.
 use Rattle.std.specs.Prelude.{ℕ, ◌-◌, ◌==◌, Bool, false, List, [], ◌∷◌, ◌++◌, length, Option, Some, None, slice_get, if◌then◌else◌, String}
 use Rattle.std.specs.Global.{Vec}
 use Rattle.std.specs.Option.{option_map_or}
@@ -10,7 +10,7 @@ abbrev pub is_number : ℕ → Option ℕ → Bool
 is_number n None = false
 is_number n (Some m) = m == n
 
--- the list with a number at its end, if it is not there already
+-- the list with a number at its end, unless it is the last already
 abbrev pub noted : ℕ → List ℕ → List ℕ
 noted n ns = if is_number n (slice_get ns (length ns - 1)) then ns else ns ++ n ∷ []
 

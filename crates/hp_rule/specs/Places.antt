@@ -1,4 +1,4 @@
--- The steps to a place.
+-- The path to a position.
 use Rattle.std.specs.Prelude.{[], ◌∷◌, ◌++◌}
 use Rattle.hp_model.specs.Refusals.{Path, to_member, to_item}
 use Rattle.hp_rule.specs.declared.check.place.Place.{Place, fold-Place}

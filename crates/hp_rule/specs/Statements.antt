@@ -31,12 +31,12 @@ abbrev mutual
   statement (OnRule op n) = R.on_rule (rule_operation op) n
   statement (Fire n) = R.fire n
 
-  -- statements as they lie inside a statement
+  -- a body as it is stored in a statement
   pub row_body : {m : _} → Row_of-Stmt m → R.Body
   row_body end_of-Stmt = R.empty
   row_body (more_of-Stmt s rest) = R.◌then◌ (statement s) (row_body rest)
 
--- statements, one after the other
+-- statements, one after another
 abbrev pub body_in : List Stmt → R.Body
 body_in [] = R.empty
 body_in (s ∷ ss) = R.◌then◌ (statement s) (body_in ss)

@@ -1,4 +1,4 @@
--- What it means that each name in a library or a body means something: the words for what a check makes sure.
+-- What it means that each name in a library or a body is defined: the property that a check establishes.
 use Rattle.std.specs.Prelude.{ℕ, nat_lt, Bool, true, IsTrue, ◌&&◌, List, [], ◌∷◌, ◌++◌, length, bytes_eq}
 use Rattle.std.specs.List.{list_all, IsDistinct}
 use Rattle.hp_model.specs.Values.{Name, ClassDef}
@@ -19,7 +19,7 @@ knows_expression names (field_of x f) = is_known names x
 knows_expression names (key_of x) = is_known names x
 knows_expression names e = true
 
--- each class that the event is about is one of so many
+-- the class of the pattern is one of this number of classes
 abbrev pub knows_pattern : (classes : ℕ) → Pattern → Bool
 knows_pattern classes (on_create c) = nat_lt c classes
 knows_pattern classes (on_update c) = nat_lt c classes
@@ -38,12 +38,13 @@ knows_class scope class = nat_lt class (length scope.classes)
 abbrev pub knows_assignment : List Name → List Name → Assignment → Bool
 knows_assignment fields names a = is_known fields a.field && knows_expression names a.value
 
--- a row of the class is set by these pairs, under its key
+-- these assignments set a row of the class, under its key
 abbrev pub knows_row : Scope → List Name → ℕ → Expression → List Assignment → Bool
 knows_row scope names class key pairs =
     knows_class scope class && (knows_expression names key && list_all (λ a. knows_assignment (field_names (fields_of scope class)) names a) pairs)
 
--- each class, rule, field, row and query that the statement names is one of those in scope, and a veto stands in an action
+-- each class, rule, field, row and query that the statement names is one of those in scope, and a veto stands in an
+-- action
 abbrev mutual
   pub knows_statement : Scope → List Name → Statement → Bool
   knows_statement scope names (create class key pairs) = knows_row scope names class key pairs
@@ -65,23 +66,23 @@ abbrev mutual
   knows_body scope names empty = true
   knows_body scope names (s then rest) = knows_statement scope names s && knows_body scope names rest
 
--- a query's predicate names its own row, and the rows of those before it
+-- a query's predicate names its own row and the rows of earlier queries
 abbrev pub knows_queries : (classes : ℕ) → (before queries : List Query) → Bool
 knows_queries classes before [] = true
 knows_queries classes before (q ∷ qs) =
     nat_lt q.class classes && (knows_expression (q.name ∷ query_names before) q.predicate && knows_queries classes (before ++ q ∷ []) qs)
 
--- a rule whose event, condition and action name what there is
+-- the event, the condition and the action of a rule name what exists
 abbrev pub knows_rule : List ClassDef → (rules : ℕ) → Rule → Bool
 knows_rule classes rules r =
     knows_event (length classes) r.event && (knows_queries (length classes) [] r.condition && knows_body (action_scope classes rules r.condition) (query_names r.condition) r.action)
 
--- the classes have distinct names, and so have the rules, and each rule names what there is
+-- the classes have distinct names, and so have the rules, and each rule names what exists
 pub record IsWellNamed (library : Library) : Type 0 where
   pub classes_differ : IsDistinct bytes_eq (class_names library.classes)
   pub rules_differ : IsDistinct bytes_eq (rule_names library.rules)
   pub rules_know : IsTrue (list_all (λ r. knows_rule library.classes (length library.rules) r) library.rules)
 
--- the body of a script names what there is
+-- the body of a script names what exists
 abbrev pub IsWellNamedBody : Library → Body → Type 0
 IsWellNamedBody library body = IsTrue (knows_body (script_scope library) [] body)

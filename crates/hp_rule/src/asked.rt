@@ -6,7 +6,7 @@ use hp_query::{Query, asked_field};
 use hp_value::ClassNo;
 use std::alloc::{AllocError, Global};
 
-/// A field by whose values a query finds the rows of a class.
+/// A field of a class by which a query finds rows.
 #[derive(Debug, PartialEq, Eq, Drop)]
 pub struct AskedField {
     /// The class.
@@ -15,9 +15,7 @@ pub struct AskedField {
     pub field: String,
 }
 
-/// The fields that the conditions and the actions of some rules ask for, each once.
-///
-/// An error means that memory ran out.
+/// The fields that the conditions and the actions of these rules ask for, without duplicates.
 pub(crate) fn asked_fields(alloc: Global, rules: &[Rule]) -> Result<Vec<AskedField>, AllocError> {
     let mut asked = Vec::new(alloc);
     for rule in rules {
@@ -27,7 +25,7 @@ pub(crate) fn asked_fields(alloc: Global, rules: &[Rule]) -> Result<Vec<AskedFie
     Ok(asked)
 }
 
-// Notes the fields that the queries of a condition ask for.
+// Adds the fields that the queries of a condition ask for.
 fn note_condition(
     alloc: Global,
     queries: &[Query],
@@ -41,7 +39,7 @@ fn note_condition(
     Ok(())
 }
 
-// Notes the fields that the statements of a body ask for.
+// Adds the fields that the statements of a body ask for.
 #[cycle(statement)]
 fn note_body(alloc: Global, body: &[Stmt], asked: &mut Vec<AskedField>) -> Result<(), AllocError> {
     for statement in body {
@@ -50,7 +48,7 @@ fn note_body(alloc: Global, body: &[Stmt], asked: &mut Vec<AskedField>) -> Resul
     Ok(())
 }
 
-// Notes the fields that a statement and those in it ask for.
+// Adds the fields that a statement and the statements in it ask for.
 #[cycle(statement)]
 fn note_statement(
     alloc: Global,
@@ -86,7 +84,7 @@ fn note_statement(
     }
 }
 
-// Notes a field of a class, if it isn't there yet.
+// Adds a field of a class, if it isn't in the list.
 fn note(
     alloc: Global,
     class: ClassNo,

@@ -1,4 +1,4 @@
-//! Bodies of scripts, with the library that they are checked against.
+//! Bodies of a script's transactions, with the library against which they are checked.
 
 ghost use Rattle.std.specs.Prelude.{◌≡◌, Ok, []};
 ghost use Rattle.hp_rule.specs.Statements.{body_in};
@@ -16,7 +16,7 @@ use crate::stmt::Stmt;
 use std::alloc::{AllocError, Global};
 use std::sync::Arc;
 
-/// A body of a script's transaction, with the library against which it is checked.
+/// A body of a script's transaction, checked against its library.
 #[derive(Debug, Drop)]
 pub struct Body {
     library: Arc<Library>,
@@ -34,8 +34,8 @@ impl Library {
 
     /// The body of these statements, if it is well formed with the library.
     ///
-    /// Else the error is the first fault, depth first and from left to right, by its path from the body. `Memory` means
-    /// that memory ran out, or that std refused a copy of an `Arc`.
+    /// Otherwise the error is the first fault, depth first and from left to right, by its path in the body. `Memory`
+    /// means that memory ran out, or that an `Arc` could not be cloned.
     pub fn body(
         shared: &Arc<Library>,
         alloc: Global,
@@ -67,10 +67,10 @@ impl Body {
     ghost use Rattle.hp_rule.specs.WellNamed.{IsWellNamedBody};
     ghost use Rattle.hp_rule.specs.Mapped.{body};
 
-    /// The body of statements that are known to be well formed with the library. It is for a reader that checks what it
+    /// The body of statements that are known to be well formed with the library, for a reader that checks while it
     /// reads.
     ///
-    /// An error means that std refused a copy of an `Arc`.
+    /// An error means that an `Arc` could not be cloned.
     pub fn of_checked(shared: &Arc<Library>, statements: Vec<Stmt>) -> Result<Body, AllocError>
         requires { script_body_check (libraries.library shared.now.value) [] (body_in statements.items) ≡ Ok tt }
         ensures well_named { IfOk result (λ b. IsWellNamedBody (libraries.library shared.now.value) (body b)) }

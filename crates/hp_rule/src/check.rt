@@ -1,6 +1,6 @@
-//! The checks of typed libraries and bodies.
+//! The checks of libraries and bodies.
 //!
-//! Each check has the shape of its definition in `hp_model`, and passes or fails exactly as that does.
+//! Each check follows its definition in `hp_model`: it passes exactly if that does, and else has the same fault.
 
 pub(crate) mod classes;
 pub(crate) mod context;

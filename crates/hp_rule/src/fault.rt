@@ -1,8 +1,8 @@
-//! Why a library or a body is not well formed.
+//! Why a library or a body isn't well formed.
 
 use std::alloc::{AllocError, AllocFailed};
 
-/// A member of a script's root in which a library stands.
+/// The member of a script's root in which a library's part stands.
 #[derive(Clone, Copy, Debug, PartialEq, Eq)]
 pub enum Member {
     /// The classes.
@@ -16,12 +16,12 @@ pub enum Member {
 pub enum PathStep {
     /// To a member of the root.
     Member(Member),
-    /// To an item of a list by its position, from 0 on. The parts of a form stand where the script's form has them: an
-    /// operand of an expression, for one, from 1 on.
+    /// To an item of a list by its index, from 0. The indices are those of the script's JSON: the first operand of an
+    /// expression, for example, has index 1.
     Item(usize),
 }
 
-/// What is limited.
+/// A limit of the script language.
 #[derive(Clone, Copy, Debug, PartialEq, Eq)]
 pub enum Limit {
     /// 64 classes.
@@ -38,21 +38,21 @@ pub enum Limit {
     Nesting,
     /// 1,024 bytes of a text.
     Text,
-    /// How deep firings go: 1 to 16.
+    /// The depth of firings: 1 to 16.
     Depth,
     /// 32 arguments of a signal.
     Arguments,
 }
 
-/// Why a library or a body is not well formed. A path leads to the fault from the root of a library's script, or from the
-/// body itself. That these are faults, and their order, is this project's own choice.
+/// Why a library or a body isn't well formed. A path leads to the fault, from the root of the script or from the body.
+/// These faults and their order are this project's own choice.
 #[derive(Debug, PartialEq, Eq, Drop)]
 pub enum CheckFault {
-    /// S2: a name is not a name's text, a period is 0, or a veto stands outside an action.
+    /// S2: a name isn't spelled as a name, a period is 0, or a veto stands outside an action.
     Shape(Vec<PathStep>),
-    /// S4: a name or the number of a class or a rule is unknown, a name is doubled or not new, or fields are missing.
+    /// S4: a name or a number of a class or rule is unknown, a name is duplicated or not new, or fields are missing.
     Name(Vec<PathStep>),
-    /// S5: there is more than the limit allows.
+    /// S5: a limit is exceeded.
     Limit(Limit),
 }
 
@@ -61,7 +61,7 @@ pub enum CheckFault {
 pub enum CheckError {
     /// What was checked is not well formed.
     Fault(CheckFault),
-    /// Memory ran out, so that nothing is known.
+    /// Memory ran out: the check didn't finish.
     Memory,
 }
 

@@ -1,4 +1,4 @@
-//! Which rules an occurrence may concern, found without looking at each rule.
+//! The index of a library: which rules an occurrence may concern, without looking at each rule.
 
 use crate::note::{note, note_class, note_name, of_class, of_name, rule_number};
 use crate::rule::Rule;
@@ -8,7 +8,7 @@ use hp_value::{ClassNo, Prim, RuleNo};
 use std::alloc::{AllocError, Global};
 use std::collections::BTreeMap;
 
-/// The rules by what their events' patterns are about, each list in rule order and without repetitions.
+/// The rules by the subjects of their events' patterns, each list in rule order and without duplicates.
 #[derive(Debug, Drop)]
 pub(crate) struct Index {
     created: BTreeMap<ClassNo, Vec<RuleNo>>,
@@ -16,7 +16,7 @@ pub(crate) struct Index {
     deleted: BTreeMap<ClassNo, Vec<RuleNo>>,
     signalled: BTreeMap<String, Vec<RuleNo>>,
     commit: Vec<RuleNo>,
-    // The rules with a pattern of moments, whichever.
+    // The rules with a pattern of moments, whatever the moments are.
     moments: Vec<RuleNo>,
 }
 
@@ -58,7 +58,7 @@ impl Index {
         }
     }
 
-    /// Notes that a rule's event has a pattern.
+    /// Adds a rule to the list of a pattern of its event.
     fn add_pattern(
         &mut self,
         alloc: Global,
@@ -77,7 +77,7 @@ impl Index {
         }
     }
 
-    /// Notes what a rule's event has.
+    /// Adds a rule to the lists of all patterns of its event.
     fn add_event(
         &mut self,
         alloc: Global,
@@ -98,7 +98,7 @@ impl Index {
 
     /// The index of some rules.
     ///
-    /// An error means that memory ran out, or that there are more rules than there are rule numbers.
+    /// An error means that memory ran out, or that there are more rules than rule numbers.
     pub(crate) fn of(alloc: Global, rules: &[Rule]) -> Result<Index, AllocError>
         ensures { IfOk result (λ index. (p : Primitive) → listed index p ≡ candidates (map rule rules.now) p) }
     {

@@ -1,6 +1,6 @@
 //! Rules, statements, and the library that names them.
 //!
-//! `specs/Mapped.antt` says what each type stands for in `hp_model`.
+//! `specs/Mapped.antt` says what each type stands for in `hp_model`. `AllocError` means that memory ran out.
 #![tactic(auto)]
 
 mod asked;

@@ -14,18 +14,25 @@ use crate::rule::Rule;
 use hp_value::{ClassDef, ClassNo, Prim, RuleNo};
 use std::alloc::{AllocError, Global};
 
-/// The classes and the rules of a script, which are named by their places, from 0 on, and how deep firings go.
+/// The classes and the rules of a script, named by their indices from 0, and the depth limit of firings.
 ///
-/// A library is checked: each name, number, event, expression and statement in it is as the grammar of scripts wants it,
-/// and nothing exceeds a limit.
+/// A library is checked: all its names, numbers, events, expressions and statements follow the grammar of scripts, and
+/// no limit is exceeded.
+///
+/// Two are equal if they have the same classes and the same rules in the same order, and the same limit of depth.
 #[derive(Debug, Drop)]
+#[derive_where(PartialEq, Eq)]
 pub struct Library {
     classes: Vec<ClassDef>,
     rules: Vec<Rule>,
     depth_limit: u8,
+    // The rules give it, so it isn't compared.
+    #[derive_where(skip(EqHashOrd))]
     index: Index,
+    // The rules give them too.
+    #[derive_where(skip(EqHashOrd))]
     asked_fields: Vec<AskedField>,
-    // What the index lists is what may concern an occurrence.
+    // The index lists the rules that an occurrence may concern.
     ghost indexed: { (p : Primitive) → listed index p ≡ candidates (map rule rules.items) p },
     // The library is well formed.
     pub ghost checked: { library_check (library_of classes.items rules.items depth_limit) ≡ Ok tt },
@@ -41,10 +48,10 @@ impl Library {
     ghost use Rattle.hp_rule.specs.Mentions.{mentioning, is_mentioned};
     ghost use Rattle.hp_rule.specs.WellNamed.{IsWellNamed};
 
-    /// The library of these classes and rules, whose firings go at most this deep, if it is well formed.
+    /// The library of these classes and rules with this depth limit, if it is well formed.
     ///
-    /// Else the error is the first fault, in the order in which a script is checked: the limit of depth, the classes, the
-    /// names of the rules, and then the other parts of each rule. `Memory` means that memory ran out.
+    /// Otherwise the error is the first fault, in this order: the depth limit, the classes, the names of the rules, and
+    /// then the other parts of each rule. `Memory` means that memory ran out.
     pub fn check(
         alloc: Global,
         classes: Vec<ClassDef>,
@@ -58,9 +65,7 @@ impl Library {
         Ok(Library::of_checked(alloc, classes, rules, depth_limit)?)
     }
 
-    /// The library of classes and rules that are known to be well formed. It is for a reader that checks what it reads.
-    ///
-    /// An error means that memory ran out.
+    /// The library of classes and rules that are known to be well formed, for a reader that checks while it reads.
     pub fn of_checked(
         alloc: Global,
         classes: Vec<ClassDef>,
@@ -96,28 +101,29 @@ impl Library {
         &self.rules
     }
 
-    /// The fields by which the rules' queries find rows, each once: those of conditions, and of statements `each` in
-    /// actions. With an index of such a field a query costs what it finds. What the bodies of transactions ask for isn't
-    /// among them, since the library doesn't know them. No answer depends on it.
+    /// The fields by which the rules' queries find rows, without duplicates: those of conditions, and of `each`
+    /// statements in actions. With an index of such a field a query costs what it finds. The list lacks the fields that
+    /// the bodies of transactions ask for, since the library doesn't know them. No answer depends on it.
     pub fn asked_fields(&self) -> &[AskedField] {
         &self.asked_fields
     }
 
-    /// How deep firings go, at most: a firing caused by a firing of this depth doesn't take place.
+    /// The depth limit: the largest depth of a firing. Where a firing of this depth would cause another one, the cause
+    /// is `Depth`.
     pub fn depth_limit(&self) -> u8
         ensures { result ≡ (library self.now).depth_limit }
     {
         self.depth_limit
     }
 
-    /// The class of a number; none where the library has no such class.
+    /// The class of this number, or `None` if the library has no such class.
     pub fn class(&self, number: ClassNo) -> Option<&ClassDef>
         ensures { option_map (λ c. class_def c.now) result ≡ slice_get (library self.now).classes number }
     {
         self.classes.get(number as usize)
     }
 
-    /// The rule of a number; none where the library has no such rule.
+    /// The rule of this number, or `None` if the library has no such rule.
     pub fn rule(&self, number: RuleNo) -> Option<&Rule>
         ensures rule { option_map (λ r. rule r.now) result ≡ slice_get (library self.now).rules number }
         ensures item { option_copied result ≡ slice_get self.now.rules.items number }
@@ -125,10 +131,8 @@ impl Library {
         self.rules.get(number as usize)
     }
 
-    /// The rules whose event has a pattern that matches, in rule order. Only the rules that the index lists for such an
-    /// occurrence are looked at.
-    ///
-    /// An error means that memory ran out.
+    /// The rules whose event has a pattern that matches, in rule order. Only the rules that the index lists for the
+    /// occurrence are tested.
     pub fn mentions(&self, alloc: Global, prim: &Prim) -> Result<Vec<RuleNo>, AllocError>
         ensures { IfOk result (λ ns. ns.items ≡ mentioning (library self.now) (primitive prim.now)) }
     {
@@ -142,19 +146,16 @@ impl Library {
         Ok(numbers)
     }
 
-    /// The rules that the index lists for such an occurrence, in rule order. Those for which `is_mentioned` is true are
-    /// the ones that `mentions` gives.
-    ///
-    /// It takes no memory.
+    /// The rules that the index lists for the occurrence, in rule order. `mentions` gives those of them for which
+    /// `is_mentioned` is true. It allocates nothing.
     pub fn listed(&self, prim: &Prim) -> &[RuleNo]
         ensures { filter (is_mentioned (library self.now).rules (primitive prim.now)) result.now ≡ mentioning (library self.now) (primitive prim.now) }
     {
         self.index.listed(prim)
     }
 
-    /// Whether the event of the rule of a number has a pattern that matches. Where the library has no such rule it has none.
-    ///
-    /// It takes no memory.
+    /// Whether the event of the rule of this number has a pattern that matches. A rule that the library lacks has none.
+    /// It allocates nothing.
     pub fn is_mentioned(&self, number: RuleNo, prim: &Prim) -> bool
         ensures { result ≡ is_mentioned (library self.now).rules (primitive prim.now) number }
     {

@@ -1,4 +1,4 @@
-//! Lists of rule numbers in the maps of an index.
+//! The lists of rule numbers in an index.
 
 ghost use Rattle.std.specs.Prelude.{◌≡◌, ℕ, List, ◌==◌, OnOk, IfOk, string_bytes, bytes_eq};
 ghost use Rattle.hp_rule.specs.Noted.{of_class, of_name, noted, noted_if};
@@ -7,7 +7,7 @@ use hp_value::{ClassNo, RuleNo};
 use std::alloc::{AllocError, Global};
 use std::collections::BTreeMap;
 
-/// The rules that are listed for a class.
+/// The rules listed for a class.
 pub(crate) fn of_class(map: &BTreeMap<ClassNo, Vec<RuleNo>>, class: ClassNo) -> &[RuleNo]
     ensures { result.now ≡ of_class map.now class }
 {
@@ -17,7 +17,7 @@ pub(crate) fn of_class(map: &BTreeMap<ClassNo, Vec<RuleNo>>, class: ClassNo) -> 
     }
 }
 
-/// The rules that are listed for a signal's name.
+/// The rules listed for a signal's name.
 pub(crate) fn of_name<'a>(map: &'a BTreeMap<String, Vec<RuleNo>>, name: &str) -> &'a [RuleNo]
     ensures { result.now ≡ of_name map.entry.now name.now }
 {
@@ -27,7 +27,7 @@ pub(crate) fn of_name<'a>(map: &'a BTreeMap<String, Vec<RuleNo>>, name: &str) ->
     }
 }
 
-/// Puts a rule's number at the end of a list, if it is not there already.
+/// Appends a rule's number to a list, unless it is already the last one.
 pub(crate) fn note(numbers: &mut Vec<RuleNo>, number: RuleNo) -> Result<(), AllocError>
     ensures { OnOk result (numbers.new.items ≡ noted number numbers.old.items) }
 {
@@ -38,7 +38,7 @@ pub(crate) fn note(numbers: &mut Vec<RuleNo>, number: RuleNo) -> Result<(), Allo
     Ok(())
 }
 
-/// Notes a rule's number in the list of a class.
+/// Adds a rule's number to the list of a class.
 pub(crate) fn note_class(
     alloc: Global,
     map: &mut BTreeMap<ClassNo, Vec<RuleNo>>,
@@ -53,7 +53,7 @@ pub(crate) fn note_class(
     Ok(())
 }
 
-/// Notes a rule's number in the list of a signal's name.
+/// Adds a rule's number to the list of a signal's name.
 pub(crate) fn note_name(
     alloc: Global,
     map: &mut BTreeMap<String, Vec<RuleNo>>,
@@ -68,7 +68,7 @@ pub(crate) fn note_name(
     Ok(())
 }
 
-/// The number of the rule at a place.
+/// The number of the rule at an index.
 pub(crate) fn rule_number(place: usize) -> Result<RuleNo, AllocError>
     ensures { IfOk result (λ n. n ≡ place) }
 {

@@ -6,20 +6,20 @@ use hp_query::Query;
 use hp_value::Coupling;
 use std::sync::Arc;
 
-/// A rule: where its event occurs its condition is evaluated, and where that is satisfied its action runs.
+/// A rule: when its event occurs, its condition is evaluated, and if that is satisfied, its action runs.
 ///
 /// HiPAC's rules have an event, a condition, an action and two coupling modes.
-#[derive(Debug, Drop)]
+#[derive(Debug, PartialEq, Eq, Drop)]
 pub struct Rule {
     /// The rule's name.
     pub name: String,
     /// The event that triggers it. The rule's detector shares it.
     pub event: Arc<EventExpr>,
-    /// When and in which transaction the condition is evaluated, seen from the event.
+    /// The coupling mode of the condition, relative to the event.
     pub ec: Coupling,
-    /// The condition: it is satisfied where each query has a non-empty answer.
+    /// The condition: it is satisfied if each query has a non-empty answer.
     pub condition: Vec<Query>,
-    /// When and in which transaction the action runs, seen from the condition.
+    /// The coupling mode of the action, relative to the condition.
     pub ca: Coupling,
     /// The action's statements, in order.
     pub action: Vec<Stmt>,

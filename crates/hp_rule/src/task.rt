@@ -9,7 +9,7 @@ use hp_value::{Answer, Coupling, Occurrence, RuleNo};
 use std::alloc::AllocError;
 use std::sync::Arc;
 
-/// Which part of a rule is to run.
+/// The part of a rule that a task runs.
 #[derive(Debug, Drop)]
 pub enum Step {
     /// The condition.
@@ -18,17 +18,17 @@ pub enum Step {
     Action(Arc<Vec<Answer>>),
 }
 
-/// A rule's condition or action that is to run. A clone shares all that is large.
+/// A condition or an action of a rule that is to run. A clone shares the occurrence and the answers.
 #[derive(Debug, Drop)]
 pub struct Task {
     /// The rule.
     pub rule: RuleNo,
-    /// Which part of it runs.
+    /// The part that runs.
     pub step: Step,
-    /// The mode by which the task was made: it says in which transaction the task runs.
+    /// The coupling mode that placed the task. It determines the transaction in which the task runs.
     pub place: Coupling,
-    /// How many firings the task stands below the body of a script or a moment, where each is caused by the one above
-    /// it. It is at most the library's limit.
+    /// The number of firings from the body of a script or a moment down to the task, each triggered by the one above
+    /// it. It is at most the library's depth limit.
     pub depth: u8,
     /// The occurrence of the rule's event. A condition and its later action share it.
     pub occurrence: Arc<Occurrence>,
@@ -39,7 +39,7 @@ pub struct Task {
 pub struct Detached {
     /// The task.
     pub task: Task,
-    /// Whether a transaction round it has aborted since: without that an exclusive task doesn't run.
+    /// Whether a transaction around it has aborted since. An exclusive task runs only if one has.
     pub released: bool,
 }
 
@@ -62,7 +62,7 @@ impl PartialEq for Step {
     }
 }
 
-/// Whether kept answers are the same.
+/// Whether kept answers are equal.
 fn are_same(answers: &Arc<Vec<Answer>>, others: &Arc<Vec<Answer>>) -> bool
     ensures { result ≡ pointwise answer_same (mapped.answers answers.now.value.items) (mapped.answers others.now.value.items) }
 {
@@ -81,10 +81,7 @@ impl PartialEq for Task {
 
     ghost laws = { partial_equiv_from_equiv (on_equiv task task_equiv) };
 
-    /// Whether two tasks are the same: the same part of the same rule, at the same place and depth, for the same
-    /// occurrence and with the same kept answers.
-    ///
-    /// It takes no memory.
+    /// Whether two tasks are equal. It allocates nothing.
     fn eq(&self, other: &Task) -> bool {
         self.rule == other.rule
             && self.step == other.step
@@ -94,7 +91,7 @@ impl PartialEq for Task {
     }
 }
 
-/// Whether occurrences are the same.
+/// Whether occurrences are equal.
 fn is_same(occurrence: &Arc<Occurrence>, other: &Arc<Occurrence>) -> bool
     ensures { result ≡ occurrence_same (mapped.occurrence occurrence.now.value) (mapped.occurrence other.now.value) }
 {
@@ -109,9 +106,9 @@ impl Clone for Task {
 
     ghost is_clone = { λ t u. task u ≡ task t };
 
-    /// The same task. Its occurrence and its answers are shared.
+    /// A clone, which shares the occurrence and the answers.
     ///
-    /// An error means that std refused a copy of an `Arc`.
+    /// An error means that an `Arc` could not be cloned.
     fn clone(&self) -> Result<Task, AllocError> {
         let step = match &self.step {
             Step::Condition => Step::Condition,

@@ -2,7 +2,7 @@
 
 use crate::body::Body;
 
-/// What a script runs as a top-level transaction of its own, with the cascade of what that detaches.
+/// What a script runs as one top-level transaction, with the cascade of what that detaches.
 #[derive(Debug, Drop)]
 pub enum Unit {
     /// A body of the script.

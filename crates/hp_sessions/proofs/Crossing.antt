@@ -1,4 +1,5 @@
--- What a book holds, and what callers bring, may go from thread to thread: what `hp_fire` has of it, and the rest part by part.
+-- What a book holds, and what callers bring, may be sent from thread to thread: by what `hp_fire` proves of it, and the
+-- rest part by part.
 use denote.RattleType.{RattleType}
 use denote.Param.Send.{IsSend, IsSync, sendable}
 use Rattle.std.proofs.Crossing as heap

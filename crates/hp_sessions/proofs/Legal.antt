@@ -1,4 +1,4 @@
--- A history that goes on.
+-- A growing history is legal.
 use Rattle.std.proofs.Common.{◌≡◌, ℕ, ◌+◌, ◌-◌, List, [], ◌∷◌, ◌++◌, length, Some, slice_get, refl, sym, ap, ap₂, ◌∙◌, subst, arith}
 use Rattle.std.proofs.lemmas.List.{map_push}
 use Rattle.hp_model.specs.Rules.{Library}
@@ -23,7 +23,7 @@ use Rattle.hp_sessions.specs.Units.{Made, IsSound}
 use Rattle.hp_sessions.specs.Kept.{LeadsInOrder, IsKept}
 use Rattle.hp_sessions.specs.Books.{Ledger, Told as Receipt, IsLegalBook, IsKeptBook, MayBeCommitted, entry_of, IsCommitted, IsRun, IsReply}
 
--- a history that begins
+-- the empty history
 pub begins : (library : Library) (opening : Cells) → HasFitState library opening → IsKept library opening opening []
 begins library opening fit = record { opened = fit; leads = λ S ordered is. (is, ordered) }
 
@@ -35,7 +35,7 @@ leads_on library S now [] e reads layer h sound held =
 leads_on library S now (x ∷ es) e reads layer h sound held =
     (h.0, leads_on library (run_unit library (transaction x.body) S).state now es e reads layer h.1 sound held)
 
--- one unit more, whose reads hold
+-- one more unit, whose reads hold
 pub commits : (library : Library) (opening now : Cells) (es : List Entry) (e : Entry) (reads : List Read) (layer : Changes)
     → IsKept library opening now es → IsSoundUnit library (transaction e.body) reads layer e.reply → Holds now reads
     → IsKept library opening (over now layer) (es ++ e ∷ [])
@@ -72,7 +72,7 @@ keeps b session u store history kept sound might changed added =
     let more : mapped.history history ≡ mapped.history b.history ++ mapped.entry e ∷ [] = ap mapped.history added ∙ map_push mapped.entry b.history e in
     subst (λ (p : Cells × List Entry). IsKept library (cells_in b.opening) p.0 p.1) (λ i. (sym changed i, sym more i)) goes
 
--- a unit that was committed ran on the store as it was
+-- a unit that was committed ran on the store at that time
 pub ran : (session : ℕ) (u : Made) (before now : Ledger) (r : Receipt) (body : Body) → u.body ≡ body → IsCommitted session u before now r → IsRun session body before now r
 ran session u before now r body same c =
     subst (λ b. IsRun session b before now r) same

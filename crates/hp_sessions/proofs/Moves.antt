@@ -1,4 +1,4 @@
--- Each step keeps what seats know.
+-- Each step keeps what seats know true.
 use Rattle.std.proofs.Common.{◌≡◌, ◌≢◌, ℕ, zero, suc, List, [], ◌∷◌, ◌++◌, set, true, false, true≢false, refl, sym, ap, ◌∙◌, subst, ⊎_elim}
 use mathlib.Core.Option.{some, some-ne-none, some-injective}
 use mathlib.Core.List.{IsPrefix}

@@ -1,4 +1,4 @@
--- What contracts see of a book, its receipts and its sessions.
+-- Books, receipts and sessions in contracts.
 use Rattle.std.specs.Prelude.{◌≡◌, ◌≢◌, ℕ, ◌+◌, ◌-◌, ◌<◌, ◌≤◌, List, [], ◌∷◌, ◌++◌, length, Option, None, Some, slice_get, option_map}
 use Rattle.std.specs.declared.sync.Arc.{Arc}
 use Rattle.std.specs.declared.alloc.Global.{Global}
@@ -29,19 +29,19 @@ pub record Begun : Type 0 where
   pub library : Library
   pub opening : Stack
 
--- what lies under the lock
+-- a book
 pub record Ledger : Type 0 where
   pub library : Library
   pub opening : Stack
   pub store : Stack
   pub history : List Entry
 
--- what a receipt says: its number, and the entry there
+-- a receipt: its number, and the entry there
 pub record Told : Type 0 where
   pub number : ℕ
   pub entry : Option Entry
 
--- a session as contracts see it: its number, and that of its last receipt, or 0
+-- a session: its number, and that of its last receipt, or 0
 pub record Caller : Type 0 where
   pub number : ℕ
   pub last : ℕ
@@ -65,7 +65,7 @@ Stands entries r = (0 < r.number) × (slice_get entries (r.number - 1) ≡ r.ent
 abbrev pub MayCome : Ledger → Body → Type 0
 MayCome b body = (rules.library body.library.value ≡ rules.library b.library) × (length b.history < 100000)
 
--- besides, what the unit read is so
+-- besides, the unit's reads hold
 abbrev pub MayBeCommitted : Ledger → Made → Type 0
 MayBeCommitted b u = MayCome b u.body × Holds (cells_in b.store) u.reads
 
@@ -73,7 +73,8 @@ MayBeCommitted b u = MayCome b u.body × Holds (cells_in b.store) u.reads
 abbrev pub entry_of : ℕ → Made → Entry
 entry_of session u = record { session = session; body = u.body; reply = u.reply }
 
--- the unit stands for its body and was committed: its entry was added to the history and its changes to the store, and the receipt is the entry's
+-- the unit stands for its body and was committed: its entry was added to the history and its changes to the store, and
+-- the receipt is the entry's
 pub record IsCommitted (session : ℕ) (u : Made) (before now : Ledger) (r : Told) : Type 0 where
   pub sound : IsSound u
   pub might : MayBeCommitted before u
@@ -90,26 +91,27 @@ IsRefused b u (Refusal.HistoryFull n) = (rules.library u.body.library.value ≡ 
 IsRefused b u (Refusal.Stale entries cell) = MayCome b u.body × (entries ≡ length b.history) × FirstFailed (cells_in b.store) u.reads cell
 IsRefused b u Refusal.NoMemory = MayCome b u.body
 
--- why a body is refused that is run on the store as it is: never for what a unit read
+-- why a body is refused that runs on the current store: never for what it read
 abbrev pub IsUnable : Ledger → Body → Refusal → Type 0
 IsUnable b body Refusal.OtherLibrary = rules.library body.library.value ≢ rules.library b.library
 IsUnable b body (Refusal.HistoryFull n) = (rules.library body.library.value ≡ rules.library b.library) × (length b.history ≡ 100000) × (n ≡ 100000)
 IsUnable b body (Refusal.Stale entries cell) = ⊥
 IsUnable b body Refusal.NoMemory = MayCome b body
 
--- a refusal that isn't for what a unit read
+-- a refusal whose reason isn't a read of the unit
 abbrev pub IsNotStale : Refusal → Type 0
 IsNotStale Refusal.OtherLibrary = Unit {0}
 IsNotStale (Refusal.HistoryFull n) = Unit {0}
 IsNotStale (Refusal.Stale entries cell) = ⊥
 IsNotStale Refusal.NoMemory = Unit {0}
 
--- what a session that was told of the number last holds of this table
+-- what a session with this last number knows of this table
 abbrev pub IsMemory : TableId → ℕ → Option (Seat Entry View) → Type 0
 IsMemory table last None = last ≡ 0
 IsMemory table last (Some t) = (t.table_id ≡ table) × (t.me.1 ≡ []) × (last ≤ length t.me.0.list)
 
--- the body was run as a unit on the store as it was, and committed: its entry was added to the history, and the receipt is the entry's
+-- the body ran as a unit on the current store, and was committed: its entry was added to the history, and the receipt
+-- is the entry's
 pub record IsRun (session : ℕ) (body : Body) (before now : Ledger) (r : Told) : Type 0 where
   pub might : MayCome before body
   pub library : now.library ≡ before.library
@@ -119,7 +121,7 @@ pub record IsRun (session : ℕ) (body : Body) (before now : Ledger) (r : Told) 
   pub history : now.history ≡ before.history ++ record { session = session; body = body; reply = reply } ∷ []
   pub receipt : r ≡ record { number = length before.history + 1; entry = Some (record { session = session; body = body; reply = reply }) }
 
--- this is what is reported of the entry
+-- this is the report of the entry
 abbrev pub IsReply : Arc UnitReport Global → Option Entry → Type 0
 IsReply reply None = ⊥
 IsReply reply (Some e) = reply.value ≡ e.reply.value

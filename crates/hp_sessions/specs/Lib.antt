@@ -1,4 +1,3 @@
-pub mod Same
 pub mod Units
 pub mod Mapped
 pub mod Telling

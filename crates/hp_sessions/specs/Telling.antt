@@ -1,4 +1,4 @@
--- One list that grows, and what seats know of it.
+-- A growing list, and what seats know of it.
 use Rattle.std.specs.Prelude.{◌≡◌, ℕ, List, [], ◌∷◌, ◌++◌, Bool, true, false}
 use mathlib.Core.Option as maybe
 use mathlib.Core.List.{IsPrefix}
@@ -24,17 +24,17 @@ told_of list = view false list []
 abbrev pub shown : View → View → View
 shown v w = view v.keeps v.list w.list
 
--- where the seat that keeps is this one, and the history is log
+-- what is true of a view where this seat keeps the history, which is log
 pub record Fits (seat : ℕ) (log : List Entry) (by : ℕ) (v : View) : Type 0 where
   pub book : v.keeps ≡ true → (by ≡ seat) × (v.list ≡ log)
   pub told : IsPrefix v.list log
   pub shows : IsPrefix v.shown log
 
--- one view at most keeps the history, and each other list is a beginning of it
+-- at most one view keeps the history, and the lists of all others are prefixes of it
 abbrev pub Kept : List View → Type 0
 Kept views = (seat : ℕ) × (log : List Entry) × ((by : ℕ) (v : View) → get_elem? views by ≡ maybe.some v → Fits seat log by v)
 
--- the entry that was said is at the end of the list now
+-- the given entry is the last of the list
 abbrev pub AppendedOf : maybe.Option Entry → Me Entry View → Me Entry View → Type 0
 AppendedOf maybe.none me now = Unit {0}
 AppendedOf (maybe.some e) me now = now ≡ (view me.0.keeps (me.0.list ++ e ∷ []) [], me.1)
@@ -42,6 +42,6 @@ AppendedOf (maybe.some e) me now = now ≡ (view me.0.keeps (me.0.list ++ e ∷ 
 abbrev pub Appended : maybe.Option Entry → Me Entry View → Me Entry View → Type 0
 Appended = AppendedOf
 
--- what the seat was shown is a beginning of its list
+-- the list that the seat was shown is a prefix of its own
 abbrev pub Compared : Me Entry View → Me Entry View → Type 0
 Compared me now = (now ≡ (view me.0.keeps me.0.list [], me.1)) × (me.0.keeps ≡ true → IsPrefix me.0.shown me.0.list)

@@ -1,4 +1,4 @@
--- What a unit is to a contract, and what it stands for.
+-- Units in contracts, and what they stand for.
 use Rattle.std.specs.Prelude.{List}
 use Rattle.std.specs.declared.sync.Arc.{Arc}
 use Rattle.std.specs.declared.alloc.Global.{Global}
@@ -11,14 +11,15 @@ use Rattle.hp_tree.specs.declared.report.UnitReport.{UnitReport}
 use Rattle.hp_tree.specs.Mapped.{unit_report}
 use Rattle.hp_top.specs.Units.{IsSoundUnit}
 
--- a body that was run: what it read, what it writes, and what is reported of it
+-- a body that ran: what it read, what it writes, and its report
 pub record Made : Type 0 where
   pub body : Body
   pub reads : List Read
   pub layer : Entries
   pub reply : Arc UnitReport Global
 
--- on every ordered state where the reads hold, the body as a unit is reported so, and leaves that state overwritten by the layer
+-- on each ordered state in which the reads hold, the body as a unit has this report, and leaves the state overwritten
+-- by the layer
 abbrev pub StandsFor : Body → List Read → Entries → Arc UnitReport Global → Type 0
 StandsFor body reads layer reply =
     IsSoundUnit (rules.library body.library.value) (transaction (rules.body body)) reads (changes layer) (unit_report reply.value)

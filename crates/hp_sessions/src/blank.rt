@@ -41,9 +41,9 @@ impl Model for Blank {
 }
 
 impl Blank {
-    /// The book, under its name. It goes under a lock, for its sessions.
+    /// The book, under its name. A caller puts it behind a lock, for its sessions.
     ///
-    /// The name is a type parameter of the function that calls this, which is called with `Brand`.
+    /// The name is a type parameter of the calling function, which is itself called with `Brand`.
     pub fn open<K: BookName>(self, alloc: Global) -> Book<K>
         requires { self.table ≡ K.table }
         ensures { result ≡ record { library = self.library; opening = self.opening; store = self.opening; history = [] } }

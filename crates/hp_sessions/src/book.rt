@@ -1,6 +1,6 @@
-//! The book: what lies under the lock.
+//! The book, which the lock protects.
 
-ghost use Rattle.std.specs.Prelude.{◌≡◌, ◌<◌, ◌≤◌, length, vec_len, vec_capacity, IfOk, IfErr, IfSome, IfNone, OnErr};
+ghost use Rattle.std.specs.Prelude.{◌≡◌, ◌↔◌, IsTrue, ◌<◌, ◌≤◌, length, vec_len, vec_capacity, IfOk, IfErr, IfSome, IfNone, OnErr};
 ghost use mathlib.Core.List.{IsPrefix};
 ghost use Rattle.hp_model.specs.Cells.{Holds, over};
 ghost use Rattle.hp_model.specs.Sessions.{HasFitState};
@@ -16,7 +16,6 @@ use crate::history::History;
 use crate::name::BookName;
 use crate::receipt::Receipt;
 use crate::refusal::Refusal;
-use crate::same::are_same;
 use crate::telling::{Token, Words, append, recall, tell};
 use crate::unit::Unit;
 use hp_rule::{Body, Library};
@@ -28,14 +27,14 @@ use std::marker::{Brand, Model, PhantomData};
 use std::sync::Arc;
 use std::thread::Threads;
 
-/// The most units of a history.
+/// The most units in a history.
 pub const MOST_UNITS: usize = 100_000;
 
-/// What lies under the lock: a library, the store as it is, and the history that led to it from the opening cells.
+/// A library, the current store, and the history that led to it from the opening cells.
 ///
-/// Whenever the book's lock is free the history is legal: there is a fit state with the opening cells, and from each state
-/// with these cells the entries' bodies, run one after the other, give the entries' replies and leave the cells of the
-/// store. It is a fact of this type.
+/// It is a fact of this type that the history is legal whenever the book's lock is free: there is a fit state with the
+/// opening cells, and from each state with these cells the entries' bodies, run one after another, give the entries'
+/// replies and leave the cells of the store.
 #[derive(Drop)]
 pub struct Book<K: BookName> {
     pub(crate) library: Arc<Library>,
@@ -66,10 +65,9 @@ impl<K: BookName> Model for Book<K> {
 }
 
 impl Book<Brand> {
-    /// A book on a store, with no history and no name yet. The store is one that units of the library have made, or one
-    /// that is empty.
+    /// A book on a store, with an empty history and no name. The store is empty, or units of the library have made it.
     ///
-    /// An error means that memory ran out, or that std refused a copy of an `Arc`; the store is then dropped.
+    /// After an error the store is dropped.
     pub fn begin(
         alloc: Global,
         library: Arc<Library>,
@@ -78,7 +76,7 @@ impl Book<Brand> {
         requires { HasFitState (rules.library library.value) (cells_in store) }
         ensures { IfOk result (λ b. (b.library ≡ library.value) × (b.opening ≡ store)) }
     {
-        // The opening snapshot holds the store's base from then on, so that no index of it could be made later.
+        // This comes first, since the opening snapshot shares the store's base, and a shared base gets no new index.
         keep_indexes(alloc, &mut store, &library)?;
         let opening = store.snapshot()?;
         let (words, token) = Words::of_words(alloc, &[0], &())?;
@@ -92,10 +90,17 @@ impl Book<Brand> {
     }
 }
 
-/// Makes all that the commit of a unit needs, up to what cannot fail: room for its entry, its changes in the store, and
+/// Whether two libraries are equal, as values: neither has to be the other's copy.
+fn are_same(one: &Library, other: &Library) -> bool
+    ensures { IsTrue result ↔ (rules.library one.now ≡ rules.library other.now) }
+{
+    *one == *other
+}
+
+/// Prepares the commit of a unit, so that nothing after it can fail: space for its entry, its changes in the store, and
 /// the receipt's share of its reply.
 ///
-/// An error means that memory ran out; the store is then as before.
+/// After an error the store is as before.
 fn make_ready(
     alloc: Global,
     history: &mut Vec<Entry>,
@@ -123,9 +128,7 @@ impl<K: BookName> Book<K> {
         let _history = &self.history;
     }
 
-    /// The cells as they are now.
-    ///
-    /// An error means that std refused a copy of an `Arc`.
+    /// The current cells.
     pub fn snapshot(&self) -> Result<Snapshot, AllocError>
         ensures { IfOk result (λ s. s ≡ self.now.store) }
     {
@@ -140,7 +143,7 @@ impl<K: BookName> Book<K> {
         tell(&self.words, &mut self.token)
     }
 
-    // What the token has seen is a beginning of the history.
+    // The history begins with what the token has seen.
     pub(crate) fn recall(&mut self, token: &mut Token)
         requires { IsToken K.table token.old.me.0.list token.old }
         ensures same { (self.new ≡ self.old) × IsToken K.table token.old.me.0.list token.new }
@@ -149,7 +152,7 @@ impl<K: BookName> Book<K> {
         recall(&self.words, &mut self.token, token);
     }
 
-    // Why no unit of the body can come now, if none can: another library before a full history.
+    // Why no unit of the body can be committed, if none can: another library, then a full history.
     fn barred(&self, body: &Body) -> Option<Refusal>
         ensures none { IfNone result (MayCome self.now body.now) }
         ensures some { IfSome result (λ e. IsUnable self.now body.now e) }
@@ -163,7 +166,7 @@ impl<K: BookName> Book<K> {
         None
     }
 
-    // Why the unit can't be committed, if it can't: what bars its body before what it read.
+    // Why the unit can't be committed, if it can't: first for its body, then for what it read.
     fn refusal(&self, alloc: Global, unit: &Unit) -> Option<Refusal>
         ensures none { IfNone result (MayBeCommitted self.now unit.now) }
         ensures some { IfSome result (λ e. IsRefused self.now unit.now e) }
@@ -174,7 +177,7 @@ impl<K: BookName> Book<K> {
         }
     }
 
-    // Why the unit can't be committed that isn't barred, if it can't.
+    // Why the unit can't be committed for what it read, if it can't.
     fn stale(&self, alloc: Global, unit: &Unit) -> Option<Refusal>
         requires { MayCome self.now unit.now.body }
         ensures none { IfNone result (Holds (cells_in self.now.store) unit.now.reads) }
@@ -221,11 +224,11 @@ impl<K: BookName> Book<K> {
         })
     }
 
-    /// Commits a unit, if what it read is still so: its entry is added to the history, and its changes to the store.
+    /// Commits a unit, if its reads still hold: adds its entry to the history, and its changes to the store.
     ///
-    /// Else the book stays as it was, and the unit is handed back. Looked at in this order: `OtherLibrary` where the unit's
-    /// library isn't equal to the book's, `HistoryFull` where the history has 100,000 units, `Stale` where a read no longer
-    /// holds. `NoMemory` means that memory ran out, and comes after the first two.
+    /// Otherwise the book stays as it was, and the unit is handed back. The checks, in this order: `OtherLibrary` if
+    /// the unit's library isn't equal to the book's, `HistoryFull` if the history has 100,000 units, `Stale` if a read
+    /// no longer holds. `NoMemory` means that memory ran out, and comes after the first two.
     pub fn commit(
         &mut self,
         alloc: Global,
@@ -241,11 +244,11 @@ impl<K: BookName> Book<K> {
         self.append(alloc, session, unit)
     }
 
-    /// Runs a body on the store as it is, with width 1, and commits it: it is never stale.
+    /// Runs a body on the current store, with width 1, and commits it. It is never stale.
     ///
-    /// Else the book stays as it was, and the body is dropped. Looked at in this order: `OtherLibrary` where the body's
-    /// library isn't equal to the book's, `HistoryFull` where the history has 100,000 units, `NoMemory` where memory ran
-    /// out.
+    /// Otherwise the book stays as it was, and the body is dropped. The checks, in this order: `OtherLibrary` if the
+    /// body's library isn't equal to the book's, `HistoryFull` if the history has 100,000 units, `NoMemory` if memory
+    /// ran out.
     pub fn run_now<R: Threads + Sync>(
         &mut self,
         rt: &R,
@@ -268,7 +271,7 @@ impl<K: BookName> Book<K> {
         }
     }
 
-    // The unit of a body on the store as it is.
+    // The unit of a body on the current store.
     fn made<R: Threads + Sync>(&self, rt: &R, alloc: Global, body: Body) -> Result<Unit, AllocError>
         ensures body { IfOk result (λ u. u.body ≡ body) }
         ensures sound { IfOk result (λ u. IsSound u) }
@@ -278,7 +281,7 @@ impl<K: BookName> Book<K> {
         Unit::make(rt, alloc, here, body, 1)
     }
 
-    // Commits the unit, or runs its body anew where it is stale.
+    // Commits the unit, or runs its body again if it is stale.
     fn settle<R: Threads + Sync>(
         &mut self,
         rt: &R,
@@ -299,7 +302,7 @@ impl<K: BookName> Book<K> {
         }
     }
 
-    // The history has at least as many entries as the session was told of.
+    // The history has at least as many entries as the session knows of.
     fn remember(&mut self, last: u64, memory: &mut Option<Token>)
         requires { IsMemory K.table last memory.old }
         ensures same { (self.new ≡ self.old) × IsMemory K.table last memory.new }
@@ -310,7 +313,7 @@ impl<K: BookName> Book<K> {
         }
     }
 
-    // What a session does under the lock.
+    // The part of a submission under the lock.
     pub(crate) fn submitted<R: Threads + Sync>(
         &mut self,
         rt: &R,
@@ -334,7 +337,7 @@ impl<K: BookName> Book<K> {
         }
     }
 
-    // The entries, for a history that is taken apart.
+    // The entries by value.
     pub(crate) fn into_entries(self) -> Vec<Entry>
         ensures { result.items ≡ self.history }
     {
@@ -350,7 +353,7 @@ impl<K: BookName> Book<K> {
         history
     }
 
-    /// The history at the end.
+    /// The history of the book, which is closed.
     pub fn end(self) -> History<K>
         ensures { result ≡ self }
     {

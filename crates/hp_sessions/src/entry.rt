@@ -4,13 +4,13 @@ use hp_rule::Body;
 use hp_tree::UnitReport;
 use std::sync::Arc;
 
-/// One unit of a history: who submitted which body, and what the body was told.
+/// An entry of a history: a body, the session that submitted it, and the reply.
 #[derive(Debug, Drop)]
 pub struct Entry {
     /// The number of the session that submitted the body.
     pub session: u8,
     /// The body.
     pub body: Body,
-    /// What is reported of the body. The receipt shares it.
+    /// The report of the body. The receipt shares it.
     pub reply: Arc<UnitReport>,
 }

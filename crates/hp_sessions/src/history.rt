@@ -1,4 +1,4 @@
-//! Histories that have ended.
+//! Closed histories.
 
 ghost use Rattle.std.specs.Prelude.{◌≡◌};
 ghost use Rattle.hp_sessions.specs.Books.{IsLegalBook, Stands};
@@ -12,7 +12,7 @@ use hp_store::{Snapshot, Store};
 use std::marker::Model;
 use std::sync::Arc;
 
-/// The history of a book that takes no more. Contracts see it as the book that it was.
+/// The history of a closed book. In contracts it is the book that it was.
 #[derive(Drop)]
 pub struct History<K: BookName> {
     pub(crate) book: Book<K>,
@@ -33,7 +33,7 @@ impl<K: BookName> Model for History<K> {
 }
 
 impl<K: BookName> History<K> {
-    /// The entries, in the order in which they were committed. A receipt's number is the place in it, from 1 on.
+    /// The entries, in commit order. A receipt's number is the entry's position, from 1.
     pub fn entries(&self) -> &[Entry]
         ensures { result.now ≡ self.now.history }
     {
@@ -61,7 +61,7 @@ impl<K: BookName> History<K> {
         &self.book.store
     }
 
-    /// The entries themselves, each with its body.
+    /// The entries by value.
     pub fn into_entries(self) -> Vec<Entry>
         ensures { result.items ≡ self.history }
     {

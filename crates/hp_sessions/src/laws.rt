@@ -1,4 +1,4 @@
-//! What histories and receipts promise.
+//! Laws of histories and receipts.
 
 ghost use Rattle.std.specs.Prelude.{◌≡◌, ◌≢◌, Some};
 ghost use Rattle.hp_sessions.specs.Books.{IsLegalBook, Stands, session_of};
@@ -7,8 +7,8 @@ use crate::history::History;
 use crate::name::BookName;
 use crate::receipt::Receipt;
 
-/// The number of a receipt names the entry with its session, body and reply in the history of its book. Both stay as they
-/// were.
+/// The entry at a receipt's number in the history of its book has the receipt's session, body and reply. Both stay as
+/// they were.
 pub fn kept<K: BookName>(history: &mut History<K>, receipt: &mut Receipt<K>)
     ensures same { (history.new ≡ history.old) × (receipt.new ≡ receipt.old) }
     ensures kept { Stands history.old.history receipt.old }
@@ -16,7 +16,7 @@ pub fn kept<K: BookName>(history: &mut History<K>, receipt: &mut Receipt<K>)
     history.meet(receipt);
 }
 
-/// There is a fit state with the opening cells, and from each state with these cells the bodies, run one after the other,
+/// There is a fit state with the opening cells, and from each state with these cells the bodies, run one after another,
 /// give the replies and leave the cells of the store.
 pub fn legal<K: BookName>(history: &History<K>)
     ensures { IsLegalBook history.now }

@@ -1,7 +1,10 @@
-//! Sessions: many callers' threads submit bodies to one book under a lock, whose history is legal, and get receipts.
+//! Sessions: the threads of many callers submit bodies to one book under a lock, and get receipts. The book's history
+//! is legal.
 //!
-//! `specs/Books.antt` says what a book, a receipt and a session are to a contract, `specs/Telling.antt` how receipts know
-//! of a history that only grows.
+//! `specs/Books.antt` says what a book, a receipt and a session are in contracts, `specs/Telling.antt` how receipts
+//! know of a history that only grows.
+//!
+//! `AllocError` means that memory ran out, or that an `Arc` could not be cloned.
 #![tactic(auto)]
 
 mod blank;
@@ -12,7 +15,6 @@ pub mod laws;
 mod name;
 mod receipt;
 mod refusal;
-mod same;
 mod session;
 mod telling;
 mod unit;

@@ -2,7 +2,7 @@
 
 use std::marker::Brand;
 
-/// Which book it is, as contracts know it. A function that opens a book is generic over it, and is called with `Brand`.
+/// The identity of a book in contracts. A function that opens a book is generic over it, and is called with `Brand`.
 pub trait BookName {
     ghost use Rattle.atomic_table.specs.Seated.{TableId};
 

@@ -6,9 +6,10 @@ use hp_tree::UnitReport;
 use std::marker::{Model, PhantomData};
 use std::sync::Arc;
 
-/// What a submitted body was told, and at which number of the history it stands. Numbers begin at 1.
+/// The reply to a submitted body, and the number of its entry in the history.
 ///
-/// An aborted body has a receipt too. Contracts see the number and the entry there: also its session and its body.
+/// An aborted body has a receipt too. In contracts a receipt is its number and the entry there, with its session and
+/// body.
 #[derive(Drop)]
 pub struct Receipt<K: BookName> {
     pub(crate) number: u64,
@@ -36,14 +37,14 @@ impl<K: BookName> Receipt<K> {
     ghost use Rattle.std.specs.Prelude.{◌≡◌};
     ghost use Rattle.hp_sessions.specs.Books.{IsReply};
 
-    /// The number of the entry, from 1 on.
+    /// The number of the entry, from 1.
     pub fn number(&self) -> u64
         ensures { result ≡ self.now.number }
     {
         self.number
     }
 
-    /// What is reported of the body.
+    /// The report of the body.
     pub fn reply(&self) -> &Arc<UnitReport>
         ensures { IsReply result.now self.now.entry }
     {

@@ -3,21 +3,21 @@
 use hp_view::Seen;
 use std::alloc::AllocError;
 
-/// Why a unit isn't committed. Each of them leaves the book as it was.
+/// Why a unit isn't committed. The book is then as before.
 #[derive(Clone, Copy, Debug)]
 pub enum Refusal {
     /// The body's library isn't equal to the book's.
     OtherLibrary,
-    /// The history has as many units as it may have, which is this number.
+    /// The history has this many units, which is the limit.
     HistoryFull(usize),
-    /// Something that the unit read is no longer so.
+    /// A read of the unit no longer holds.
     Stale {
-        /// How many units the history has.
+        /// The number of units in the history.
         entries: usize,
-        /// Where the first read looked that no longer holds.
+        /// What the first read that doesn't hold was of.
         cell: Seen,
     },
-    /// Memory ran out, or std refused a copy of an `Arc`.
+    /// Memory ran out, or an `Arc` could not be cloned.
     NoMemory,
 }
 

@@ -1,4 +1,4 @@
-//! Sessions, each of one caller.
+//! Sessions.
 
 ghost use Rattle.std.specs.Prelude.{◌≡◌, ◌<◌, ◌≤◌, IfOk, IfErr};
 ghost use Rattle.hp_sessions.specs.Books.{IsOf, IsNotStale};
@@ -16,8 +16,8 @@ use std::marker::Model;
 use std::sync::{Mutex, Wait};
 use std::thread::Threads;
 
-/// A caller of a book, on a thread of its own or on any. Contracts see its number, and that of its last receipt, 0 before
-/// the first.
+/// A session of one caller with a book, on any thread. In contracts it is its number, and that of its last receipt, 0
+/// before the first.
 #[derive(Drop)]
 pub struct Session<'a, K: BookName> {
     number: u8,
@@ -37,7 +37,7 @@ impl<'a, K: BookName> Model for Session<'a, K> {
 }
 
 impl<'a, K: BookName> Session<'a, K> {
-    /// A session of a book, which has no receipt yet. Its number, 1 to 16, stands in the entries of what it submits.
+    /// A session with a book, which has no receipt yet. Its number, 1 to 16, is in the entries of what it submits.
     pub fn new(number: u8, book: &'a Mutex<Book<K>>) -> Session<'a, K>
         requires { (1 ≤ number) × (number ≤ 16) }
         ensures { (result.number ≡ number) × (result.last ≡ 0) }
@@ -50,13 +50,13 @@ impl<'a, K: BookName> Session<'a, K> {
         }
     }
 
-    /// Runs a body on the book, and gives a receipt for it. It may wait for the book's lock, and holds the lock only to take
-    /// a snapshot and to commit.
+    /// Runs a body on the book, and returns a receipt for it. It may wait for the book's lock, which it holds only to
+    /// take a snapshot and to commit.
     ///
-    /// The unit is made outside the lock, with width 1; the gate is told before and after it. Where it is stale by then, the
-    /// body is run anew under the lock, so no refusal is `Stale`. The others leave the book and the session as they were,
-    /// and the body is dropped: `OtherLibrary` where the body's library isn't equal to the book's, `HistoryFull` where the
-    /// history has 100,000 units, `NoMemory` where memory ran out.
+    /// The unit is made outside the lock, with width 1; the gate is notified before and after that. If the unit is
+    /// stale at the commit, the body is run again under the lock, so no refusal is `Stale`. Any other refusal leaves
+    /// the book and the session as they were, and the body is dropped: `OtherLibrary` if the body's library isn't equal
+    /// to the book's, `HistoryFull` if the history has 100,000 units, `NoMemory` if memory ran out.
     pub fn submit<R: Threads + Wait + Sync, G: Gate>(
         &mut self,
         rt: &R,

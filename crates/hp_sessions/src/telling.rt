@@ -1,4 +1,4 @@
-//! What tokens tell of a history that only grows.
+//! Tokens that know a part of a growing history.
 ghost use Rattle.std.specs.Prelude.{◌≡◌, [], ◌∷◌, ◌++◌};
 ghost use mathlib.Core.List.{IsPrefix};
 ghost use Rattle.hp_sessions.specs.Telling.{told_of, book_of};
@@ -8,15 +8,15 @@ use atomic_table::{Join, Play, Seat, Split, Table, TableRule};
 use std::alloc::Global;
 use std::collections::LinkedList;
 
-// What a seat knows. The book's seat keeps the list, which is the whole history. Any other list is a beginning of it, and so
-// is what the seat was shown last. No value of it is made.
+// What a seat knows. The book's seat keeps the list, which is the whole history. The list of any other seat is a prefix
+// of it, and so is the list that a seat was shown last. It is used in proofs only; no value of it is made.
 pub struct View {
     pub keeps: bool,
     pub list: LinkedList<Entry>,
     pub shown: LinkedList<Entry>,
 }
 
-// The word says nothing.
+// The rule of the table. The word itself means nothing.
 pub struct Telling;
 
 impl TableRule<Entry, View, ()> for Telling {
@@ -28,7 +28,7 @@ impl TableRule<Entry, View, ()> for Telling {
     ghost first = { λ key. book_of [] };
 }
 
-// The book's seat adds the entry that is said.
+// The book's seat appends the given entry.
 pub struct Appends;
 
 impl Play<Entry, View> for Appends {
@@ -37,7 +37,7 @@ impl Play<Entry, View> for Appends {
     ghost then = { λ step me found now. Appended step.said me now };
 }
 
-// The book's seat compares what it was shown.
+// The book's seat compares the list that it was shown with its own.
 pub struct Compares;
 
 impl Play<Entry, View> for Compares {
@@ -46,7 +46,7 @@ impl Play<Entry, View> for Compares {
     ghost then = { λ step me found now. Compared me now };
 }
 
-// Another seat with the same list, which doesn't keep it.
+// Another seat with the same list, which doesn't keep the history.
 pub struct Tells;
 
 impl Split<View> for Tells {
@@ -57,7 +57,7 @@ impl Split<View> for Tells {
     ghost right = { λ v. told_of v.list };
 }
 
-// The first is shown the list of the second.
+// The first seat is shown the list of the second.
 pub struct Shows;
 
 impl Join<View> for Shows {
@@ -73,7 +73,7 @@ pub type Words = Table<Entry, View, (), Telling, Global>;
 
 pub type Token = Seat<Entry, View>;
 
-// A seat with the same list, which doesn't keep it.
+// A seat with the same list, which doesn't keep the history.
 pub(crate) fn tell(words: &Words, token: &mut Token) -> Token
     requires { (token.old.table_id ≡ words.now.shared.table_id) × (words.now.shared.table_id.words ≡ 1) }
     ensures same { (token.new.table_id ≡ token.old.table_id) × (token.new.me ≡ token.old.me) }
@@ -82,7 +82,7 @@ pub(crate) fn tell(words: &Words, token: &mut Token) -> Token
     words.shared.split_seat::<Tells>(token)
 }
 
-// What the other seat has seen is a beginning of the book's list.
+// The book's list begins with what the other seat has seen.
 pub(crate) fn recall(words: &Words, book: &mut Token, other: &mut Token)
     requires book { (book.old.table_id ≡ words.now.shared.table_id) × (words.now.shared.table_id.words ≡ 1) × (book.old.me ≡ (book_of book.old.me.0.list, [])) }
     requires other { other.old.table_id ≡ words.now.shared.table_id }

@@ -1,4 +1,4 @@
-//! Units: bodies that were run on a snapshot.
+//! Units: bodies that ran on a snapshot.
 
 ghost use Rattle.std.specs.Prelude.{◌≡◌, IfOk, IfSome, IfNone};
 ghost use Rattle.hp_model.specs.Cells.{Holds};
@@ -17,9 +17,9 @@ use std::marker::Model;
 use std::sync::Arc;
 use std::thread::Threads;
 
-/// A body as it was run on a snapshot: what it read there, what it writes, and what is reported of it.
+/// A body that ran on a snapshot: what it read, what it writes, and its report.
 ///
-/// It stands for the body on each state where its reads hold, so a book commits it where they do.
+/// It stands for the body on each state in which its reads hold, so a book commits it if they do.
 #[derive(Debug, Drop)]
 pub struct Unit {
     body: Body,
@@ -42,14 +42,14 @@ impl Model for Unit {
 
     ghost view = { λ u. record { body = u.body; reads = u.reads; layer = u.layer.value; reply = u.reply } };
 
-    // On each state where the reads hold, the body is reported so, and leaves that state overwritten by the layer.
+    // On each state in which the reads hold, the body has this report, and leaves the state overwritten by the layer.
     ghost invariant = { λ u. StandsFor u.body u.reads u.layer.value u.reply };
 }
 
 impl Unit {
     /// Runs a body on a snapshot, as a transaction of its own with the cascade of what that detaches. It takes no lock.
     ///
-    /// Groups of firings inside get so much width. An error means that memory ran out; the body is then dropped.
+    /// Groups of firings use at most `width` threads. After an error the body is dropped.
     pub fn make<R: Threads + Sync>(
         rt: &R,
         alloc: Global,
@@ -83,16 +83,14 @@ impl Unit {
         &self.body
     }
 
-    /// What is reported of the body.
+    /// The report of the body.
     pub fn reply(&self) -> &Arc<UnitReport>
         ensures { result.now ≡ self.now.reply }
     {
         &self.reply
     }
 
-    /// Where the first read looked that doesn't hold in the store. None where all of them hold.
-    ///
-    /// An error means that memory ran out.
+    /// The first read that doesn't hold in the store, by what was read; `None` if all of them hold.
     pub(crate) fn first_failed(
         &self,
         alloc: Global,
@@ -109,15 +107,13 @@ impl Unit {
     }
 
     /// What it writes, shared.
-    ///
-    /// An error means that std refused a copy of an `Arc`.
     pub(crate) fn layer(&self) -> Result<Arc<Layer>, AllocError>
         ensures { IfOk result (λ l. l.value ≡ self.now.layer) }
     {
         Arc::try_clone(&self.layer)
     }
 
-    /// The body and what is reported of it.
+    /// The body and its report.
     pub(crate) fn into_parts(self) -> (Body, Arc<UnitReport>)
         ensures parts { result ≡ (self.body, self.reply) }
         ensures sound { IsSound self }

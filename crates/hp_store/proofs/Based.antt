@@ -70,7 +70,7 @@ table_push (u ∷ ts) t (suc i) none = table_push ts t i none
 
 -- ---- one object
 
-found_value : (r : Option (Bor CellValue)) → option_map (λ v. cell_value v.now) r ≡ option_map cell_value (option_copied r)
+pub found_value : (r : Option (Bor CellValue)) → option_map (λ v. cell_value v.now) r ≡ option_map cell_value (option_copied r)
 found_value None = refl
 found_value (Some v) = refl
 

@@ -31,7 +31,7 @@ int_at a b =
     (λ h. exact_signed a b ((Equal-is (int_cmp a b)).0 h), λ e. subst (λ c. is_eq (int_cmp a c) ≡ true) e (ap is_eq (tied_itself int_cmp_total a)))
     (Decides-int_eq a b)
 
-then_both : (r s : Ordering) → is_eq (ordering_then r s) ≡ (is_eq r && is_eq s)
+pub then_both : (r s : Ordering) → is_eq (ordering_then r s) ≡ (is_eq r && is_eq s)
 then_both Less s = refl
 then_both Equal s = refl
 then_both Greater s = refl

@@ -13,3 +13,6 @@ pub mod Keeping
 pub mod Covered
 pub mod Told
 pub mod Picked
+pub mod Placed
+pub mod Indexed
+pub mod Noted

@@ -86,3 +86,7 @@ keys_shown b layers now class ks is have = subst (λ s. AreKeys (cells_in s) cla
 -- a class's table
 pub table_shown : (b seen : Base) (layers : List Entries) (now : Stack) (class : ℕ) → record { base = tables b; layers = layers } ≡ now → seen ≡ b → table_at seen.classes.items class ≡ entries_at now.base.classes class
 table_shown b seen layers now class is same = ap (λ (x : Base). table_at x.classes.items class) same ∙ sym (entries_of b.classes.items class) ∙ ap (λ s. entries_at s.base.classes class) is
+
+-- where the tables are the same, the cells are
+pub same_tables : (b new : Base) → tables new ≡ tables b → (q : Cell) → base_cells new q ≡ base_cells b q
+same_tables b new same q = sym (tables_show new q) ∙ ap (λ t. cells_at t q) same ∙ tables_show b q

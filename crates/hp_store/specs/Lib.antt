@@ -1,10 +1,12 @@
 pub mod Changes
 pub mod Codes
+pub mod Indexed
 pub mod Kept
 pub mod Keys
 pub mod Listed
 pub mod Mapped
 pub mod Parts
+pub mod Places
 pub mod Same
 pub mod Stack
 pub mod Tables

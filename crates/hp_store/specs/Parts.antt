@@ -12,8 +12,9 @@ use Rattle.hp_value.specs.Same.{row_same}
 use Rattle.hp_value.specs.declared.cell.Cell.{Cell}
 use Rattle.hp_value.specs.declared.cell.Cell.TheVariants.{Object}
 use Rattle.hp_store.specs.declared.value.CellValue.{CellValue}
+use Rattle.hp_store.specs.Places.{key_at}
 use Rattle.hp_store.specs.declared.candidates.Candidates.{Candidates}
-use Rattle.hp_store.specs.declared.candidates.Candidates.TheVariants.{Nothing, OfTable, OfLayer}
+use Rattle.hp_store.specs.declared.candidates.Candidates.TheVariants.{Nothing, OfTable, OfIndex, OfLayer}
 
 -- the keys of the first objects, up to a cell of another kind
 abbrev pub object_keys : List (Cell × Option CellValue) → List ℤ
@@ -25,10 +26,11 @@ object_keys (e ∷ es) = []
 abbrev pub keys_left : Candidates → List ℤ
 keys_left Nothing = []
 keys_left (OfTable es) = map (λ (e : ℤ × CellValue). e.0) es
+keys_left (OfIndex ps) = map key_at ps
 keys_left (OfLayer es) = object_keys es
 
 -- a bound that is included, if there is one
-abbrev pub bound_of : Option ℤ → Bound ℤ
+abbrev pub bound_of : {K : Type 0} → Option K → Bound K
 bound_of None = Unbounded
 bound_of (Some key) = Included key
 

@@ -7,6 +7,7 @@ ghost use Rattle.std.specs.Ordering.{int_cmp};
 ghost use Rattle.hp_store.specs.Tables.{table_at};
 
 use crate::candidates::{Candidates, are_crossed, included, key_bounds};
+use crate::index::{Index, has_index, indexed, renew_all};
 use crate::layer::Layer;
 use crate::value::CellValue;
 use hp_value::{Attribute, Bounds, Cell, ClassNo, ClassPart, Key, RuleNo};
@@ -22,6 +23,8 @@ pub(crate) struct Base {
     statuses: BTreeMap<RuleNo, CellValue>,
     detectors: BTreeMap<RuleNo, CellValue>,
     classes: Vec<BTreeMap<Key, CellValue>>,
+    // Of fields by which objects are asked for.
+    pub(crate) indexes: Vec<Index>,
 }
 
 impl Base {
@@ -30,18 +33,21 @@ impl Base {
     ghost use Rattle.hp_model.specs.Cells.{Cell as ModelCell, object_cell, AreKeys, over, same_cell};
     ghost use Rattle.hp_value.specs.Mapped as mapped;
     ghost use Rattle.hp_store.specs.Changes.{changes};
+    ghost use Rattle.hp_store.specs.Indexed.{IsComplete, AreComplete};
     ghost use Rattle.hp_store.specs.Mapped as here;
     ghost use Rattle.hp_store.specs.Parts.{keys_left, is_among, lies_between, Covers};
-    ghost use Rattle.hp_store.specs.Tables.{base_cells};
+    ghost use Rattle.hp_store.specs.Tables.{tables, base_cells};
 
     /// Empty cells.
     pub(crate) fn new(alloc: Global) -> Base
-        ensures { (q : ModelCell) → base_cells result q ≡ None }
+        ensures cells { (q : ModelCell) → base_cells result q ≡ None }
+        ensures complete { AreComplete (base_cells result) result.indexes.items }
     {
         Base {
             statuses: BTreeMap::new(alloc),
             detectors: BTreeMap::new(alloc),
             classes: Vec::new(alloc),
+            indexes: Vec::new(alloc),
         }
     }
 
@@ -91,20 +97,31 @@ impl Base {
         }
     }
 
-    /// Keys of a class among which all objects of a part are. They go up to the part's bounds, if it is one by keys.
+    /// Keys of a class among which all objects of a part are: those of an index, if there is one of the part's field,
+    /// and else those up to the part's bounds, if it is one by keys.
     pub(crate) fn candidates(&self, class: ClassNo, part: &ClassPart<'_>) -> Candidates<'_>
+        ensures { AreComplete (base_cells self.now) self.now.indexes.items → Covers (is_among (keys_left result)) (mapped.class_part part.now) class (base_cells self.now) }
+    {
+        match indexed(&self.indexes, class, part) {
+            Some(keys) => keys,
+            None => self.within(class, part),
+        }
+    }
+
+    // The same without an index.
+    fn within(&self, class: ClassNo, part: &ClassPart<'_>) -> Candidates<'_>
         ensures { Covers (is_among (keys_left result)) (mapped.class_part part.now) class (base_cells self.now) }
     {
         let (low, high) = key_bounds(part);
         self.between(class, low, high)
     }
 
-    /// Whether these keys go up to the part's bounds, so that it doesn't take a look at the whole class.
-    pub(crate) fn finds(&self, part: &ClassPart<'_>) -> bool {
-        matches!(
-            (part.attribute, part.bounds),
-            (Attribute::Key, Bounds::Numbers(_, _))
-        )
+    /// Whether these keys are found without a look at the whole class.
+    pub(crate) fn finds(&self, class: ClassNo, part: &ClassPart<'_>) -> bool {
+        match (part.attribute, part.bounds) {
+            (Attribute::Key, Bounds::Numbers(_, _)) => true,
+            _ => indexed(&self.indexes, class, part).is_some(),
+        }
     }
 
     // The keys of a class between two bounds.
@@ -120,24 +137,40 @@ impl Base {
         }
     }
 
-    /// Gives a cell a new value, or empties it.
+    /// Gives a cell a new value, or empties it. The value is shared.
     ///
-    /// An error means that memory ran out; the cells are then as before. Nothing is asked of memory where the cell has a
-    /// value.
+    /// An error means that memory ran out; the cells are then as before.
     pub(crate) fn set(
         &mut self,
         alloc: Global,
         cell: Cell,
-        change: Option<CellValue>,
+        change: &Option<CellValue>,
     ) -> Result<(), AllocError>
+        ensures ok { OnOk result ((q : ModelCell) → base_cells self.new q ≡ (if same_cell (mapped.cell cell) q then here.change change.now else base_cells self.old q)) }
+        ensures err { OnErr result ((q : ModelCell) → base_cells self.new q ≡ base_cells self.old q) }
+        ensures complete { AreComplete (base_cells self.old) self.old.indexes.items → AreComplete (base_cells self.new) self.new.indexes.items }
+    {
+        let old = self.replace(alloc, cell, change.clone()?)?;
+        renew_all(&mut self.indexes, cell, old.as_ref(), change.as_ref());
+        Ok(())
+    }
+
+    // The same of the cells alone. The answer is the value that the cell had.
+    fn replace(
+        &mut self,
+        alloc: Global,
+        cell: Cell,
+        change: Option<CellValue>,
+    ) -> Result<Option<CellValue>, AllocError>
         ensures ok { OnOk result ((q : ModelCell) → base_cells self.new q ≡ (if same_cell (mapped.cell cell) q then here.change change else base_cells self.old q)) }
         ensures err { OnErr result ((q : ModelCell) → base_cells self.new q ≡ base_cells self.old q) }
+        ensures indexes { self.new.indexes ≡ self.old.indexes }
     {
         match cell {
             Cell::Object(class, key) => {
                 make_room(alloc, &mut self.classes, class as usize)?;
-                put(&mut self.classes[class as usize], key, change)?;
-                Ok(())
+                let old = put(&mut self.classes[class as usize], key, change)?;
+                Ok(old)
             }
             Cell::Rule(rule) => put(&mut self.statuses, rule, change),
             Cell::Detector(rule) => put(&mut self.detectors, rule, change),
@@ -150,11 +183,43 @@ impl Base {
     pub(crate) fn take_in(&mut self, alloc: Global, layer: &Layer) -> Result<(), AllocError>
         ensures ok { OnOk result ((q : ModelCell) → base_cells self.new q ≡ over (base_cells self.old) (changes layer.now) q) }
         ensures others { (q : ModelCell) → changes layer.now q ≡ None → base_cells self.new q ≡ base_cells self.old q }
+        ensures complete { AreComplete (base_cells self.old) self.old.indexes.items → AreComplete (base_cells self.new) self.new.indexes.items }
     {
         for (cell, change) in layer.iter() {
-            self.set(alloc, *cell, change.clone()?)?;
+            self.set(alloc, *cell, change)?;
         }
         Ok(())
+    }
+
+    /// Keeps an index of a field from now on.
+    ///
+    /// An error means that memory ran out; no other index is kept then.
+    pub(crate) fn keep_index(
+        &mut self,
+        alloc: Global,
+        class: ClassNo,
+        field: &str,
+    ) -> Result<(), AllocError>
+        ensures same { tables self.new ≡ tables self.old }
+        ensures complete { AreComplete (base_cells self.old) self.old.indexes.items → AreComplete (base_cells self.new) self.new.indexes.items }
+    {
+        if has_index(&self.indexes, class, field) {
+            return Ok(());
+        }
+        let index = self.index_of(alloc, class, field)?;
+        self.indexes.push(index)?;
+        Ok(())
+    }
+
+    // An index of a field.
+    fn index_of(&self, alloc: Global, class: ClassNo, field: &str) -> Result<Index, AllocError>
+        ensures { IfOk result (IsComplete (base_cells self.now)) }
+    {
+        let mut index = Index::new(alloc, class, field)?;
+        if let Some(table) = self.table(class) {
+            index.enter_all(table)?;
+        }
+        Ok(index)
     }
 }
 
@@ -181,22 +246,20 @@ fn make_room(
     Ok(())
 }
 
-// Gives a key a new value, or takes it out.
+// Gives a key a new value, or takes it out. The answer is the value that it had.
 fn put<K: Ord + Drop>(
     table: &mut BTreeMap<K, CellValue>,
     key: K,
     change: Option<CellValue>,
-) -> Result<(), AllocError>
+) -> Result<Option<CellValue>, AllocError>
     ensures ok { OnOk result ((q : K) → get K.cmp table.new q ≡ cond (is_at (K.cmp key) q) change (get K.cmp table.old q)) }
     ensures err { OnErr result (IsUnchanged table.old table.new) }
 {
     match change {
         Some(value) => {
-            table.insert(key, value)?;
+            let old = table.insert(key, value)?;
+            Ok(old)
         }
-        None => {
-            table.remove(&key);
-        }
+        None => Ok(table.remove(&key)),
     }
-    Ok(())
 }

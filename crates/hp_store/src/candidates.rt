@@ -10,9 +10,11 @@ ghost use Rattle.hp_model.specs.ClassParts.{belongs};
 ghost use Rattle.hp_value.specs.Mapped as mapped;
 ghost use Rattle.hp_store.specs.Parts.{keys_left, bound_of, lies_between};
 
+use crate::place::Place;
 use crate::value::CellValue;
 use hp_value::{Attribute, Bounds, Cell, ClassPart, Key};
 use std::collections::btree_map::Range;
+use std::collections::btree_set;
 use std::ops::Bound;
 
 /// Keys of a class's objects, one after the other.
@@ -22,6 +24,8 @@ pub(crate) enum Candidates<'a> {
     Nothing,
     /// Those in a part of a base's table.
     OfTable(Range<'a, Key, CellValue>),
+    /// Those of a part of an index.
+    OfIndex(btree_set::Range<'a, Place>),
     /// Those of objects that a layer names.
     OfLayer(Range<'a, Cell, Option<CellValue>>),
 }
@@ -35,6 +39,10 @@ impl Candidates<'_> {
             Candidates::Nothing => None,
             Candidates::OfTable(range) => match range.next() {
                 Some((key, _)) => Some(*key),
+                None => None,
+            },
+            Candidates::OfIndex(range) => match range.next() {
+                Some(place) => Some(place.key()),
                 None => None,
             },
             Candidates::OfLayer(range) => match range.next() {
@@ -56,7 +64,7 @@ pub(crate) fn key_bounds(part: &ClassPart<'_>) -> (Option<Key>, Option<Key>)
 }
 
 /// A bound that is included, if there is one.
-pub(crate) fn included(bound: Option<Key>) -> Bound<Key>
+pub(crate) fn included<K: Drop>(bound: Option<K>) -> Bound<K>
     ensures { result ≡ bound_of bound }
 {
     match bound {

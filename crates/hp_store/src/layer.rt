@@ -1,11 +1,19 @@
 //! Layers of changes.
 
-ghost use Rattle.std.specs.Prelude.{◌≡◌};
+ghost use Rattle.std.specs.Prelude.{◌≡◌, None, IfOk, map, option_map};
 ghost use Rattle.std.specs.List.Sorted.{IsStrictlySortedBy};
 ghost use Rattle.std.specs.Ordering.{int_cmp};
+ghost use Rattle.hp_model.specs.Cells.{Cells, changed, over};
+ghost use Rattle.hp_value.specs.Mapped as mapped;
+ghost use Rattle.hp_store.specs.Changes.{changes};
+ghost use Rattle.hp_store.specs.Indexed.{IsComplete, AreComplete, with_value};
 ghost use Rattle.hp_store.specs.Keys.{below, above};
+ghost use Rattle.hp_store.specs.Mapped as here;
+ghost use Rattle.hp_store.specs.Mapped.{entry};
+ghost use Rattle.hp_store.specs.Parts.{no_cells};
 
 use crate::candidates::{Candidates, greatest_up_to, key_bounds, least_from};
+use crate::index::{Index, has_index, indexed, renew_all};
 use crate::value::CellValue;
 use hp_value::{Cell, ClassNo, ClassPart, Key};
 use std::alloc::{AllocError, Global};
@@ -17,7 +25,12 @@ use std::marker::Model;
 #[derive(Debug, Drop)]
 pub struct Layer {
     changes: BTreeMap<Cell, Option<CellValue>>,
+    // Of fields by which objects are asked for.
+    indexes: Vec<Index>,
 }
+
+// A layer with fewer changes needs no index: it takes no longer to go over them.
+const FEW: usize = 32;
 
 impl Model for Layer {
     ghost use Rattle.hp_store.specs.Changes.{Entries};
@@ -28,12 +41,15 @@ impl Model for Layer {
     ghost coded = { entries_code };
 
     ghost use Rattle.std.specs.Prelude.{map};
-    ghost use Rattle.hp_store.specs.Changes.{KeysFit};
+    ghost use Rattle.hp_model.specs.Cells.{over};
+    ghost use Rattle.hp_store.specs.Changes.{changes as changes_of, KeysFit};
+    ghost use Rattle.hp_store.specs.Indexed.{AreComplete};
     ghost use Rattle.hp_store.specs.Mapped.{entry};
+    ghost use Rattle.hp_store.specs.Parts.{no_cells};
 
     ghost view = { λ l. map entry l.changes.entries };
 
-    ghost invariant = { λ l. KeysFit (map entry l.changes.entries) };
+    ghost invariant = { λ l. KeysFit (map entry l.changes.entries) × AreComplete (over no_cells (changes_of (map entry l.changes.entries))) l.indexes.items };
 }
 
 impl Layer {
@@ -50,6 +66,7 @@ impl Layer {
     {
         Layer {
             changes: BTreeMap::new(alloc),
+            indexes: Vec::new(alloc),
         }
     }
 
@@ -127,7 +144,9 @@ impl Layer {
         ensures covered { IsSome (changes self.old (mapped.cell cell)) → IsOk result }
         ensures err { OnErr result (self.new ≡ self.old) }
     {
-        Ok(self.changes.insert(cell, change)?)
+        let old = self.changes.insert(cell, change)?;
+        renew(&mut self.indexes, &self.changes, cell, old.as_ref());
+        Ok(old)
     }
 
     /// Names a cell no longer. The answer is what the layer made of it before, if it named it.
@@ -135,21 +154,46 @@ impl Layer {
         ensures changes { changes self.new ≡ with_change (changes self.old) (mapped.cell cell) None }
         ensures old { option_map here.change result ≡ changes self.old (mapped.cell cell) }
     {
-        self.changes.remove(&cell)
+        let old = self.changes.remove(&cell);
+        renew(&mut self.indexes, &self.changes, cell, old.as_ref());
+        old
     }
 
-    /// Tells that parts of a class by a field will be asked for, as `Store::keep_index`.
+    /// Keeps an index of a field of a class's objects from now on, unless the layer is small. A clone of the layer
+    /// doesn't have it. It takes a look at each change once; where there is such an index, nothing is done.
     ///
     /// An error means that memory ran out.
     pub fn keep_index(
         &mut self,
-        _alloc: Global,
-        _class: ClassNo,
-        _field: &str,
+        alloc: Global,
+        class: ClassNo,
+        field: &str,
     ) -> Result<(), AllocError>
         ensures changes { changes self.new ≡ changes self.old }
         ensures entries { self.new ≡ self.old }
     {
+        if self.len() < FEW || has_index(&self.indexes, class, field) {
+            return Ok(());
+        }
+        let index = index_of(alloc, &self.changes, class, field)?;
+        self.indexes.reserve(1)?;
+        self.indexes.push_reserved(index);
+        Ok(())
+    }
+
+    /// Keeps the indexes, too, that are kept of another layer or a base.
+    ///
+    /// An error means that memory ran out.
+    pub(crate) fn keep_indexes(
+        &mut self,
+        alloc: Global,
+        indexes: &[Index],
+    ) -> Result<(), AllocError>
+        ensures { self.new ≡ self.old }
+    {
+        for index in indexes {
+            self.keep_index(alloc, index.class, index.field.as_str())?;
+        }
         Ok(())
     }
 
@@ -188,9 +232,19 @@ impl Layer {
         self.changes.range(Cell::Object(class, Key::MIN)..=Cell::Object(class, Key::MAX))
     }
 
-    /// Keys among which all objects of a part of a class are to which the layer gives a row. They go up to the part's
-    /// bounds, if it is one by keys.
+    /// Keys among which all objects of a part of a class are to which the layer gives a row: those of an index, if there
+    /// is one of the part's field, and else those up to the part's bounds, if it is one by keys.
     pub(crate) fn candidates(&self, class: ClassNo, part: &ClassPart<'_>) -> Candidates<'_>
+        ensures { Covers (is_among (keys_left result)) (mapped.class_part part.now) class (over no_cells (changes self.now)) }
+    {
+        match indexed(&self.indexes, class, part) {
+            Some(keys) => keys,
+            None => self.within(class, part),
+        }
+    }
+
+    // The same without an index.
+    fn within(&self, class: ClassNo, part: &ClassPart<'_>) -> Candidates<'_>
         ensures { Covers (is_among (keys_left result)) (mapped.class_part part.now) class (over no_cells (changes self.now)) }
     {
         let (low, high) = key_bounds(part);
@@ -254,6 +308,48 @@ fn around(keys: &[Key], key: Key) -> (&[Key], &[Key])
     }
 }
 
+// Brings indexes of a layer's objects up to date with what it makes of a cell.
+fn renew(
+    indexes: &mut Vec<Index>,
+    named: &BTreeMap<Cell, Option<CellValue>>,
+    cell: Cell,
+    old: Option<&Option<CellValue>>,
+)
+    ensures { (cells : Cells) → AreComplete cells indexes.old.items → AreComplete (with_value cells (mapped.cell cell) (over no_cells (changes (map entry named.now.entries)) (mapped.cell cell))) indexes.new.items }
+{
+    if !indexes.is_empty() {
+        renew_all(indexes, cell, value_of(old), value_of(named.get(&cell)));
+    }
+}
+
+// The value that a cell has after a change.
+fn value_of(change: Option<&Option<CellValue>>) -> Option<&CellValue>
+    ensures { option_map (λ v. here.cell_value v.now) result ≡ changed None (option_map (λ c. here.change c.now) change.entry) }
+{
+    match change {
+        Some(change) => change.as_ref(),
+        None => None,
+    }
+}
+
+// An index of a field of a layer's objects.
+fn index_of(
+    alloc: Global,
+    named: &BTreeMap<Cell, Option<CellValue>>,
+    class: ClassNo,
+    field: &str,
+) -> Result<Index, AllocError>
+    ensures { IfOk result (IsComplete (over no_cells (changes (map entry named.now.entries)))) }
+{
+    let mut index = Index::new(alloc, class, field)?;
+    for (cell, change) in named {
+        if !index.enter_at(*cell, change.as_ref()) {
+            return Err(AllocError);
+        }
+    }
+    Ok(index)
+}
+
 impl Clone for Layer {
     ghost use Rattle.std.specs.Prelude.{◌≡◌};
 
@@ -261,8 +357,10 @@ impl Clone for Layer {
 
     /// The same layer once more, which shares its values.
     fn clone(&self) -> Result<Layer, AllocError> {
+        let changes = self.changes.clone()?;
         Ok(Layer {
-            changes: self.changes.clone()?,
+            changes,
+            indexes: Vec::new(*self.indexes.allocator()),
         })
     }
 }

@@ -5,9 +5,11 @@
 
 mod base;
 mod candidates;
+mod index;
 mod kept;
 mod layer;
 mod parts;
+mod place;
 mod shared;
 mod snapshot;
 mod store;

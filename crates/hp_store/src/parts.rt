@@ -46,7 +46,7 @@ impl Snapshot {
     ) -> Result<Option<Vec<KeyedRow>>, AllocError>
         ensures { IfOk result (λ found. IfSome found (λ objects. ArePart (over (cells_in self.now) (changes writes.now)) class (mapped.class_part part.now) (map mapped.keyed_row objects.items))) }
     {
-        if !self.base.finds(part) {
+        if !self.base.finds(class, part) {
             return Ok(None);
         }
         let mut keys = self.candidates_over(alloc, writes, class, part)?;

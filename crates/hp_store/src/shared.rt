@@ -9,6 +9,7 @@ ghost use Rattle.hp_store.specs.Mapped as here;
 ghost use Rattle.hp_store.specs.Parts.{keys_left, no_cells, is_among, Covers};
 
 use crate::candidates::Candidates;
+use crate::index::Index;
 use crate::layer::Layer;
 use crate::value::CellValue;
 use hp_value::{Cell, ClassNo, ClassPart};
@@ -50,6 +51,14 @@ impl SharedLayer {
         match &self.layer {
             Some(layer) => Some(layer),
             None => None,
+        }
+    }
+
+    // How many cells the layer names.
+    fn len(&self) -> usize {
+        match self.layer() {
+            Some(layer) => layer.len(),
+            None => 0,
         }
     }
 
@@ -105,13 +114,15 @@ pub(crate) fn copied(alloc: Global, layers: &[SharedLayer]) -> Result<Layers, Al
     Ok(copies)
 }
 
-/// The layers with one more over them. One that changes nothing is left out, and a ninth is folded with the others into one.
+/// The layers with one more over them. One that changes nothing is left out, and a ninth is folded with the newest of
+/// the others into one, which has the base's indexes.
 ///
 /// An error means that memory ran out.
 pub(crate) fn piled(
     alloc: Global,
     layers: &[SharedLayer],
     layer: Arc<Layer>,
+    indexes: &[Index],
 ) -> Result<Layers, AllocError>
     requires { length layers.now ≤ MOST_LAYERS }
     ensures changes { IfOk result (λ pile. (q : ModelCell) → changes_in pile.items q ≡ option_or (changes layer.value q) (changes_in layers.now q)) }
@@ -121,26 +132,46 @@ pub(crate) fn piled(
         let pile = copied(alloc, layers)?;
         return Ok(pile);
     }
-    if layers.len() == MOST_LAYERS {
-        let mut all = folded(alloc, layers)?;
-        all.take_in(&layer)?;
-        let one = alone(alloc, all)?;
-        return Ok(one);
+    if layers.len() < MOST_LAYERS {
+        let pile = pushed(alloc, layers, layer)?;
+        return Ok(pile);
     }
+    let (below, above) = layers.split_at(fold_from(layers, layer.len()));
+    let mut all = folded(alloc, above)?;
+    all.take_in(&layer)?;
+    all.keep_indexes(alloc, indexes)?;
+    let one = Arc::new(alloc, all)?;
+    let pile = pushed(alloc, below, one)?;
+    Ok(pile)
+}
+
+// These layers and one more.
+fn pushed(alloc: Global, layers: &[SharedLayer], layer: Arc<Layer>) -> Result<Layers, AllocError>
+    ensures { IfOk result (λ pile. pile.items ≡ layers.now ++ layer.value ∷ []) }
+{
     let mut pile = copied(alloc, layers)?;
     pile.push(SharedLayer { layer: Some(layer) })?;
     Ok(pile)
 }
 
-// A list of this one layer.
-fn alone(alloc: Global, layer: Layer) -> Result<Layers, AllocError>
-    ensures { IfOk result (λ pile. pile.items ≡ layer ∷ []) }
+// Where the layers begin that are folded with a new one of so many changes: the newest, and below it each that has at
+// most twice the changes of those above it. So where a lower layer is folded it grows by half at least, and commits stay
+// cheap while somebody holds the base for good.
+fn fold_from(layers: &[SharedLayer], added: usize) -> usize
+    requires { 0 < length layers.now }
+    ensures { result < length layers.now }
 {
-    let mut pile = SmallVec::new(alloc);
-    pile.push(SharedLayer {
-        layer: Some(Arc::new(alloc, layer)?),
-    })?;
-    Ok(pile)
+    let mut from = layers.len() - 1;
+    let mut folded = added.saturating_add(layers[from].len());
+    while from > 0 {
+        let lower = layers[from - 1].len();
+        if lower / 2 > folded {
+            return from;
+        }
+        folded = folded.saturating_add(lower);
+        from -= 1;
+    }
+    from
 }
 
 // One layer in place of several.

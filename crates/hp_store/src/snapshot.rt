@@ -5,9 +5,10 @@ ghost use Rattle.std.specs.List.Sorted.{IsStrictlySortedBy};
 ghost use Rattle.std.specs.Ordering.{int_cmp};
 ghost use Rattle.hp_model.specs.Cells.{Cell as ModelCell, AreKeys, row_value, over};
 ghost use Rattle.hp_store.specs.Changes.{changes_in};
+ghost use Rattle.hp_store.specs.Indexed.{AreComplete};
 ghost use Rattle.hp_store.specs.Kept.{HoldsNoRow};
 ghost use Rattle.hp_store.specs.Mapped as here;
-ghost use Rattle.hp_store.specs.Tables.{base_cells};
+ghost use Rattle.hp_store.specs.Tables.{tables, base_cells};
 
 use crate::base::Base;
 use crate::kept::{KeptList, still_kept};
@@ -50,10 +51,11 @@ impl Model for Snapshot {
     ghost use Rattle.hp_store.specs.Changes.{changes_in};
     ghost use Rattle.hp_store.specs.Kept.{HoldsNoRow};
     ghost use Rattle.hp_store.specs.Mapped as here;
+    ghost use Rattle.hp_store.specs.Indexed.{AreComplete};
     ghost use Rattle.hp_store.specs.Kept.{AreKept};
     ghost use Rattle.hp_store.specs.Tables.{base_cells};
 
-    ghost invariant = { λ s. (length s.layers.items ≤ 8) × AreKept (over (base_cells s.base.value) (changes_in s.layers.items)) s.lists.items };
+    ghost invariant = { λ s. (length s.layers.items ≤ 8) × AreKept (over (base_cells s.base.value) (changes_in s.layers.items)) s.lists.items × AreComplete (base_cells s.base.value) s.base.value.indexes.items };
 }
 
 impl Snapshot {
@@ -165,6 +167,20 @@ impl Snapshot {
         Ok(())
     }
 
+    /// Keeps an index of a field of a class's objects in the base, unless others share it.
+    ///
+    /// An error means that memory ran out.
+    pub(crate) fn keep_index(
+        &mut self,
+        alloc: Global,
+        class: ClassNo,
+        field: &str,
+    ) -> Result<(), AllocError>
+        ensures { self.new ≡ self.old }
+    {
+        keep_index(alloc, &mut self.base, class, field)
+    }
+
     /// The objects of a class with their rows, if the list is kept. It takes no memory.
     pub fn kept_objects(&self, class: ClassNo) -> Option<&Arc<ObjectList>>
         ensures { IfSome result (λ objects. AreObjects (cells_in self.now) class objects.now.value) }
@@ -219,14 +235,14 @@ impl Snapshot {
     }
 
     /// The snapshot with one layer more over it. It shares the base and the layer; a ninth layer is folded with the
-    /// others into one, and one that changes nothing is left out.
+    /// newest of the others into one, and one that changes nothing is left out.
     ///
     /// An error means that memory ran out.
     pub fn with_layer(&self, alloc: Global, layer: Arc<Layer>) -> Result<Snapshot, AllocError>
         ensures { IfOk result (λ s. cells_in s ≡ over (cells_in self.now) (changes layer.value)) }
     {
         let lists = still_kept(alloc, &self.lists, &layer)?;
-        let layers = piled(alloc, &self.layers, layer)?;
+        let layers = piled(alloc, &self.layers, layer, &self.base.indexes)?;
         Ok(Snapshot {
             base: Arc::try_clone(&self.base)?,
             layers,
@@ -246,7 +262,7 @@ impl Snapshot {
             return Ok(());
         }
         let lists = still_kept(alloc, &self.lists, &layer)?;
-        self.layers = piled(alloc, &self.layers, layer)?;
+        self.layers = piled(alloc, &self.layers, layer, &self.base.indexes)?;
         self.lists = lists;
         settle(alloc, &mut self.base, &mut self.layers);
         Ok(())
@@ -414,10 +430,27 @@ fn keys_of(
     Ok(keys)
 }
 
+// Keeps an index of a field in a base, unless others share it. An error means that memory ran out.
+fn keep_index(
+    alloc: Global,
+    base: &mut Arc<Base>,
+    class: ClassNo,
+    field: &str,
+) -> Result<(), AllocError>
+    ensures same { tables base.new.value ≡ tables base.old.value }
+    ensures complete { AreComplete (base_cells base.old.value) base.old.value.indexes.items → AreComplete (base_cells base.new.value) base.new.value.indexes.items }
+{
+    match Arc::get_mut(base) {
+        Some(base) => base.keep_index(alloc, class, field),
+        None => Ok(()),
+    }
+}
+
 // Lets the layers go into the base, where that can be done in place.
 fn settle(alloc: Global, base: &mut Arc<Base>, layers: &mut Layers)
     ensures same { (q : ModelCell) → over (base_cells base.new.value) (changes_in layers.new.items) q ≡ over (base_cells base.old.value) (changes_in layers.old.items) q }
     ensures fewer { length layers.new.items ≤ length layers.old.items }
+    ensures complete { AreComplete (base_cells base.old.value) base.old.value.indexes.items → AreComplete (base_cells base.new.value) base.new.value.indexes.items }
 {
     if taken(alloc, base, layers) {
         *layers = SmallVec::new(alloc);
@@ -429,6 +462,7 @@ fn settle(alloc: Global, base: &mut Arc<Base>, layers: &mut Layers)
 fn taken(alloc: Global, base: &mut Arc<Base>, layers: &[SharedLayer]) -> bool
     ensures same { (q : ModelCell) → over (base_cells base.new.value) (changes_in layers.now) q ≡ over (base_cells base.old.value) (changes_in layers.now) q }
     ensures all { IsTrue result → (q : ModelCell) → base_cells base.new.value q ≡ over (base_cells base.old.value) (changes_in layers.now) q }
+    ensures complete { AreComplete (base_cells base.old.value) base.old.value.indexes.items → AreComplete (base_cells base.new.value) base.new.value.indexes.items }
 {
     match Arc::get_mut(base) {
         Some(base) => taken_in(alloc, base, layers).is_ok(),
@@ -440,6 +474,7 @@ fn taken(alloc: Global, base: &mut Arc<Base>, layers: &[SharedLayer]) -> bool
 fn taken_in(alloc: Global, base: &mut Base, layers: &[SharedLayer]) -> Result<(), AllocError>
     ensures ok { OnOk result ((q : ModelCell) → base_cells base.new q ≡ over (base_cells base.old) (changes_in layers.now) q) }
     ensures others { (q : ModelCell) → changes_in layers.now q ≡ None → base_cells base.new q ≡ base_cells base.old q }
+    ensures complete { AreComplete (base_cells base.old) base.old.indexes.items → AreComplete (base_cells base.new) base.new.indexes.items }
 {
     for shared in layers {
         if let Some(layer) = shared.layer() {

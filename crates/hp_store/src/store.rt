@@ -85,19 +85,19 @@ impl Store {
         self.state.keep_list(class, objects)
     }
 
-    /// Tells that parts of a class by a field will be asked for. No index is kept of it: `Snapshot::part` answers None
-    /// for such a part.
+    /// Keeps an index of a field from now on, so that `Snapshot::part` finds parts of the class by it. That takes a look
+    /// at each object of the class once; where there is such an index, or a snapshot shares the cells, nothing is done.
     ///
     /// An error means that memory ran out.
     pub fn keep_index(
         &mut self,
-        _alloc: Global,
-        _class: ClassNo,
-        _field: &str,
+        alloc: Global,
+        class: ClassNo,
+        field: &str,
     ) -> Result<(), AllocError>
         ensures { self.new ≡ self.old }
     {
-        Ok(())
+        self.state.keep_index(alloc, class, field)
     }
 
     /// Overwrites the cells by a layer. Where no snapshot of the store is left, the changes go into the cells in place, and

@@ -39,7 +39,7 @@ unit_runs u {library} {first} {second} {third} t tasks later tops m p are q all 
     subst (λ (x : Option ℕ × List TopReport). RunsUnit library u first third (record { time = x.0; transactions = map top_report x.1 })) (λ i. (sym time i, sym all i))
     (record { goes_on = GoesOn-then p.goes_on q.goes_on; faithful = faithful_unit u (grows q.goes_on) p.faithful q'.faithful })
 
--- on a view of a snapshot with no write
+-- the same for a view of a snapshot without writes
 pub sound_unit : {library : Library} {u : model.Unit} {first new : Seeing} {report : model.UnitReport} (reads : List Read) (layer : Entries) → first.writes ≡ [] → reads ≡ new.reads → layer ≡ new.writes
     → RunsUnit library u first new report → IsSoundUnit library u reads (changes layer) report
 sound_unit {library} {u} {first} {new} {report} reads layer none reads_are layer_is p =
@@ -70,9 +70,9 @@ unit_lawful {library} {u} ran = record {
   lawful = λ S ordered is. lawful library u S;
 }
 
--- ---- units one after the other
+-- ---- units one after another
 
--- so many of the units ran
+-- the first i units ran
 pub record RanSoFar (library : Library) (items : List Unit) (i : ℕ) (before now : Cells) (reports : List model.UnitReport) : Type 0 where
   pub many : length reports ≡ i
   pub from : (S : State) → IsOrdered library S → cells library S ≡ before
@@ -109,7 +109,7 @@ ran_units {library} {items} {i} {before} {now} {reports} low p =
       from = λ S ordered is. subst (λ us. LeadsTo library (run_units library us S).units (run_units library us S).state reports now) taken (p.from S ordered is);
     }
 
--- a unit that did not run leaves the store and the reports
+-- a unit that didn't run leaves the store and the reports unchanged
 pub stopped_after : {library : Library} {us : List model.Unit} {before : Cells} {old new : Stack} {former reports : List UnitReport} → new ≡ old → reports ≡ former
     → RanUnits library us before (cells_in old) (map unit_report_of former) → RanUnits library us before (cells_in new) (map unit_report_of reports)
 stopped_after {library} {us} {before} same none p = subst (λ (x : Stack × List UnitReport). RanUnits library us before (cells_in x.0) (map unit_report_of x.1)) (λ i. (sym same i, sym none i)) p

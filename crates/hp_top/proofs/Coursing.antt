@@ -15,7 +15,7 @@ use Rattle.hp_view.proofs.Views.{GoesOn-same, GoesOn-then}
 use Rattle.hp_fire.specs.Runs.{Runs, RunsGroup}
 use Rattle.hp_top.specs.Runs.{Continues, IsRound}
 
--- where a view goes on, its reads grow
+-- a view that continues another has its reads and more
 pub grows : {old new : Seeing} → GoesOn old new → Grows old.reads new.reads
 grows on = record { others = on.reads.0; are = on.reads.1 }
 
@@ -60,7 +60,7 @@ one_round a {library} {old} {new} {g} unsettled p = record { goes_on = p.goes_on
     by whole w0 left (abort_by x) ts is are h so_far = cc
     by whole w0 left (veto_by r) ts is are h so_far = cc
 
--- after some rounds of those that there are at most
+-- after some of the most rounds
 pub record RoundsLeft (library : Library) (most left : ℕ) (first now : Seeing) (begun so_far : Answer) : Type 0 where
   pub goes_on : GoesOn first now
   pub rounds : (whole : Work) → (w0 : Changes) → Rounds library (fire_task library) whole w0 most first.reads (written first) begun

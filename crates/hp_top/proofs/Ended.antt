@@ -1,4 +1,4 @@
--- How top-level transactions end on a view.
+-- The end of top-level transactions on a view.
 use Rattle.std.proofs.Common.{arith, ◌≡◌, sym, subst, ℕ, ◌≤◌, length}
 use Rattle.hp_model.specs.Rules.{Library}
 use Rattle.hp_model.specs.Cascade.{top, top_course}
@@ -25,7 +25,7 @@ closes_top mark {old} {new} a t ends is = record {
       };
 }
 
--- the mark can still be gone back to
+-- the mark stays valid
 pub mark_stays : {old new : Seeing} {mark : ℕ} → GoesOn old new → mark ≤ length old.undo → mark ≤ length new.undo
 mark_stays on low = omega (arith, on.undo)
 

@@ -1,4 +1,4 @@
--- What a loop over detached tasks puts together.
+-- The list that a loop over detached tasks collects.
 use Rattle.std.proofs.Common.{◌≡◌, refl, sym, ap, ◌∙◌, ℕ, ◌≤◌, ◌==◌, length, arith, true≢false, true, false, List, [], ◌∷◌, ◌++◌, append-nil, Option, None, Some, map}
 use Rattle.std.specs.Prelude.{filter_map}
 use Rattle.std.specs.Bool.{then_some}
@@ -31,7 +31,7 @@ option-one o x is = ap (λ p. cons_option p []) is
 option-none : {X : Type 0} (o : Option X) → o ≡ None → cons_option o [] ≡ []
 option-none o is = ap (λ p. cons_option p []) is
 
--- one more task, and what f makes of it
+-- one more task, and its value under f
 module _ {X : Type 0} (f : model.Detached → Option X) (so_far : List X) (ds : List Detached) (d : Detached) (is : so_far ≡ filter_map f (map detached ds)) where
   one_more : so_far ++ cons_option (f (detached d)) [] ≡ filter_map f (map detached (ds ++ d ∷ []))
   one_more =

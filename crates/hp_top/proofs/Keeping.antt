@@ -1,4 +1,4 @@
--- Units leave fit states where fit ones were.
+-- Units keep states fit.
 use Rattle.std.proofs.Common.{ℕ, zero, suc, List, [], ◌∷◌, map, take, length, IsTrue}
 use Rattle.std.specs.List.{AllByRecursion}
 use Rattle.hp_model.specs.Cascade as model

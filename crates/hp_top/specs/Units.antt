@@ -1,4 +1,4 @@
--- What runs of units on the committed store, and attempts at them, mean.
+-- Runs of units on the committed store, and attempts at them.
 use Rattle.std.specs.Prelude.{◌≡◌, ◌≤◌, pos, IsTrue, List, [], ◌∷◌, ◌++◌, length, take, map, flat_map, Ok}
 use Rattle.hp_model.specs.Values.{fits_64}
 use Rattle.hp_model.specs.Rules.{Library}
@@ -20,8 +20,8 @@ abbrev pub IsUnitOf : Library → Unit → Type 0
 IsUnitOf library (transaction body) = script_body_check library [] body ≡ Ok tt
 IsUnitOf library (moment t) = IsTrue (fits_64 (pos t))
 
--- the unit ran: from every ordered state that has the former cells it is reported so, and leaves an ordered state that has the
--- later ones
+-- the unit ran: from each ordered state with the earlier cells its report is this one, and it leaves an ordered state
+-- with the later cells
 pub record RanUnit (library : Library) (unit : Unit) (before after : Cells) (report : UnitReport) : Type 0 where
   pub from : (S : State) → IsOrdered library S → cells library S ≡ before → LeadsTo library (unit_report unit (run_unit library unit S)) (run_unit library unit S).state report after
 
@@ -29,20 +29,20 @@ pub record RanUnit (library : Library) (unit : Unit) (before after : Cells) (rep
 pub record IsReplayed (library : Library) (unit : Unit) (before : Cells) (report : UnitReport) : Type 0 where
   pub from : (S : State) → IsOrdered library S → cells library S ≡ before → (run_unit library unit S).state.objects ≡ replay_transactions S.objects report.transactions
 
--- what is reported is what generations did of which each ran the tasks that the former one's trees detached and whose coupling lets
--- them run
+-- the report is that of generations, each of which ran the tasks that the trees of the one before detached and whose
+-- coupling lets them run
 pub record IsLawful (library : Library) (unit : Unit) (before : Cells) (report : UnitReport) : Type 0 where
   pub reported : (S : State) → IsOrdered library S → cells library S ≡ before
       → map transaction_report (flat_map (λ (g : Generation). g.transactions) (run_unit library unit S).generations) ≡ report.transactions
   pub lawful : (S : State) → IsOrdered library S → cells library S ≡ before → AreLawful (run_unit library unit S).generations
 
--- one more unit ran, and is reported after the others
+-- one more unit ran, and its report follows the others
 pub record RanNext (library : Library) (unit : Unit) (before after : Cells) (former reports : List UnitReport) : Type 0 where
   pub report : UnitReport
   pub reported : reports ≡ former ++ report ∷ []
   pub ran : RanUnit library unit before after report
 
--- the first units ran, one after the other: as many as there are reports
+-- the first units ran, one after another: as many as there are reports
 pub record RanUnits (library : Library) (units : List Unit) (before after : Cells) (reports : List UnitReport) : Type 0 where
   pub within : length reports ≤ length units
   pub from : (S : State) → IsOrdered library S → cells library S ≡ before

@@ -1,4 +1,4 @@
-//! How top-level transactions end.
+//! The end of top-level transactions.
 
 ghost use Rattle.std.specs.Prelude.{◌≤◌, IfOk, length};
 ghost use Rattle.hp_fire.specs.Mapped.{course as course_of};
@@ -10,10 +10,8 @@ use hp_fire::{Course, detached_after, end_transaction, ending};
 use hp_view::{Mark, View};
 use std::alloc::{AllocError, Global};
 
-/// Ends a top-level transaction that began at the mark: where its course is done, what it wrote stays; else that goes, and
-/// so do the tasks that it detached but the separate ones, and the exclusive ones, which are released.
-///
-/// An error means that memory ran out; the view may then hold a part of the effects, and is only to be dropped.
+/// Ends a top-level transaction that began at the mark. If its course is done, its writes stay. Otherwise they are
+/// undone, and of the tasks that it detached only the separate ones remain, and the exclusive ones, which are released.
 pub(crate) fn close(
     alloc: Global,
     view: &mut View,

@@ -19,11 +19,11 @@ use std::alloc::{AllocError, Global};
 use std::thread::Threads;
 
 impl<R: Threads + Sync> Runner<'_, R> {
-    /// Runs the cascade of detached tasks on the view: each as a top-level transaction of its own, in order, and then those
-    /// that they detached and that are due, generation by generation. It gives what is reported of each.
+    /// Runs the cascade of detached tasks on the view. A generation runs each task as a top-level transaction, in
+    /// order. The next one runs the tasks that these have detached and that are due. The answer is the report of each
+    /// transaction.
     ///
-    /// HiPAC: separate firings run in transactions of their own. An error means that memory ran out; the view may then
-    /// hold a part of the effects, and is only to be dropped.
+    /// In HiPAC separate firings run in transactions of their own.
     pub(crate) fn cascade(
         &self,
         view: &mut View,
@@ -45,7 +45,7 @@ impl<R: Threads + Sync> Runner<'_, R> {
         Ok(reports)
     }
 
-    /// Runs tasks as a generation: each as a top-level transaction, in order.
+    /// Runs a generation: each task as a top-level transaction, in order.
     fn run_generation(&self, view: &mut View, tasks: &[Task]) -> Result<Generation, AllocError>
         ensures { IfOk result (λ g. RunsGeneration (library self.now.engine.lib.now) (map task_of tasks.now) view.old view.new (generation_of g)) }
     {
@@ -64,20 +64,19 @@ impl<R: Threads + Sync> Runner<'_, R> {
     }
 }
 
-/// What a generation gives, beside what it writes.
+/// The result of a generation, besides its writes.
 #[derive(Debug, Drop)]
 pub(crate) struct Generation {
-    /// What is reported of its transactions, in order.
+    /// The reports of its transactions, in order.
     pub(crate) tops: Vec<TopReport>,
     /// The tasks that they detached, in order.
     pub(crate) detached: Vec<Detached>,
 }
 
-/// Runs the cascade of detached tasks on the view: each as a top-level transaction of its own, in order, and then those
-/// that they detached and that are due, generation by generation. It gives what is reported of each.
+/// Runs the cascade of detached tasks on the view. A generation runs each task as a top-level transaction, in order.
+/// The next one runs the tasks that these have detached and that are due. The answer is the report of each transaction.
 ///
-/// HiPAC: separate firings run in transactions of their own. An error means that memory ran out; the view may then hold
-/// a part of the effects, and is only to be dropped.
+/// In HiPAC separate firings run in transactions of their own. Groups of firings use at most `width` threads.
 pub fn cascade<R: Threads + Sync>(
     rt: &R,
     alloc: Global,
@@ -93,9 +92,7 @@ pub fn cascade<R: Threads + Sync>(
     Ok(reports)
 }
 
-/// The detached tasks that are to run, in order: an exclusive one only where it was released.
-///
-/// An error means that memory ran out.
+/// The detached tasks that are due, in order: an exclusive one only if it was released.
 pub(crate) fn due(alloc: Global, detached: Vec<Detached>) -> Result<Vec<Task>, AllocError>
     ensures { IfOk result (λ ts. map task_of ts.items ≡ model.due (map detached_of detached.items)) }
 {
@@ -108,7 +105,7 @@ pub(crate) fn due(alloc: Global, detached: Vec<Detached>) -> Result<Vec<Task>, A
     Ok(tasks)
 }
 
-/// Whether a detached task is to run.
+/// Whether a detached task is due.
 fn is_due(place: Coupling, released: bool) -> bool
     ensures { result ≡ model.due_by (coupling place) released }
 {

@@ -1,4 +1,4 @@
-//! Units one after the other on the committed store.
+//! Sequences of units on the committed store.
 
 ghost use Rattle.std.specs.Prelude.{◌≡◌, ◌<◌, IfOk, OnOk, OnErr, IsSome, None, length, map};
 ghost use Rattle.std.specs.List.{AllByRecursion};
@@ -17,10 +17,9 @@ use std::alloc::{AllocError, Global};
 use std::thread::Threads;
 
 impl<R: Threads + Sync> Runner<'_, R> {
-    /// Runs units on the committed store, one after the other, each on what the former left, up to the first for which memory runs
-    /// out.
+    /// Runs units on the committed store, one after another, up to the first for which memory runs out.
     ///
-    /// What ran before that is reported, and the store is as the last unit left it that is reported.
+    /// The reports are those of the units before it, and the store is as the last of these left it.
     pub fn run_items(&self, store: &mut Store, items: &[Unit]) -> Items
         ensures ran { RanUnits (library self.now.engine.lib.now) (map unit_of items.now) (cells_in store.old) (cells_in store.new) (map unit_report result.reports.items) }
         ensures replayed { AreReplayed (library self.now.engine.lib.now) (map unit_of items.now) (cells_in store.old) (map unit_report result.reports.items) }
@@ -43,7 +42,7 @@ impl<R: Threads + Sync> Runner<'_, R> {
         }
     }
 
-    /// Runs one more unit, for whose report there is room before it runs.
+    /// Runs one more unit. Space for its report is reserved before it runs.
     ///
     /// An error means that memory ran out; the store and the reports are then as before.
     fn run_next(
@@ -63,18 +62,16 @@ impl<R: Threads + Sync> Runner<'_, R> {
     }
 }
 
-/// What units gave that ran one after the other.
+/// The results of a sequence of units.
 #[derive(Debug, Drop)]
 pub struct Items {
-    /// What is reported of each unit that ran, in order.
+    /// The report of each unit that ran, in order.
     pub reports: Vec<UnitReport>,
-    /// Why no further unit ran; none where all ran.
+    /// Why no further unit ran; `None` if all ran.
     pub stopped: Option<AllocError>,
 }
 
-/// The store before a script's first unit: no object is there, and no rule.
-///
-/// An error means that memory ran out.
+/// The store before a script's first unit: it has no object and no rule.
 pub fn opening(alloc: Global) -> Result<Store, AllocError>
     ensures { IfOk result (λ s. IsOpening (cells_in s)) }
 {
@@ -82,10 +79,10 @@ pub fn opening(alloc: Global) -> Result<Store, AllocError>
     Ok(store)
 }
 
-/// Runs units on the committed store, one after the other, each on what the former left, up to the first for which memory runs
-/// out.
+/// Runs units on the committed store, one after another, up to the first for which memory runs out.
 ///
-/// What ran before that is reported, and the store is as the last unit left it that is reported.
+/// The reports are those of the units before it, and the store is as the last of these left it. Groups of firings use
+/// at most `width` threads.
 pub fn run_items<R: Threads + Sync>(
     rt: &R,
     alloc: Global,

@@ -1,7 +1,10 @@
-//! Top-level transactions, the cascades of what they detach, and units on the committed store.
+//! Top-level transactions, cascades of detached tasks, and units on the committed store.
 //!
-//! The types stand for those of `hp_model`: `specs/Mapped.antt` has a function for each. `specs/Runs.antt` says what a call
-//! on a view promises.
+//! The types stand for those of `hp_model`: `specs/Mapped.antt` has a function for each. `specs/Runs.antt` says what a
+//! call on a view promises.
+//!
+//! `AllocError` means that memory ran out. A view that was passed to the call may then hold a part of the effects, and
+//! is only to be dropped.
 #![tactic(auto)]
 
 mod closing;

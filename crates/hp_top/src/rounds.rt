@@ -20,10 +20,10 @@ use std::alloc::AllocError;
 use std::thread::Threads;
 
 impl<R: Threads + Sync> Runner<'_, R> {
-    /// Goes on from the course of a top-level transaction's work to its end: the commit event at the transaction's depth, and
+    /// Completes the course of a top-level transaction after its work: the commit event at the transaction's depth, and
     /// the rounds of deferred tasks.
     ///
-    /// HiPAC: deferred tasks run after the last operation, before the commit. An error means that memory ran out.
+    /// In HiPAC deferred tasks run after the last operation and before the commit.
     pub(crate) fn complete(
         &self,
         view: &mut View,
@@ -37,7 +37,7 @@ impl<R: Threads + Sync> Runner<'_, R> {
         Ok(all)
     }
 
-    /// Signals the commit event where the course so far is done.
+    /// Signals the commit event, if the course so far is done.
     fn signal_commit(
         &self,
         view: &mut View,
@@ -57,8 +57,8 @@ impl<R: Threads + Sync> Runner<'_, R> {
         }
     }
 
-    /// Runs the queued tasks in rounds, each of which runs what the one before queued, while the course is done and tasks are
-    /// queued.
+    /// Runs the queued tasks in rounds, while the course is done and tasks are queued. Each round runs what the one
+    /// before it queued.
     fn run_rounds(&self, view: &mut View, begun: Course) -> Result<Course, AllocError>
         ensures { IfOk result (λ c. Continues (library self.now.engine.lib.now) (λ work S. model.rounds (model.most_rounds (library self.now.engine.lib.now)) (fire_task (library self.now.engine.lib.now)) (work S)) view.old view.new (course_of begun) (course_of c)) }
     {
@@ -86,8 +86,7 @@ impl<R: Threads + Sync> Runner<'_, R> {
     }
 }
 
-/// How many rounds, or generations, there are at most: each task is deeper than the one that made it, or is the action of
-/// its condition.
+/// The most rounds, or generations: each task is deeper than the one that made it, or is the action of its condition.
 pub(crate) fn most_rounds(lib: &Library) -> u32
     ensures { result ≡ model.most_rounds (library lib.now) }
 {

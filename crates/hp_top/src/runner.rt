@@ -1,4 +1,4 @@
-//! What runs units.
+//! The runner of units.
 
 ghost use Rattle.std.specs.Prelude.{◌≡◌};
 
@@ -6,7 +6,7 @@ use hp_fire::{Engine, Past};
 use hp_rule::Library;
 use std::alloc::Global;
 
-/// What runs units and their transactions: the engine, which has all that they are handed.
+/// Runs units and their transactions. It holds the engine, which has all their parameters.
 #[derive_where(Clone, Copy)]
 pub struct Runner<'a, R> {
     /// The engine.
@@ -14,8 +14,8 @@ pub struct Runner<'a, R> {
 }
 
 impl<'a, R> Runner<'a, R> {
-    /// A runner with so many threads for a group. What rules' firings take is noted in `past`. Where one past serves for
-    /// several calls, the first long group of one tells for all that follow. Nothing that a unit gives depends on it.
+    /// A runner with at most `width` threads for a group. The costs of firings are noted in `past`. If one past serves
+    /// several calls, the first long group informs all later ones. No report depends on it.
     pub fn new(
         rt: &'a R,
         alloc: Global,
@@ -30,7 +30,7 @@ impl<'a, R> Runner<'a, R> {
         }
     }
 
-    /// What memory is taken from.
+    /// The allocator.
     pub(crate) fn alloc(&self) -> Global {
         self.engine.alloc
     }

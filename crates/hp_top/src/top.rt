@@ -21,11 +21,8 @@ use std::alloc::{AllocError, Global};
 use std::thread::Threads;
 
 impl<R: Threads + Sync> Runner<'_, R> {
-    /// Runs a unit's own transaction on the view: the script's body, or the signal of the moment, then the commit event and
-    /// the deferred rounds.
-    ///
-    /// Groups of firings inside get so much width. An error means that memory ran out; the view may then hold a part of
-    /// the effects, and is only to be dropped.
+    /// Runs a unit's own transaction on the view: the script's body, or the signal of the moment, then the commit event
+    /// and the deferred rounds.
     pub(crate) fn run_top(&self, view: &mut View, unit: &Unit) -> Result<Top, AllocError>
         ensures { IfOk result (λ t. RunsTop (library self.now.engine.lib.now) (top (library self.now.engine.lib.now) 0 (unit_work (library self.now.engine.lib.now) (unit_of unit.now))) view.old view.new (top_of t)) }
     {
@@ -44,10 +41,7 @@ impl<R: Threads + Sync> Runner<'_, R> {
         }
     }
 
-    /// Runs a detached task on the view as a top-level transaction of its own.
-    ///
-    /// A veto of the task aborts the transaction. An error means that memory ran out; the view may then hold a part of
-    /// the effects, and is only to be dropped.
+    /// Runs a detached task on the view as a top-level transaction of its own. Its veto aborts the transaction.
     pub(crate) fn run_detached(&self, view: &mut View, task: &Task) -> Result<Top, AllocError>
         ensures { IfOk result (λ t. RunsTop (library self.now.engine.lib.now) (top (library self.now.engine.lib.now) (task_of task.now).depth (task_work (library self.now.engine.lib.now) (task_of task.now))) view.old view.new (top_of t)) }
     {
@@ -58,7 +52,7 @@ impl<R: Threads + Sync> Runner<'_, R> {
         Ok(top)
     }
 
-    /// Goes on from a transaction's work to its end, and ends it.
+    /// Completes and ends a transaction after its work.
     fn finish(
         &self,
         view: &mut View,
@@ -75,22 +69,21 @@ impl<R: Threads + Sync> Runner<'_, R> {
     }
 }
 
-/// What a top-level transaction gives, beside what it writes.
+/// The result of a top-level transaction, besides its writes.
 #[derive(Debug, Drop)]
 pub struct Top {
     /// How it ended.
     pub end: Ending,
-    /// What was done in it, in order of time, up to its end.
+    /// What it did up to its end, in order of time.
     pub tree: Vec<Item>,
-    /// The tasks that it detached, in order; where it aborted, those that remain.
+    /// The tasks that it detached, in order; if it aborted, those that remain.
     pub detached: Vec<Detached>,
 }
 
 /// Runs a unit's own transaction on the view: the script's body, or the signal of the moment, then the commit event and
 /// the deferred rounds.
 ///
-/// Groups of firings inside get so much width. An error means that memory ran out; the view may then hold a part of the
-/// effects, and is only to be dropped.
+/// Groups of firings use at most `width` threads.
 pub fn run_top<R: Threads + Sync>(
     rt: &R,
     alloc: Global,
@@ -106,10 +99,9 @@ pub fn run_top<R: Threads + Sync>(
     Ok(top)
 }
 
-/// Runs a detached task on the view as a top-level transaction of its own.
+/// Runs a detached task on the view as a top-level transaction of its own. Its veto aborts the transaction.
 ///
-/// A veto of the task aborts the transaction. An error means that memory ran out; the view may then hold a part of the
-/// effects, and is only to be dropped.
+/// Groups of firings use at most `width` threads.
 pub fn run_detached<R: Threads + Sync>(
     rt: &R,
     alloc: Global,
@@ -125,7 +117,7 @@ pub fn run_detached<R: Threads + Sync>(
     Ok(top)
 }
 
-/// A firing as the whole work of a transaction, which its veto aborts.
+/// A firing as the whole work of a transaction. Its veto aborts the transaction.
 fn firing_course(outcome: Outcome) -> Course
     ensures { course_of result ≡ task_answer (firing outcome) }
 {

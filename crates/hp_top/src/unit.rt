@@ -24,10 +24,7 @@ use std::sync::Arc;
 use std::thread::Threads;
 
 impl<R: Threads + Sync> Runner<'_, R> {
-    /// Runs a unit on the view: its own transaction, and the cascade of what that detaches. It gives what is reported of it.
-    ///
-    /// Groups of firings inside get so much width. An error means that memory ran out; the view may then hold a part of
-    /// the effects, and is only to be dropped.
+    /// Runs a unit on the view: its own transaction, and the cascade of what that detaches. The answer is its report.
     pub(crate) fn run_unit_on(&self, view: &mut View, unit: &Unit) -> Result<UnitReport, AllocError>
         ensures { IfOk result (λ r. RunsUnit (library self.now.engine.lib.now) (unit_of unit.now) view.old view.new (unit_report r)) }
     {
@@ -47,9 +44,7 @@ impl<R: Threads + Sync> Runner<'_, R> {
         })
     }
 
-    /// Tries a unit on a snapshot, which is dropped.
-    ///
-    /// An error means that memory ran out.
+    /// Tries a unit on a snapshot.
     pub fn attempt_unit(&self, snapshot: Snapshot, unit: &Unit) -> Result<UnitAttempt, AllocError>
         ensures sound { IfOk result (λ a. IsSoundUnit (library self.now.engine.lib.now) (unit_of unit.now) a.reads (changes a.layer.value) (unit_report a.report)) }
         ensures so_it_was { IfOk result (λ a. Holds (cells_in snapshot) a.reads) }
@@ -64,11 +59,11 @@ impl<R: Threads + Sync> Runner<'_, R> {
         })
     }
 
-    /// Runs a unit on the committed store, and gives what is reported of it.
+    /// Runs a unit on the committed store. The answer is its report.
     ///
-    /// The changes go into the store in place where nobody else holds a snapshot of it, and cost no more than what they change. A
-    /// class that the unit read as a whole needn't be listed anew for the units after it, until one of its objects changes.
-    /// An error means that memory ran out; the store is then as before.
+    /// The changes go into the store in place if nobody else holds a snapshot of it, at a cost that depends only on
+    /// what they change. A class that the unit read as a whole stays listed for later units, until one of its objects
+    /// changes. An error means that memory ran out; the store is then as before.
     pub fn run_unit(&self, store: &mut Store, unit: &Unit) -> Result<UnitReport, AllocError>
         ensures ran { IfOk result (λ r. RanUnit (library self.now.engine.lib.now) (unit_of unit.now) (cells_in store.old) (cells_in store.new) (unit_report r)) }
         ensures replayed { IfOk result (λ r. IsReplayed (library self.now.engine.lib.now) (unit_of unit.now) (cells_in store.old) (unit_report r)) }
@@ -85,10 +80,9 @@ impl<R: Threads + Sync> Runner<'_, R> {
     }
 }
 
-/// Runs a unit on the view: its own transaction, and the cascade of what that detaches. It gives what is reported of it.
+/// Runs a unit on the view: its own transaction, and the cascade of what that detaches. The answer is its report.
 ///
-/// Groups of firings inside get so much width. An error means that memory ran out; the view may then hold a part of the
-/// effects, and is only to be dropped.
+/// Groups of firings use at most `width` threads.
 pub fn run_unit_on<R: Threads + Sync>(
     rt: &R,
     alloc: Global,
@@ -114,20 +108,18 @@ fn moment_of(unit: &Unit) -> Option<u64>
     }
 }
 
-/// A unit as it was tried on a snapshot. It stands for the unit on each state where its reads hold.
+/// A unit as it was tried on a snapshot. It stands for the unit on each state in which its reads hold.
 #[derive(Debug, Drop)]
 pub struct UnitAttempt {
     /// What it read of the snapshot.
     pub reads: Reads,
     /// What it wrote over the snapshot.
     pub layer: Arc<Layer>,
-    /// What is reported of it.
+    /// Its report.
     pub report: UnitReport,
 }
 
-/// Tries a unit on a snapshot, which is dropped.
-///
-/// An error means that memory ran out.
+/// Tries a unit on a snapshot. Groups of firings use at most `width` threads.
 pub fn attempt_unit<R: Threads + Sync>(
     rt: &R,
     alloc: Global,
@@ -144,11 +136,11 @@ pub fn attempt_unit<R: Threads + Sync>(
     Ok(attempt)
 }
 
-/// Runs a unit on the committed store, and gives what is reported of it.
+/// Runs a unit on the committed store. The answer is its report.
 ///
-/// The changes go into the store in place where nobody else holds a snapshot of it, and cost no more than what they change. A
-/// class that the unit read as a whole needn't be listed anew for the units after it, until one of its objects changes.
-/// An error means that memory ran out; the store is then as before.
+/// Groups of firings use at most `width` threads. The changes go into the store in place if nobody else holds a
+/// snapshot of it, at a cost that depends only on what they change. A class that the unit read as a whole stays listed
+/// for later units, until one of its objects changes. An error means that memory ran out; the store is then as before.
 pub fn run_unit<R: Threads + Sync>(
     rt: &R,
     alloc: Global,
@@ -168,10 +160,10 @@ pub fn run_unit<R: Threads + Sync>(
     Ok(report)
 }
 
-/// Has the store keep an index of each field by which queries of the library's rules find the objects of a class. Where it does
-/// so already this costs nothing but a look.
+/// Makes the store keep an index of each field by which queries of the library's rules find objects. If it has them
+/// already, this costs one look-up each.
 ///
-/// An error means that memory ran out; the store then keeps some of them.
+/// An error means that memory ran out; the store then keeps some of the indexes.
 pub fn keep_indexes(alloc: Global, store: &mut Store, lib: &Library) -> Result<(), AllocError>
     ensures { store.new ≡ store.old }
 {
@@ -192,7 +184,7 @@ fn keep_lists(store: &mut Store, reads: &Reads) -> Result<(), AllocError>
     Ok(())
 }
 
-// Keeps a list of a class, if one was found there.
+// Keeps the list of a class, if a read has one.
 fn keep_list(store: &mut Store, seen: &Seen, found: &Found) -> Result<(), AllocError>
     requires { IsTold (cells_in store.old) (read (seen.now, found.now)) }
     ensures { store.new ≡ store.old }

@@ -1,4 +1,4 @@
--- Look-ups and changes by the order of the program's names are those by the model's names.
+-- Look-ups and changes in the order of the program's names are those by the model's names.
 use Rattle.std.proofs.Common.{◌≡◌, refl, ap, ◌∙◌, List, [], ◌∷◌, Some}
 use Rattle.std.specs.Prelude.{cond, Bool, true, false}
 use Rattle.std.specs.Ordering.{nat_cmp, int_cmp, ordering_then, match_ordering}

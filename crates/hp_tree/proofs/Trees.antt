@@ -14,14 +14,14 @@ pub row_items_lem : (m : Count) (k : Row_of-Item m) → row_items k ≡ items_in
 row_items_lem m end_of-Item = refl
 row_items_lem m (more_of-Item {n = j} i rest) = ap (before i) (row_items_lem j rest)
 
--- an item's emits stand before the later ones'
+-- an item's emits precede those of later items
 pub emits-before : (i : Item) (rest : Items) → emits (before i rest) ≡ emits (before i no_items) ++ emits rest
 emits-before (AnOperation op) rest = refl
 emits-before (Emit v) rest = refl
 emits-before (ANode what end shape all) rest =
     ap (λ vs. vs ++ emits rest) (sym (append-nil (if_committed (ending end) (emits (row_items all)) [])))
 
--- an item is replayed before the later ones
+-- an item is replayed before later ones
 pub replay-before : (i : Item) (rest : Items) (objects : Objects) → replay (before i rest) objects ≡ replay rest (replay (before i no_items) objects)
 replay-before (AnOperation op) rest objects = refl
 replay-before (Emit v) rest objects = refl

@@ -42,7 +42,7 @@ ending Committed = T.committed
 ending (Aborted c) = T.aborted (cause c)
 
 abbrev mutual
-  -- an item in front of the later ones
+  -- an item in front of others
   pub before : Item → T.Items → T.Items
   before (AnOperation op) rest = T.operation (operation op) rest
   before (Emit v) rest = T.emission (value v) rest

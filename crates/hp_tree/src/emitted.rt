@@ -1,4 +1,4 @@
-//! The values that a tree emitted.
+//! The values emitted in a tree.
 
 ghost use Rattle.std.specs.Prelude.{◌≡◌, ◌++◌, IfOk, OnOk};
 ghost use Rattle.hp_model.specs.Tree.{emits, no_items};
@@ -8,10 +8,9 @@ use crate::node::{Ending, Item};
 use hp_value::Value;
 use std::alloc::{AllocError, Global};
 
-/// The values emitted in those nodes of a tree that committed together with all nodes round them, in tree order.
+/// The emitted values of the nodes that committed, together with all nodes around them, in tree order.
 ///
-/// What stands in no node counts as committed: an aborted top-level transaction has emitted nothing. An error means that
-/// memory ran out.
+/// Values outside all nodes count as committed, so the caller leaves out an aborted top-level transaction.
 pub fn emits<'a>(alloc: Global, tree: &'a [Item]) -> Result<Vec<&'a Value>, AllocError>
     ensures { IfOk result (λ vs. values_behind vs.items ≡ emits (items_in tree.now)) }
 {

@@ -1,6 +1,7 @@
-//! Trees of what transactions did, in order of time, and what such a tree says of the objects and of the emitted values.
+//! Trees of what transactions did, in order of time; and from a tree the objects it leaves and the values it emits.
 //!
-//! The types stand for those of `hp_model`: `specs/Mapped.antt` has a function for each.
+//! The types stand for those of `hp_model`: `specs/Mapped.antt` has a function for each. `AllocError` means that memory
+//! ran out.
 #![tactic(auto)]
 
 mod emitted;

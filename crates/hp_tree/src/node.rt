@@ -1,50 +1,50 @@
-//! Nodes and their items.
+//! The nodes of a tree and their items.
 
 use crate::operation::Operation;
 use hp_value::{Cause, Coupling, RuleNo, Value};
 
-/// What became of a condition.
+/// The result of a condition.
 #[derive(Clone, Copy, Debug, PartialEq, Eq)]
 pub enum ConditionEnd {
     /// It was not satisfied, so there is no action.
     WithoutAction,
-    /// Its evaluation ended by this cause, so there is no action.
+    /// Its evaluation ended with this cause, so there is no action.
     WithFault(Cause),
-    /// It was satisfied, and the action ran at once: its end is the node's, its items are the node's.
+    /// It was satisfied, and the action ran at once: the node's end and items are the action's.
     WithAction,
     /// It was satisfied, and the action was queued or detached.
     WithLaterAction,
 }
 
-/// What a node of a tree is the course of.
+/// What a node records.
 #[derive(Clone, Copy, Debug, PartialEq, Eq)]
 pub enum What {
     /// A statement `sub`.
     Sub,
-    /// The firing of a rule: its condition, and its action where that ran at once.
+    /// The firing of a rule: its condition, and its action if that ran at once.
     Fire {
         /// The rule.
         rule: RuleNo,
-        /// The mode by which the firing was made.
+        /// The coupling mode by which the firing was placed.
         place: Coupling,
-        /// What became of the condition.
+        /// The result of the condition.
         condition: ConditionEnd,
     },
     /// An action that was queued or detached.
     Act {
         /// The rule.
         rule: RuleNo,
-        /// The mode by which the action's task was made.
+        /// The coupling mode by which the action was placed.
         place: Coupling,
     },
 }
 
-/// How a transaction has ended.
+/// How a transaction ended.
 #[derive(Clone, Copy, Debug, PartialEq, Eq)]
 pub enum Ending {
-    /// Its effects are those of the transaction round it, or lasting.
+    /// Its effects belong to the transaction around it, or are permanent.
     Committed,
-    /// It had no effect, by this cause.
+    /// It had no effect, for this cause.
     Aborted(Cause),
 }
 
@@ -52,19 +52,19 @@ pub enum Ending {
 #[cycle(tree)]
 #[derive(Debug, Drop)]
 pub struct Node {
-    /// What it is the course of.
+    /// What the node records.
     pub what: What,
     /// How it ended.
     pub end: Ending,
-    /// What was done in it, in order of time. An aborted node keeps what it did until its abort.
+    /// What it did, in order of time. An aborted node keeps what it did before its abort.
     pub items: Vec<Item>,
 }
 
-/// What was done in a transaction.
+/// A step of a transaction.
 #[cycle(tree)]
 #[derive(Debug, Drop)]
 pub enum Item {
-    /// An operation. The firings that it caused stand after it.
+    /// An operation. The firings that it triggered follow it.
     Operation(Operation),
     /// A value was emitted.
     Emit(Value),

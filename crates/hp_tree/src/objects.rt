@@ -1,4 +1,4 @@
-//! Objects by their names.
+//! Objects by name.
 
 use hp_value::{ClassNo, Key, Row};
 use std::alloc::{AllocError, Global};
@@ -6,7 +6,7 @@ use std::collections::BTreeMap;
 use std::collections::btree_map::Iter;
 use std::marker::Model;
 
-/// An object's name. Names are ordered by their classes, and then by their keys.
+/// An object's name. Names are ordered by class, then by key.
 #[derive(Clone, Copy, Debug, PartialEq, Eq, PartialOrd, Ord)]
 pub struct ObjectName {
     /// The object's class.
@@ -15,9 +15,9 @@ pub struct ObjectName {
     pub key: Key,
 }
 
-/// The rows of objects, by rising names.
+/// The rows of objects, in ascending name order.
 ///
-/// A clause sees the model's objects.
+/// In contracts it is the model's objects.
 #[derive(Debug, Drop)]
 pub struct Objects {
     rows: BTreeMap<ObjectName, Row>,
@@ -37,7 +37,7 @@ impl Objects {
     ghost use Rattle.hp_model.specs.State.{find_object, write_object, remove_object};
     ghost use Rattle.hp_tree.specs.Names.{objects_of};
 
-    /// No objects.
+    /// An empty map.
     pub fn new(alloc: Global) -> Objects
         ensures { result ≡ [] }
     {
@@ -46,37 +46,37 @@ impl Objects {
         }
     }
 
-    /// How many objects there are.
+    /// The number of objects.
     pub fn len(&self) -> usize
         ensures { result ≡ length self.now }
     {
         self.rows.len()
     }
 
-    /// Whether there are none.
+    /// Whether there are no objects.
     pub fn is_empty(&self) -> bool
         ensures { IsTrue result ↔ (self.now ≡ []) }
     {
         self.rows.is_empty()
     }
 
-    /// The objects' names and rows, by rising names.
+    /// The objects' names and rows, in ascending name order.
     pub fn iter(&self) -> Iter<'_, ObjectName, Row>
         ensures { objects_of result ≡ self.now }
     {
         self.rows.iter()
     }
 
-    /// The row of an object; none where it isn't there.
+    /// The row of an object, or `None` if there is no such object.
     pub fn get(&self, class: ClassNo, key: Key) -> Option<&Row>
         ensures { option_map (λ r. r.now) result ≡ find_object self.now class key }
     {
         self.rows.get(&ObjectName { class, key })
     }
 
-    /// Writes an object's row, whether or not the object was there.
+    /// Sets the row of an object, whether or not it exists.
     ///
-    /// An error means that memory ran out, and then nothing changes.
+    /// An error means that memory ran out; the objects are then as before.
     pub fn insert(&mut self, class: ClassNo, key: Key, row: Row) -> Result<(), AllocError>
         ensures ok { OnOk result (self.new ≡ write_object self.old class key row) }
         ensures err { OnErr result (self.new ≡ self.old) }
@@ -85,7 +85,7 @@ impl Objects {
         Ok(())
     }
 
-    /// Takes an object out, if it is there.
+    /// Removes an object, if it exists.
     pub fn remove(&mut self, class: ClassNo, key: Key)
         ensures { self.new ≡ remove_object self.old class key }
     {

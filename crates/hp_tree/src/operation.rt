@@ -2,7 +2,7 @@
 
 use hp_value::{ClassNo, Key, Row, RuleNo, RuleOperation};
 
-/// An operation that a transaction made.
+/// An operation of a transaction.
 #[derive(Debug, Drop)]
 pub enum Operation {
     /// An object was created.
@@ -14,13 +14,13 @@ pub enum Operation {
         /// Its row, shared with the store.
         new: Row,
     },
-    /// Fields of an object were set, perhaps to what they were.
+    /// Fields of an object were set, possibly to the values that they had.
     Update {
         /// The object's class.
         class: ClassNo,
         /// Its key.
         key: Key,
-        /// Its whole row afterwards, shared with the store.
+        /// Its whole row after the update, shared with the store.
         new: Row,
     },
     /// An object was deleted.
@@ -30,7 +30,7 @@ pub enum Operation {
         /// Its key.
         key: Key,
     },
-    /// An operation on a rule succeeded, also where it changed nothing.
+    /// An operation on a rule succeeded, even if it changed nothing.
     OnRule {
         /// The operation.
         operation: RuleOperation,

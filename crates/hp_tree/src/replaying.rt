@@ -10,10 +10,10 @@ use crate::objects::Objects;
 use crate::operation::Operation;
 use std::alloc::AllocError;
 
-/// The objects after the operations of those nodes of a tree that committed together with all nodes round them.
+/// The objects after the operations of the nodes that committed, together with all nodes around them.
 ///
-/// What stands in no node counts as committed: of an aborted top-level transaction nothing is to be replayed. No value is copied.
-/// An error means that memory ran out.
+/// Operations outside all nodes count as committed, so the caller leaves out an aborted top-level transaction. No value
+/// is copied.
 pub fn replay(initial: Objects, tree: &[Item]) -> Result<Objects, AllocError>
     ensures { IfOk result (λ objects. objects ≡ replay (items_in tree.now) initial) }
 {
@@ -50,7 +50,7 @@ fn replay_item(objects: &mut Objects, item: &Item) -> Result<(), AllocError>
     Ok(())
 }
 
-/// Makes an operation on the objects. An operation on a rule changes none.
+/// Applies an operation to the objects. An operation on a rule changes none.
 fn apply(objects: &mut Objects, operation: &Operation) -> Result<(), AllocError>
     ensures { OnOk result (objects.new ≡ apply (mapped.operation operation.now) objects.old) }
 {

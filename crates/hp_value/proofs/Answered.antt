@@ -7,7 +7,7 @@ use Rattle.hp_model.specs.Occurrences.{Occurrence}
 use Rattle.hp_model.specs.Conditions.{Answers, with_answers}
 use Rattle.hp_value.specs.Mapped.{first_under}
 
--- the row under a name where later answers hide f
+-- the row of a name where later answers hide f
 abbrev pub found_in : Option KeyedRow → Name → Answers → Option KeyedRow
 found_in f x [] = f
 found_in f x (a ∷ as') = found_in (option_or (first_under x a) f) x as'
@@ -25,7 +25,7 @@ found_is x o rows [] = refl
 found_is x o rows ((n, []) ∷ as') = ap (λ f. found_in f x as') (or_none (bytes_eq x n) (lookup (bytes_eq x) rows)) ∙ found_is x o rows as'
 found_is x o rows ((n, r ∷ rs) ∷ as') = ap (λ f. found_in f x as') (or_first (bytes_eq x n) r (lookup (bytes_eq x) rows)) ∙ found_is x o ((n, r) ∷ rows) as'
 
--- answers add names alone
+-- answers add names only
 pub with_answers_is : (o : Option Occurrence) (rows : List (Name × KeyedRow)) (as' : Answers) → with_answers (record { occurrence = o; rows = rows }) as' ≡ record { occurrence = o; rows = (with_answers (record { occurrence = None; rows = rows }) as').rows }
 with_answers_is o rows [] = refl
 with_answers_is o rows ((n, []) ∷ as') = with_answers_is o rows as'

@@ -2,3 +2,4 @@ pub mod Rows
 pub mod Lists
 pub mod Answered
 pub mod Sizes
+pub mod Told

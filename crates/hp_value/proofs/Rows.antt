@@ -64,7 +64,7 @@ pub row_of_nothing : (fs : List Field) → row_of fs [] ≡ []
 row_of_nothing [] = refl
 row_of_nothing (f ∷ fs) = refl
 
--- the i-th field has another name: what follows it gives the same answer
+-- if the i-th field has another name, the lookup goes on with the fields after it
 pub lookup_next : (x : List ℕ) (fs : List Field) (vs : List Value) (i : ℕ) (f : Field) → i < length fs → f ≡ get_or fs i f → bytes_eq x (string_bytes f.name) ≡ false
     → lookup (bytes_eq x) (row_of (drop (suc i) fs) (drop (suc i) vs)) ≡ lookup (bytes_eq x) (row_of (drop i fs) (drop i vs))
 lookup_next x [] vs i f low is other = absurd (omega arith)
@@ -90,7 +90,7 @@ row_from fs vs i f v low low' is is' =
     ap (λ (xs : List Field). row_of xs (drop i vs)) (drop-cons fs i f low ∙ ap (λ (g : Field). g ∷ drop (suc i) fs) (sym is))
     ∙ ap (row_of (f ∷ drop (suc i) fs)) (drop-cons vs i v low' ∙ ap (λ (w : Value). w ∷ drop (suc i) vs) (sym is'))
 
--- at the place i the rows have these fields and values
+-- the fields and values of both rows at index i
 pub same_from : (fs gs : List Field) (vs ws : List Value) (i : ℕ) (f g : Field) (v w : Value)
     → i < length fs → i < length vs → i < length gs → i < length ws → f ≡ get_or fs i f → v ≡ get_or vs i v → g ≡ get_or gs i g → w ≡ get_or ws i w
     → row_same (row_of (drop i fs) (drop i vs)) (row_of (drop i gs) (drop i ws))
@@ -161,7 +161,7 @@ with_names ns (o ∷ os) (p ∷ ps) h k =
     turned (int_eq o.key p.key) (pointwise int_eq (keys_of os) (keys_of ps)) (values_same o p) (pointwise values_same os ps)
     ∙ ap₂ (λ a b. (int_eq o.key p.key && a) && b) (same_values o.row p.row (h.0 ∙ sym k.0)) (with_names ns os ps h.1 k.1)
 
--- objects whose rows have the same names are the same where their keys and values are
+-- objects whose rows have the same names are equal if their keys and values are
 pub by_values : (os ps : List V.KeyedRow) → AreAlike os → AreAlike ps → first_names os ≡ first_names ps
     → (pointwise int_eq (keys_of os) (keys_of ps) && pointwise values_same os ps) ≡ pointwise keyed_same os ps
 by_values os ps h k e = with_names (first_names os) os ps h (subst (λ ns. AreNamed ns ps) (sym e) k)
@@ -178,7 +178,7 @@ alike_after (row ∷ objects) first added is e h =
     let same : first ≡ row = cc in
     (h.0, alike_more (names_of row.row) (map keyed_row objects) (keyed_row added) h.1 (e ∙ ap (λ (r : KeyedRow). names_of r.row) same))
 
--- ---- the values of all rows, one after the other
+-- ---- the values of all rows, one after another
 
 values_added : (os : List V.KeyedRow) (o : V.KeyedRow) → all_values (os ++ o ∷ []) ≡ all_values os ++ values_of o.row
 values_added [] o = append-nil (values_of o.row)
@@ -225,7 +225,7 @@ values_tell ns (o ∷ os) (p ∷ ps) h k e =
     pointwise_append (values_of o.row) (values_of p.row) (all_values os) (all_values ps) (as_many o.row p.row (h.0 ∙ sym k.0))
     ∙ ap (λ b. values_same o p && b) (values_tell ns os ps h.1 k.1 (omega (arith, e)))
 
--- where all values are numbers, as many rows with the same names have the same values where the numbers are the same
+-- if all values are integers, as many rows with the same names have the same values if the integers are the same
 pub numbers_tell : (numbers others : List ℤ) (os ps : List V.KeyedRow) → map V.integer numbers ≡ all_values os → map V.integer others ≡ all_values ps
     → AreAlike os → AreAlike ps → first_names os ≡ first_names ps → length os ≡ length ps
     → pointwise int_eq numbers others ≡ pointwise values_same os ps
@@ -233,7 +233,7 @@ numbers_tell numbers others os ps is is' h k e long =
     pointwise_map V.integer value_same numbers others ∙ ap₂ (pointwise value_same) is is'
     ∙ values_tell (first_names os) os ps h (subst (λ ns. AreNamed ns ps) (sym e) k) long
 
--- objects with the same keys are as many
+-- objects with the same keys are equal in number
 pub keys_tell : (os ps : List V.KeyedRow) → not (pointwise int_eq (keys_of os) (keys_of ps)) ≡ false → length os ≡ length ps
 keys_tell [] [] e = refl
 keys_tell [] (p ∷ ps) e = absurd (true≢false e)

@@ -2,7 +2,7 @@
 use Rattle.std.proofs.Common.{ℕ, suc, ◌+◌}
 use Rattle.hp_model.specs.Expressions.{Expression, constant, arithmetic, negated, inverted, both, either, compared, field_of, key_of, new_field, old_field, key_in, argument, time_of, occurrence_count}
 
--- how many operators an expression has
+-- the number of operators in an expression
 abbrev pub operators : Expression → ℕ
 operators (constant v) = 0
 operators (arithmetic op a b) = suc (operators a + operators b)

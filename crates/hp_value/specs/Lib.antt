@@ -1,3 +1,4 @@
 pub mod Rows
 pub mod Same
+pub mod SameExpressions
 pub mod Mapped

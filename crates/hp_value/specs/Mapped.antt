@@ -53,12 +53,12 @@ cause Depth = V.depth_exceeded
 cause Asked = V.requested
 cause (Vetoed n) = V.vetoed n
 
--- a result, with its value seen by f
+-- a result, with its value mapped by f
 abbrev pub outcome : {A B : Type 0} → (A → B) → Result A Cause → V.Outcome B
 outcome f (Ok x) = Ok (f x)
 outcome f (Err c) = Err (cause c)
 
--- the result, with its value seen by f, is the model's, unless memory ran out
+-- the result, with its value mapped by f, is the model's, unless memory ran out
 abbrev pub Meets : {A B : Type 0} → (A → B) → Result A Halt → V.Outcome B → Type 0
 Meets f (Ok x) o = Ok (f x) ≡ o
 Meets f (Err (ByCause c)) o = Err (cause c) ≡ o
@@ -139,11 +139,11 @@ answer a = (string_bytes a.name, map keyed_row a.rows.items)
 abbrev pub answers : List Answer → C.Answers
 answers as' = map answer as'
 
--- the rows by their names that answers alone give
+-- the rows by name that answers alone bind
 abbrev pub answered_rows : C.Answers → List (V.Name × V.KeyedRow)
 answered_rows as' = (C.with_answers (record { occurrence = None; rows = [] }) as').rows
 
--- the row that one answer gives to a name
+-- the row that one answer binds to a name
 abbrev pub first_under : V.Name → V.Name × List V.KeyedRow → Option V.KeyedRow
 first_under x a = if bytes_eq x a.0 then slice_get a.1 0 else None
 
@@ -151,7 +151,7 @@ abbrev pub rows_step : Names-F (List (V.Name × V.KeyedRow)) → List (V.Name ×
 rows_step (Names-F.Answers as') = answered_rows (answers as'.now)
 rows_step (Names-F.Bound name key row outer) = (name.now, record { key = key; row = row.now }) ∷ outer.now
 
--- the rows by their names, the innermost first
+-- the rows by name, the innermost first
 abbrev pub rows_in : Names → List (V.Name × V.KeyedRow)
 rows_in = fold-Names (List (V.Name × V.KeyedRow)) rows_step
 

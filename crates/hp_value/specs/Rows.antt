@@ -23,7 +23,7 @@ kind TextKind = V.text_kind
 abbrev pub field : Field → V.Field
 field f = record { name = string_bytes f.name; kind = kind f.kind }
 
--- the values under the names of their fields
+-- the row of these values, named by the fields
 abbrev pub row_of : List Field → List Value → V.Row
 row_of [] vs = []
 row_of (f ∷ fs) [] = []
@@ -56,12 +56,12 @@ AreNamed ns (o ∷ os) = (names_of o.row ≡ ns) × AreNamed ns os
 abbrev pub AreAlike : List V.KeyedRow → Type 0
 AreAlike os = AreNamed (first_names os) os
 
--- the values of all rows, one after the other
+-- the values of all rows, one after another
 abbrev pub all_values : List V.KeyedRow → List V.Value
 all_values [] = []
 all_values (o ∷ os) = values_of o.row ++ all_values os
 
--- these numbers, if they are there, are the values of all rows
+-- these numbers, if there are any, are the values of all rows
 abbrev pub AreValues : Option (Vec ℤ Global) → List V.KeyedRow → Type 0
 AreValues None os = ⊤
 AreValues (Some ns) os = map integer ns.items ≡ all_values os

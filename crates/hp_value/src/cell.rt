@@ -2,13 +2,13 @@
 
 use crate::value::{ClassNo, Key, RuleNo};
 
-/// A cell of a state: what one step reads or writes as a whole.
+/// A cell of a state: the unit of reading and writing.
 #[derive(Clone, Copy, Debug, PartialEq, Eq, PartialOrd, Ord, Hash)]
 pub enum Cell {
-    /// The object of a class with a key.
+    /// The object with this key in this class.
     Object(ClassNo, Key),
     /// Whether a rule is absent, enabled or disabled.
     Rule(RuleNo),
-    /// What a rule's event remembers of its past.
+    /// What the rule's event knows of the occurrences so far.
     Detector(RuleNo),
 }

@@ -10,35 +10,35 @@ use crate::halt::Cause;
 use crate::row::Row;
 use crate::value::{Key, Value};
 
-/// What of an object is compared.
+/// The attribute of an object that a comparison is about.
 #[derive(Clone, Copy, Debug)]
 pub enum Attribute<'a> {
-    /// Its key.
+    /// The object's key.
     Key,
-    /// Its value in the field with this name.
+    /// The object's value in the field of this name.
     Field(&'a str),
 }
 
-/// Two bounds, both included. Where one is None, there is none on that side.
+/// A lower and an upper bound, both inclusive. `None` means unbounded.
 #[derive(Clone, Copy, Debug)]
 pub enum Bounds<'a> {
-    /// Whole numbers.
+    /// Bounds of integers.
     Numbers(Option<i64>, Option<i64>),
-    /// Texts, compared by their bytes.
+    /// Bounds of texts, compared byte by byte.
     Texts(Option<&'a str>, Option<&'a str>),
 }
 
 /// A part of a class: the objects whose key, or whose value in a field, lies between two bounds.
 #[derive(Clone, Copy, Debug)]
 pub struct ClassPart<'a> {
-    /// What is compared.
+    /// The attribute that is compared.
     pub attribute: Attribute<'a>,
-    /// What it is compared with.
+    /// The bounds of its value.
     pub bounds: Bounds<'a>,
 }
 
 impl ClassPart<'_> {
-    /// Whether an object belongs to the part. `Kind` means that it lacks the part's field, or that its value there is of
+    /// Whether an object belongs to the part. `Kind` means that the object lacks the field, or that its value is of
     /// another kind than a bound.
     pub fn has(&self, key: Key, row: &Row) -> Result<bool, Cause>
         ensures { outcome (λ b. b) result ≡ model.belongs (mapped.class_part self.now) (record { key = key; row = row.now }) }
@@ -51,7 +51,7 @@ impl ClassPart<'_> {
 }
 
 impl Bounds<'_> {
-    /// Whether a value lies between the bounds. `Kind` means that it is of another kind than one of them.
+    /// Whether a value lies within the bounds. `Kind` means that it is of another kind than one of them.
     pub fn have(&self, value: &Value) -> Result<bool, Cause>
         ensures { outcome (λ b. b) result ≡ model.lies_within (mapped.low self.now) (mapped.high self.now) (mapped.value value.now) }
     {

@@ -6,23 +6,23 @@ ghost use Rattle.hp_value.specs.Rows.{value as value_of};
 
 use crate::value::Value;
 
-/// A value as it is written in an expression.
-#[derive(Debug, Drop)]
+/// A literal of an expression.
+#[derive(Debug, PartialEq, Eq, Drop)]
 pub struct Constant {
     value: Value,
-    // A whole number is within its type's bounds.
+    // An integer is within the bounds of its type.
     pub ghost fits: { value_fits (value_of value) ≡ true },
 }
 
 impl Constant {
-    /// The constant of a value.
+    /// A literal of this value.
     pub fn new(value: Value) -> Constant
         ensures { value_of result.value ≡ value_of value }
     {
         Constant { value }
     }
 
-    /// Its value.
+    /// The literal's value.
     pub fn value(&self) -> &Value
         ensures { result.now ≡ self.now.value }
     {

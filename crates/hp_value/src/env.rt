@@ -1,4 +1,4 @@
-//! What an expression is evaluated in.
+//! The environment of an expression.
 
 use crate::halt::{Cause, Halt};
 use crate::occurrence::{Occurrence, Primitive};
@@ -7,39 +7,39 @@ use crate::row::{KeyedRow, Row};
 use crate::value::{Key, Value};
 use std::alloc::AllocError;
 
-/// The kept answer of a query: HiPAC hands the answers of a condition on to the action.
+/// The kept answer of a query. In HiPAC a condition passes its answers on to the action.
 #[derive(Debug, Drop)]
 pub struct Answer {
     /// The query's name.
     pub name: String,
-    /// The rows for which the query's predicate was true, by rising keys.
+    /// The rows for which the query's predicate was true, in ascending key order.
     pub rows: Vec<KeyedRow>,
 }
 
-/// What an expression is evaluated in. It borrows all that it names, and binding a name takes no memory.
+/// The environment in which an expression is evaluated. It borrows all that it names: binding a name allocates nothing.
 #[derive(Clone, Copy)]
 pub struct Env<'a> {
-    /// The occurrence by which a rule was triggered; none in the body of a script.
+    /// The occurrence that triggered the rule; `None` in the body of a script.
     pub occurrence: Option<&'a Occurrence>,
-    /// The rows by their names.
+    /// The rows by name.
     pub rows: Names<'a>,
 }
 
-/// Rows by their names, the innermost name first: a list on the stack.
+/// Rows by name, as a linked list on the stack. The innermost name comes first and hides outer ones.
 #[derive(Clone, Copy)]
 pub enum Names<'a> {
-    /// The kept answers of a condition. Each name means the first row of its answer, and a later name hides an
-    /// earlier one; an empty answer binds nothing. In the body of a script there is none.
+    /// The kept answers of a condition; none in the body of a script. A query's name means the first row of its answer.
+    /// A later answer hides an earlier one of the same name, and an empty answer binds nothing.
     Answers(&'a [Answer]),
-    /// One name more, in front of the outer ones.
+    /// One more name, in front of the outer ones.
     Bound {
         /// The name.
         name: &'a str,
-        /// The key of the object that it means.
+        /// The key of the object that the name means.
         key: Key,
-        /// The row of that object.
+        /// The object's row.
         row: &'a Row,
-        /// The names that stood before.
+        /// The names bound outside this one.
         outer: &'a Names<'a>,
     },
 }
@@ -85,7 +85,7 @@ impl Answer {
     ghost use Rattle.std.specs.Prelude.{◌≡◌, option_map, bytes_eq, cond, map};
     ghost use Rattle.hp_value.specs.Mapped.{first_under, answer};
 
-    /// The first row of the answer, with its key, if the query has this name and the answer isn't empty.
+    /// The first row of the answer, with its key, if the query has this name.
     fn first_under(&self, name: &str) -> Option<(Key, &Row)>
         ensures { option_map (λ r. record { key = r.0; row = r.1.now }) result ≡ first_under name.now (answer self.now) }
     {
@@ -104,7 +104,7 @@ impl<'a> Names<'a> {
     ghost use Rattle.std.specs.Map.{lookup};
     ghost use Rattle.hp_value.specs.Mapped.{answered_rows, answers};
 
-    /// The row that kept answers give to a name, with its key: that of the last answer which has one.
+    /// The row that kept answers bind to a name, with its key: the last answer that binds it wins.
     fn answered(kept: &'a [Answer], name: &str) -> Option<(Key, &'a Row)>
         ensures { option_map (λ r. record { key = r.0; row = r.1.now }) result ≡ lookup (bytes_eq name.now) (answered_rows (answers kept.now)) }
     {
@@ -121,14 +121,14 @@ impl<'a> Names<'a> {
     ghost use Rattle.std.specs.Map.{lookup};
     ghost use Rattle.hp_value.specs.Mapped.{rows_in, answered_rows, answers};
 
-    /// The names of the queries of kept answers.
+    /// The names that a condition's kept answers bind.
     pub fn new(kept: &'a [Answer]) -> Names<'a>
         ensures { rows_in result ≡ answered_rows (answers kept.entry.now) }
     {
         Names::Answers(kept)
     }
 
-    /// These names with one more in front of them.
+    /// These names, and one more in front of them.
     pub fn bound<'b>(&'b self, name: &'b str, key: Key, row: &'b Row) -> Names<'b>
         ensures { rows_in result ≡ (name.entry.now, record { key = key; row = row.entry.now }) ∷ rows_in self.entry.now }
     {
@@ -140,7 +140,7 @@ impl<'a> Names<'a> {
         }
     }
 
-    /// The row with a name, with its key: the innermost one.
+    /// The innermost row of this name, with its key.
     pub fn row(&self, name: &str) -> Option<(Key, &'a Row)>
         ensures { option_map (λ r. record { key = r.0; row = r.1.now }) result ≡ lookup (bytes_eq name.now) (rows_in self.now) }
     {
@@ -167,8 +167,7 @@ impl<'a> Env<'a> {
     ghost use Rattle.hp_model.specs.Conditions.{with_answers};
     ghost use Rattle.hp_value.specs.Mapped as mapped;
 
-    /// What a condition or an action begins in: the occurrence, if there is one, and the kept answers of the
-    /// condition's queries, if there are some.
+    /// The environment in which a condition or an action begins.
     pub fn new(occurrence: Option<&'a Occurrence>, answers: &'a [Answer]) -> Env<'a>
         ensures { mapped.environment result ≡ with_answers (record { occurrence = option_map (λ o. mapped.occurrence o.now) occurrence.entry; rows = [] }) (mapped.answers answers.entry.now) }
     {
@@ -184,7 +183,7 @@ impl<'a> Env<'a> {
     ghost use Rattle.hp_model.specs.Expressions as model;
     ghost use Rattle.hp_value.specs.Mapped.{Meets, outcome, value, primitive, environment};
 
-    /// The same with one name more, in front of the others.
+    /// This environment with one more name, which hides outer ones.
     pub fn bound<'b>(&'b self, name: &'b str, key: Key, row: &'b Row) -> Env<'b>
         ensures { environment result ≡ model.bound name.entry.now (record { key = key; row = row.entry.now }) (environment self.entry.now) }
     {
@@ -194,14 +193,15 @@ impl<'a> Env<'a> {
         }
     }
 
-    /// The row with a name, with its key. `Kind` means that no row has this name: a checked expression names no such.
+    /// The innermost row of this name, with its key. `Kind` means that no row has the name; a checked expression uses
+    /// no such name.
     pub fn row(&self, name: &str) -> Result<(Key, &'a Row), Cause>
         ensures { outcome (λ r. record { key = r.0; row = r.1.now }) result ≡ model.row_named (environment self.now) name.now }
     {
         self.rows.row(name).ok_or(Cause::Kind)
     }
 
-    /// A part of the occurrence, from 0 on. `NoParameter` means that there is no occurrence, or no such part.
+    /// A part of the occurrence, by its index from 0. `NoParameter` means that there is no occurrence, or no such part.
     pub fn part(&self, i: u16) -> Result<&'a Primitive, Cause>
         ensures { outcome (λ p. primitive p.now) result ≡ model.part_of (environment self.now) i }
     {
@@ -212,7 +212,7 @@ impl<'a> Env<'a> {
         found.ok_or(Cause::NoParameter)
     }
 
-    /// The value of a field of the row with a name.
+    /// The value of a field of the row of this name.
     pub(crate) fn field_of(&self, variable: &str, field: &str) -> Result<Value, Halt>
         ensures { Meets value result (model.value_of (environment self.now) (model.field_of variable.now field.now)) }
     {
@@ -220,7 +220,7 @@ impl<'a> Env<'a> {
         Ok(row.field(field)?.clone()?)
     }
 
-    /// The key of the row with a name, as a value.
+    /// The key of the row of this name, as a value.
     pub(crate) fn key_of(&self, variable: &str) -> Result<Value, Halt>
         ensures { Meets value result (model.value_of (environment self.now) (model.key_of variable.now)) }
     {
@@ -228,7 +228,7 @@ impl<'a> Env<'a> {
         Ok(Value::Int(key))
     }
 
-    /// The value of a field of the row that an operation left.
+    /// The value of a field of an operation's row after it.
     pub(crate) fn new_field(&self, part: u16, field: &str) -> Result<Value, Halt>
         ensures { Meets value result (model.value_of (environment self.now) (model.new_field part field.now)) }
     {
@@ -236,7 +236,7 @@ impl<'a> Env<'a> {
         Ok(v.clone()?)
     }
 
-    /// The value of a field of the row that an operation found.
+    /// The value of a field of an operation's row before it.
     pub(crate) fn old_field(&self, part: u16, field: &str) -> Result<Value, Halt>
         ensures { Meets value result (model.value_of (environment self.now) (model.old_field part field.now)) }
     {
@@ -265,7 +265,7 @@ impl<'a> Env<'a> {
         Ok(Value::Int(self.part(part)?.moment()?))
     }
 
-    /// How many occurrences the occurrence stands for, as a value. `NoParameter` means that there is none.
+    /// The occurrence's count, as a value. `NoParameter` means that there is no occurrence.
     pub(crate) fn count(&self) -> Result<Value, Halt>
         ensures { Meets value result (model.value_of (environment self.now) model.occurrence_count) }
     {

@@ -14,12 +14,12 @@ use crate::value::Value;
 use std::alloc::Global;
 
 impl Expr {
-    /// The value of the expression, or why there is none. Operands are evaluated from left to right, each wholly;
-    /// then their kinds are tested, and then the result.
+    /// The value of the expression, or why it has none. Operands are evaluated first, from left to right; then their
+    /// kinds are tested, and then the result.
     ///
     /// The cause is `Kind` for a value of the wrong kind or an unknown name, `Overflow` for a result outside the range
-    /// of 64 bits with sign, `DivideByZero` for a zero divisor, and `NoParameter` where the occurrence lacks what is
-    /// asked. `Memory` means that an allocation was refused: a text is copied.
+    /// of `i64`, `DivideByZero` for a zero divisor, and `NoParameter` where the occurrence lacks what the expression
+    /// reads. `Memory` means that copying a text ran out of memory.
     #[cycle(eval)]
     pub fn eval(&self, alloc: Global, env: &Env<'_>) -> Result<Value, Halt>
         ensures { Meets value result (value_of (environment env.now) (expression self.now)) }
@@ -44,17 +44,16 @@ impl Expr {
     }
 }
 
-// Operators and constants have functions of their own, so that a level of `eval` is small on the stack: all places for results
-// are cleared on entry, those of arms that aren't taken too.
+// Operators and constants have functions of their own, which keeps the stack frame of `eval` small: a frame holds the
+// temporaries of all its arms and clears them on entry, whichever arm runs.
 
-// The value of a constant.
 fn copied(constant: &Constant) -> Result<Value, Halt>
     ensures { Meets value result (Ok (value constant.now.value)) }
 {
     Ok(constant.value().clone()?)
 }
 
-// What an operator makes of two numbers.
+// The result of an arithmetic operator on two operands.
 #[cycle(eval)]
 fn calculation(
     alloc: Global,
@@ -70,7 +69,7 @@ fn calculation(
     Ok(Value::Int(op.calculate(v.as_int()?, w.as_int()?)?))
 }
 
-// Whether a comparison holds of two values.
+// The result of a comparison of two operands.
 #[cycle(eval)]
 fn comparing(
     alloc: Global,
@@ -86,7 +85,7 @@ fn comparing(
     Ok(Value::Bool(op.compare(&v, &w)?))
 }
 
-// The number with the other sign.
+// The negated integer.
 #[cycle(eval)]
 fn negation(alloc: Global, env: &Env<'_>, a: &Expr) -> Result<Value, Halt>
     ensures { Meets value result (value_of (environment env.now) (model.negated (expression a.now))) }
@@ -95,7 +94,7 @@ fn negation(alloc: Global, env: &Env<'_>, a: &Expr) -> Result<Value, Halt>
     Ok(Value::Int(negated(v.as_int()?)?))
 }
 
-// The other truth value.
+// The negated boolean.
 #[cycle(eval)]
 fn inversion(alloc: Global, env: &Env<'_>, a: &Expr) -> Result<Value, Halt>
     ensures { Meets value result (value_of (environment env.now) (model.inverted (expression a.now))) }
@@ -104,7 +103,7 @@ fn inversion(alloc: Global, env: &Env<'_>, a: &Expr) -> Result<Value, Halt>
     Ok(Value::Bool(!v.as_bool()?))
 }
 
-// Whether both are true. The second is evaluated only where the first is.
+// Logical and. The second operand is evaluated only if the first is true.
 #[cycle(eval)]
 fn both(alloc: Global, env: &Env<'_>, a: &Expr, b: &Expr) -> Result<Value, Halt>
     ensures { Meets value result (value_of (environment env.now) (model.both (expression a.now) (expression b.now))) }
@@ -116,7 +115,7 @@ fn both(alloc: Global, env: &Env<'_>, a: &Expr, b: &Expr) -> Result<Value, Halt>
     Ok(Value::Bool(w.as_bool()?))
 }
 
-// Whether one of them is true. The second is evaluated only where the first isn't.
+// Logical or. The second operand is evaluated only if the first is false.
 #[cycle(eval)]
 fn either(alloc: Global, env: &Env<'_>, a: &Expr, b: &Expr) -> Result<Value, Halt>
     ensures { Meets value result (value_of (environment env.now) (model.either (expression a.now) (expression b.now))) }

@@ -1,4 +1,4 @@
-//! Why a step ends early.
+//! Why an evaluation or a statement ends early.
 
 ghost use Rattle.std.specs.Prelude.{◌≡◌};
 ghost use Rattle.hp_value.specs.declared.halt.Halt.TheVariants.{Memory, Cause as ByCause};
@@ -6,22 +6,22 @@ ghost use Rattle.hp_value.specs.declared.halt.Halt.TheVariants.{Memory, Cause as
 use crate::value::RuleNo;
 use std::alloc::AllocError;
 
-/// Why a statement aborts the innermost transaction round it.
+/// Why a statement aborts the innermost transaction around it.
 ///
 /// These causes are this project's own choice.
 #[derive(Clone, Copy, Debug, PartialEq, Eq)]
 pub enum Cause {
-    /// A1: `create` of an object that is there.
+    /// A1: `create` of an object that exists.
     Exists,
-    /// A2: an object that isn't there is updated, deleted or read, or a rule that isn't there is enabled, disabled or fired.
+    /// A2: a missing object is updated, deleted or read, or an absent rule is enabled, disabled or fired.
     Missing,
-    /// A3: a value of the wrong kind, or a row without the field read.
+    /// A3: a value of the wrong kind, or a field that the row lacks.
     Kind,
-    /// A4: a result outside the range of 64 bits with sign.
+    /// A4: a result outside the range of `i64`.
     Overflow,
     /// A5: a zero divisor.
     DivideByZero,
-    /// A6: no such part of the occurrence, or a part without what is asked.
+    /// A6: the occurrence has no such part, or the part lacks what the expression reads.
     NoParameter,
     /// A7: a rule is triggered beyond the depth limit.
     Depth,
@@ -31,12 +31,12 @@ pub enum Cause {
     Vetoed(RuleNo),
 }
 
-/// What ends an evaluation: a cause of the script's own, or want of memory.
+/// Why an evaluation has no value: a cause in the script itself, or out of memory.
 #[derive(Clone, Copy, Debug, PartialEq, Eq)]
 pub enum Halt {
-    /// The statement aborts.
+    /// The statement aborts, by this cause.
     Cause(Cause),
-    /// An allocation was refused.
+    /// Out of memory.
     Memory,
 }
 

@@ -1,6 +1,7 @@
 //! Values, rows, occurrences and expressions of a rule manager over typed objects.
 //!
-//! The types stand for those of `hp_model`: `specs/Mapped.antt` has a function for each.
+//! The types stand for those of `hp_model`: `specs/Mapped.antt` has a function for each. `AllocError` and
+//! `Halt::Memory` mean that memory ran out.
 #![tactic(auto)]
 
 mod cell;

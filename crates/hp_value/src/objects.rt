@@ -1,4 +1,4 @@
-//! The objects of a class as a list.
+//! Lists of a class's objects.
 
 ghost use lib.Pointwise.{pointwise};
 ghost use Rattle.std.specs.Prelude.{◌≡◌, ◌&&◌, ◌++◌, ◌∷◌, [], List, map, IsTrue, IfOk, OnOk, OnErr};
@@ -13,15 +13,17 @@ use crate::value::{Key, Value};
 use std::alloc::{AllocError, Global};
 use std::marker::Model;
 
-/// Objects with their rows, in the order in which they were added. Their keys also stand in a list of their own, so that
-/// they can be asked for without a copy.
+/// A list of objects with their rows, in the order in which they were added. The keys also stand in a list of their
+/// own, which callers borrow.
 #[derive(Debug, Drop)]
 pub struct ObjectList {
     keys: Vec<Key>,
     rows: Vec<KeyedRow>,
-    // Whether all rows are seen to have the same names, as those of a class have. Their values alone are then compared.
+    // Whether all rows are known to have the same names, as those of one class do. Then a comparison looks at values
+    // alone.
     are_alike: bool,
-    // The values of all rows, one after the other; none where one of them is no whole number. They are compared faster here.
+    // The values of all rows, one after another; `None` if one of them isn't an integer. Comparing this one list of
+    // integers is faster than comparing rows.
     numbers: Option<Vec<i64>>,
 }
 
@@ -43,7 +45,7 @@ impl Model for ObjectList {
 impl ObjectList {
     ghost use Rattle.hp_value.specs.Mapped.{keyed_row, keys_of};
 
-    /// No objects.
+    /// An empty list.
     pub fn new(alloc: Global) -> ObjectList
         ensures { result ≡ [] }
     {
@@ -55,7 +57,7 @@ impl ObjectList {
         }
     }
 
-    /// Adds an object after the others.
+    /// Adds an object at the end.
     ///
     /// An error means that memory ran out; the list is then as before.
     pub fn push(&mut self, key: Key, row: Row) -> Result<(), AllocError>
@@ -86,14 +88,14 @@ impl ObjectList {
         &self.rows
     }
 
-    // Whether all rows of both lists are seen to have the same names.
+    // Whether all rows of both lists are known to have the same names.
     fn has_names_of(&self, other: &ObjectList) -> bool
         ensures { IsTrue result → AreAlike self.now × AreAlike other.now × (first_names self.now ≡ first_names other.now) }
     {
         self.are_alike && other.are_alike && have_same_names(&self.rows, &other.rows)
     }
 
-    // Whether the keys and the values of both lists are the same, whose rows have the same names.
+    // Whether both lists have the same keys and values. Their rows have the same names.
     fn has_values_of(&self, other: &ObjectList) -> bool
         requires { AreAlike self.now × AreAlike other.now × (first_names self.now ≡ first_names other.now) }
         ensures { result ≡ (pointwise int_eq (keys_of self.now) (keys_of other.now) && pointwise values_same self.now other.now) }
@@ -118,9 +120,8 @@ impl PartialEq for ObjectList {
 
     ghost laws = { partial_equiv_from_equiv objects_equiv };
 
-    /// Whether the same objects stand in both, in the same order and with the same values under the same names.
-    ///
-    /// It takes no memory.
+    /// Whether both lists hold the same objects in the same order: the same keys, names and values. It allocates
+    /// nothing.
     fn eq(&self, other: &ObjectList) -> bool
         ensures test { result ≡ pointwise keyed_same self.now other.now }
         ensures same { IsTrue result ↔ (self.now ≡ other.now) }
@@ -138,7 +139,7 @@ impl Eq for ObjectList {
     ghost laws = { objects_equiv };
 }
 
-// Some numbers and after them the values of a row; none where there were none, or where a value is no whole number.
+// The integers, followed by a row's values; `None` if there were none, or if a value isn't an integer.
 fn with_numbers(numbers: Option<Vec<i64>>, row: &Row) -> Result<Option<Vec<i64>>, AllocError>
     ensures { IfOk result (λ more. (objects : List model.KeyedRow) (added : model.KeyedRow) → added.row ≡ row.now → AreValues numbers objects → AreValues more (objects ++ added ∷ [])) }
 {
@@ -154,7 +155,7 @@ fn with_numbers(numbers: Option<Vec<i64>>, row: &Row) -> Result<Option<Vec<i64>>
     Ok(Some(numbers))
 }
 
-// Whether an object's row is seen to have the names of the first of some others, if there is one.
+// Whether an object's row is known to have the names of the first row, if there is one.
 fn is_like_first(rows: &[KeyedRow], added: &KeyedRow) -> bool
     ensures { IsTrue result → AreAlike (map keyed_row rows.now) → AreAlike (map keyed_row rows.now ++ keyed_row added.now ∷ []) }
 {
@@ -164,7 +165,7 @@ fn is_like_first(rows: &[KeyedRow], added: &KeyedRow) -> bool
     }
 }
 
-// Whether the first ones of some objects are seen to have the same names.
+// Whether the first rows of two lists are known to have the same names.
 fn have_same_names(rows: &[KeyedRow], others: &[KeyedRow]) -> bool
     ensures { IsTrue result → first_names (map keyed_row rows.now) ≡ first_names (map keyed_row others.now) }
 {
@@ -174,8 +175,8 @@ fn have_same_names(rows: &[KeyedRow], others: &[KeyedRow]) -> bool
     }
 }
 
-// Whether two lists hold the same numbers in the same order. Where they are as long as each other it looks at all of them:
-// a loop that doesn't end early compares several at once.
+// Whether two lists of integers are equal. It compares all of them, without an early exit, so that the compiler can
+// vectorize the loop.
 fn have_same_numbers(numbers: &[i64], others: &[i64]) -> bool
     ensures { result ≡ pointwise int_eq numbers.now others.now }
 {
@@ -189,7 +190,7 @@ fn have_same_numbers(numbers: &[i64], others: &[i64]) -> bool
     are_same
 }
 
-// Whether there are as many objects in both, with the same values each.
+// Whether two lists of objects have the same length and the same values.
 fn have_same_values(rows: &[KeyedRow], others: &[KeyedRow]) -> bool
     ensures { result ≡ pointwise (on keyed_row values_same) rows.now others.now }
 {

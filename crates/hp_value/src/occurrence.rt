@@ -6,7 +6,7 @@ use crate::row::Row;
 use crate::value::{ClassNo, Key, Value};
 use std::alloc::AllocError;
 
-/// A primitive occurrence: what is signalled to the rules.
+/// A primitive occurrence: what rules are notified of.
 ///
 /// HiPAC's primitive events are database operations, external notifications and temporal events.
 #[derive(Debug, Drop)]
@@ -20,7 +20,7 @@ pub enum Primitive {
         /// Its row.
         new: Row,
     },
-    /// An object's fields were set, perhaps to what they were.
+    /// An object's fields were set, possibly to the values that they had.
     Update {
         /// The object's class.
         class: ClassNo,
@@ -28,7 +28,7 @@ pub enum Primitive {
         key: Key,
         /// Its row before.
         old: Row,
-        /// Its row afterwards.
+        /// Its row after.
         new: Row,
     },
     /// An object was deleted.
@@ -40,7 +40,7 @@ pub enum Primitive {
         /// Its row before.
         old: Row,
     },
-    /// A signal came from a script or from an action.
+    /// A script or an action gave a signal.
     Signal {
         /// The signal's name.
         name: String,
@@ -152,7 +152,7 @@ impl Clone for Primitive {
     }
 }
 
-/// A primitive occurrence, by its short name.
+/// A short name for `Primitive`.
 pub type Prim = Primitive;
 
 impl Primitive {
@@ -161,7 +161,7 @@ impl Primitive {
     ghost use Rattle.hp_model.specs.Expressions as model;
     ghost use Rattle.hp_value.specs.Mapped.{outcome, primitive, value};
 
-    /// The row that an operation left. `NoParameter` means that there is none.
+    /// The row after an operation. `NoParameter` means that there is none.
     pub fn new_row(&self) -> Result<&Row, Cause>
         ensures { outcome (λ r. r.now) result ≡ model.new_row (primitive self.now) }
     {
@@ -172,7 +172,7 @@ impl Primitive {
         }
     }
 
-    /// The row that an operation found. `NoParameter` means that there is none.
+    /// The row before an operation. `NoParameter` means that there is none.
     pub fn old_row(&self) -> Result<&Row, Cause>
         ensures { outcome (λ r. r.now) result ≡ model.old_row (primitive self.now) }
     {
@@ -195,7 +195,8 @@ impl Primitive {
         }
     }
 
-    /// An argument of a signal, from 0 on. `NoParameter` means that this is no signal, or that it has no such argument.
+    /// An argument of a signal, by its index from 0. `NoParameter` means that this is no signal, or that it has no such
+    /// argument.
     pub fn argument(&self, place: u16) -> Result<&Value, Cause>
         ensures { outcome (λ v. value v.now) result ≡ model.argument_of (primitive self.now) place }
     {
@@ -205,8 +206,8 @@ impl Primitive {
         }
     }
 
-    /// The moment that the clock reached. `NoParameter` means that this is no moment, `Overflow` that it is outside the
-    /// range of 64 bits with sign.
+    /// The moment that the clock reached. `NoParameter` means that this is no moment, `Overflow` that the moment is
+    /// outside the range of `i64`.
     pub fn moment(&self) -> Result<i64, Cause>
         ensures { outcome integer result ≡ model.moment_of (primitive self.now) }
     {
@@ -220,9 +221,9 @@ impl Primitive {
 /// An occurrence of an event.
 #[derive(Debug, Drop)]
 pub struct Occurrence {
-    /// The primitive occurrences that it is made of, in the order that its event gives them.
+    /// The primitive occurrences that make it up, in the order that its event gives them.
     pub parts: Vec<Primitive>,
-    /// How many occurrences it stands for, capped at the largest number of 64 bits (this project's own choice).
+    /// How many occurrences it stands for, capped at `u64::MAX` (this project's own choice).
     pub count: u64,
 }
 
@@ -263,19 +264,20 @@ impl Clone for Occurrence {
     }
 }
 
-/// When a rule's condition is evaluated relative to the event, or its action is executed relative to its condition.
+/// When and in which transaction a rule's condition is evaluated, relative to the event, or its action runs, relative
+/// to the condition.
 ///
-/// The modes are HiPAC's; `Exclusive` stands among its later ones.
+/// The modes are HiPAC's, except `Exclusive`, which is this project's own.
 #[derive(Clone, Copy, Debug, PartialEq, Eq)]
 pub enum Coupling {
     /// At once, inside the triggering transaction.
     Immediate,
-    /// Inside the triggering top-level transaction, after its last operation and before it commits.
+    /// Inside the triggering top-level transaction, after its last operation and before its commit.
     Deferred,
-    /// In another top-level transaction, whatever becomes of the triggering one.
+    /// In another top-level transaction, whether or not the triggering one commits.
     Separate,
-    /// In another top-level transaction, of effect only if the triggering one commits.
+    /// In another top-level transaction, only if the triggering one commits.
     Dependent,
-    /// In another top-level transaction, of effect only if the triggering one aborts.
+    /// In another top-level transaction, only if the triggering one aborts.
     Exclusive,
 }

@@ -1,4 +1,4 @@
-//! What the operators of expressions compute.
+//! The operators of expressions.
 
 ghost use Rattle.std.specs.Prelude.{◌≡◌, pos, neg_ℤ};
 ghost use Rattle.hp_model.specs.Values.{integer};
@@ -10,10 +10,10 @@ use crate::halt::Cause;
 use crate::value::Value;
 
 impl Arithmetic {
-    /// The result of the operator on two whole numbers.
+    /// The result of the operator on two integers.
     ///
-    /// `DivideByZero` means a zero divisor, `Overflow` a result outside the range of 64 bits with sign. The least
-    /// number by -1 is an overflow for the remainder too (this project's own choice).
+    /// `DivideByZero` means a zero divisor, `Overflow` a result outside the range of `i64`. `i64::MIN` by -1 is an
+    /// overflow for the remainder too (this project's own choice).
     pub fn calculate(self, x: i64, y: i64) -> Result<i64, Cause>
         ensures { outcome integer result ≡ model.calculate (arithmetic self) x y }
     {
@@ -41,7 +41,7 @@ impl Arithmetic {
 impl Comparison {
     /// Whether the comparison holds of two values.
     ///
-    /// `Kind` means that the values are of two kinds, or that truth values are ordered.
+    /// `Kind` means that the values are of different kinds, or that booleans are ordered.
     pub fn compare(self, v: &Value, w: &Value) -> Result<bool, Cause>
         ensures { outcome (λ b. b) result ≡ model.compare (comparison self) (value v.now) (value w.now) }
     {
@@ -56,7 +56,7 @@ impl Comparison {
     }
 }
 
-/// The whole number. `Overflow` means that it is outside the range of 64 bits with sign.
+/// The integer as an `i64`. `Overflow` means that it is out of range.
 pub(crate) fn in_range(n: u64) -> Result<i64, Cause>
     ensures { outcome integer result ≡ model.in_range (pos n) }
 {
@@ -66,7 +66,7 @@ pub(crate) fn in_range(n: u64) -> Result<i64, Cause>
     }
 }
 
-/// The number with the other sign. `Overflow` means that the number is the least one.
+/// The negated integer. `Overflow` means that the integer is `i64::MIN`.
 pub(crate) fn negated(x: i64) -> Result<i64, Cause>
     ensures { outcome integer result ≡ model.in_range (neg_ℤ x) }
 {

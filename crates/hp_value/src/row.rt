@@ -1,4 +1,4 @@
-//! Classes of objects and the rows of their objects.
+//! Classes and the rows of their objects.
 
 ghost use Rattle.std.specs.Prelude.{◌≡◌, IfOk, option_map, bytes_eq};
 ghost use Rattle.std.specs.Map.{lookup};
@@ -16,14 +16,14 @@ use std::sync::Arc;
 /// A field of a class.
 #[derive(Clone, Debug, PartialEq, Eq, Drop)]
 pub struct Field {
-    /// The field's name, which is the only one of this name in its class.
+    /// The field's name, unique in its class.
     pub name: String,
     /// The kind of its values.
     pub kind: Kind,
 }
 
 /// A class of objects.
-#[derive(Debug, Drop)]
+#[derive(Debug, PartialEq, Eq, Drop)]
 pub struct ClassDef {
     /// The class's name.
     pub name: String,
@@ -33,8 +33,8 @@ pub struct ClassDef {
 
 /// The values of an object, by the names of its class's fields.
 ///
-/// The list of fields is the class's own. A clone shares both lists: it copies no value, and counts at one place, which
-/// is the row's own. So threads that clone different rows of a class don't wait for each other.
+/// A row shares the list of fields with its class. A clone shares both lists: it copies no value, and counts on the
+/// row's own `Arc` alone. So threads that clone different rows of a class don't contend.
 #[derive(Debug, Drop)]
 pub struct Row {
     lists: Arc<RowLists>,
@@ -57,10 +57,8 @@ impl Model for Row {
 }
 
 impl Row {
-    /// A row of these values, which stand in the order of the fields. Where there are fewer of one than of the other,
-    /// the rest of the other is left out.
-    ///
-    /// An error means that memory ran out.
+    /// A row of these values, in the order of the fields. A value without a field, or a field without a value, is left
+    /// out.
     pub fn new(
         alloc: Global,
         fields: &Arc<Vec<Field>>,
@@ -81,9 +79,7 @@ impl Row {
     ghost use Rattle.hp_value.specs.Mapped.{value, outcome};
     ghost use Rattle.hp_value.specs.Rows.{renewed, names_of, values_of};
 
-    /// A row of the same fields with these values, which stand in their order. A value too many is left out.
-    ///
-    /// An error means that memory ran out.
+    /// A row of the same fields with these values, in their order. A value without a field is left out.
     pub fn with_values(&self, alloc: Global, mut values: Vec<Value>) -> Result<Row, AllocError>
         ensures { IfOk result (λ r. r ≡ renewed self.now (map value values.items)) }
     {
@@ -91,7 +87,7 @@ impl Row {
         Row::new(alloc, &self.lists.fields, values)
     }
 
-    /// How many fields the row has.
+    /// The number of fields.
     pub fn len(&self) -> usize
         ensures { result ≡ length self.now }
     {
@@ -99,7 +95,7 @@ impl Row {
         fields.len().min(values.len())
     }
 
-    /// A field's name with its value, by its place from 0 on.
+    /// The name and the value of a field, by its index from 0.
     pub fn get(&self, i: usize) -> Option<(&str, &Value)>
         ensures { option_map (λ p. (p.0.now, value p.1.now)) result ≡ slice_get self.now i }
     {
@@ -109,7 +105,7 @@ impl Row {
         Some((f.name.as_str(), v))
     }
 
-    /// The value of the field with a name. `Kind` means that the row has no such field.
+    /// The value of the field of this name. `Kind` means that the row has no such field.
     pub fn field(&self, name: &str) -> Result<&Value, Cause>
         ensures { outcome (λ v. value v.now) result ≡ model.field_in self.now name.now }
     {
@@ -125,15 +121,15 @@ impl Row {
         &values[..fields.len().min(values.len())]
     }
 
-    /// Whether another row has the same values in the same order, under whatever names.
+    /// Whether both rows have the same values in the same order. Names aren't compared.
     pub(crate) fn has_values_of(&self, other: &Row) -> bool
         ensures { result ≡ pointwise value_same (values_of self.now) (values_of other.now) }
     {
         same_values(self.values(), other.values())
     }
 
-    /// Whether another row is seen to have its values under the same names. It may be no where they are the same: then the
-    /// classes' lists differ, or their values in number.
+    /// Whether both rows are known to have the same names. `false` says nothing: it is also the answer for rows of
+    /// equal names whose lists of fields differ in a kind, or that differ in their number of values.
     pub(crate) fn has_fields_of(&self, other: &Row) -> bool
         ensures { IsTrue result → names_of self.now ≡ names_of other.now }
     {
@@ -141,7 +137,7 @@ impl Row {
         *lists.fields == *others.fields && lists.values.len() == others.values.len()
     }
 
-    /// The two lists that the row shares.
+    /// The lists of fields and of values.
     fn parts(&self) -> (&[Field], &[Value])
         ensures { row_of result.0.now result.1.now ≡ self.now }
     {
@@ -149,7 +145,7 @@ impl Row {
     }
 }
 
-/// The value at the place where the field with a name stands.
+/// The value at the index of the field of this name.
 fn find_value<'a>(fields: &[Field], values: &'a [Value], name: &str) -> Option<&'a Value>
     ensures { option_map (λ v. value v.now) result ≡ lookup (bytes_eq name.now) (row_of fields.now values.now) }
 {
@@ -182,7 +178,7 @@ impl Eq for Row {
     ghost laws = { row_equiv };
 }
 
-/// Whether two rows, given by their fields and values, are the same.
+/// Whether two rows, given by their fields and values, are equal.
 fn same_rows(fields: &[Field], values: &[Value], others: &[Field], other_values: &[Value]) -> bool
     ensures { result ≡ row_same (row_of fields.now values.now) (row_of others.now other_values.now) }
 {
@@ -203,7 +199,6 @@ fn same_rows(fields: &[Field], values: &[Value], others: &[Field], other_values:
     true
 }
 
-/// Whether two lists of values are the same.
 fn same_values(values: &[Value], others: &[Value]) -> bool
     ensures { result ≡ pointwise (on value value_same) values.now others.now }
 {

@@ -3,32 +3,32 @@
 use crate::halt::Cause;
 use std::alloc::AllocError;
 
-/// A key of an object within its class. The statement that creates the object gives it (this project's own choice).
+/// An object's key within its class. The statement that creates the object gives it (this project's own choice).
 pub type Key = i64;
 
-/// A class, by its place in the library, from 0 on.
+/// A class, by its index in the library, from 0.
 pub type ClassNo = u32;
 
-/// A rule, by its place in the library, from 0 on.
+/// A rule, by its index in the library, from 0.
 pub type RuleNo = u32;
 
-/// A value of a field, of an argument of a signal, or of an expression.
+/// A value of a field, of a signal's argument, or of an expression.
 #[derive(Debug, Drop)]
 pub enum Value {
-    /// A whole number of 64 bits with sign.
+    /// A signed 64-bit integer.
     Int(i64),
-    /// A truth value.
+    /// A boolean.
     Bool(bool),
-    /// A text, compared by its bytes.
+    /// A text, compared byte by byte.
     Text(String),
 }
 
-/// What kind of value a field holds.
+/// The kinds of values.
 #[derive(Clone, Copy, Debug, PartialEq, Eq)]
 pub enum Kind {
-    /// Whole numbers.
+    /// Integers.
     Int,
-    /// Truth values.
+    /// Booleans.
     Bool,
     /// Texts.
     Text,
@@ -107,7 +107,7 @@ impl Value {
         }
     }
 
-    /// The whole number. `Kind` means that the value is none.
+    /// The integer. `Kind` means that the value isn't one.
     pub fn as_int(&self) -> Result<i64, Cause>
         ensures { outcome (λ z. z) result ≡ model.as_integer (value self.now) }
     {
@@ -117,7 +117,7 @@ impl Value {
         }
     }
 
-    /// The truth value. `Kind` means that the value is none.
+    /// The boolean. `Kind` means that the value isn't one.
     pub fn as_bool(&self) -> Result<bool, Cause>
         ensures { outcome (λ b. b) result ≡ model.as_boolean (value self.now) }
     {
@@ -127,7 +127,7 @@ impl Value {
         }
     }
 
-    /// Whether two values of one kind are the same. `Kind` means that they are of two kinds.
+    /// Whether two values are equal. `Kind` means that they are of different kinds.
     pub fn is_equal(&self, other: &Value) -> Result<bool, Cause>
         ensures { outcome (λ b. b) result ≡ model.is_equal (value self.now) (value other.now) }
     {
@@ -139,8 +139,8 @@ impl Value {
         }
     }
 
-    /// Whether a whole number is below another, or a text before another by its bytes. `Kind` means that the values
-    /// are neither two whole numbers nor two texts.
+    /// Whether an integer is less than another, or a text precedes another byte by byte. `Kind` means that the values
+    /// are neither two integers nor two texts.
     pub fn is_below(&self, other: &Value) -> Result<bool, Cause>
         ensures { outcome (λ b. b) result ≡ model.is_below (value self.now) (value other.now) }
     {

@@ -1,3 +1,4 @@
+pub mod SameClass
 pub mod Reading
 mod PartsApart
 mod Noting

@@ -22,10 +22,10 @@ use Rattle.hp_view.specs.declared.reads.Found.TheVariants.{Value, Keys, Objects,
 use Rattle.hp_view.specs.declared.reads.PartState.{PartState}
 use Rattle.hp_view.specs.declared.reads.PartState.TheVariants.{WasRead, IsTaken}
 use Rattle.hp_view.specs.contracts.reads.SeenPartialEq.TheImpl as seeing
-use Rattle.hp_view.specs.Mapped.{read, value_found, keys_found, part_found, class_read}
+use Rattle.hp_view.specs.Mapped.{read, value_found, keys_found, part_found, found_whole, class_read}
 use Rattle.hp_view.specs.Numbered.{IsNumbered, AreNumbered, is_read_of, IsStateOf}
 use Rattle.hp_view.specs.Parts.{same_part}
-use Rattle.hp_view.specs.Seeing.{part_was_read}
+use Rattle.hp_view.specs.Seeing.{class_was_read, part_was_read}
 use Rattle.hp_view.proofs.PartsApart.{same_part_itself, part_decides, either_true}
 
 -- where a look-up stops is where the read is one of what is looked up
@@ -118,6 +118,31 @@ pub value_told : (q : Cell) (r : Option (Bor Found)) (es : List (Seen × Found))
     → IfSome r (λ found. (base : Cells) → Holds base (map read es) → value_found found.now ≡ base (cell q))
 value_told q None es is = tt
 value_told q (Some found) es is = λ base held. told_value q found.now base es (sym is) held.told
+
+-- ---- classes that were read as a whole
+
+-- what is recorded for a class has all of its objects
+abbrev pub is_whole : Option Found → Bool
+is_whole None = false
+is_whole (Some found) = found_whole found
+
+whole_or : (b : Bool) (found : Found) (rest : Option Found) → is_whole (cond b (Some found) rest) ≡ cond b (is_whole (Some found)) (is_whole rest)
+whole_or true found rest = refl
+whole_or false found rest = refl
+
+-- all objects of a class are recorded where it was read as a whole
+pub whole_recorded : (class : ℕ) (es : List (Seen × Found)) → is_whole (lookup (seeing.ghosts.eq (OfKeys class)) es) ≡ class_was_read (map read es) class
+whole_recorded class [] = refl
+whole_recorded class ((OfCell q, other) ∷ es) = whole_recorded class es
+whole_recorded class ((OfPart n m, other) ∷ es) = whole_recorded class es
+whole_recorded class ((OfKeys n, Value v) ∷ es) = whole_or (class == n) (Value v) (lookup (seeing.ghosts.eq (OfKeys class)) es) ∙ ap (cond (class == n) false) (whole_recorded class es)
+whole_recorded class ((OfKeys n, Keys keys) ∷ es) = whole_or (class == n) (Keys keys) (lookup (seeing.ghosts.eq (OfKeys class)) es) ∙ ap (cond (class == n) false) (whole_recorded class es)
+whole_recorded class ((OfKeys n, Objects objects) ∷ es) = whole_or (class == n) (Objects objects) (lookup (seeing.ghosts.eq (OfKeys class)) es) ∙ ap (cond (class == n) true) (whole_recorded class es)
+whole_recorded class ((OfKeys n, Part part) ∷ es) = whole_or (class == n) (Part part) (lookup (seeing.ghosts.eq (OfKeys class)) es) ∙ ap (cond (class == n) false) (whole_recorded class es)
+
+pub first_false : (a b : Bool) → (a || b) ≡ false → a ≡ false
+first_false true b h = h
+first_false false b h = refl
 
 -- one entry more
 pub numbered_more : (es : List (Seen × Found)) (e : Seen × Found) → AreNumbered es → IsNumbered e → AreNumbered (es ++ e ∷ [])

@@ -1,14 +1,16 @@
 -- Reads that are noted once, and what they show wherever they hold.
 use Rattle.std.proofs.Common.{◌≡◌, refl, sym, ap, ◌∙◌, subst, ℕ, ℤ, Bool, true, false, true≢false, ◌||◌, ◌==◌, List, [], ◌∷◌, ◌++◌, append-nil, length, drop, Option, Some, None, is_some, if◌then◌else◌, arith}
 use Rattle.std.specs.Prelude.{IfSome, option_map}
+use Rattle.std.specs.List.{list_any}
 use Rattle.std.proofs.lemmas.Bool.Decides.{Decides-eqb}
-use Rattle.hp_model.specs.Cells.{Cell, CellValue, Cells, Changes, object_cell, changed, over, same_cell, Read, cell_read, keys_read, objects_read, part_read, IsTold, AllTold, Holds, AreKeys}
+use Rattle.hp_model.specs.Cells.{Cell, CellValue, Cells, Changes, object_cell, rule_cell, detector_cell, changed, over, same_cell, Read, cell_read, keys_read, objects_read, part_read, IsTold, AllTold, Holds, AreKeys, AreObjects}
 use Rattle.hp_model.proofs.BridgesCells.{exact_cell, Holds-push, Holds-last}
 use Rattle.hp_model.proofs.BridgesKeys.{one_list}
 use Rattle.hp_value.specs.Mapped.{keys_of}
 use Rattle.hp_store.specs.Changes.{Entries, changes}
 use Rattle.hp_view.specs.Keeping.{KeepsObject}
-use Rattle.hp_view.specs.Seeing.{Seeing, beneath, written, now_in, undone, cell_was_read, keys_were_read, was_read, noted, noted_unless, read_cell, OnlyReads, GoesOn, ReadsKeys, Shows, ShowsKeys}
+use Rattle.hp_view.specs.Seeing.{Seeing, beneath, written, now_in, undone, reads_cell, class_was_read, row_was_read, cell_was_read, keys_were_read, was_read, noted, noted_unless, read_cell, OnlyReads, GoesOn, ReadsKeys, Shows, ShowsKeys}
+use Rattle.hp_view.proofs.SameClass.{same_objects}
 
 -- ---- reads that are noted
 
@@ -36,16 +38,47 @@ noted-again reads r e = ap (λ b. if b then reads else reads ++ r ∷ []) e
 
 -- ---- the same wherever the reads hold
 
-cell_again : (B C : Cells) (cell : Cell) (reads : List Read) → AllTold B reads → AllTold C reads → cell_was_read reads cell ≡ true → B cell ≡ C cell
-cell_again B C cell [] b c h = absurd (true≢false (sym h))
-cell_again B C cell (cell_read q value ∷ rs) b c h = by (same_cell cell q) refl h (cell_again B C cell rs b.1 c.1)
+-- a cell that was read by itself
+itself_again : (B C : Cells) (cell : Cell) (reads : List Read) → AllTold B reads → AllTold C reads → list_any (reads_cell cell) reads ≡ true → B cell ≡ C cell
+itself_again B C cell [] b c h = absurd (true≢false (sym h))
+itself_again B C cell (cell_read q value ∷ rs) b c h = by (same_cell cell q) refl h (itself_again B C cell rs b.1 c.1)
   where
-    by : (t : Bool) → same_cell cell q ≡ t → (t || cell_was_read rs cell) ≡ true → (cell_was_read rs cell ≡ true → B cell ≡ C cell) → B cell ≡ C cell
+    by : (t : Bool) → same_cell cell q ≡ t → (t || list_any (reads_cell cell) rs) ≡ true → (list_any (reads_cell cell) rs ≡ true → B cell ≡ C cell) → B cell ≡ C cell
     by true e h rest = ap B (exact_cell cell q e) ∙ b.0 ∙ sym c.0 ∙ sym (ap C (exact_cell cell q e))
     by false e h rest = rest h
-cell_again B C cell (keys_read class keys ∷ rs) b c h = cell_again B C cell rs b.1 c.1 h
-cell_again B C cell (objects_read class objects ∷ rs) b c h = cell_again B C cell rs b.1 c.1 h
-cell_again B C cell (part_read class part objects ∷ rs) b c h = cell_again B C cell rs b.1 c.1 h
+itself_again B C cell (keys_read class keys ∷ rs) b c h = itself_again B C cell rs b.1 c.1 h
+itself_again B C cell (objects_read class objects ∷ rs) b c h = itself_again B C cell rs b.1 c.1 h
+itself_again B C cell (part_read class part objects ∷ rs) b c h = itself_again B C cell rs b.1 c.1 h
+
+-- an object whose class was read as a whole
+row_again : (B C : Cells) (class : ℕ) (key : ℤ) (reads : List Read) → AllTold B reads → AllTold C reads → class_was_read reads class ≡ true → B (object_cell class key) ≡ C (object_cell class key)
+row_again B C class key [] b c h = absurd (true≢false (sym h))
+row_again B C class key (cell_read q value ∷ rs) b c h = row_again B C class key rs b.1 c.1 h
+row_again B C class key (keys_read n keys ∷ rs) b c h = by (class == n) h (row_again B C class key rs b.1 c.1)
+  where
+    by : (t : Bool) → (if t then false else class_was_read rs class) ≡ true → (class_was_read rs class ≡ true → B (object_cell class key) ≡ C (object_cell class key)) → B (object_cell class key) ≡ C (object_cell class key)
+    by true h rest = absurd (true≢false (sym h))
+    by false h rest = rest h
+row_again B C class key (objects_read n objects ∷ rs) b c h = by (class == n) refl h (row_again B C class key rs b.1 c.1)
+  where
+    by : (t : Bool) → (class == n) ≡ t → (if t then true else class_was_read rs class) ≡ true → (class_was_read rs class ≡ true → B (object_cell class key) ≡ C (object_cell class key)) → B (object_cell class key) ≡ C (object_cell class key)
+    by true e h rest =
+        let here : n ≡ class = sym ((Decides-eqb class n).0 e) in
+        same_objects (subst (λ k. AreObjects B k objects) here b.0) (subst (λ k. AreObjects C k objects) here c.0) key
+    by false e h rest = rest h
+row_again B C class key (part_read n part objects ∷ rs) b c h = row_again B C class key rs b.1 c.1 h
+
+cell_again : (B C : Cells) (cell : Cell) (reads : List Read) → AllTold B reads → AllTold C reads → cell_was_read reads cell ≡ true → B cell ≡ C cell
+cell_again B C cell reads b c h = by (list_any (reads_cell cell) reads) refl h
+  where
+    with_class : (q : Cell) → row_was_read reads q ≡ true → B q ≡ C q
+    with_class (object_cell class key) h = row_again B C class key reads b c h
+    with_class (rule_cell n) h = absurd (true≢false (sym h))
+    with_class (detector_cell n) h = absurd (true≢false (sym h))
+
+    by : (t : Bool) → list_any (reads_cell cell) reads ≡ t → (t || row_was_read reads cell) ≡ true → B cell ≡ C cell
+    by true e h = itself_again B C cell reads b c e
+    by false e h = with_class cell h
 
 keys_again : (B C : Cells) (class : ℕ) (keys : List ℤ) (reads : List Read) → AllTold B reads → AllTold C reads → AreKeys C class keys → keys_were_read reads class ≡ true → AreKeys B class keys
 keys_again B C class keys [] b c are h = absurd (true≢false (sym h))

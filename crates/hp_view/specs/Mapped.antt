@@ -1,5 +1,5 @@
 -- What the crate's types stand for in the model: a function for each.
-use Rattle.std.specs.Prelude.{ℕ, ℤ, List, [], map, Option, Some, None, option_map, string_bytes}
+use Rattle.std.specs.Prelude.{ℕ, ℤ, Bool, true, false, List, [], map, Option, Some, None, option_map, string_bytes}
 use Rattle.std.specs.declared.string.String.{String}
 use Rattle.std.specs.declared.alloc.Global.{Global}
 use Rattle.hp_model.specs.Values as V
@@ -37,7 +37,7 @@ part_of f = record { attribute = attribute_found f.field; low = low_found f.boun
 abbrev pub whole_class : P.ClassPart
 whole_class = record { attribute = P.key_attribute; low = None; high = None }
 
--- the value that was found, the keys, the part and its objects, and what was read of a class
+-- the value that was found, the keys, the part and its objects
 abbrev pub value_found : Found → Option C.CellValue
 value_found (Value v) = change v
 value_found (Keys keys) = None
@@ -62,6 +62,14 @@ objects_found (Keys keys) = []
 objects_found (Objects objects) = []
 objects_found (Part part) = map keyed_row part.value.objects.items
 
+-- whether all objects of a class were found
+abbrev pub found_whole : Found → Bool
+found_whole (Value v) = false
+found_whole (Keys keys) = false
+found_whole (Objects objects) = true
+found_whole (Part part) = false
+
+-- what was read of a class
 abbrev pub class_read : ℕ → Found → C.Read
 class_read class (Value v) = C.keys_read class []
 class_read class (Keys keys) = C.keys_read class keys.items

@@ -1,9 +1,9 @@
 -- What a view is to a contract.
-use Rattle.std.specs.Prelude.{◌≡◌, ℕ, ℤ, ◌≤◌, ◌==◌, length, Bool, true, false, ◌&&◌, List, [], ◌∷◌, ◌++◌, Option, Some, None, IsSome, drop, take, if◌then◌else◌}
+use Rattle.std.specs.Prelude.{◌≡◌, ℕ, ℤ, ◌≤◌, ◌==◌, length, Bool, true, false, ◌&&◌, ◌||◌, List, [], ◌∷◌, ◌++◌, Option, Some, None, IsSome, drop, take, if◌then◌else◌}
 use Rattle.std.specs.List.{list_any}
 use Rattle.hp_model.specs.Values.{KeyedRow}
 use Rattle.hp_model.specs.ClassParts.{ClassPart}
-use Rattle.hp_model.specs.Cells.{Cell, CellValue, Cells, Changes, over, same_cell, with_change, Read, cell_read, keys_read, objects_read, part_read, Holds, AreKeys, AreObjects, ArePart}
+use Rattle.hp_model.specs.Cells.{Cell, object_cell, rule_cell, detector_cell, CellValue, Cells, Changes, over, same_cell, with_change, Read, cell_read, keys_read, objects_read, part_read, Holds, AreKeys, AreObjects, ArePart}
 use Rattle.hp_model.proofs.BridgesCells.{stacked}
 use Rattle.hp_store.specs.Changes.{Entries, changes}
 use Rattle.hp_store.specs.Stack.{Stack, cells_in}
@@ -81,9 +81,23 @@ reads_number class number (keys_read n keys) = false
 reads_number class number (objects_read n objects) = false
 reads_number class number (part_read n q objects) = class == n && number == number_of q
 
--- whether they were read before
+-- whether a class was read as a whole, where its keys weren't read before
+abbrev pub class_was_read : List Read → ℕ → Bool
+class_was_read [] class = false
+class_was_read (cell_read q value ∷ reads) class = class_was_read reads class
+class_was_read (keys_read n keys ∷ reads) class = if class == n then false else class_was_read reads class
+class_was_read (objects_read n objects ∷ reads) class = if class == n then true else class_was_read reads class
+class_was_read (part_read n part objects ∷ reads) class = class_was_read reads class
+
+-- whether a cell is an object's whose class was read as a whole
+abbrev pub row_was_read : List Read → Cell → Bool
+row_was_read reads (object_cell class key) = class_was_read reads class
+row_was_read reads (rule_cell n) = false
+row_was_read reads (detector_cell n) = false
+
+-- whether they were read before: a cell by itself, or with its class
 abbrev pub cell_was_read : List Read → Cell → Bool
-cell_was_read reads cell = list_any (reads_cell cell) reads
+cell_was_read reads cell = list_any (reads_cell cell) reads || row_was_read reads cell
 
 abbrev pub keys_were_read : List Read → ℕ → Bool
 keys_were_read reads class = list_any (reads_keys class) reads

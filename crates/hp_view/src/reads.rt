@@ -47,7 +47,7 @@ impl Found {
     ghost use Rattle.hp_store.specs.Mapped.{cell_value};
     ghost use Rattle.std.specs.Prelude.{map};
     ghost use Rattle.hp_value.specs.Mapped.{class_part, keyed_row};
-    ghost use Rattle.hp_view.specs.Mapped.{value_found, keys_found, part_found, objects_found};
+    ghost use Rattle.hp_view.specs.Mapped.{value_found, keys_found, part_found, objects_found, found_whole};
 
     /// The value that was found in a cell. In a class none is found.
     pub fn value(&self) -> Option<&CellValue>
@@ -80,6 +80,16 @@ impl Found {
                 attribute: Attribute::Key,
                 bounds: Bounds::Numbers(None, None),
             },
+        }
+    }
+
+    // Whether all objects of a class were found.
+    fn is_whole(&self) -> bool
+        ensures { result ≡ found_whole self.now }
+    {
+        match self {
+            Found::Objects(_) => true,
+            Found::Value(_) | Found::Keys(_) | Found::Part(_) => false,
         }
     }
 
@@ -139,7 +149,7 @@ impl Reads {
     ghost use Rattle.hp_view.specs.Mapped.{read, value_found};
     ghost use Rattle.hp_view.specs.Numbered.{IsStateOf};
     ghost use Rattle.hp_view.specs.Parts.{number_of};
-    ghost use Rattle.hp_view.specs.Seeing.{noted, cell_was_read, keys_were_read, number_was_read};
+    ghost use Rattle.hp_view.specs.Seeing.{noted, class_was_read, row_was_read, cell_was_read, keys_were_read, number_was_read};
 
     /// No reads.
     pub fn new(alloc: Global) -> Reads
@@ -216,11 +226,31 @@ impl Reads {
         self.entries.get(&Seen::Cell(cell))
     }
 
-    /// Whether a cell was read by itself.
+    /// Whether a cell was read: by itself, or with its whole class.
     pub fn has_cell(&self, cell: Cell) -> bool
         ensures { result ≡ cell_was_read self.now (mapped.cell cell) }
     {
-        self.entries.contains_key(&Seen::Cell(cell))
+        self.entries.contains_key(&Seen::Cell(cell)) || self.has_row(cell)
+    }
+
+    // Whether a cell is an object's whose class was read as a whole.
+    fn has_row(&self, cell: Cell) -> bool
+        ensures { result ≡ row_was_read self.now (mapped.cell cell) }
+    {
+        match cell {
+            Cell::Object(class, _) => self.has_whole(class),
+            Cell::Rule(_) | Cell::Detector(_) => false,
+        }
+    }
+
+    // Whether a class was read as a whole.
+    fn has_whole(&self, class: ClassNo) -> bool
+        ensures { result ≡ class_was_read self.now class }
+    {
+        match self.entries.get(&Seen::Keys(class)) {
+            Some(found) => found.is_whole(),
+            None => false,
+        }
     }
 
     /// How a part of a class stands among the reads.

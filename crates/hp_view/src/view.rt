@@ -9,7 +9,7 @@ ghost use Rattle.hp_store.specs.Mapped.{cell_value};
 ghost use Rattle.hp_store.specs.Stack.{cells_in};
 ghost use Rattle.hp_view.specs.Adding.{AddsReads, IsOfClass};
 ghost use Rattle.hp_view.specs.Keeping.{KeepsObject};
-ghost use Rattle.hp_view.specs.Seeing.{Seeing as Seen, beneath, written, now_in, noted, read_cell, cell_was_read, keys_were_read, Writes, TakesIn, IsSame, GoesBack, GoesOn, Restores, OnlyReads, Shows, ShowsKeys, ShowsObjects, ShowsPart, ReadsKeys, ReadsPart};
+ghost use Rattle.hp_view.specs.Seeing.{Seeing as Seen, beneath, written, now_in, noted, read_cell, row_was_read, cell_was_read, keys_were_read, Writes, TakesIn, IsSame, GoesBack, GoesOn, Restores, OnlyReads, Shows, ShowsKeys, ShowsObjects, ShowsPart, ReadsKeys, ReadsPart};
 ghost use Rattle.hp_view.specs.Wholes.{is_row};
 
 use crate::reads::{PartState, Reads};
@@ -84,13 +84,15 @@ impl View {
 
     /// Reads a cell, whose value is then the one that `peek` gives.
     ///
-    /// The read is recorded with what the snapshot holds, unless the cell was read before, or the view's own writes cover
-    /// it: then it takes no memory. An error means that memory ran out; the view is then as before.
+    /// The read is recorded with what the snapshot holds, unless the cell was read before, by itself or with its whole
+    /// class, or the view's own writes cover it: then it takes no memory. An error means that memory ran out; the view
+    /// is then as before.
     pub fn read(&mut self, cell: Cell) -> Result<(), AllocError>
         ensures reads { OnOk result (self.new ≡ record self.old { reads = read_cell self.old (mapped.cell cell) }) }
         ensures err { OnErr result (self.new ≡ self.old) }
         ensures covered { IsSome (written self.old (mapped.cell cell)) → IsOk result }
         ensures again { IsTrue (cell_was_read self.old.reads (mapped.cell cell)) → IsOk result }
+        ensures in_class { IsTrue (row_was_read self.old.reads (mapped.cell cell)) → IsOk result }
         ensures shows { OnOk result (Shows self.new (mapped.cell cell) (now_in self.old (mapped.cell cell))) }
         ensures only { OnlyReads self.old self.new }
         ensures goes_on { GoesOn self.old self.new }
@@ -113,7 +115,8 @@ impl View {
         if let Some(change) = self.writes.get(cell) {
             return change.as_ref();
         }
-        // What was read is found faster among the reads.
+        // What was read by itself is found faster among the reads. An object that was read with its class stands in the
+        // snapshot.
         match self.reads.in_cell(cell) {
             Some(found) => found.value(),
             None => self.base.get(cell),
@@ -127,17 +130,18 @@ impl View {
     ghost use mathlib.Core.Option.{none};
     ghost use Rattle.hp_value.specs.Mapped as mapped;
     ghost use Rattle.hp_store.specs.Mapped.{cell_value};
-    ghost use Rattle.hp_view.specs.Seeing.{written, now_in, cell_was_read, ReadsCell};
+    ghost use Rattle.hp_view.specs.Seeing.{written, now_in, row_was_read, cell_was_read, ReadsCell};
     ghost use Rattle.hp_view.specs.contracts.view.View.{the_row};
 
     /// Reads a cell and gives its value, or none where the cell is empty: `read` and then `peek`.
     ///
-    /// A cell that was read before, or that the view's own writes cover, takes no memory. An error means that memory ran
-    /// out; the view is then as before.
+    /// A cell that was read before, by itself or with its whole class, or that the view's own writes cover, takes no
+    /// memory. An error means that memory ran out; the view is then as before.
     pub fn get(&mut self, cell: Cell) -> Result<Option<&CellValue>, AllocError>
         ensures value { IfOk result (λ found. option_map (λ v. cell_value v.now) found ≡ now_in self.old (mapped.cell cell)) }
         ensures covered { IsSome (written self.old (mapped.cell cell)) → IsOk result }
         ensures again { IsTrue (cell_was_read self.old.reads (mapped.cell cell)) → IsOk result }
+        ensures in_class { IsTrue (row_was_read self.old.reads (mapped.cell cell)) → IsOk result }
         ensures* after { sem 𝓛 (follows_so the_row the_row self.entry.ghost_name none (λ _ _. ⊤) (λ v. ReadsCell self.old v (mapped.cell cell) (is_ok result))) }
     {
         self.read(cell)?;

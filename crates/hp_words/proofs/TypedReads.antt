@@ -1,4 +1,4 @@
--- What a typed getter of `clap` reads of a text.
+-- The value that a typed getter of `clap` reads from a text.
 use Rattle.std.proofs.Common.{◌≡◌, ◌≢◌, ℕ, Bool, true, false, List, Option, Some, None, Result, Ok, Err, unwrap_or, codes, refl, sym, ap}
 use Rattle.std.proofs.lemmas.Slice.Eq.{bytes_eq-Decides}
 use Rattle.std.specs.Str.{bytes_eq}

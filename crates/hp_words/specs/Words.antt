@@ -1,4 +1,4 @@
--- What the words of the command line ask for, as `clap` reads them.
+-- What the words of the command line mean, as `clap` reads them.
 use Rattle.std.specs.Prelude.{ℕ, pos, List, [], ◌∷◌, codes, Bool, true, false, ◌&&◌, nat_le, Option, Some, None, if◌then◌else◌}
 use Rattle.std.specs.Option.{option_map_or}
 use Rattle.std.specs.Str.{bytes_eq}
@@ -9,7 +9,7 @@ use Rattle.clap.specs.declared.builder.value_parser.ValueParser.TheVariants as p
 use Rattle.hp_words.specs.declared.words.WordFault.{WordFault}
 use Rattle.hp_words.specs.declared.words.WordFault.TheVariants.{Refused, NoMemory}
 
--- `--workers N`, of 8 bits, 4 where it isn't given
+-- `--workers N`, of 8 bits; the default is 4
 abbrev pub workers_rule : Rule
 workers_rule = record (new_rule (codes "workers")) {
   long = Some (codes "workers");
@@ -25,11 +25,11 @@ tree_rule = record (new_rule (codes "tree")) { long = Some (codes "tree"); actio
 abbrev pub app : App
 app = with_rule (with_rule (new_app (codes "program")) workers_rule) tree_rule
 
--- what stands for each argument
+-- the row of each argument
 unfoldable pub rows_for : List (List ℕ) → List Row
 rows_for words = matches_of app words
 
--- the kinds of error of which one is answered, none where the words are taken
+-- the kinds of error, one of which is the answer; none if the words are accepted
 unfoldable pub faults_for : List (List ℕ) → Kinds
 faults_for words = fault_of app words
 
@@ -49,15 +49,15 @@ abbrev pub is_empty_list : {A : Type 0} → List A → Bool
 is_empty_list [] = true
 is_empty_list (x ∷ xs) = false
 
--- the words are taken, and the number of workers is 1 to 64
+-- the words are accepted, and the number of workers is 1 to 64
 abbrev pub are_taken : List (List ℕ) → Bool
 are_taken words = is_empty_list (faults_for words) && (nat_le 1 (workers_for words) && nat_le (workers_for words) 64)
 
--- the workers and whether trees are wanted
+-- the number of workers, and whether trees are wanted
 abbrev pub options_for : List (List ℕ) → Option (ℕ × Bool)
 options_for words = if are_taken words then Some (workers_for words, tree_for words) else None
 
--- the program's exit status where there are no options
+-- the program's exit status without options
 abbrev pub word_code_of : WordFault → ℕ
 word_code_of Refused = 3
 word_code_of NoMemory = 4

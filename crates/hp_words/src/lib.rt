@@ -1,6 +1,6 @@
-//! The words of the command line, for each program that runs a rule base.
+//! The command line of the programs.
 //!
-//! `specs/Words.antt` says what they ask for, as `clap` reads them.
+//! `specs/Words.antt` says what its words mean, as `clap` reads them.
 #![tactic(auto)]
 
 mod words;

@@ -11,10 +11,10 @@ use std::env;
 use std::env::Env;
 use thiserror::Error as ThisError;
 
-/// What the words of a command line ask for.
+/// The options on a command line.
 #[derive(Clone, Copy, Debug, PartialEq, Eq)]
 pub struct Options {
-    /// How many workers may try sibling firings at once, 1 to 64. It has no effect on what is written.
+    /// The most workers that may try sibling firings at once, 1 to 64. It has no effect on what is written.
     pub workers: usize,
     /// Whether the trees of the transactions are written.
     pub tree: bool,
@@ -23,7 +23,7 @@ pub struct Options {
 /// Why there are no options.
 #[derive(Clone, Copy, Debug, PartialEq, Eq, ThisError)]
 pub enum WordFault {
-    /// The words are none of the command's, or the number of workers isn't 1 to 64.
+    /// The words are not those of the command, or the number of workers isn't 1 to 64.
     #[error("command line refused")]
     Refused,
     /// Memory ran out.
@@ -31,9 +31,9 @@ pub enum WordFault {
     NoMemory,
 }
 
-/// The options that the words ask for, of which the first is the program's name.
+/// The options in the words of a command line, the first of which is the program's name.
 ///
-/// Without words there are 4 workers, and no trees are written.
+/// The defaults are 4 workers and no trees.
 pub fn parse_words(alloc: Global, words: &[String]) -> Result<Options, WordFault>
     ensures ok { IfOk result (λ options. options_for (map string_bytes words.now) ≡ Some (options.workers, options.tree)) }
     ensures refused { result ≡ Err WordFault.Refused → options_for (map string_bytes words.now) ≡ None }
@@ -68,7 +68,7 @@ pub fn options_of<R: Env + AllocGlobal>(rt: &R) -> Result<Options, WordFault> {
     parse_words(rt.alloc(), words.as_slice())
 }
 
-/// The status with which the program ends where there are no options: 3 where the words were refused, 4 where memory ran out.
+/// The exit status of the program without options: 3 if the words were refused, 4 if memory ran out.
 pub fn word_code(fault: WordFault) -> u8
     ensures { result ≡ word_code_of fault }
 {
@@ -94,14 +94,14 @@ fn matches_of<'a>(alloc: Global, words: &'a [String]) -> Result<ArgMatches<'a>, 
     command.try_get_matches_from(words)
 }
 
-/// The number of workers in what was found, or 0 where there is none.
+/// The number of workers in the matches, or 0 if there is none.
 fn workers_in(matches: &ArgMatches<'_>) -> u8
     ensures { result ≡ number_in (one_of (codes "workers") (rows_of (found_of matches.entry.now))) }
 {
     matches.get_one::<u8>("workers").unwrap_or(0)
 }
 
-/// Whether trees are wanted by what was found.
+/// Whether the matches ask for trees.
 fn tree_in(matches: &ArgMatches<'_>) -> bool
     ensures { result ≡ flag_in (one_of (codes "tree") (rows_of (found_of matches.entry.now))) }
 {

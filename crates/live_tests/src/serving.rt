@@ -1,4 +1,4 @@
-//! Whole runs on devices that give little at a time, and that fail.
+//! Whole runs on devices that transfer little at a time, and that fail.
 
 use hp_live::{Fault, Options, Status, serve};
 use hp_report::Watched;
@@ -8,20 +8,20 @@ use std::io::{Read, Write};
 use std::test::Fail;
 use std::thread::Threads;
 
-/// A class, a rule that tells changes, and one that fires at 7 and 9.
+/// A class, a rule that reports changes, and one that fires at 7 and 9.
 const SCRIPT: &str =
     "{\"version\":1,\"classes\":[[\"acct\",[[\"bal\",\"int\"]]]],\"rules\":[[\"tell\",[\"update\",\"acct\"],\"immediate\",[],\"immediate\",[[\"emit\",[\"new\",0,\"bal\"]]]],[\"wake\",[\"or\",[\"at\",7],[\"at\",9]],\"immediate\",[],\"immediate\",[[\"emit\",[\"time\",0]]]]],\"items\":[[\"tx\",[[\"install\",\"tell\"],[\"install\",\"wake\"],[\"create\",\"acct\",1,[[\"bal\",5]]]]],[\"clock\",3]]}\n";
 
-/// What a device does at its calls. A call moves at most so many bytes.
+/// What a device does at its calls. A call transfers a limited number of bytes.
 #[derive(Clone, Copy)]
 struct Steps {
     first: usize,
     later: usize,
-    /// The number of the call that fails, of 1 and more.
+    /// The number of the call that fails, from 1.
     fails_at: usize,
 }
 
-/// A device that takes what it is given, and gives as much as is asked for.
+/// A device that takes and gives as much as it is asked to.
 const EASY: Steps = Steps {
     first: 4096,
     later: 4096,
@@ -38,7 +38,7 @@ struct Device<'a> {
 }
 
 impl Device<'_> {
-    /// The most bytes that this call moves.
+    /// The most bytes that this call transfers.
     fn turn(&mut self) -> io::Result<usize> {
         self.calls = self.calls.wrapping_add(1);
         if self.calls == self.steps.fails_at {
@@ -103,14 +103,14 @@ fn served<R: AllocGlobal + Threads + Sync>(
     (writer.into_inner().output, ended)
 }
 
-/// The script and the lines.
+/// The script followed by the lines.
 fn session(alloc: Global) -> Result<String, Fail> {
     let mut input = String::from_str(alloc, SCRIPT)?;
     input.push_str(LINES)?;
     Ok(input)
 }
 
-/// The lines that are whole in the first so many bytes.
+/// The complete lines among the first `count` bytes.
 fn whole_lines(input: &[u8], count: usize) -> &[u8] {
     let mut end = 0usize;
     for (place, byte) in input.iter().take(count).enumerate() {
@@ -162,7 +162,7 @@ fn lines_are_answered_wherever_they_are_cut(rt: HostRuntime) -> Result<(), Fail>
 #[test]
 fn a_failed_read_ends_it_after_the_lines_before(rt: HostRuntime) -> Result<(), Fail> {
     let input = session(rt.alloc())?;
-    // The last read of all is the one that finds the input's end.
+    // The last read finds the end of the input.
     for read in 0..=input.len() {
         let reads = Steps {
             first: 1,

@@ -11,7 +11,7 @@ fn number(alloc: Global, z: i64) -> Result<Box<Expr>, AllocError> {
     Ok(Box::new(alloc, Expr::literal(Value::Int(z)))?)
 }
 
-// The row's field is compared with 0.
+// The row's field equals 0.
 fn field_is(
     alloc: Global,
     row: &str,
@@ -75,7 +75,7 @@ fn inner(alloc: Global) -> Result<Vec<Stmt>, AllocError> {
     Ok(vec![in alloc; sub]?)
 }
 
-// Statements that ask for `limit`, for `level` and `fee` in a statement of theirs, and for no field.
+// Statements that ask for `limit`, for `level` and `fee` in an inner statement, and for no field.
 fn action(alloc: Global) -> Result<Vec<Stmt>, AllocError> {
     let limit = field_is(alloc, "x", "limit", Comparison::Equal)?;
     let other = field_is(alloc, "x", "other", Comparison::Unequal)?;

@@ -1,4 +1,4 @@
-//! Tests of checked libraries and of operations on a view, with answers worked out by hand.
+//! Tests of checked libraries and of operations on a view. The expected values are worked out by hand.
 #![tactic(auto)]
 
 #[cfg(test)]

@@ -1,4 +1,4 @@
-//! Libraries and bodies: what they show, what they list for an occurrence, and where their first fault stands.
+//! Libraries and bodies: their contents, the rules that they list for an occurrence, and their first fault.
 
 use crate::fixtures::{class, rule, text};
 use hp_event::Pattern;
@@ -15,7 +15,7 @@ fn number(alloc: Global, z: i64) -> Result<Box<Expr>, AllocError> {
     Ok(Box::new(alloc, Expr::literal(Value::Int(z)))?)
 }
 
-// A truth value under so many `not`s.
+// A boolean under a number of `not`s.
 fn nested(alloc: Global, nots: usize) -> Result<Box<Expr>, AllocError> {
     let mut expr = Box::new(alloc, Expr::literal(Value::Bool(true)))?;
     for _ in 0..nots {
@@ -186,7 +186,7 @@ fn path(
     Ok(steps)
 }
 
-// A fault that is wanted, with its positions below a member or below the body.
+// An expected fault, with its path below a member or below the body.
 #[derive(Clone, Copy)]
 enum Wanted {
     Nothing,
@@ -228,7 +228,7 @@ fn fault_of(alloc: Global, faulty: Box<Faulty>) -> Result<Option<CheckFault>, Ch
     }
 }
 
-// Which of them, from 0 on, has another fault than is said of it.
+// The index, from 0, of the first one whose fault isn't the expected one.
 fn first_wrong(
     alloc: Global,
     cases: Vec<(Box<Faulty>, Wanted)>,
@@ -398,7 +398,7 @@ fn subtransaction(alloc: Global, body: Vec<Stmt>) -> Stmt {
     }
 }
 
-// A body in which so many statements stand round one that aborts, or round none.
+// A body in which `round` statements nest around one that aborts.
 fn nested_body(alloc: Global, round: usize, inmost: Vec<Stmt>) -> Result<Box<Faulty>, AllocError> {
     let mut inner = inmost;
     for _ in 1..round {
@@ -511,7 +511,7 @@ fn going_over(alloc: Global) -> Result<Box<Faulty>, AllocError> {
     body(alloc, statement)
 }
 
-// An object under a name, with a key or a body that may know it.
+// A statement `with`, whose name its key and its body may use.
 fn with_object(
     alloc: Global,
     key: Box<Expr>,

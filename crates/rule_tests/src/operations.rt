@@ -1,7 +1,7 @@
-//! Operations on a view over a small library, with answers worked out by hand.
+//! Operations on a view over a small library. The expected values are worked out by hand.
 //!
-//! A test makes its library and its view, and a function beside it has the rest by reference; what an operation gives is told in
-//! plain numbers. A function that owns much and has many ways out takes minutes to prove.
+//! A test makes its library and its view, and passes them by reference to a function beside it. Operations give plain
+//! numbers. This is because a function that owns many values and has many `?` takes minutes to prove.
 
 use crate::fixtures::{class, rule, text};
 use hp_event::Pattern;
@@ -18,7 +18,7 @@ use std::process::Abort;
 use std::sync::Arc;
 use std::test::Fail;
 
-/// A rule that is triggered by the signal `go`, and one by the signal `first` and then `second`.
+/// A rule on the signal `go`, and one on the signal `first` followed by `second`.
 const ON_GO: RuleNo = 0;
 
 const ON_BOTH: RuleNo = 1;
@@ -71,7 +71,7 @@ fn balance_of(alloc: Global, view: &mut View, key: Key) -> Result<Option<i64>, A
     }
 }
 
-// The cause that refused an operation, if one did. Want of memory ends the test.
+// The cause of an operation's failure, if there was one. Running out of memory ends the test.
 fn cause<T: Copy>(ended: Result<T, Halt>) -> Result<Option<Cause>, AllocError> {
     match ended {
         Err(Halt::Cause(cause)) => Ok(Some(cause)),
@@ -80,7 +80,7 @@ fn cause<T: Copy>(ended: Result<T, Halt>) -> Result<Option<Cause>, AllocError> {
     }
 }
 
-// What an occurrence says of an object: its class, its key, and its balances before and after.
+// An occurrence of an object: its class, its key, and its balances before and after.
 type Change = (ClassNo, Key, Option<i64>, Option<i64>);
 
 fn change(prim: &Prim) -> Option<Change> {
@@ -152,7 +152,7 @@ fn count(
     Ok(tasks.len())
 }
 
-// The one task that a signal triggers.
+// The only task that a signal triggers.
 fn only(
     alloc: Global,
     view: &mut View,
@@ -225,7 +225,7 @@ fn an_object_is_deleted_once(rt: HostRuntime) -> Result<(), Fail> {
     delete_twice(&rt, rt.alloc(), &mut view)
 }
 
-// A field with the value 4 or `true`.
+// An assignment of the value 4 or `true` to a field.
 fn assignments(alloc: Global, field: &str, number: bool) -> Result<Vec<Assignment>, AllocError> {
     let value = if number {
         Value::Int(4)
@@ -240,7 +240,7 @@ fn assignments(alloc: Global, field: &str, number: bool) -> Result<Vec<Assignmen
     Ok(pairs)
 }
 
-// The key and the balance of the object 9 that a `create` makes with an assignment.
+// The key and the balance of the object 9 that a `create` with this assignment makes.
 fn made_row(
     alloc: Global,
     lib: &Library,
@@ -253,7 +253,7 @@ fn made_row(
     Ok((made.key, balance(&made.row)))
 }
 
-// The key, and how many values there are, that an `update` of it gives.
+// The key and the number of values that an `update` of it gives.
 fn given(alloc: Global, lib: &Library, field: &str, number: bool) -> Result<(Key, usize), Halt> {
     let pairs = assignments(alloc, field, number)?;
     let key = Expr::literal(Value::Int(9));
@@ -415,7 +415,7 @@ fn an_absent_rule_has_no_cells(rt: HostRuntime) -> Result<(), Fail> {
     remove_absent(&rt, rt.alloc(), &mut view, &library)
 }
 
-// Which of a rule's cells there are: its status, its detector.
+// Which of a rule's cells have values: its status, its detector.
 fn cells(view: &View, rule: RuleNo) -> (bool, bool) {
     let status = view.peek(Cell::Rule(rule)).is_some();
     (status, view.peek(Cell::Detector(rule)).is_some())
@@ -438,8 +438,8 @@ fn operate(rt: &impl Abort, alloc: Global, view: &mut View, lib: &Library) {
     assert!(rt; refused < 2);
 }
 
-/// To be run with each allocation refused in turn, by `rt try --test --fail-alloc N`: a refused operation changes neither
-/// of a rule's cells.
+/// Runs with each allocation refused in turn, by `rt try --test --fail-alloc N`: a refused operation changes neither of
+/// a rule's cells.
 #[test]
 fn a_refused_operation_changes_no_cell(rt: HostRuntime) -> Result<(), Fail> {
     let library = library(rt.alloc())?;

@@ -1,4 +1,4 @@
-//! A small bank: a library of one class, bodies that move its balances, and books over it.
+//! A small bank: a library of one class, bodies that change balances, and books over it.
 
 ghost use Rattle.std.specs.Prelude.{IfOk};
 ghost use Rattle.hp_model.specs.Sessions.{HasFitState};
@@ -30,7 +30,7 @@ fn balance_is(alloc: Global, value: Box<Expr>) -> Result<Vec<Assignment>, AllocE
     Ok(vec![in alloc; Assignment { field, value }]?)
 }
 
-// Makes an account of no balance.
+// Creates an account with the balance 0.
 fn make(alloc: Global, key: Key) -> Result<Stmt, AllocError> {
     let pairs = balance_is(alloc, number(alloc, 0)?)?;
     Ok(Stmt::Create {
@@ -49,14 +49,14 @@ fn balance_of_x(alloc: Global) -> Result<Box<Expr>, AllocError> {
     Ok(Box::new(alloc, balance)?)
 }
 
-// The balance of x, and 1.
+// The balance of x plus 1.
 fn sum(alloc: Global) -> Result<Box<Expr>, AllocError> {
     let balance = balance_of_x(alloc)?;
     let sum = Expr::Arithmetic(Arithmetic::Plus, balance, number(alloc, 1)?);
     Ok(Box::new(alloc, sum)?)
 }
 
-// Sets an account's balance to that of x, and 1.
+// Sets an account's balance to that of x plus 1.
 fn update(alloc: Global, key: Key) -> Result<Stmt, AllocError> {
     let pairs = balance_is(alloc, sum(alloc)?)?;
     Ok(Stmt::Update {
@@ -78,7 +78,7 @@ fn plus(alloc: Global, key: Key) -> Result<Stmt, AllocError> {
     })
 }
 
-// A class of things with a balance.
+// A class with a balance.
 fn class(alloc: Global, name: &str) -> Result<ClassDef, AllocError> {
     let bal = Field {
         name: text(alloc, "bal")?,
@@ -91,7 +91,7 @@ fn class(alloc: Global, name: &str) -> Result<ClassDef, AllocError> {
     })
 }
 
-// A library of one class, with accounts or with what has that name, and no rule.
+// A library without rules, of one class with this name.
 pub fn library(alloc: Global, name: &str) -> Result<Arc<Library>, CheckError> {
     let classes = vec![in alloc; class(alloc, name)?]?;
     let library = Library::check(alloc, classes, Vec::new(alloc), 16)?;
@@ -110,7 +110,7 @@ pub fn aborting(alloc: Global, library: &Arc<Library>) -> Result<Body, CheckErro
     Library::body(library, alloc, statements)
 }
 
-// Statements that make the accounts 1 to n, of no balance.
+// Statements that create the accounts 1 to n, with the balance 0.
 fn making(alloc: Global, n: u8) -> Result<Vec<Stmt>, AllocError> {
     let mut statements = Vec::new(alloc);
     for before in 0..n {
@@ -119,7 +119,7 @@ fn making(alloc: Global, n: u8) -> Result<Vec<Stmt>, AllocError> {
     Ok(statements)
 }
 
-// The balance of an account in a store; -1 where there is none.
+// The balance of an account in a store; -1 if there is none.
 pub fn balance(store: &Store, key: Key) -> i64 {
     if let Some(CellValue::Row(row)) = store.get(Cell::Object(0, key)) {
         if let Ok(Value::Int(n)) = row.field("bal") {
@@ -137,7 +137,7 @@ pub fn ending(report: &UnitReport) -> Option<Ending> {
     }
 }
 
-// A store in which a unit has made the accounts 1 to n: a fit state of the library has its cells.
+// A store in which a unit has created the accounts 1 to n. A fit state of the library has its cells.
 pub fn accounts<R: Threads + Sync>(
     rt: &R,
     alloc: Global,
@@ -152,7 +152,7 @@ pub fn accounts<R: Threads + Sync>(
     Ok(store)
 }
 
-// A book over such a store, with no entry and no name.
+// A book over this store, without an entry or a name.
 pub fn begun<R: Threads + Sync>(
     rt: &R,
     alloc: Global,
@@ -163,7 +163,7 @@ pub fn begun<R: Threads + Sync>(
     Ok(Book::begin(alloc, Arc::try_clone(library)?, store)?)
 }
 
-// The balance of account 1 at a book's end, and how many entries its history has.
+// The balance of account 1 and the number of entries when a book is closed.
 pub fn ended<K: BookName>(book: Book<K>) -> (i64, usize) {
     let history = book.end();
     (balance(history.store(), 1), history.entries().len())

@@ -1,4 +1,4 @@
-//! What one thread sees of a book.
+//! One thread's calls on a book.
 
 ghost use Rattle.std.specs.Prelude.{◌≡◌, Some, IfOk};
 ghost use Rattle.hp_sessions.specs.Books.{session_of};
@@ -17,7 +17,7 @@ use std::sync::{Arc, Mutex, Wait};
 use std::test::Fail;
 use std::thread::Threads;
 
-// A unit that adds 1 to the balance of an account as it is now.
+// A unit that adds 1 to the current balance of an account.
 fn unit<K: BookName, R: Threads + Sync>(
     rt: &R,
     alloc: Global,
@@ -55,7 +55,7 @@ fn refused<K: BookName>(
     }
 }
 
-// Of two units on the same cells, the second is committed, and then the first.
+// Of two units on the same cells, the second is committed first.
 fn second_and_first<K: BookName, R: Threads + Abort + Sync>(
     rt: &R,
     alloc: Global,
@@ -153,7 +153,7 @@ fn an_aborted_body_has_a_receipt(rt: HostRuntime) -> Result<(), Fail> {
     aborted::<Brand, _>(&rt, rt.alloc(), &here, &other, blank)
 }
 
-// Two units on the same cells add to accounts 1 and 2, and are both committed.
+// Two units on the same cells add to accounts 1 and 2, and both are committed.
 fn both<K: BookName, R: Threads + Sync>(
     rt: &R,
     alloc: Global,
@@ -169,7 +169,7 @@ fn both<K: BookName, R: Threads + Sync>(
     Ok((one, two))
 }
 
-// Receipts of sessions 1 and 2, with these numbers, are apart.
+// The receipts of sessions 1 and 2 have the numbers 1 and 2, and name distinct entries.
 fn check_apart<K: BookName>(
     rt: &impl Abort,
     history: &mut History<K>,

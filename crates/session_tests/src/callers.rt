@@ -17,7 +17,7 @@ use std::test::Fail;
 use std::thread;
 use std::thread::Threads;
 
-// Adds 1 to the balance of an account, and the receipt to those before it.
+// Adds 1 to the balance of an account, and appends the receipt.
 fn add_one<K: BookName, R: Threads + Wait + Sync>(
     rt: &R,
     alloc: Global,
@@ -45,7 +45,7 @@ fn fifty<K: BookName, R: Threads + Wait + Sync>(
     Some(receipts)
 }
 
-// The receipt's number, which is above the one before it, and names its entry.
+// The receipt's number, which is above the one before it and names its entry.
 fn risen<K: BookName>(
     rt: &impl Abort,
     history: &mut History<K>,
@@ -58,7 +58,7 @@ fn risen<K: BookName>(
     number
 }
 
-// There are fifty receipts. Each one's number is above those before it, and names its entry.
+// There are fifty receipts. Each number is above those before it, and names its entry.
 fn check_rising<K: BookName>(
     rt: &impl Abort,
     history: &mut History<K>,
@@ -110,8 +110,8 @@ fn two_threads<K: BookName + Send + Sync, R: Threads + Wait + Abort + Sync>(
     check_rising(rt, &mut history, two)
 }
 
-// Catches a session that commits twice for one call (`commits_twice`), or commits and then refuses (`commits_then_refuses`), and
-// calls that always want for memory (`always_refuses_for_memory`).
+// Catches a session that commits twice for one call (`commits_twice`), one that commits and then refuses
+// (`commits_then_refuses`), and calls that always return `NoMemory` (`always_refuses_for_memory`).
 #[test]
 fn two_sessions_of_fifty(rt: HostRuntime) -> Result<(), Fail> {
     let library = library(rt.alloc(), "acct")?;
@@ -119,8 +119,8 @@ fn two_sessions_of_fifty(rt: HostRuntime) -> Result<(), Fail> {
     two_threads::<Brand, _>(&rt, rt.alloc(), &library, blank)
 }
 
-// Two hundred bodies of a session: in turn on account 1, which all share, and on an account of its own. How many have a
-// receipt; none where one is refused.
+// Two hundred bodies of a session, alternately on account 1, which all sessions share, and on an account of its own.
+// Returns the number of receipts, or `None` if a body is refused.
 fn two_hundred<K: BookName, R: Threads + Wait + Sync>(
     rt: &R,
     alloc: Global,
@@ -146,7 +146,7 @@ fn two_hundred<K: BookName, R: Threads + Wait + Sync>(
     Some(receipts.len())
 }
 
-// One thread runs the bodies of a history, one after the other, on a store as it was before them.
+// One thread runs the bodies of a history, one after another, on a store as it was before them.
 fn replayed<K: BookName, R: Threads + Sync>(
     rt: &R,
     alloc: Global,
@@ -187,7 +187,7 @@ fn check_balances(rt: &impl Abort, balances: &[i64], store: &Store) {
     }
 }
 
-// The history leaves the balances that its bodies leave one after the other.
+// The history leaves the balances that its bodies leave one after another.
 fn check_replayed<K: BookName, R: Threads + Abort + Sync>(
     rt: &R,
     alloc: Global,

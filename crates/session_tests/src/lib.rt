@@ -1,4 +1,5 @@
-//! Tests of sessions over a small bank: what no contract says, that calls succeed, on which threads, and what lies outside the lock.
+//! Tests of sessions over a small bank. They test what no contract states: that calls succeed, on which threads, and
+//! what happens outside the lock.
 #![tactic(auto)]
 
 #[cfg(test)]

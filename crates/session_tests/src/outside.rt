@@ -15,10 +15,10 @@ use std::test::Fail;
 use std::thread;
 use std::thread::Threads;
 
-// How often a thread looks for what it waits for.
+// How often a thread polls for what it waits for.
 const TURNS: u32 = 1_000_000;
 
-// What a gate is told, and what session 2 has done.
+// What a gate was notified of, and what session 2 has done.
 #[derive(Drop)]
 struct Turns {
     begun: AtomicU64,
@@ -131,7 +131,7 @@ fn outside<K: BookName + Send + Sync, R: Threads + Wait + Abort + Sync>(
     Ok(())
 }
 
-// Catches a lock that is held while a unit is made (`holds_lock_throughout`): session 2 then has no answer in time.
+// Catches a lock that is held while a unit is made (`holds_lock_throughout`): session 2 then gets no answer in time.
 #[test]
 fn a_unit_is_made_outside_the_lock(rt: HostRuntime) -> Result<(), Fail> {
     let library = library(rt.alloc(), "acct")?;

@@ -1,4 +1,4 @@
-//! Occurrences of nested events against values worked out by hand from the rules.
+//! Occurrences of nested events. The expected values are worked out by hand from the rules of events.
 
 use hp_detect::{Detector, EventExpr, Knowledge, Occurrence, Pattern, Prim, detect, is_pure};
 use hp_value::Value;
@@ -35,7 +35,7 @@ fn composite(letter: char, first: Box<EventExpr>, second: Box<EventExpr>) -> Eve
     }
 }
 
-/// A signal of that name with one argument.
+/// A signal of this name with one argument.
 fn signal(alloc: Global, name: char, argument: i64) -> Result<Prim, AllocError> {
     let mut text = String::new(alloc);
     text.push(name)?;
@@ -58,7 +58,7 @@ fn signals(alloc: Global, words: &str) -> Result<Vec<Prim>, AllocError> {
     Ok(all)
 }
 
-/// Puts the name and the argument of a signal to a text.
+/// Appends the name and the argument of a signal to a text.
 fn put_part(text: &mut String, part: &Prim) -> Result<(), AllocError> {
     if let Prim::Signal { name, args } = part {
         text.push_str(name.as_str())?;
@@ -69,7 +69,7 @@ fn put_part(text: &mut String, part: &Prim) -> Result<(), AllocError> {
     Ok(())
 }
 
-/// Puts an occurrence to a text, as `2:a1b2`: its count, and the name and the argument of each part.
+/// Appends an occurrence to a text, such as `2:a1b2`: its count, and the name and argument of each part.
 fn put_answer(text: &mut String, answer: &Option<Occurrence>) -> Result<(), AllocError> {
     let Some(occurrence) = answer else {
         return text.push('-');
@@ -82,14 +82,14 @@ fn put_answer(text: &mut String, answer: &Option<Occurrence>) -> Result<(), Allo
     Ok(())
 }
 
-/// An answer's text.
+/// The text of an answer.
 fn shown(alloc: Global, answer: &Option<Occurrence>) -> Result<String, AllocError> {
     let mut text = String::new(alloc);
     put_answer(&mut text, answer)?;
     Ok(text)
 }
 
-/// Puts answers to an empty text.
+/// Writes answers to an empty text.
 fn put_answers(text: &mut String, answers: &[Option<Occurrence>]) -> Result<(), AllocError> {
     for answer in answers {
         if !text.is_empty() {
@@ -100,7 +100,7 @@ fn put_answers(text: &mut String, answers: &[Option<Occurrence>]) -> Result<(), 
     Ok(())
 }
 
-/// What the event answers along the signals.
+/// The event's answers along the signals.
 fn answers(alloc: Global, postfix: &str, words: &str) -> Result<String, AllocError> {
     let expr = event(alloc, postfix)?;
     let signals = signals(alloc, words)?;
@@ -113,14 +113,14 @@ fn answers(alloc: Global, postfix: &str, words: &str) -> Result<String, AllocErr
 #[test]
 fn occurrences_by_hand(rt: HostRuntime) -> Result<(), Fail> {
     let cases = [
-        // A disjunction occurs once where both arms do, with the first one's parts.
+        // A disjunction occurs once where both arms do, with the parts of the first.
         ("aa|", "a1 b2 a3", "1:a1 - 1:a3"),
         ("aab;|", "a1 b2 a3 b4 b5", "1:a1 2:a1b2 1:a3 2:a3b4 -"),
-        // A sequence takes the oldest that is not yet taken, and only what stands strictly before.
+        // A sequence takes the oldest occurrence that isn't taken yet, and only an earlier one.
         ("ab;", "b0 a1 a2 b3 b4 b5", "- - - 2:a1b3 2:a2b4 -"),
         ("aa;", "a1 a2 a3", "- 2:a1a2 2:a2a3"),
         ("abc;;", "b1 a2 b3 c4 c5", "- - - 3:a2b1c4 -"),
-        // A closure occurs once, at its end, and each end begins anew, also one at which it didn't occur.
+        // A closure occurs once, at its end. It begins again after each end, even one at which it didn't occur.
         ("at*", "a7 a8 t0 t0", "- - 2:a8t0 -"),
         (
             "at*",
@@ -128,7 +128,7 @@ fn occurrences_by_hand(rt: HostRuntime) -> Result<(), Fail> {
             "- - 1:a1t2 - - - - 3:a6t7",
         ),
         ("aa*", "a1 a2 a3", "- - -"),
-        // Its count is the sum of the counts of its bodies, without the end's.
+        // A closure's count is the sum of the counts of its bodies, without the end's.
         ("ab;t*", "a1 b2 a3 b4 t5", "- - - - 4:a3b4t5"),
         ("at*b;", "a1 a2 t0 b0", "- - - 3:a2t0b0"),
         ("ab;ab*;", "a1 b2 a3 b4", "- - - 3:a1b2a3b4"),
@@ -184,7 +184,7 @@ fn events_are_pure_and_mention(rt: HostRuntime) -> Result<(), Fail> {
     Ok(())
 }
 
-/// Steps until no growth is refused, and tells whether each refusal left the detector as it was.
+/// Steps until no allocation is refused. Says whether each refused step left the detector as it was.
 fn steadily(
     alloc: Global,
     detector: &mut Detector,
@@ -200,7 +200,7 @@ fn steadily(
     }
 }
 
-/// The last answer along signals, of which each refused one left the detector as it was.
+/// The last answer along the signals, if each refused step left the detector as it was.
 fn last_answer(
     rt: &impl Abort,
     alloc: Global,
@@ -216,8 +216,8 @@ fn last_answer(
     Ok(last)
 }
 
-/// To be run with each allocation refused in turn, by `rt try --test --fail-alloc N`: a refused step changes nothing, and
-/// the next one answers as if there had been none.
+/// Runs with each allocation refused in turn, by `rt try --test --fail-alloc N`: a refused step changes nothing, and
+/// the next one answers as if it had not been.
 #[test]
 fn refused_steps_change_nothing(rt: HostRuntime) -> Result<(), Fail> {
     let signals = signals(rt.alloc(), "a1 b2 a3 b4 t5 a6 c7")?;
@@ -227,7 +227,7 @@ fn refused_steps_change_nothing(rt: HostRuntime) -> Result<(), Fail> {
     Ok(())
 }
 
-/// What is known without the event goes on as a detector of the event does.
+/// Knowledge steps as a detector of the event does.
 #[test]
 fn knowledge_goes_on_by_itself(rt: HostRuntime) -> Result<(), Fail> {
     let alloc = rt.alloc();
@@ -245,7 +245,7 @@ fn knowledge_goes_on_by_itself(rt: HostRuntime) -> Result<(), Fail> {
     Ok(())
 }
 
-/// What is known after more signals of `a`, with these arguments in order. Each waits in a sequence for a `b`.
+/// What is known after further signals `a` with these arguments, in order. In a sequence each waits for a `b`.
 fn waiting(
     alloc: Global,
     expr: &EventExpr,
@@ -280,7 +280,7 @@ fn taken(
     Ok((known, in_order))
 }
 
-/// All that waits is taken, the oldest first, and what was known before stays as it was.
+/// Everything that waits is taken, the oldest first, and what was known before stays the same.
 #[test]
 fn many_wait_and_are_taken_in_order(rt: HostRuntime) -> Result<(), Fail> {
     let alloc = rt.alloc();
@@ -296,7 +296,7 @@ fn many_wait_and_are_taken_in_order(rt: HostRuntime) -> Result<(), Fail> {
     Ok(())
 }
 
-/// Queues are the same where the same waits, however many stood before it, and else not.
+/// Queues are equal if the same items wait, however many preceded them, and unequal otherwise.
 #[test]
 fn queues_are_compared_by_what_waits(rt: HostRuntime) -> Result<(), Fail> {
     let alloc = rt.alloc();

@@ -1,4 +1,4 @@
-//! Worked values of expressions, each worked out by hand, and the public functions on their happy path.
+//! Values of expressions, worked out by hand, and the public functions without faults.
 
 use crate::fixtures::{account, row};
 use hp_value::{
@@ -103,7 +103,7 @@ fn limits_of_arithmetic(rt: HostRuntime) {
     }
 }
 
-// Operands come before their kinds, and kinds before the result.
+// Operands are evaluated before their kinds are tested, and kinds are tested before the result.
 #[test]
 fn order_of_faults(rt: HostRuntime) -> Result<(), Fail> {
     let alloc = rt.alloc();
@@ -139,7 +139,7 @@ fn short_circuit(rt: HostRuntime) -> Result<(), Fail> {
     Ok(())
 }
 
-// In UTF-8 é begins with a byte above each letter's, and a text comes before a longer one.
+// In UTF-8 the first byte of é is above that of each letter, and a prefix precedes a longer text.
 #[test]
 fn texts_by_bytes(rt: HostRuntime) -> Result<(), Fail> {
     for (s, t) in [("Z", "a"), ("z", "é"), ("", "a"), ("ab", "abc")] {
@@ -180,7 +180,7 @@ fn stock(alloc: Global, name: &str, held: i64) -> Result<Row, AllocError> {
     Row::new(alloc, &class.fields, values)
 }
 
-// A signal, a moment past the range of numbers, and an update; the count is past the range too.
+// A signal, a moment outside the range of `i64`, and an update; the count is out of range too.
 fn told(alloc: Global) -> Result<Occurrence, AllocError> {
     let mut args = Vec::new(alloc);
     args.push(text(alloc, "low")?)?;
@@ -363,7 +363,7 @@ fn rows_of_a_class(rt: HostRuntime) -> Result<(), Fail> {
     Ok(())
 }
 
-/// Two objects: one with the number 5 under the name `bal`, and one with another number under a name.
+/// Two objects: one with the number 5 under the name `bal`, and one with the given value and name.
 fn two_objects(alloc: Global, name: &str, value: i64) -> Result<ObjectList, AllocError> {
     let mut objects = ObjectList::new(alloc);
     objects.push(1, account(alloc, 5)?)?;
@@ -371,7 +371,7 @@ fn two_objects(alloc: Global, name: &str, value: i64) -> Result<ObjectList, Allo
     Ok(objects)
 }
 
-/// Whether these two objects are the same as those.
+/// Whether these two objects are equal to those.
 fn are_same(
     alloc: Global,
     objects: &ObjectList,
@@ -382,7 +382,7 @@ fn are_same(
     Ok(*objects == others)
 }
 
-/// The first has one name for both numbers, the second has two.
+/// Compares two lists of two objects: those of `alike` have the same name, those of `mixed` different names.
 fn compare(
     rt: &impl Abort,
     alloc: Global,
@@ -413,7 +413,7 @@ fn lists_of_objects_are_compared(rt: HostRuntime) -> Result<(), Fail> {
     Ok(())
 }
 
-// Where an allocation is refused, a value is the same or there is none, and never another or a cause.
+// If an allocation is refused, the value is the same or there is none; it is never another value or a cause.
 #[test]
 fn memory_or_the_value(rt: HostRuntime) -> Result<(), Fail> {
     let alloc = rt.alloc();

@@ -1,4 +1,4 @@
-//! Tests of values, patterns, detectors, queries and trees, with answers worked out by hand.
+//! Tests of values, patterns, detectors, queries and trees. The expected values are worked out by hand.
 #![tactic(auto)]
 
 #[cfg(test)]

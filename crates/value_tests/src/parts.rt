@@ -14,11 +14,11 @@ use std::process::Abort;
 use std::sync::Arc;
 use std::test::Fail;
 
-/// Objects in a plain map, of which parts are found too. It shows no world: what it answers is tested and not proved.
+/// Objects in a plain map that also finds parts. It shows no world: its answers are tested and not proved.
 #[derive(Drop)]
 struct Parts {
     objects: PlainObjects,
-    // How many objects were in the last part, if one was found since this was cleared.
+    // The number of objects in the last part, if one was found since this was cleared.
     found: Option<usize>,
 }
 
@@ -72,7 +72,7 @@ impl Look for Parts {
     }
 }
 
-/// The same objects twice: where all are looked at, and where parts are found.
+/// The same objects twice: in a look that doesn't find parts, and in one that does.
 #[derive(Drop)]
 struct Looks {
     plain: PlainObjects,
@@ -102,8 +102,8 @@ impl Looks {
         self.parts.objects.insert(class, key, row.clone()?)
     }
 
-    /// The predicate's rows are those with these keys. Gives how many objects are in the part in which they are sought,
-    /// if there is one.
+    /// The predicate's rows are those with these keys. Returns the number of objects in the part that was asked for, if
+    /// one was.
     fn assert_rows(
         &mut self,
         rt: &impl Abort,
@@ -120,7 +120,7 @@ impl Looks {
         Ok(self.parts.found)
     }
 
-    /// The predicate has this fault, and no part is found.
+    /// The predicate has this fault, and no part is asked for.
     fn assert_faulty(
         &mut self,
         rt: &impl Abort,
@@ -138,7 +138,7 @@ impl Looks {
     }
 }
 
-// The comparison that says the same with its sides changed.
+// The comparison with its sides swapped.
 fn changed(how: Comparison) -> Comparison {
     match how {
         Comparison::Less => Comparison::Greater,
@@ -149,8 +149,8 @@ fn changed(how: Comparison) -> Comparison {
     }
 }
 
-// A comparison of an attribute with a number: the keys of its answer, and how many objects the part has, if one is asked
-// for.
+// A comparison of an attribute with a number: the keys of its answer, and the number of objects in the part, if one is
+// asked for.
 #[derive(Clone, Copy)]
 struct Case {
     how: Comparison,
@@ -162,7 +162,7 @@ fn made(how: Comparison, keys: &'static [Key], found: Option<usize>) -> Case {
     Case { how, keys, found }
 }
 
-// The accounts whose keys compare so with 2. Where one key is asked for no part is.
+// The accounts whose keys compare this way with 2. A query for one key asks for no part.
 fn by_key() -> [Case; 6] {
     [
         made(Comparison::Equal, &[2], None),
@@ -174,7 +174,7 @@ fn by_key() -> [Case; 6] {
     ]
 }
 
-// The accounts whose balances, 5, 0, 3 and 4, compare so with 3.
+// The accounts whose balances, 5, 0, 3 and 4, compare this way with 3.
 fn by_balance() -> [Case; 6] {
     [
         made(Comparison::Equal, &[2], Some(1)),
@@ -232,7 +232,7 @@ fn each_comparison_of_a_field(rt: HostRuntime) -> Result<(), Fail> {
     Ok(())
 }
 
-// What follows the comparison is asked of the part alone: elsewhere it would be a fault, but it isn't looked at there.
+// What follows the comparison is evaluated on the part alone: elsewhere it would have a fault.
 #[test]
 fn what_follows_a_comparison(rt: HostRuntime) -> Result<(), Fail> {
     let alloc = rt.alloc();
@@ -256,7 +256,7 @@ fn what_follows_a_comparison(rt: HostRuntime) -> Result<(), Fail> {
     Ok(())
 }
 
-// 7 / bal > 0, which has a fault where the balance is 0.
+// 7 / bal > 0, which has a fault if the balance is 0.
 fn is_quotient_positive(alloc: Global) -> Result<Box<Expr>, AllocError> {
     let quotient = Expr::Arithmetic(
         Arithmetic::Quotient,
@@ -312,7 +312,7 @@ fn a_value_of_another_kind(rt: HostRuntime) -> Result<(), Fail> {
     Ok(())
 }
 
-// Each truth value is no whole number and no text, so no part is asked for: of equal ones all rows are looked at.
+// A boolean isn't an integer or a text, so no part is asked for, and all rows are looked at.
 #[test]
 fn truth_values(rt: HostRuntime) -> Result<(), Fail> {
     let alloc = rt.alloc();
@@ -357,7 +357,7 @@ fn texts_by_their_bytes(rt: HostRuntime) -> Result<(), Fail> {
     Ok(())
 }
 
-// What has a fault has it at the first row, and nowhere if there is no row.
+// A fault of the other side is one of the first row, if there is a row.
 #[test]
 fn the_other_side_has_a_fault(rt: HostRuntime) -> Result<(), Fail> {
     let alloc = rt.alloc();
@@ -391,7 +391,7 @@ fn a_class_without_objects(rt: HostRuntime) -> Result<(), Fail> {
     Ok(())
 }
 
-// The other side names the row itself, also where another row has the name outside: no part is asked for.
+// The other side names the row itself, even if an outer name means another row: no part is asked for.
 #[test]
 fn the_name_means_the_own_row(rt: HostRuntime) -> Result<(), Fail> {
     let alloc = rt.alloc();
@@ -410,7 +410,7 @@ fn the_name_means_the_own_row(rt: HostRuntime) -> Result<(), Fail> {
     let found = looks.assert_rows(&rt, alloc, &env.bound("x", 1, &outer), &poor, &[-3])?;
     assert_eq!(rt; found, None);
 
-    // Another row's balance is as good as a number.
+    // Another row's balance serves as a number does.
     let other = balance_of(alloc, "y")?;
     let asked = compared(alloc, balance_of(alloc, "x")?, Comparison::Less, other)?;
     let four = account(alloc, 4)?;

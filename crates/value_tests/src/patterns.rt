@@ -33,7 +33,7 @@ fn occurrences(alloc: Global) -> Result<Vec<Prim>, AllocError> {
     Ok(all)
 }
 
-/// Which of the six occurrences the pattern matches, as a text of noughts and ones.
+/// Which of the six occurrences the pattern matches, as a text of zeros and ones.
 fn matched(alloc: Global, pattern: &Pattern, all: &[Prim]) -> Result<String, AllocError> {
     let mut found = String::new(alloc);
     for prim in all {

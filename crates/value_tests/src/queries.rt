@@ -1,4 +1,4 @@
-//! Answers over a plain map, with values worked out by hand.
+//! Answers over a plain map. The expected values are worked out by hand.
 
 use crate::fixtures::{account, row, text};
 use hp_query::{PlainObjects, Query, Verdict, answer, evaluate_condition, selected_rows};
@@ -61,7 +61,7 @@ fn put(
     objects.insert(class, key, account(alloc, balance)?)
 }
 
-// Class 0 with the keys -20, -3, 2, 10, and class 1 with the keys 2 and 5, between them in the map.
+// Class 0 with the keys -20, -3, 2 and 10, and class 1 with the keys 2 and 5.
 pub(crate) fn accounts(alloc: Global) -> Result<PlainObjects, AllocError> {
     let mut objects = PlainObjects::new(alloc);
     put(alloc, &mut objects, 1, 5, 7)?;
@@ -172,7 +172,7 @@ pub(crate) fn both(
     Ok(Box::new(alloc, Expr::And(first, second))?)
 }
 
-// The row's key is a value, written either way round.
+// The row's key equals a value, with the key on either side.
 fn is_key(
     alloc: Global,
     variable: &str,
@@ -197,7 +197,7 @@ fn of_key(
     selected_rows(alloc, "x", 0, &predicate, &Env::new(None, &[]), objects)
 }
 
-// What follows the key is asked of its row alone: at 2 stands a text, of which nothing is above.
+// What follows the key is evaluated for its row alone: the row at 2 has a text, above which nothing is.
 #[test]
 fn one_key_is_asked_for(rt: HostRuntime) -> Result<(), Fail> {
     let alloc = rt.alloc();
@@ -213,7 +213,7 @@ fn one_key_is_asked_for(rt: HostRuntime) -> Result<(), Fail> {
     Ok(())
 }
 
-// A fault of what the key is compared with is one of the first row, if there is a row.
+// A fault of the value compared with the key is a fault of the first row, if there is one.
 #[test]
 fn a_key_that_has_no_value(rt: HostRuntime) -> Result<(), Fail> {
     let alloc = rt.alloc();
@@ -226,7 +226,7 @@ fn a_key_that_has_no_value(rt: HostRuntime) -> Result<(), Fail> {
     let rows = selected_rows(alloc, "x", 2, &predicate, &env, &mut objects)?;
     assert_keys(&rt, &rows, &[]);
 
-    // The row's own key is in no other row, so all are answers.
+    // Each row's key equals its own key, so all rows are answers.
     let own = is_key(alloc, "x", key_of(alloc, "x")?, false)?;
     let rows = selected_rows(alloc, "x", 0, &own, &env, &mut objects)?;
     assert_keys(&rt, &rows, &[-20, -3, 2, 10]);
@@ -255,7 +255,7 @@ fn assert_answer(rt: &impl Abort, answer: Option<&Answer>, name: &str, wanted: &
     }
 }
 
-// x: -20, 2, 10, whose first has balance 5; y: those of class 1 above it.
+// x: -20, 2 and 10, the first of which has the balance 5; y: those of class 1 above it.
 fn two_queries(alloc: Global) -> Result<Vec<Query>, AllocError> {
     let richer = compared(
         alloc,
@@ -306,7 +306,7 @@ fn an_empty_answer_and_a_fault(rt: HostRuntime) -> Result<(), Fail> {
     let mut objects = accounts(alloc)?;
     assert!(rt; matches!(verdict(alloc, &[], &mut objects)?, Verdict::Satisfied(_)));
 
-    // The first empty answer ends it, before the fault of the second query.
+    // The first empty answer ends the condition, before the fault of the second query.
     let mut queries = Vec::new(alloc);
     queries.push(query(alloc, "x", 0, is_above(alloc, "x", 100)?)?)?;
     queries.push(query(alloc, "y", 1, balance_of(alloc, "y")?)?)?;
@@ -327,7 +327,7 @@ fn an_empty_answer_and_a_fault(rt: HostRuntime) -> Result<(), Fail> {
     Ok(())
 }
 
-// Run with each allocation refused in turn: the call tells it, and the next call answers as ever.
+// Runs with each allocation refused in turn: the call returns the error, and the next call answers as usual.
 #[test]
 fn a_refused_allocation_is_told(rt: HostRuntime) {
     let alloc = rt.alloc();

@@ -1,4 +1,4 @@
-//! What trees say of the objects and of the emitted values, worked out by hand.
+//! The objects and the emitted values of trees. The expected values are worked out by hand.
 
 use crate::fixtures::account;
 use hp_tree::{
@@ -9,7 +9,7 @@ use hp_value::{Cause, ClassNo, Coupling, Key, RuleOperation, Value};
 use std::alloc::Global;
 use std::test::Fail;
 
-/// The class `acct` with its one field `bal`.
+/// The class `acct`, whose one field is `bal`.
 const ACCT: ClassNo = 0;
 
 fn create(alloc: Global, key: Key, balance: i64) -> Result<Operation, Fail> {
@@ -28,7 +28,7 @@ fn update(alloc: Global, key: Key, balance: i64) -> Result<Operation, Fail> {
     })
 }
 
-/// A firing of the rule `up`, whose action sets the balance of object 1, and then has these items.
+/// A firing of the rule `up`, whose action sets the balance of object 1 and then has this item.
 fn up(alloc: Global, balance: i64, end: Ending, more: Option<Item>) -> Result<Item, Fail> {
     let mut items = Vec::new(alloc);
     items.push(Item::Operation(update(alloc, 1, balance)?))?;
@@ -46,7 +46,7 @@ fn up(alloc: Global, balance: i64, end: Ending, more: Option<Item>) -> Result<It
     }))
 }
 
-/// The tree of the depth limit: each update fires the rule anew, and the third firing is too deep.
+/// The tree of the depth limit: each update fires the rule again, and the third firing is too deep.
 fn depth_limit(alloc: Global) -> Result<Vec<Item>, Fail> {
     let third = up(alloc, 4, Ending::Aborted(Cause::Depth), None)?;
     let second = up(alloc, 3, Ending::Committed, Some(third))?;
@@ -104,7 +104,7 @@ fn replays_over_what_was_there(rt: HostRuntime) -> Result<(), Fail> {
     Ok(())
 }
 
-/// A node of a statement `sub` that emitted a number, with one more item.
+/// A node of a statement `sub` that emitted a number, and then has one more item.
 fn sub(alloc: Global, end: Ending, number: i64, more: Option<Item>) -> Result<Item, Fail> {
     let mut items = Vec::new(alloc);
     items.push(Item::Emit(Value::Int(number)))?;
@@ -118,7 +118,7 @@ fn sub(alloc: Global, end: Ending, number: i64, more: Option<Item>) -> Result<It
     }))
 }
 
-/// A node that ended so has emitted a number, and one inside it another.
+/// A node with this end that emitted a number, and another one inside it.
 fn pair(alloc: Global, end: Ending, outer: i64, inner: i64) -> Result<Item, Fail> {
     let inner = sub(alloc, Ending::Committed, inner, None)?;
     sub(alloc, end, outer, Some(inner))

@@ -26,6 +26,20 @@ pub fn balance(alloc: Global, value: i64) -> Result<CellValue, AllocError> {
     Ok(CellValue::Row(row))
 }
 
+// A row of one text, a name.
+pub fn name(alloc: Global, text: &str) -> Result<CellValue, AllocError> {
+    let mut fields = Vec::new(alloc);
+    fields.push(Field {
+        name: String::from_str(alloc, "name")?,
+        kind: Kind::Text,
+    })?;
+    let fields = Arc::new(alloc, fields)?;
+    let mut values = Vec::new(alloc);
+    values.push(Value::Text(String::from_str(alloc, text)?))?;
+    let row = Row::new(alloc, &fields, values)?;
+    Ok(CellValue::Row(row))
+}
+
 fn accounts(alloc: Global) -> Result<Arc<Layer>, AllocError> {
     let mut layer = Layer::new(alloc);
     for (key, value) in [(10, 110), (-3, 97), (2, 102)] {

@@ -1,6 +1,6 @@
 //! Parts of a class, as a snapshot finds them and compares them.
 
-use crate::fixtures::balance;
+use crate::fixtures::{balance, name};
 use hp_store::{Layer, Snapshot, Store};
 use hp_value::{Attribute, Bounds, Cell, ClassPart, Key, KeyedRow};
 use std::alloc::{AllocError, Global};
@@ -113,7 +113,7 @@ fn a_part_by_keys_is_found(rt: HostRuntime) -> Result<(), Fail> {
     ask_by_key(&rt, rt.alloc(), &store)
 }
 
-/// Nine layers over a base that somebody else holds, so that the ninth is folded with the others.
+/// Nine layers over a base that somebody else holds, so that the ninth is folded with the newest ones.
 fn pile_nine(alloc: Global, store: &mut Store) -> Result<(), AllocError> {
     for tenth in 0..9i64 {
         let key = tenth.wrapping_mul(10);
@@ -191,4 +191,168 @@ fn a_part_is_compared_under_writes(rt: HostRuntime) -> Result<(), Fail> {
     let store = store_of_ten(rt.alloc())?;
     let snapshot = store.snapshot()?;
     compare_parts(&rt, rt.alloc(), &snapshot)
+}
+
+// ---- parts by a field
+
+fn by_name<'a>(low: Option<&'a str>, high: Option<&'a str>) -> ClassPart<'a> {
+    ClassPart {
+        attribute: Attribute::Field("name"),
+        bounds: Bounds::Texts(low, high),
+    }
+}
+
+/// Objects made and changed into a part by their balances, and deleted and changed out of it.
+fn change_balances(alloc: Global, store: &mut Store) -> Result<(), AllocError> {
+    write(alloc, store, &[(25, 3), (70, 2), (20, 9)], &[40])?;
+    write(alloc, store, &[(26, 4), (10, 1)], &[25])
+}
+
+/// The balances are those of the ten but 30 has 3, 26 has 4, 70 has 2, 20 has 9, and 40 is gone.
+fn ask_by_balance(rt: &impl Abort, alloc: Global, store: &Store) -> Result<(), Fail> {
+    expect(rt, alloc, store, &by_balance(2, 4), &[26, 30, 70])?;
+    expect(rt, alloc, store, &by_balance(9, 9), &[20, 90])?;
+    expect(rt, alloc, store, &by_balance(10, i64::MAX), &[])?;
+    expect(rt, alloc, store, &by_balance(i64::MIN, 1), &[0, 10])?;
+    expect(rt, alloc, store, &by_balance(4, 2), &[])
+}
+
+#[test]
+fn a_part_by_a_field_is_found_in_the_base(rt: HostRuntime) -> Result<(), Fail> {
+    let mut store = store_of_ten(rt.alloc())?;
+    store.keep_index(rt.alloc(), CLASS, "bal")?;
+    change_balances(rt.alloc(), &mut store)?;
+    ask_by_balance(&rt, rt.alloc(), &store)
+}
+
+/// The index is made of what the store has by then.
+#[test]
+fn an_index_is_made_later(rt: HostRuntime) -> Result<(), Fail> {
+    let mut store = store_of_ten(rt.alloc())?;
+    change_balances(rt.alloc(), &mut store)?;
+    store.keep_index(rt.alloc(), CLASS, "bal")?;
+    store.keep_index(rt.alloc(), CLASS, "bal")?;
+    ask_by_balance(&rt, rt.alloc(), &store)
+}
+
+fn ask_without(rt: &impl Abort, alloc: Global, store: &Store) -> Result<(), Fail> {
+    let found = store.snapshot()?.part(alloc, CLASS, &by_balance(2, 4))?;
+    assert!(rt; found.is_none());
+    Ok(())
+}
+
+#[test]
+fn without_an_index_no_part_is_found(rt: HostRuntime) -> Result<(), Fail> {
+    let mut store = store_of_ten(rt.alloc())?;
+    store.keep_index(rt.alloc(), CLASS, "name")?;
+    ask_without(&rt, rt.alloc(), &store)
+}
+
+/// While somebody holds the base, no index of it is made.
+#[test]
+fn a_shared_base_gets_no_index(rt: HostRuntime) -> Result<(), Fail> {
+    let mut store = store_of_ten(rt.alloc())?;
+    let before = store.snapshot()?;
+    store.keep_index(rt.alloc(), CLASS, "bal")?;
+    ask_without(&rt, rt.alloc(), &store)?;
+    drop(before);
+    store.keep_index(rt.alloc(), CLASS, "bal")?;
+    expect(&rt, rt.alloc(), &store, &by_balance(2, 3), &[20, 30])
+}
+
+fn pile_balances(rt: &impl Abort, alloc: Global, store: &mut Store) -> Result<(), Fail> {
+    let before = store.snapshot()?;
+    pile_nine(alloc, store)?;
+    expect(rt, alloc, store, &by_balance(2, 4), &[21, 31, 41])?;
+    change_balances(alloc, store)?;
+    expect(rt, alloc, store, &by_balance(2, 4), &[21, 26, 31, 41, 70])?;
+    drop(before);
+    write(alloc, store, &[], &[31])?;
+    expect(rt, alloc, store, &by_balance(2, 4), &[21, 26, 41, 70])
+}
+
+#[test]
+fn a_part_by_a_field_is_found_through_layers(rt: HostRuntime) -> Result<(), Fail> {
+    let mut store = store_of_ten(rt.alloc())?;
+    store.keep_index(rt.alloc(), CLASS, "bal")?;
+    pile_balances(&rt, rt.alloc(), &mut store)
+}
+
+/// Keys from 0 on with their own numbers as balances.
+fn many(alloc: Global, count: i64) -> Result<Layer, AllocError> {
+    let mut layer = Layer::new(alloc);
+    for key in 0..count {
+        let _ = layer.insert(Cell::Object(CLASS, key), Some(balance(alloc, key)?))?;
+    }
+    Ok(layer)
+}
+
+/// A layer of many changes has an index of its own, which its later changes go into.
+fn ask_a_long_layer(rt: &impl Abort, alloc: Global, store: &Store) -> Result<(), Fail> {
+    let mut writes = many(alloc, 100)?;
+    writes.keep_index(alloc, CLASS, "bal")?;
+    let _ = writes.insert(Cell::Object(CLASS, 7), Some(balance(alloc, 50)?))?;
+    let _ = writes.insert(Cell::Object(CLASS, 49), None)?;
+    let _ = writes.insert(Cell::Object(CLASS, 51), None)?;
+    let _ = writes.remove(Cell::Object(CLASS, 51));
+    let snapshot = store.snapshot()?;
+    assert!(rt; finds(alloc, &snapshot, &writes, &by_balance(49, 51), &[7, 50])?);
+    let _ = writes.insert(Cell::Object(CLASS, 7), Some(balance(alloc, 7)?))?;
+    assert!(rt; finds(alloc, &snapshot, &writes, &by_balance(49, 51), &[50])?);
+    Ok(())
+}
+
+#[test]
+fn a_long_layer_is_asked_by_a_field(rt: HostRuntime) -> Result<(), Fail> {
+    let mut store = store_of_ten(rt.alloc())?;
+    store.keep_index(rt.alloc(), CLASS, "bal")?;
+    ask_a_long_layer(&rt, rt.alloc(), &store)
+}
+
+/// Objects 1 to 5, which have names. Those of 3 and 4 begin with the same 40 bytes.
+fn store_of_names(alloc: Global) -> Result<Store, AllocError> {
+    let mut layer = Layer::new(alloc);
+    for (key, text) in [
+        (1i64, "ann"),
+        (2, "bob"),
+        (3, "a name that is longer than forty bytes, one"),
+        (4, "a name that is longer than forty bytes, two"),
+        (5, ""),
+    ] {
+        let _ = layer.insert(Cell::Object(CLASS, key), Some(name(alloc, text)?))?;
+    }
+    let mut store = Store::empty(alloc)?;
+    store.keep_index(alloc, CLASS, "name")?;
+    store.apply(alloc, Arc::new(alloc, layer)?)?;
+    Ok(store)
+}
+
+fn ask_by_name(rt: &impl Abort, alloc: Global, store: &Store) -> Result<(), Fail> {
+    let one = "a name that is longer than forty bytes, one";
+    expect(rt, alloc, store, &by_name(Some(one), Some(one)), &[3])?;
+    expect(rt, alloc, store, &by_name(Some("an"), Some("b")), &[1])?;
+    expect(rt, alloc, store, &by_name(Some("ann"), None), &[1, 2])?;
+    expect(rt, alloc, store, &by_name(None, Some("a name")), &[5])?;
+    expect(rt, alloc, store, &by_name(Some("b"), Some("a")), &[])
+}
+
+#[test]
+fn a_part_by_texts_is_found(rt: HostRuntime) -> Result<(), Fail> {
+    let store = store_of_names(rt.alloc())?;
+    ask_by_name(&rt, rt.alloc(), &store)
+}
+
+/// A value of another kind than the bounds is a fault, so that nothing is told of the part.
+fn ask_of_two_kinds(rt: &impl Abort, alloc: Global, store: &mut Store) -> Result<(), Fail> {
+    store.keep_index(alloc, CLASS, "bal")?;
+    ask_without(rt, alloc, store)?;
+    write(alloc, store, &[], &[1, 2, 3, 4, 5])?;
+    write(alloc, store, &[(6, 3)], &[])?;
+    expect(rt, alloc, store, &by_balance(2, 4), &[6])
+}
+
+#[test]
+fn an_object_without_the_field_hides_the_part(rt: HostRuntime) -> Result<(), Fail> {
+    let mut store = store_of_names(rt.alloc())?;
+    ask_of_two_kinds(&rt, rt.alloc(), &mut store)
 }

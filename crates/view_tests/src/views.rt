@@ -209,6 +209,47 @@ fn a_class_is_read_as_a_whole(rt: HostRuntime) -> Result<(), Fail> {
     Ok(())
 }
 
+// The objects of a class that was read as a whole, and one that isn't there.
+fn get_after_the_whole(rt: &impl Abort, alloc: Global, view: &mut View) -> Result<(), AllocError> {
+    drop(view.objects(alloc, 0)?);
+    for (key, wanted) in [(-3, Some(97)), (2, Some(102)), (10, Some(110)), (11, None)] {
+        assert_eq!(rt; balance_in(view.get(Cell::Object(0, key))?), wanted);
+    }
+    Ok(())
+}
+
+#[test]
+fn what_is_got_of_a_class_read_as_a_whole_is_no_further_read(rt: HostRuntime) -> Result<(), Fail> {
+    let mut view = bank(rt.alloc())?;
+    get_after_the_whole(&rt, rt.alloc(), &mut view)?;
+    let (reads, _) = view.into_parts();
+    assert_reads(&rt, &reads, &[(Seen::Keys(0), None, 3)]);
+    assert!(rt; reads.has_cell(Cell::Object(0, 2)) && reads.has_cell(Cell::Object(0, 11)));
+    assert!(rt; !reads.has_cell(Cell::Object(1, 2)) && !reads.has_cell(Cell::Rule(0)));
+    Ok(())
+}
+
+// Where the keys were read alone, each object is a read of its own.
+fn get_after_the_keys(alloc: Global, view: &mut View) -> Result<(), AllocError> {
+    view.read_keys(alloc, 0)?;
+    drop(view.objects(alloc, 0)?);
+    let _ = view.get(Cell::Object(0, 2))?;
+    Ok(())
+}
+
+#[test]
+fn what_is_got_after_the_keys_alone_is_read(rt: HostRuntime) -> Result<(), Fail> {
+    let mut view = bank(rt.alloc())?;
+    get_after_the_keys(rt.alloc(), &mut view)?;
+    let (reads, _) = view.into_parts();
+    let wanted = [
+        (Seen::Keys(0), None, 3),
+        (Seen::Cell(Cell::Object(0, 2)), Some(102), 0),
+    ];
+    assert_reads(&rt, &reads, &wanted);
+    Ok(())
+}
+
 // A query for the row of class 0 with a key.
 fn of_key(alloc: Global, key: Key) -> Result<Query, AllocError> {
     let variable = String::from_str(alloc, "x")?;

@@ -1,4 +1,4 @@
-//! Channels over which the workers of a wave send their attempts to the owner of the group, while they go on.
+//! Channels over which the workers of a wave send attempts to the owner of the group.
 
 ghost use Rattle.std.specs.Prelude.{◌≡◌, IfOk, IfSome};
 ghost use Rattle.rtrb.specs.Ring.{sent, received};
@@ -14,16 +14,16 @@ use hp_rule::Library;
 use rtrb::{Consumer, Producer, Protocol, PushError, RingBuffer};
 use std::alloc::{AllocError, Global};
 
-/// What is sent over a channel: first the library whose rules the tasks fire, and then attempts.
+/// An item of a channel: first the library whose rules the tasks fire, and then attempts.
 #[derive(Drop)]
 pub(crate) enum Sent<'a> {
-    /// The library. It tells the owner for which one the attempts are sound.
+    /// The library for which the attempts are sound.
     Library(&'a Library),
     /// An attempt.
     Tried(Tried),
 }
 
-/// Each attempt in a channel is sound for the library that was sent first.
+/// The channel's rule: each attempt is sound for the library that was sent first.
 pub(crate) struct Soundness;
 
 impl<'a> Protocol<Sent<'a>> for Soundness {
@@ -39,8 +39,6 @@ pub(crate) type Sender<'a> = Producer<Sent<'a>, Global, Soundness>;
 pub(crate) type Receiver<'a> = Consumer<Sent<'a>, Global, Soundness>;
 
 /// The ends of a channel for attempts that are sound for this library.
-///
-/// An error means that memory ran out.
 pub(crate) fn channel<'a>(
     alloc: Global,
     lib: &'a Library,
@@ -55,7 +53,7 @@ pub(crate) fn channel<'a>(
     Ok((sender, receiver))
 }
 
-/// Sends an attempt, which comes back where the channel has no room.
+/// Sends an attempt. It comes back if the channel is full.
 pub(crate) fn send(sender: &mut Sender<'_>, tried: Tried) -> Option<Tried>
     requires { (l : ModelLibrary) → IsOf l (sent sender.old) → IsSound l (attempt_of tried.attempt) }
     ensures channel { (l : ModelLibrary) → IsOf l (sent sender.old) → IsOf l (sent sender.new) }
@@ -67,7 +65,7 @@ pub(crate) fn send(sender: &mut Sender<'_>, tried: Tried) -> Option<Tried>
     }
 }
 
-/// Receives the next attempt, if one has come.
+/// Receives the next attempt, if one has arrived.
 pub(crate) fn receive(receiver: &mut Receiver<'_>) -> Option<Tried>
     ensures channel { (l : ModelLibrary) → IsOf l (received receiver.old) → IsOf l (received receiver.new) }
     ensures sound { (l : ModelLibrary) → IsOf l (received receiver.old)

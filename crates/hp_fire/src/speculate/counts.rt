@@ -1,4 +1,4 @@
-//! The counts of a group that workers help with.
+//! Counts of a group with workers.
 
 ghost use Rattle.std.specs.Prelude.{◌≡◌, ◌+◌, ◌^◌, ◌<◌, ◌≤◌, true, IfOk};
 ghost use Rattle.std.specs.List.{slice_index_or};
@@ -11,22 +11,20 @@ use std::collections::VecDeque;
 /// How the tasks of a group came to be settled.
 #[derive(Debug, Drop)]
 pub(crate) struct Counts {
-    /// For each task of the group, whether it was tried anew after the first wave.
+    /// For each task of the group, whether it was tried again after the first wave.
     pub(crate) retried: Vec<bool>,
-    /// How many tasks were settled from their attempts of the first wave.
+    /// The number of tasks that were settled from their attempts of the first wave.
     pub(crate) accepted: usize,
-    /// In how many waves workers ran.
+    /// The number of waves.
     pub(crate) waves: usize,
-    /// How many tasks these waves were to try, a task counted for each of them.
+    /// The number of attempts that the waves were to make.
     pub(crate) tried: usize,
-    /// How many tasks were settled from attempts.
+    /// The number of tasks that were settled from attempts.
     pub(crate) kept: usize,
 }
 
 impl Counts {
-    /// The counts of a group of so many tasks, before its first wave.
-    ///
-    /// An error means that memory ran out.
+    /// The counts of a group of this number of tasks, before its first wave.
     pub(crate) fn new(alloc: Global, tasks: usize) -> Result<Counts, AllocError>
         ensures { IfOk result (λ c. (c.accepted ≡ 0) × (c.waves ≡ 0)) }
     {
@@ -43,7 +41,7 @@ impl Counts {
         })
     }
 
-    /// A wave begins, for the tasks after so many. Those without an attempt are tried, and the first of them in any
+    /// A wave begins, after `done` tasks are settled. It tries the tasks without an attempt, and the first task in any
     /// case.
     pub(crate) fn begin_wave(&mut self, done: usize, attempts: &VecDeque<Option<Attempt>>)
         requires { self.old.waves + 1 < 2 ^ 64 }
@@ -58,7 +56,7 @@ impl Counts {
         self.tried = self.tried.saturating_add(attempts.len());
     }
 
-    // Marks the tasks that this wave tries anew. The first one left is among them.
+    // Marks the tasks that this wave tries again. The first task is one of them.
     fn mark_retried(&mut self, done: usize, attempts: &VecDeque<Option<Attempt>>)
         ensures same { self.new ≡ record self.old { retried = self.new.retried } }
         ensures retried { IsRetried self.new done }
@@ -71,7 +69,7 @@ impl Counts {
         mark(&mut self.retried, done);
     }
 
-    /// So many tasks after the first ones were settled from attempts.
+    /// The next `taken` tasks were settled from attempts.
     pub(crate) fn add_kept(&mut self, done: usize, taken: usize)
         requires { (done + taken < 2 ^ 64) × (self.old.accepted ≤ done) }
         ensures same { (self.new.waves ≡ self.old.waves) × (self.new.retried ≡ self.old.retried) }
@@ -83,7 +81,7 @@ impl Counts {
     }
 }
 
-// A task was tried anew.
+// Marks a task as tried again.
 fn mark(retried: &mut Vec<bool>, number: usize)
     ensures { slice_index_or retried.new.items number true ≡ true }
 {
@@ -92,7 +90,7 @@ fn mark(retried: &mut Vec<bool>, number: usize)
     }
 }
 
-// How many of so many tasks from a number on have their attempts from the first wave.
+// How many of `count` tasks from an index have their attempts from the first wave.
 fn of_first_wave(retried: &[bool], from: usize, count: usize) -> usize
     requires { from + count < 2 ^ 64 }
     ensures most { result ≤ count }
@@ -107,7 +105,7 @@ fn of_first_wave(retried: &[bool], from: usize, count: usize) -> usize
     first
 }
 
-// Whether a task was tried anew.
+// Whether a task was tried again.
 fn was_retried(retried: &[bool], number: usize) -> bool
     ensures { result ≡ slice_index_or retried.now number true }
 {

@@ -1,4 +1,4 @@
-//! Classes that are listed once for all workers of a wave.
+//! Lists of classes that all workers of a wave share.
 
 ghost use Rattle.std.specs.Prelude.{◌≡◌};
 
@@ -9,11 +9,9 @@ use hp_value::ClassNo;
 use hp_view::View;
 use std::alloc::{AllocError, Global};
 
-/// Lists the classes that the conditions of some tasks ask for, as they stand beneath a view's own writes: for the
-/// workers of a wave, and for the owner, who compares with them what the workers saw. A class of which the writes name
-/// an object is left out.
-///
-/// An error means that memory ran out.
+/// Lists the classes that the conditions of these tasks ask for, as they stand beneath a view's own writes. Workers
+/// share the lists, and the owner compares its own with what workers saw. A class of which the writes name an object is
+/// left out.
 pub(crate) fn share_beneath(
     alloc: Global,
     lib: &Library,
@@ -28,9 +26,7 @@ pub(crate) fn share_beneath(
     Ok(())
 }
 
-/// Lists these classes in a snapshot, so that workers who start from it share the lists.
-///
-/// An error means that memory ran out.
+/// Lists these classes in a snapshot. Workers that start from it share the lists.
 pub(crate) fn share_in(
     alloc: Global,
     lib: &Library,
@@ -45,7 +41,7 @@ pub(crate) fn share_in(
     Ok(())
 }
 
-// The classes that the conditions of some tasks ask for, each once.
+// The classes that the conditions of these tasks ask for, without duplicates.
 fn asked_classes(alloc: Global, lib: &Library, tasks: &[Task]) -> Result<Vec<ClassNo>, AllocError> {
     let mut classes = Vec::new(alloc);
     for task in tasks {
@@ -56,7 +52,7 @@ fn asked_classes(alloc: Global, lib: &Library, tasks: &[Task]) -> Result<Vec<Cla
     Ok(classes)
 }
 
-// Adds the classes of one condition that aren't there yet, of which all objects are looked at.
+// Adds the classes of a condition whose objects are all looked at, unless they are in the list.
 fn note_asked(condition: &[Query], classes: &mut Vec<ClassNo>) -> Result<(), AllocError> {
     for query in condition {
         if scans(query) && !classes.contains(&query.class) {

@@ -9,14 +9,14 @@ use std::alloc::{AllocError, Global};
 use std::thread::Threads;
 use std::{mem, thread};
 
-/// Calls a function at each job, and another function besides, each in a thread of its own where one can be made. The
+/// Calls a function for each job, and another function besides, each on a thread of its own if one can be started. The
 /// results are in the order of the jobs.
 ///
-/// This thread starts all others, and then sleeps until they end. Linux puts what a thread starts on that thread's own
-/// processor, where it is mostly idle. So a thread that was just started is no good starter, and one that goes on with
-/// work of its own would hold up what waits there (measured, `bench/README.md`).
+/// This thread starts all others, and then sleeps until they end. Linux mostly puts a new thread on the processor of
+/// the thread that starts it. So a thread that was just started should start no other, and a starter that goes on
+/// working would delay the thread that waits for its processor (measured, `bench/README.md`).
 ///
-/// An error means that memory ran out; what the jobs gave is then dropped.
+/// After an error the results are dropped.
 #[cycle(fork_join)]
 pub(crate) fn on_threads<
     R: Threads + Sync,

@@ -1,15 +1,15 @@
-//! Gates.
+//! Gates, by which tests control workers.
 
-/// Is told of the tasks of a group as workers run them. A test holds a worker here until another has gone on.
+/// Is notified of the tasks of a group as workers run them. A test holds a worker here until another one is far enough.
 pub trait Gate {
-    /// The task of this place in the group starts.
+    /// The task of this index in the group starts.
     fn started(&self, place: usize);
 
-    /// It has ended, and what it wrote can be seen by the younger ones.
+    /// The task has ended, and later tasks can see what it wrote.
     fn ended(&self, place: usize);
 }
 
-/// The gate through which all go at once.
+/// A gate that holds no worker.
 #[derive(Clone, Copy, Debug)]
 pub struct NoGate;
 

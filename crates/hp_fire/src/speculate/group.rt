@@ -25,34 +25,34 @@ use hp_view::View;
 use std::alloc::{AllocError, Global};
 use std::thread::Threads;
 
-/// A group of sibling firings, and what its owner is handed.
+/// A group of sibling firings, and what its owner is given.
 ///
-/// `fire` and `attempt` are all that it knows of what a firing does.
+/// All that it knows of a firing is `fire` and `attempt`.
 #[derive_where(Clone, Copy)]
 pub(crate) struct Group<'a, R, G, F, T> {
-    /// What starts threads.
+    /// Starts threads.
     pub(crate) rt: &'a R,
-    /// What memory is taken from.
+    /// The allocator.
     pub(crate) alloc: Global,
     /// The library.
     pub(crate) lib: &'a Library,
     /// The tasks.
     pub(crate) tasks: &'a [Task],
-    /// Whether nothing fires after a vetoed one.
+    /// Whether nothing fires after a vetoed task.
     pub(crate) stop_at_veto: bool,
-    /// How many threads the group may use.
+    /// The most threads that the group may use.
     pub(crate) width: usize,
-    /// Whether workers are started in any case, and not only where they pay.
+    /// Whether workers are started even if they don't pay.
     pub(crate) eager: bool,
-    /// What is notified of the tasks that workers try.
+    /// The gate that is notified of the tasks that workers try.
     pub(crate) gate: &'a G,
-    /// What fires a task on the owner's view.
+    /// Fires a task on the owner's view.
     pub(crate) fire: &'a F,
-    /// What tries a task on a snapshot. It counts what that takes, and uses at most so many threads.
+    /// Tries a task on a snapshot. It counts the work, and uses at most the given number of threads.
     pub(crate) attempt: &'a T,
-    /// What the owner's firings take.
+    /// The work of the owner.
     pub(crate) effort: &'a Effort,
-    /// What the rules' last firings took.
+    /// The costs of the rules' last firings.
     pub(crate) past: &'a Past,
 }
 
@@ -62,10 +62,8 @@ impl<
     F: Fn(&mut View, &Task) -> Result<Outcome, AllocError>,
     T: Fn(Snapshot, &Task, &Effort, usize) -> Result<Attempt, AllocError> + Sync,
 > Group<'_, R, G, F, T> {
-    /// Fires the tasks as siblings, in their order. The owner begins alone. Where there are several tasks and threads,
-    /// and enough is left to do, workers try the others ahead of their turn.
-    ///
-    /// An error means that memory ran out.
+    /// Fires the tasks as siblings, in their order. The owner begins alone. With several tasks and threads, and enough
+    /// work left, workers try the other tasks ahead of their turn.
     pub(crate) fn run(&self, view: &mut View) -> Result<GroupOutcome, AllocError>
         requires fires { All (MayFire F.Fn self.now.fire.now) self.now.tasks.now }
         requires tries { All (MayTry T.Fn self.now.attempt.now) self.now.tasks.now }
@@ -91,7 +89,7 @@ impl<
         Ok(progress.into_outcome())
     }
 
-    /// Fires tasks in the owner's thread, in their order, until workers are to try the others.
+    /// Fires tasks on the owner's thread, in their order, until it is time to start workers.
     fn fire_alone(&self, view: &mut View) -> Result<Settled, AllocError>
         requires fires { All (MayFire F.Fn self.now.fire.now) self.now.tasks.now }
         requires firings { Fires F.Fn self.now.fire.now (library self.now.lib.now) }
@@ -115,7 +113,8 @@ impl<
         Ok(settled)
     }
 
-    /// Whether workers are to try what is left, after the owner has fired so many tasks, which took so much.
+    /// Whether workers should try the tasks that are left, after the owner has fired `fired` tasks at a cost of
+    /// `taken`.
     fn starts_workers(&self, fired: usize, taken: u64) -> bool
         ensures { self.now.width < 2 → result ≡ false }
     {
@@ -126,14 +125,14 @@ impl<
         self.eager || self.is_enough_left(fired, taken)
     }
 
-    /// Whether what is left is long, where it is time to ask.
+    /// Whether enough work is left, if it is time to ask.
     fn is_enough_left(&self, fired: usize, taken: u64) -> bool {
         let mean = taken / (fired as u64).max(1);
         is_time_to_ask(fired)
             && do_workers_pay(self.past, &self.tasks[fired.min(self.tasks.len())..], mean)
     }
 
-    /// Fires a task in the owner's thread, and notes what its rule took.
+    /// Fires a task on the owner's thread, and notes the cost for its rule.
     fn fire_counted(&self, view: &mut View, task: &Task) -> Result<Outcome, AllocError>
         requires fires { MayFire F.Fn self.now.fire.now task.now }
         requires firings { Fires F.Fn self.now.fire.now (library self.now.lib.now) }
@@ -145,8 +144,8 @@ impl<
         Ok(outcome)
     }
 
-    /// Settles one task at least: from its attempt in a wave, where one is due, or else by a run in the owner's thread.
-    /// Then it accepts the longest front of the attempts after it.
+    /// Settles at least one task: by a wave if one is due, otherwise by a run on the owner's thread. Then accepts the
+    /// front of the attempts.
     fn advance(&self, view: &mut View, progress: &mut Progress) -> Result<(), AllocError>
         requires fires { All (MayFire F.Fn self.now.fire.now) self.now.tasks.now }
         requires tries { All (MayTry T.Fn self.now.attempt.now) self.now.tasks.now }
@@ -174,7 +173,7 @@ impl<
         Ok(())
     }
 
-    /// Has a wave run where one is due, which settles tasks from their attempts. The answer is how many.
+    /// Runs a wave if one is due, which settles tasks from their attempts. The answer is how many.
     fn settle_by_wave(&self, view: &mut View, progress: &mut Progress) -> Result<usize, AllocError>
         requires tries { All (MayTry T.Fn self.now.attempt.now) self.now.tasks.now }
         requires faithful { TriesSoundly T.Fn self.now.attempt.now (library self.now.lib.now) }
@@ -205,7 +204,7 @@ impl<
         };
         progress.pending.drop_stale(view);
         let Ok(start) = prepare(plan, self.alloc, view, &progress.pending) else {
-            // Memory ran out: the owner runs the first task that is left.
+            // Memory ran out: the owner runs the next task.
             return Ok(0);
         };
         progress.begin_wave();
@@ -213,10 +212,9 @@ impl<
         Ok(progress.settled.outcomes.len() - done)
     }
 
-    /// Has workers try the tasks that are left, together with the owner, who meanwhile accepts the longest front of the
-    /// attempts.
+    /// Workers and the owner try the tasks that aren't settled, while the owner accepts the front of the attempts.
     ///
-    /// An error means that memory ran out as the owner accepted attempts.
+    /// An error means that memory ran out while the owner accepted attempts.
     fn wave(
         &self,
         start: Start<'_>,

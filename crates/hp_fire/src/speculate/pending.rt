@@ -1,4 +1,4 @@
-//! The attempts at the tasks of a group that are left.
+//! The attempts at the tasks of a group that aren't settled.
 
 ghost use Rattle.std.specs.Prelude.{◌≡◌, IfOk, OnOk, All};
 ghost use Rattle.rtrb.specs.Ring.{received};
@@ -18,30 +18,29 @@ use hp_view::View;
 use std::alloc::{AllocError, Global};
 use std::collections::VecDeque;
 
-/// What a worker brings of one task.
+/// A worker's attempt at a task.
 #[derive(Debug, Drop)]
 pub(crate) struct Tried {
-    /// The task's place in its group.
+    /// The task's index in its group.
     pub(crate) place: usize,
-    /// The attempt at it.
+    /// The attempt.
     pub(crate) attempt: Attempt,
-    /// What the attempt took.
+    /// The cost of the attempt.
     pub(crate) taken: u64,
 }
 
-/// The attempts at the tasks of a group that are left, and what attempts took.
+/// The attempts at the tasks of a group that aren't settled, and the costs of attempts.
 #[derive(Debug, Drop)]
 pub(crate) struct Pending {
-    /// A place for each task that is left, in order: the attempt at it, where there is one.
+    /// For each task that isn't settled, in order: the attempt at it, if there is one.
     pub(crate) attempts: VecDeque<Option<Attempt>>,
-    /// For each task of the group, what the last attempt at it took; 0 where there was none, or where the owner ran it.
+    /// For each task of the group: the cost of the last attempt at it; 0 if there was none, or if the owner ran the
+    /// task.
     pub(crate) taken: Vec<u64>,
 }
 
 impl Pending {
-    /// The last tasks of so many, so many of which are settled. None was tried.
-    ///
-    /// An error means that memory ran out.
+    /// The pending tasks of a group of `tasks`, of which `settled` are settled. No task has been tried.
     pub(crate) fn new(alloc: Global, tasks: usize, settled: usize) -> Result<Pending, AllocError>
         ensures { IfOk result (λ p. (library : ModelLibrary) → AreSound library p.attempts.items) }
     {
@@ -51,7 +50,7 @@ impl Pending {
         })
     }
 
-    /// Whether several tasks have no attempt that may stand for them in the view's cells.
+    /// Whether several tasks have no attempt whose reads hold in the view's cells.
     pub(crate) fn lacks_several(&self, view: &View) -> bool {
         let mut lacks_one = false;
         for place in &self.attempts {
@@ -66,7 +65,7 @@ impl Pending {
         false
     }
 
-    /// Drops the first attempt, and those that don't stand in the view's cells.
+    /// Drops the first attempt, and those whose reads don't hold in the view's cells.
     pub(crate) fn drop_stale(&mut self, view: &View)
         ensures { (library : ModelLibrary) → AreSound library self.old.attempts.items
             → AreSound library self.new.attempts.items }
@@ -78,7 +77,7 @@ impl Pending {
         }
     }
 
-    /// The first task that is left was run by the owner.
+    /// The owner has run the first task.
     pub(crate) fn drop_first(&mut self)
         ensures { (library : ModelLibrary) → AreSound library self.old.attempts.items
             → AreSound library self.new.attempts.items }
@@ -88,7 +87,7 @@ impl Pending {
         drop(self.attempts.pop_front());
     }
 
-    // Says what the last attempt at a task of the group took.
+    // Sets the cost of the last attempt at a task of the group.
     fn set_taken(&mut self, place: usize, taken: u64)
         ensures { self.new.attempts ≡ self.old.attempts }
     {
@@ -97,12 +96,12 @@ impl Pending {
         }
     }
 
-    // How many tasks of the group are settled.
+    // The number of settled tasks of the group.
     fn settled(&self) -> usize {
         self.taken.len().saturating_sub(self.attempts.len())
     }
 
-    /// Puts an attempt into the place of its task, if that is still left.
+    /// Stores an attempt for its task, if that isn't settled.
     pub(crate) fn put(&mut self, tried: Tried)
         ensures { (library : ModelLibrary) → AreSound library self.old.attempts.items
             → IsSound library (attempt_of tried.attempt) → AreSound library self.new.attempts.items }
@@ -123,7 +122,7 @@ impl Pending {
         }
     }
 
-    // Puts attempts into the places of their tasks.
+    // Stores attempts for their tasks.
     fn put_each(&mut self, tries: Vec<Tried>)
         ensures { (library : ModelLibrary) → AreSound library self.old.attempts.items
             → AreSoundTries library tries.items
@@ -134,7 +133,7 @@ impl Pending {
         }
     }
 
-    // Puts what several workers bring into the places of their tasks.
+    // Stores what several workers have returned.
     fn put_all(&mut self, found: Vec<Vec<Tried>>)
         ensures { (library : ModelLibrary) → AreSound library self.old.attempts.items
             → All (λ tries. AreSoundTries library tries.items) found.items
@@ -145,8 +144,7 @@ impl Pending {
         }
     }
 
-    /// Puts what the workers of a wave bring at their ends into the places of their tasks: nothing where memory ran
-    /// out.
+    /// Stores what the workers of a wave return when they end; nothing if memory ran out.
     pub(crate) fn put_brought(&mut self, found: Result<Vec<Vec<Tried>>, AllocError>)
         ensures { (library : ModelLibrary) → AreSound library self.old.attempts.items
             → IfOk found (λ all. All (λ tries. AreSoundTries library tries.items) all.items)
@@ -158,7 +156,7 @@ impl Pending {
         self.put_all(found);
     }
 
-    /// Puts what the workers of a wave have sent into the places of their tasks.
+    /// Stores the attempts that the workers of a wave have sent.
     pub(crate) fn receive_all(&mut self, receivers: &mut Vec<Receiver<'_>>)
         ensures channels { (library : ModelLibrary) → AreOf library receivers.old.items
             → AreOf library receivers.new.items }
@@ -170,7 +168,7 @@ impl Pending {
         }
     }
 
-    // Puts what one worker has sent into the places of its tasks.
+    // Stores the attempts that one worker has sent.
     fn receive_from(&mut self, receiver: &mut Receiver<'_>)
         ensures channel { (library : ModelLibrary) → IsOf library (received receiver.old)
             → IsOf library (received receiver.new) }
@@ -185,8 +183,7 @@ impl Pending {
         }
     }
 
-    /// Notes what was taken by the attempts that were accepted, of these tasks of the group, as if the owner had fired
-    /// the tasks.
+    /// Notes the costs of the attempts that were accepted for these tasks, as if the owner had fired the tasks.
     pub(crate) fn note_taken(&self, tasks: &[Task], past: &Past, effort: &Effort) {
         for (task, taken) in tasks.iter().zip(self.taken.iter()) {
             if *taken > 0 {
@@ -197,7 +194,7 @@ impl Pending {
     }
 }
 
-// Places for so many tasks, none of which was tried.
+// A list without attempts.
 fn no_attempts(alloc: Global, tasks: usize) -> Result<VecDeque<Option<Attempt>>, AllocError>
     ensures { IfOk result (λ places. (library : ModelLibrary) → AreSound library places.items) }
 {
@@ -208,7 +205,7 @@ fn no_attempts(alloc: Global, tasks: usize) -> Result<VecDeque<Option<Attempt>>,
     Ok(attempts)
 }
 
-// That no attempt at any of so many tasks took anything.
+// A list of zero costs.
 fn nothing_taken(alloc: Global, tasks: usize) -> Result<Vec<u64>, AllocError> {
     let mut taken = Vec::with_capacity(alloc, tasks)?;
     for _ in 0..tasks {
@@ -217,7 +214,7 @@ fn nothing_taken(alloc: Global, tasks: usize) -> Result<Vec<u64>, AllocError> {
     Ok(taken)
 }
 
-// Whether there is an attempt, and what it read is so in the view's cells.
+// Whether there is an attempt whose reads hold in the view's cells.
 fn may_stand(place: &Option<Attempt>, view: &View) -> bool {
     match place {
         Some(attempt) => holds(&attempt.reads, view),

@@ -1,4 +1,4 @@
-//! What a worker has found of its tasks' predecessors, the tasks before them in the group.
+//! What a worker has found of its tasks' predecessors: the tasks before them in the group.
 
 ghost use Rattle.std.specs.Prelude.{◌+◌, ◌^◌, ◌<◌, length};
 ghost use Rattle.hp_board.specs.Passes.{IsPassOf};
@@ -12,22 +12,21 @@ use hp_view::Reads;
 use std::alloc::{AllocError, Global};
 use std::sync::Arc;
 
-/// What the first tasks of a wave have posted, one layer over the other, as far as one worker has found it.
+/// The layers that the first tasks of a wave have posted, stacked, as far as one worker has found them.
 ///
-/// A worker draws rising numbers. So what it has found for one task serves the next, and each layer is taken in once.
+/// A worker draws rising numbers, so it reuses what it has merged for one task for the next, and merges each layer
+/// once.
 #[derive(Drop)]
 pub(crate) struct Predecessors {
     layer: Arc<Layer>,
-    // How many tasks, from the first on, have their layers in it.
+    // The number of tasks, from the first, whose layers are merged.
     count: usize,
-    // How many of the worker's last attempts in a row were in conflict with a predecessor that isn't in it.
+    // The number of the worker's last attempts in a row that were in conflict with a predecessor that isn't merged.
     conflicts: usize,
 }
 
 impl Predecessors {
-    /// Nothing is found yet.
-    ///
-    /// An error means that memory ran out.
+    /// No layer is found.
     pub(crate) fn new(alloc: Global) -> Result<Predecessors, AllocError> {
         Ok(Predecessors {
             layer: Arc::new(alloc, Layer::new(alloc))?,
@@ -36,10 +35,8 @@ impl Predecessors {
         })
     }
 
-    /// What a task starts from: the wave's snapshot, and over it in order what predecessors of the task have posted so
-    /// far.
-    ///
-    /// An error means that memory ran out.
+    /// The start of a task: the wave's snapshot, under the layers that the task's predecessors have posted so far, in
+    /// order.
     pub(crate) fn start_of(
         &mut self,
         alloc: Global,
@@ -65,14 +62,13 @@ impl Predecessors {
         (self.over(alloc, &wave.snapshot, later), pass)
     }
 
-    /// Whether the worker's last attempts were in conflict with their predecessors, so that more are likely to be in
-    /// vain.
+    /// Whether the worker's last attempts were in conflict with predecessors, so that further attempts are likely to
+    /// fail.
     pub(crate) fn are_in_conflict(&self) -> bool {
         self.conflicts >= CONFLICTS
     }
 
-    /// Notes whether the attempt at a task is in conflict with a slow predecessor, or one after that: whether it read
-    /// what this one wrote.
+    /// Notes whether the attempt at a task is in conflict: it read what a slow predecessor, or one after that, wrote.
     pub(crate) fn note(
         &mut self,
         wave: &Wave<'_>,
@@ -96,8 +92,8 @@ impl Predecessors {
         pass
     }
 
-    // Takes in what a predecessor has posted: over the others, where it is the next of them, and else over those that
-    // were found later.
+    // Merges the layer of a predecessor: with the merged ones if it is the next of them, otherwise with those that were
+    // found later.
     fn take_in_next(
         &mut self,
         predecessor: usize,
@@ -114,14 +110,14 @@ impl Predecessors {
         Ok(())
     }
 
-    // Takes in one layer over the others. Nobody shares them between two tasks, so nothing is copied.
+    // Merges a layer over the others. They aren't shared between two tasks, so nothing is copied.
     fn take_in(&mut self, layer: &Layer) -> Result<(), AllocError> {
         let all = Arc::make_mut(&mut self.layer)?;
         all.take_in(layer)?;
         Ok(())
     }
 
-    // A snapshot with these layers over it, and over them those that were found later.
+    // A snapshot under the merged layers, under those that were found later.
     fn over(
         &self,
         alloc: Global,
@@ -136,7 +132,7 @@ impl Predecessors {
     }
 }
 
-// Whether what was posted, if anything was, names a cell that was read.
+// Whether a posted layer, if there is one, writes a cell that was read.
 fn are_in_conflict(reads: &Reads, posted: Option<&Arc<Layer>>) -> bool {
     let Some(layer) = posted else {
         return false;

@@ -1,4 +1,4 @@
-//! How far a group has come that workers help with.
+//! The progress of a group with workers.
 
 ghost use Rattle.std.specs.Prelude.{◌≡◌, ◌+◌, ◌-◌, ◌^◌, ◌<◌, ◌≤◌, [], ◌∷◌, ◌++◌, None, IfOk, OnOk, length, drop, map};
 ghost use Rattle.hp_model.specs.Rules.{Library as ModelLibrary};
@@ -21,21 +21,19 @@ use std::collections::VecDeque;
 use std::hint::spin_loop;
 use std::mem;
 
-/// How far a group has come that workers help with.
+/// The progress of a group with workers.
 #[derive(Debug, Drop)]
 pub(crate) struct Progress {
-    /// What is settled.
+    /// The settled tasks.
     pub(crate) settled: Settled,
-    /// The attempts at what is left.
+    /// The attempts at the other tasks.
     pub(crate) pending: Pending,
     /// How the settled tasks came to be settled.
     pub(crate) counts: Counts,
 }
 
 impl Progress {
-    /// A group of so many tasks, the first of which are settled, and none of which was tried by a worker.
-    ///
-    /// An error means that memory ran out.
+    /// A group whose first tasks are settled, and of whose other tasks none has been tried.
     pub(crate) fn after(
         alloc: Global,
         settled: Settled,
@@ -51,15 +49,15 @@ impl Progress {
         })
     }
 
-    /// Whether workers are to try the tasks that are left: there are several workers, and several tasks without an
-    /// attempt that may stand for them in the view's cells, and the waves before this one paid.
+    /// Whether workers should try the tasks that aren't settled: there are several workers, several tasks have no
+    /// attempt whose reads hold in the view's cells, and the waves so far have paid.
     pub(crate) fn is_wave_due(&self, view: &View, width: usize) -> bool {
         width >= 2
             && do_waves_pay(self.counts.tried, self.counts.kept)
             && self.pending.lacks_several(view)
     }
 
-    /// A wave begins, which tries the tasks without an attempt, and the first of those that are left.
+    /// A wave begins. It tries the tasks without an attempt, and the first task in any case.
     pub(crate) fn begin_wave(&mut self)
         requires { self.old.counts.waves + 1 < 2 ^ 64 }
         ensures same { self.new ≡ record self.old { counts = self.new.counts } }
@@ -72,9 +70,7 @@ impl Progress {
         self.counts.begin_wave(done, &self.pending.attempts);
     }
 
-    /// Accepts the longest front of the attempts. The answer is how many they were.
-    ///
-    /// An error means that memory ran out.
+    /// Accepts the front of the attempts. The answer is its length.
     pub(crate) fn settle(
         &mut self,
         alloc: Global,
@@ -112,9 +108,7 @@ impl Progress {
         Ok(taken)
     }
 
-    /// Adds the firing of the first task that is left, which the owner ran.
-    ///
-    /// An error means that memory ran out.
+    /// Adds the firing of the next task, which the owner ran.
     pub(crate) fn add(&mut self, outcome: Outcome, stop_at_veto: bool) -> Result<(), AllocError>
         ensures outcomes { OnOk result (self.new.settled.outcomes.items
             ≡ self.old.settled.outcomes.items ++ outcome ∷ []) }
@@ -128,7 +122,7 @@ impl Progress {
         Ok(())
     }
 
-    /// What the group gives.
+    /// The result of the group.
     pub(crate) fn into_outcome(self) -> GroupOutcome
         requires { IsAcceptedWithin self }
         ensures { let reran = length self.settled.outcomes.items - self.counts.accepted in
@@ -163,11 +157,8 @@ impl Progress {
     ghost use Rattle.hp_attempt.specs.Fronts.{AreSound};
     ghost use Rattle.hp_fire.specs.Groups.{AreOf, ComesInWave, IsAcceptedWithin};
 
-    /// Accepts what the workers of a wave have sent: puts it into the places of its tasks, and then accepts the longest
-    /// front of the attempts. Goes on so while the attempt at the next task is still to come, but polls at most so
-    /// often.
-    ///
-    /// An error means that memory ran out.
+    /// Accepts what the workers of a wave have sent: stores the attempts, and accepts the front. It repeats this while
+    /// the attempt at the next task is missing, but polls at most `polls` times.
     pub(crate) fn accept_sent(
         &mut self,
         alloc: Global,
@@ -193,14 +184,14 @@ impl Progress {
         Ok(())
     }
 
-    // Whether the attempt at the next task that is left isn't there.
+    // Whether the attempt at the next task is missing.
     fn lacks_next(&self, wave: &Wave<'_>) -> bool {
         let is_missing = matches!(self.pending.attempts.front(), Some(None));
         is_missing && self.settled.goes_on(wave.tasks.len())
     }
 }
 
-// The tasks after so many.
+// The tasks after the first `done`.
 fn left_of(tasks: &[Task], done: usize) -> &[Task]
     ensures { result.now ≡ drop done tasks.now }
 {

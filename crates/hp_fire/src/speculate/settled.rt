@@ -1,4 +1,4 @@
-//! What of a group is settled.
+//! The settled tasks of a group.
 
 ghost use Rattle.std.specs.Prelude.{◌≡◌, ◌<◌, ◌↔◌, [], ◌∷◌, ◌++◌, None, IsTrue, IfOk, OnOk, length};
 ghost use Rattle.hp_attempt.specs.Fronts.{stopped_by};
@@ -7,19 +7,17 @@ use hp_attempt::Outcome;
 use hp_value::RuleNo;
 use std::alloc::{AllocError, Global};
 
-/// What the first tasks of a group gave, which are settled.
+/// The results of a group's settled tasks, which are its first ones.
 #[derive(Debug, Drop)]
 pub(crate) struct Settled {
-    /// What each of them gave, in order.
+    /// The result of each, in order.
     pub(crate) outcomes: Vec<Outcome>,
-    /// The rule whose veto stopped the group; none where no veto did.
+    /// The rule whose veto stopped the group; `None` if no veto did.
     pub(crate) end: Option<RuleNo>,
 }
 
 impl Settled {
-    /// Nothing is settled, of so many tasks.
-    ///
-    /// An error means that memory ran out.
+    /// No task is settled, of this number.
     pub(crate) fn new(alloc: Global, tasks: usize) -> Result<Settled, AllocError>
         ensures { IfOk result (λ s. (s.outcomes.items ≡ []) × (s.end ≡ None)) }
     {
@@ -29,16 +27,14 @@ impl Settled {
         })
     }
 
-    /// Whether a task is left to settle, of so many.
+    /// Whether a task is left to settle, of this number.
     pub(crate) fn goes_on(&self, tasks: usize) -> bool
         ensures { IsTrue result ↔ ((self.now.end ≡ None) × (length self.now.outcomes.items < tasks)) }
     {
         self.end.is_none() && self.outcomes.len() < tasks
     }
 
-    /// Adds the firing of the first task that is left, which the owner ran.
-    ///
-    /// An error means that memory ran out.
+    /// Adds the firing of the next task, which the owner ran.
     pub(crate) fn add(&mut self, outcome: Outcome, stop_at_veto: bool) -> Result<(), AllocError>
         ensures outcomes { OnOk result (self.new.outcomes.items ≡ self.old.outcomes.items ++ outcome ∷ []) }
         ensures end { OnOk result (self.new.end ≡ stopped_by stop_at_veto (outcome ∷ [])) }
@@ -48,9 +44,7 @@ impl Settled {
         Ok(())
     }
 
-    /// Adds the firings of the first tasks that are left, whose attempts were taken in.
-    ///
-    /// An error means that memory ran out.
+    /// Adds the firings of the next tasks, whose attempts were accepted.
     pub(crate) fn add_front(
         &mut self,
         mut front: Vec<Outcome>,
@@ -65,7 +59,7 @@ impl Settled {
     }
 }
 
-// The veto at which the firings stopped, where they stop at one.
+// The veto at which the firings stopped, if they stop at one.
 fn veto_of(front: &[Outcome], stop_at_veto: bool) -> Option<RuleNo>
     ensures { result ≡ stopped_by stop_at_veto front.now }
 {

@@ -1,4 +1,4 @@
-//! What a wave begins with.
+//! The start of a wave.
 
 ghost use Rattle.std.specs.Prelude.{◌≡◌, ◌+◌, ◌^◌, ◌<◌, All, IfOk, length};
 ghost use Rattle.hp_rule.specs.Mapped.{library};
@@ -15,7 +15,7 @@ use hp_rule::{Library, Task};
 use hp_view::View;
 use std::alloc::{AllocError, Global};
 
-/// What a wave is prepared from.
+/// The settings of a wave.
 #[derive(Clone, Copy)]
 pub(crate) struct Plan<'a> {
     /// The library.
@@ -26,27 +26,25 @@ pub(crate) struct Plan<'a> {
     pub(crate) done: usize,
     /// Whether a veto stops the group.
     pub(crate) stop_at_veto: bool,
-    /// How many threads it may use.
+    /// The most threads that the wave may use.
     pub(crate) width: usize,
 }
 
-/// What a wave begins with.
+/// A wave that is ready to start.
 #[derive(Drop)]
 pub(crate) struct Start<'a> {
-    /// What all share.
+    /// What all workers share.
     pub(crate) wave: Wave<'a>,
-    /// Where the owner's part draws numbers.
+    /// The seat of the owner's part.
     pub(crate) seat: Seat,
-    /// What each worker is given.
+    /// The workers' jobs.
     pub(crate) jobs: Vec<Job<'a>>,
     /// The owner's ends of the channels.
     pub(crate) receivers: Vec<Receiver<'a>>,
 }
 
-/// Prepares a wave over the tasks that are left: for as many workers as there are threads for, the owner's part
-/// counted.
-///
-/// An error means that memory ran out.
+/// Prepares a wave over the tasks that aren't settled, for as many workers as there are threads, the owner's part
+/// included.
 pub(crate) fn prepare<'a>(
     plan: Plan<'a>,
     alloc: Global,

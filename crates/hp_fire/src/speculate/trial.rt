@@ -1,4 +1,4 @@
-//! How the tasks of a wave are tried.
+//! Trying the tasks of a wave.
 
 ghost use Rattle.std.specs.Prelude.{◌≡◌, ◌<◌, IfOk, OnOk, IfSome, IsSome, All, length};
 ghost use Rattle.std.specs.Thread.{IsSync};
@@ -27,20 +27,20 @@ use hp_view::View;
 use std::alloc::{AllocError, Global};
 use std::thread::Threads;
 
-/// How the tasks of a wave are tried.
+/// What is needed to try the tasks of a wave.
 #[derive_where(Clone, Copy)]
 pub(crate) struct Trial<'a, R, G, T> {
-    /// What starts threads.
+    /// Starts threads.
     pub(crate) rt: &'a R,
-    /// What memory is taken from.
+    /// The allocator.
     pub(crate) alloc: Global,
     /// The library, for which the attempts are sound.
     pub(crate) lib: &'a Library,
-    /// What is notified of the tasks.
+    /// The gate that is notified of tasks.
     pub(crate) gate: &'a G,
-    /// What tries a task on a snapshot. It counts what that takes, and uses at most so many threads.
+    /// Tries a task on a snapshot. It counts the work, and uses at most the given number of threads.
     pub(crate) attempt: &'a T,
-    /// How many threads a group inside a task may use.
+    /// The most threads that a group inside a task may use.
     pub(crate) width: usize,
 }
 
@@ -49,8 +49,8 @@ impl<
     G: Gate + Sync,
     T: Fn(Snapshot, &Task, &Effort, usize) -> Result<Attempt, AllocError> + Sync,
 > Trial<'_, R, G, T> {
-    /// Tries the tasks of a wave: each worker in a thread of its own, and the owner's part in one more, while this
-    /// thread sleeps. It gives what the workers bring, and whether there was memory for what was accepted.
+    /// Tries the tasks of a wave: each worker on a thread of its own, and the owner's part on one more, while this
+    /// thread sleeps. The answer is what the workers return, and whether memory sufficed to accept attempts.
     pub(crate) fn try_all(
         &self,
         wave: &Wave<'_>,
@@ -102,10 +102,10 @@ impl<
         on_threads(self.rt, self.alloc, &worker, jobs, &mut owner)
     }
 
-    /// The owner's part of a wave: it tries tasks as the workers do, and accepts the longest front of the attempts as
-    /// they come. At the end it accepts the workers' last attempts, if they come soon.
+    /// The owner's part of a wave: it tries tasks as the workers do, and accepts the front of the attempts as they
+    /// arrive. At the end it polls for the workers' last attempts.
     ///
-    /// An error means that memory ran out as it accepted attempts.
+    /// An error means that memory ran out while it accepted attempts.
     fn try_as_owner(
         &self,
         wave: &Wave<'_>,
@@ -140,8 +140,8 @@ impl<
         Ok(())
     }
 
-    /// One worker: it tries tasks until none is left, and sends the attempts. It brings those for which the channel had
-    /// no room.
+    /// A worker's part of a wave: it tries tasks until none is left, and sends the attempts. It returns those for which
+    /// the channel had no room.
     fn try_as_worker(&self, wave: &Wave<'_>, job: Job<'_>) -> Vec<Tried>
         requires tries { All (MayTry T.Fn self.now.attempt.now) wave.now.tasks.now }
         requires faithful { TriesSoundly T.Fn self.now.attempt.now (library self.now.lib.now) }
@@ -163,7 +163,7 @@ impl<
         found
     }
 
-    /// Draws numbers and tries their tasks, up to the first that gives an attempt. None means that all numbers are
+    /// Draws numbers and tries their tasks, up to the first that gives an attempt. `None` means that all numbers are
     /// drawn.
     fn next_attempt(&self, worker: &mut Worker<'_>) -> Option<Tried>
         requires tries { All (MayTry T.Fn self.now.attempt.now) worker.old.wave.now.tasks.now }
@@ -183,8 +183,8 @@ impl<
         None
     }
 
-    /// Tries the task of a number, and posts what it wrote. Of a task whose attempt is kept that attempt's layer is
-    /// posted. A worker that has given up only draws on, so that no other worker tries in vain what is left.
+    /// Tries the task of a number, and posts what it wrote. If an attempt at the task is kept, its layer is posted
+    /// instead. A worker that has given up still draws numbers, so that no other worker tries in vain what is left.
     fn try_number(&self, worker: &mut Worker<'_>, number: usize) -> Option<Tried>
         requires tries { All (MayTry T.Fn self.now.attempt.now) worker.old.wave.now.tasks.now }
         requires faithful { TriesSoundly T.Fn self.now.attempt.now (library self.now.lib.now) }
@@ -209,7 +209,7 @@ impl<
         tried
     }
 
-    /// Tries the task of a number, which has this place in its group. None means that memory ran out.
+    /// Tries the task of a number, at this index in its group. `None` means that memory ran out.
     fn try_place(&self, worker: &mut Worker<'_>, number: usize, place: usize) -> Option<Tried>
         requires tries { All (MayTry T.Fn self.now.attempt.now) worker.old.wave.now.tasks.now }
         requires faithful { TriesSoundly T.Fn self.now.attempt.now (library self.now.lib.now) }

@@ -1,4 +1,4 @@
-//! Waves: workers and the owner of a group try the tasks that are left, all at once.
+//! Waves: workers and the owner of a group try the tasks that aren't settled, all at once.
 
 ghost use Rattle.std.specs.Prelude.{◌≡◌, ◌<◌, Ok, All, IfOk, IfSome, length};
 ghost use Rattle.rtrb.specs.Ring.{sent};
@@ -26,23 +26,25 @@ use std::sync::Arc;
 pub(crate) struct Wave<'a> {
     /// The tasks of the group.
     pub(crate) tasks: &'a [Task],
-    /// How many of them were settled before. The numbers of the wave count the others, from 0 on.
+    /// How many of them were settled before the wave. The wave numbers the others from 0.
     pub(crate) done: usize,
     /// Whether a veto stops the group.
     pub(crate) stop_at_veto: bool,
-    /// What the attempts that are kept wrote: a place for each of the others, or no place where no attempt is kept.
+    /// For each task of the wave, what its kept attempt wrote, if there is one. The list is empty if no attempt is
+    /// kept.
     pub(crate) kept: Vec<Option<Arc<Layer>>>,
-    /// What the tasks start from.
+    /// The snapshot from which tasks start.
     pub(crate) snapshot: Snapshot,
-    /// Where they draw numbers and post layers.
+    /// The board for numbers and layers.
     pub(crate) board: Board<Arc<Layer>>,
-    /// Whether the owner accepts attempts while others are tried. Its view's writes are then copied, which the snapshot
-    /// shares.
+    /// Whether the owner accepts attempts during the wave. The first acceptance copies the view's writes, which the
+    /// snapshot shares.
     pub(crate) early: bool,
 }
 
 impl Wave<'_> {
-    /// How often the owner polls for attempts while others are tried: so often, or never where that isn't cheap.
+    /// How often the owner polls for attempts at the end of the wave: `often` times, or never if accepting them early
+    /// isn't cheap.
     pub(crate) fn polls(&self, often: usize) -> usize {
         if self.early { often } else { 0 }
     }
@@ -51,15 +53,13 @@ impl Wave<'_> {
 /// What one worker is given.
 #[derive(Drop)]
 pub(crate) struct Job<'a> {
-    /// Where it draws numbers.
+    /// Its seat at the board.
     pub(crate) seat: Seat,
-    /// Where it sends what it has tried.
+    /// Its end of the channel to the owner.
     pub(crate) sender: Sender<'a>,
 }
 
 /// A job for each seat, and the owner's ends of the channels.
-///
-/// An error means that memory ran out.
 pub(crate) fn jobs_for<'a>(
     alloc: Global,
     lib: &'a Library,
@@ -80,9 +80,7 @@ pub(crate) fn jobs_for<'a>(
     Ok((jobs, receivers))
 }
 
-/// What the attempts wrote that are kept, where there are any.
-///
-/// An error means that memory ran out.
+/// What the kept attempts wrote. The list is empty if no attempt is kept.
 pub(crate) fn kept_layers(
     alloc: Global,
     attempts: &VecDeque<Option<Attempt>>,
@@ -104,12 +102,12 @@ fn layer_of(place: &Option<Attempt>) -> Result<Option<Arc<Layer>>, AllocError> {
     }
 }
 
-/// What the attempt wrote that is kept of a task, if there is one.
+/// What the kept attempt at a task wrote, if there is one.
 pub(crate) fn kept_layer<'a>(wave: &'a Wave<'_>, number: usize) -> Option<&'a Arc<Layer>> {
     wave.kept.get(number)?.as_ref()
 }
 
-/// Posts what a task wrote, and says whether it did.
+/// Posts what a task wrote. The answer is whether it did.
 pub(crate) fn post_layer(
     alloc: Global,
     wave: &Wave<'_>,
@@ -134,7 +132,7 @@ fn boxed(alloc: Global, layer: &Arc<Layer>) -> Result<Posted<Arc<Layer>>, AllocE
     Posted::new(alloc, Arc::try_clone(layer)?)
 }
 
-/// Hands an attempt to the owner: it is sent, or, where the channel has no room, kept until the worker ends.
+/// Hands an attempt to the owner: sends it, or keeps it until the worker ends if the channel is full.
 pub(crate) fn hand_over(sender: &mut Sender<'_>, found: &mut Vec<Tried>, tried: Tried)
     requires { (l : ModelLibrary) → IsOf l (sent sender.old) → IsSound l (attempt_of tried.attempt) }
     ensures channel { (l : ModelLibrary) → IsOf l (sent sender.old) → IsOf l (sent sender.new) }

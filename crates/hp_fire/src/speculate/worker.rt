@@ -1,4 +1,4 @@
-//! Workers of a wave.
+//! The workers of a wave.
 
 ghost use Rattle.std.specs.Prelude.{◌≡◌, ◌<◌, IfOk, IfSome, length};
 ghost use Rattle.hp_board.specs.Deal.{IsSeatOf};
@@ -13,14 +13,14 @@ use hp_value::RuleNo;
 use std::alloc::{AllocError, Global};
 use std::sync::Arc;
 
-/// A worker of a wave, or the owner's part of it: where it draws numbers, what it knows of the board, and what it has
-/// seen of its tasks' predecessors.
+/// A worker of a wave, or the owner's part of it: its seat, what it knows of the board, and what it has found of its
+/// tasks' predecessors.
 #[derive(Drop)]
 pub(crate) struct Worker<'a> {
     /// What all workers share.
     pub(crate) wave: &'a Wave<'a>,
     alloc: Global,
-    // The board takes the seat and the pass, and gives them back.
+    // An `Option`, since the board takes the seat and the pass and gives them back.
     seat: Option<Seat>,
     pass: Option<Pass<Arc<Layer>>>,
     predecessors: Predecessors,
@@ -30,8 +30,6 @@ pub(crate) struct Worker<'a> {
 
 impl<'a> Worker<'a> {
     /// A worker that has tried nothing.
-    ///
-    /// An error means that memory ran out.
     pub(crate) fn new(
         alloc: Global,
         wave: &'a Wave<'a>,
@@ -51,7 +49,7 @@ impl<'a> Worker<'a> {
         })
     }
 
-    /// Draws the number of a task that no other worker draws; none where all were drawn.
+    /// Draws the number of a task that no other worker draws; `None` if all were drawn.
     pub(crate) fn draw(&mut self) -> Option<usize>
         requires { IsWorker self.old }
         ensures worker { IsWorker self.new }
@@ -64,13 +62,13 @@ impl<'a> Worker<'a> {
         drawn
     }
 
-    /// Whether more attempts would be in vain, or are likely to be: a veto has stopped the group, or the worker's last
-    /// attempts were in conflict with their predecessors.
+    /// Whether more attempts are in vain, or are likely to be: a veto has stopped the group, or the worker's last
+    /// attempts were in conflict with predecessors.
     pub(crate) fn has_given_up(&self) -> bool {
         self.is_stopped || self.predecessors.are_in_conflict()
     }
 
-    /// Notes the rule whose veto has stopped the group, if one has. No attempt is accepted past a veto.
+    /// Notes the rule whose veto has stopped the group, if one has. No attempt is accepted after a veto.
     pub(crate) fn note_veto(&mut self, veto: Option<RuleNo>)
         requires { IsWorker self.old }
         ensures worker { IsWorker self.new }
@@ -79,10 +77,8 @@ impl<'a> Worker<'a> {
         self.is_stopped = veto.is_some();
     }
 
-    /// What a task starts from: the wave's snapshot, and over it in order what predecessors of the task have posted so
-    /// far.
-    ///
-    /// An error means that memory ran out.
+    /// The start of a task: the wave's snapshot, under the layers that the task's predecessors have posted so far, in
+    /// order.
     pub(crate) fn start_of(&mut self, number: usize) -> Result<Snapshot, AllocError>
         requires worker { IsWorker self.old }
         requires number { number < length self.old.wave.now.board.cells }

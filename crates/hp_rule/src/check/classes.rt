@@ -78,7 +78,7 @@ fn check_class(
     check_fields(alloc, &place.item(1), &class.fields)
 }
 
-/// The classes of a library.
+/// Checks the classes of a library.
 #[tactic(auto, unfolding(hp_model::specs::Checked::classes_check))]
 pub(crate) fn check_classes(
     alloc: Global,

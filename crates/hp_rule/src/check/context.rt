@@ -1,4 +1,4 @@
-//! What each check of a statement hands to the next.
+//! The context of a statement's check.
 
 ghost use Rattle.std.specs.Prelude.{◌≡◌, ◌∷◌};
 ghost use Rattle.hp_model.specs.Refusals.{item_at};
@@ -10,18 +10,18 @@ use crate::check::place::Place;
 use crate::check::scope::Scope;
 use std::alloc::Global;
 
-/// Where a statement stands, and what it may name there.
+/// Where a statement stands, and which names are in scope.
 #[derive(Clone, Copy)]
 pub(crate) struct Context<'a> {
     pub alloc: Global,
     pub place: Place<'a>,
     pub scope: Scope<'a>,
-    /// The rows that have names there.
+    /// The names of rows in scope.
     pub names: Names<'a>,
 }
 
 impl Context<'_> {
-    /// The context of an item of the list here.
+    /// The context of an item of this list.
     pub(crate) fn item(&self, position: usize) -> Context<'_>
         ensures place { steps result.place ≡ item_at (steps self.now.place) position }
         ensures scope { result.scope ≡ self.now.scope }
@@ -33,7 +33,7 @@ impl Context<'_> {
         }
     }
 
-    /// The context inside a statement that gives a row a name.
+    /// The context inside a statement that binds a name to a row.
     pub(crate) fn bound<'b>(&'b self, newest: &'b str) -> Context<'b>
         ensures place { result.place ≡ self.entry.now.place }
         ensures scope { result.scope ≡ self.entry.now.scope }

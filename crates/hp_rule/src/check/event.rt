@@ -31,7 +31,7 @@ fn check_pattern(
     }
 }
 
-/// The event at a place, of at most so many levels.
+/// Checks an event of at most `levels` levels.
 #[cycle(event)]
 #[tactic(auto, unfolding(hp_model::specs::Checked::event_check))]
 pub(crate) fn check_event(

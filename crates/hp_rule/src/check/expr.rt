@@ -26,7 +26,7 @@ fn check_constant(constant: &Value) -> Result<(), CheckError>
     }
 }
 
-/// A row's name is known.
+/// Checks that the name of a row is in scope.
 fn check_row(
     alloc: Global,
     place: &Place<'_>,
@@ -52,7 +52,7 @@ fn check_field(
     check_name(alloc, &place.item(2), field)
 }
 
-/// The expression at a place, of at most so many levels.
+/// Checks an expression of at most `levels` levels.
 #[cycle(expr)]
 #[tactic(auto, unfolding(hp_model::specs::Checked::expression_check))]
 fn check_levels(
@@ -106,7 +106,7 @@ fn check_operands(
     check_levels(alloc, &place.item(2), names, levels, right)
 }
 
-/// The expression at a place.
+/// Checks an expression.
 pub(crate) fn check_expr(
     alloc: Global,
     place: &Place<'_>,

@@ -19,7 +19,8 @@ fn are_name_bytes(bytes: &[u8]) -> bool
         .all(|byte| byte.is_ascii_alphanumeric() || *byte == b'_')
 }
 
-/// Whether a text is a name: 1 to 32 ASCII letters, digits and `_`, of which the first is a letter (this project's own choice).
+/// Whether a text is spelled as a name: 1 to 32 ASCII letters, digits and `_`, the first of which is a letter (this
+/// project's own choice).
 pub fn is_name(text: &str) -> bool
     ensures { result ≡ is_name text.now }
 {
@@ -31,7 +32,7 @@ pub fn is_name(text: &str) -> bool
     }
 }
 
-/// A name has a name's form.
+/// Checks that a name is spelled as one.
 pub(crate) fn check_name(alloc: Global, place: &Place<'_>, name: &str) -> Result<(), CheckError>
     ensures { Passes result (name_check (steps place.now) name.now) }
 {
@@ -42,7 +43,7 @@ pub(crate) fn check_name(alloc: Global, place: &Place<'_>, name: &str) -> Result
     }
 }
 
-/// A name has a name's form, and is not refused.
+/// Checks that a name is spelled as one and isn't refused.
 #[tactic(auto, unfolding(hp_model::specs::Checked::name_unless))]
 pub(crate) fn check_unless(
     alloc: Global,
@@ -59,7 +60,7 @@ pub(crate) fn check_unless(
     Ok(())
 }
 
-/// A class or a rule is one of so many.
+/// Checks that the number of a class or a rule is below their count.
 pub(crate) fn check_number(
     alloc: Global,
     place: &Place<'_>,
@@ -75,7 +76,7 @@ pub(crate) fn check_number(
     }
 }
 
-/// There are at most so many.
+/// Checks a count against a limit.
 pub(crate) fn check_limit(most: usize, limited: Limit, count: usize) -> Result<(), CheckError>
     ensures { Passes result (limit_check most (limit limited) count) }
 {

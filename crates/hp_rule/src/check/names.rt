@@ -1,4 +1,4 @@
-//! The rows that have names where an expression or a statement stands.
+//! The names of rows in scope.
 
 ghost use Rattle.std.specs.Prelude.{◌≡◌, map};
 ghost use Rattle.hp_query.specs.Mapped.{query};
@@ -6,7 +6,7 @@ ghost use Rattle.hp_model.specs.Checked.{is_known, query_names};
 
 use hp_query::Query;
 
-/// The names, the newest first.
+/// The names in scope, the innermost first.
 #[derive(Clone, Copy)]
 pub(crate) enum Names<'a> {
     Queries(&'a [Query]),
@@ -36,7 +36,7 @@ impl Names<'_> {
         Names::Bound(newest, self)
     }
 
-    /// Whether a row has this name.
+    /// Whether the name is in scope.
     pub(crate) fn knows(&self, name: &str) -> bool
         ensures { result ≡ is_known (names_in self.now) name.now }
     {

@@ -1,4 +1,4 @@
-//! Pairs of a field and what it is set to.
+//! Assignments: pairs of a field and the expression that it is set to.
 
 ghost use Rattle.std.specs.Prelude.{◌≡◌, map};
 ghost use Rattle.hp_value.specs.Mapped.{field};
@@ -18,7 +18,7 @@ use crate::stmt::Assignment;
 use hp_value::Field;
 use std::alloc::Global;
 
-/// Whether a pair sets this field.
+/// Whether an assignment sets this field.
 fn is_assigned(pairs: &[Assignment], field: &str) -> bool
     ensures { result ≡ is_known (assigned_names (map assignment pairs.now)) field.now }
 {
@@ -30,7 +30,7 @@ fn is_assigned(pairs: &[Assignment], field: &str) -> bool
     false
 }
 
-/// One of the fields, which no pair before sets.
+/// Checks that the field of an assignment is one of the class, and isn't set by an earlier one.
 #[tactic(auto, unfolding(hp_model::specs::Checked::assigned_check))]
 fn check_assigned(
     alloc: Global,
@@ -63,7 +63,7 @@ fn check_pair(
     check_expr(alloc, &place.item(1), names, &pair.value)
 }
 
-/// The pairs of a statement on an object with these fields.
+/// Checks the assignments of a statement on an object with these fields.
 pub(crate) fn check_pairs(
     alloc: Global,
     place: &Place<'_>,

@@ -1,4 +1,4 @@
-//! Where a checked part stands.
+//! The position of a checked part.
 
 ghost use Rattle.std.specs.Prelude.{◌≡◌, IfOk};
 ghost use Rattle.hp_model.specs.Refusals.{wrong_shape, bad_name, over_limit};
@@ -8,7 +8,7 @@ ghost use Rattle.hp_rule.specs.Places.{steps};
 use crate::fault::{CheckError, CheckFault, Limit, Member, PathStep};
 use std::alloc::{AllocError, Global};
 
-/// A place, which knows the places round it.
+/// A position, linked to the positions around it.
 #[derive(Clone, Copy)]
 pub(crate) enum Place<'a> {
     Root,
@@ -20,7 +20,7 @@ impl Place<'_> {
     ghost use Rattle.hp_model.specs.Refusals.{item_at};
     ghost use Rattle.hp_rule.specs.Places.{steps};
 
-    /// The place of an item of the list here.
+    /// The position of an item of the list here.
     pub(crate) fn item(&self, position: usize) -> Place<'_>
         ensures { steps result ≡ item_at (steps self.now) position }
     {
@@ -28,7 +28,7 @@ impl Place<'_> {
     }
 }
 
-/// The steps to a place.
+/// The path to a position.
 fn path_to(alloc: Global, place: &Place<'_>) -> Result<Vec<PathStep>, AllocError>
     ensures { IfOk result (λ v. path v.items ≡ steps place.now) }
 {
@@ -47,7 +47,7 @@ fn path_to(alloc: Global, place: &Place<'_>) -> Result<Vec<PathStep>, AllocError
     }
 }
 
-/// What stands here has not the form that is asked.
+/// The fault of a part that doesn't have the required form.
 pub(crate) fn misshapen(alloc: Global, place: &Place<'_>) -> CheckError
     ensures { IsFault result (wrong_shape (steps place.now)) }
 {
@@ -57,7 +57,7 @@ pub(crate) fn misshapen(alloc: Global, place: &Place<'_>) -> CheckError
     }
 }
 
-/// A name that may not stand here does.
+/// The fault of a name that isn't allowed here.
 pub(crate) fn misnamed(alloc: Global, place: &Place<'_>) -> CheckError
     ensures { IsFault result (bad_name (steps place.now)) }
 {
@@ -67,7 +67,7 @@ pub(crate) fn misnamed(alloc: Global, place: &Place<'_>) -> CheckError
     }
 }
 
-/// There is more than a limit allows.
+/// The fault of an exceeded limit.
 pub(crate) fn beyond(exceeded: Limit) -> CheckError
     ensures { IsFault result (over_limit (limit exceeded)) }
 {

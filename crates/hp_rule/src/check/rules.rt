@@ -54,7 +54,7 @@ fn check_head(
     check_unless(alloc, &place.item(0), name, has_rule(before, name))
 }
 
-/// The names of the rules.
+/// Checks the names of the rules.
 #[tactic(auto, unfolding(hp_model::specs::Checked::heads_check))]
 fn check_heads(alloc: Global, place: &Place<'_>, rules: &[Rule]) -> Result<(), CheckError>
     ensures { Passes result (heads_check (steps place.now) (map rule rules.now)) }
@@ -102,7 +102,7 @@ fn check_queries(
     Ok(())
 }
 
-/// A rule but for its name, where there are so many rules.
+/// Checks the other parts of a rule, in a library of this number of rules.
 #[tactic(auto, unfolding(hp_model::specs::Checked::rule_check))]
 fn check_rule(
     alloc: Global,
@@ -159,7 +159,7 @@ fn check_depth(depth: u8) -> Result<(), CheckError>
     Ok(())
 }
 
-/// A library of these classes and rules, with this limit of depth.
+/// Checks a library.
 #[tactic(auto, unfolding(hp_model::specs::Checked::library_check))]
 pub(crate) fn check_library(
     alloc: Global,

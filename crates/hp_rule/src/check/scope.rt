@@ -11,7 +11,7 @@ use hp_value::{ClassDef, ClassNo, Field};
 #[derive(Clone, Copy)]
 pub(crate) struct Scope<'a> {
     pub classes: &'a [ClassDef],
-    /// How many rules there are.
+    /// The number of rules.
     pub rules: usize,
     /// Whether the body is a rule's action.
     pub in_action: bool,
@@ -22,7 +22,7 @@ pub(crate) struct Scope<'a> {
 impl<'a> Scope<'a> {
     ghost use Rattle.hp_rule.specs.Scopes.{scope_of};
 
-    /// The fields of a class; none where there is no such class.
+    /// The fields of a class; none if there is no such class.
     pub(crate) fn fields_of(&self, class: ClassNo) -> &'a [Field]
         ensures { map field result.now ≡ fields_of (scope_of self.now) class }
     {

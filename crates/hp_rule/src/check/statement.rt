@@ -26,7 +26,7 @@ const MAX_ARGUMENTS: usize = 32;
 
 const MAX_LEVELS: usize = 16;
 
-/// The number of a class, at a position among the parts.
+/// Checks the number of a class, which is the statement's part at an index.
 fn check_class(context: &Context<'_>, position: usize, class: ClassNo) -> Result<(), CheckError>
     ensures { Passes result (class_check (scope_of context.now.scope) (item_at (steps context.now.place) position) class) }
 {
@@ -34,7 +34,7 @@ fn check_class(context: &Context<'_>, position: usize, class: ClassNo) -> Result
     check_number(context.alloc, &context.place.item(position), classes, class)
 }
 
-/// The number of a rule, first among the parts.
+/// Checks the number of a rule, which is the statement's first part.
 fn check_rule(context: &Context<'_>, rule: RuleNo) -> Result<(), CheckError>
     ensures { Passes result (number_check (scope_of context.now.scope).rules (item_at (steps context.now.place) 1) rule) }
 {
@@ -42,7 +42,7 @@ fn check_rule(context: &Context<'_>, rule: RuleNo) -> Result<(), CheckError>
     check_number(context.alloc, &context.place.item(1), rules, rule)
 }
 
-/// An expression, at a position among the parts.
+/// Checks an expression, which is the statement's part at an index.
 fn check_value(context: &Context<'_>, position: usize, expr: &Expr) -> Result<(), CheckError>
     ensures { Passes result (whole_expression_check (names_in context.now.names) (item_at (steps context.now.place) position) (expression expr.now)) }
 {
@@ -54,7 +54,7 @@ fn check_value(context: &Context<'_>, position: usize, expr: &Expr) -> Result<()
     )
 }
 
-/// A name that no row has yet, first among the parts.
+/// Checks that a name isn't in scope yet. It is the statement's first part.
 fn check_variable(context: &Context<'_>, variable: &str) -> Result<(), CheckError>
     ensures { Passes result (new_name_check (names_in context.now.names) (item_at (steps context.now.place) 1) variable.now) }
 {
@@ -62,7 +62,7 @@ fn check_variable(context: &Context<'_>, variable: &str) -> Result<(), CheckErro
     check_unless(context.alloc, &context.place.item(1), variable, is_known)
 }
 
-/// What fields are set to, third among the parts.
+/// Checks the assignments, which are the statement's third part.
 fn check_assignments(
     context: &Context<'_>,
     fields: &[Field],
@@ -148,7 +148,7 @@ fn is_veto(s: &Stmt) -> bool
     }
 }
 
-/// A veto stands in actions alone.
+/// Checks that a veto stands in an action.
 fn check_veto(context: &Context<'_>, s: &Stmt) -> Result<(), CheckError>
     ensures { Passes result (veto_check (scope_of context.now.scope) (steps context.now.place) (statement s.now)) }
 {
@@ -241,7 +241,7 @@ fn check_sub(
     check_body(&context.item(2), levels, otherwise)
 }
 
-/// The parts of a statement, with the statements in it of at most so many levels.
+/// Checks the parts of a statement. The statements in it have at most `levels` levels.
 #[cycle(statement)]
 fn check_parts(context: &Context<'_>, levels: usize, s: &Stmt) -> Result<(), CheckError>
     ensures { Passes result (statement_parts_check (scope_of context.now.scope) (statement_check (scope_of context.now.scope) levels) (names_in context.now.names) (steps context.now.place) (statement s.now)) }
@@ -276,7 +276,7 @@ fn check_parts(context: &Context<'_>, levels: usize, s: &Stmt) -> Result<(), Che
     }
 }
 
-/// The statement, of at most so many levels.
+/// Checks a statement of at most `levels` levels.
 #[cycle(statement)]
 #[tactic(auto, unfolding(hp_model::specs::Checked::statement_check))]
 fn check_statement(context: &Context<'_>, levels: usize, s: &Stmt) -> Result<(), CheckError>
@@ -299,7 +299,7 @@ fn check_body(context: &Context<'_>, levels: usize, body: &[Stmt]) -> Result<(),
     Ok(())
 }
 
-/// The body that stands here.
+/// Checks a body.
 pub(crate) fn check_whole_body(context: &Context<'_>, body: &[Stmt]) -> Result<(), CheckError>
     ensures { Passes result (whole_body_check (scope_of context.now.scope) (names_in context.now.names) (steps context.now.place) (body_in body.now)) }
 {

@@ -3,7 +3,7 @@ use Rattle.hp_value.specs.Mapped.{expression}
 use Rattle.hp_value.proofs.Sizes.{operators}
 use Rattle.hp_value.proofs.+eval.Goals as goal
 
--- each operand has an operator less than the whole
+-- each operand has fewer operators than the whole
 
 pub expr::Expr::eval-calculation-requires : goal.expr::Expr::eval-calculation-requires
 expr::Expr::eval-calculation-requires t c = (omega (arith, ap (λ e. operators (expression e)) c.in-Arithmetic.is, ap (λ e. operators (expression e)) c.deref-in-Arithmetic.ensures, ap (λ e. operators (expression e)) c.deref.ensures), tt)

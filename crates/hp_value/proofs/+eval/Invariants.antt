@@ -3,7 +3,7 @@ use Rattle.hp_value.specs.Mapped.{expression}
 use Rattle.hp_value.proofs.Sizes.{operators}
 use Rattle.hp_value.proofs.+eval.Given as goal
 
--- twice the operators that are left, and one more where an operator's own function is at work
+-- twice the number of operators, plus one for a call of an operator's own function
 
 abbrev pub decreases-expr::Expr::eval : goal.decreases-expr::Expr::eval
 decreases-expr::Expr::eval l = 2 * operators (expression l.self.now)

@@ -12,5 +12,5 @@ pub returns-clause-taken : goal.returns-clause-taken
 returns-clause-taken c =
     takes_first (task c.args.task.now) c.args.attempts.now.items c.pop_front.new.self.items c.in-Some-Some.attempt c.in-Some-Some-pop_front.attempt c.in-Some-Some.field-0.now
     (c.in-Some-Some-pop_front.ensures.items ∙ ap (λ x. x ∷ c.pop_front.new.self.items) c.in-Some-Some-pop_front.field-0-is)
-    (sym c.in-Some-Some.field-0-is ∙ c.in-Some-Some.ensures.item.1) (c.in_ok-settle.ensures.faithful c.in-Accepted.is)
+    (sym c.in-Some-Some.field-0-is ∙ c.in-Some-Some.ensures.item.1) (c.in_ok-settle.ensures.for_states c.in-Accepted.is)
     (record { base = c.settle.ensures.goes_on.base; reads = c.in_ok-settle.ensures.reads c.in-Accepted.is; changes = c.in_ok-settle.ensures.takes c.in-Accepted.is })

@@ -2,7 +2,7 @@ use Rattle.std.proofs.Common.{sym, ap, ◌∙◌, ◌+◌, [], ◌∷◌, ◌++�
 use Rattle.hp_rule.specs.Mapped.{task}
 use Rattle.hp_model.proofs.FaithfulFirings.{goes_on}
 use Rattle.hp_view.proofs.Views.{GoesOn-same, GoesOn-then}
-use Rattle.hp_attempt.proofs.Fronting.{none_yet, takes_none, no_outcomes, takes_same, takes_unpushed, on_err, front_end, ended, step, halting, not_halting, tasks_left}
+use Rattle.hp_attempt.proofs.Fronting.{none_yet, takes_none, no_outcomes, takes_same, takes_unpushed, on_err, front_end, front_ordered, ended, step, halting, not_halting, tasks_left}
 use Rattle.hp_attempt.proofs.front.settle_front.Goals as goal
 
 pub loop-task-init : goal.loop-task-init
@@ -22,12 +22,15 @@ returns-in_default-clause-longest c =
     (drop (c.loop-task.task-index + 1) (map task c.args.tasks.now)) c.loop-task.attempts.items c.settle_first.new.attempts.items
     c.loop-task.invariant.so_far c.loop-task.invariant.taken next c.in_ok-outcome.ensures.left c.in_default.is).longest
 
-pub returns-in_default-clause-front : goal.returns-in_default-clause-front
-returns-in_default-clause-front c =
+pub returns-in_default-clause-for_states : goal.returns-in_default-clause-for_states
+returns-in_default-clause-for_states c =
     let next = ap (λ n. drop n (map task c.args.tasks.now)) c.loop-task.invariant.count ∙ tasks_left task c.args.tasks.now c.loop-task.task-index c.task-item.result c.loop-task-test.true c.task-item.is in
     (ended c.args.stop_at_veto (map task c.args.tasks.now) c.args.attempts.items c.loop-task.outcomes.items c.in_ok-outcome.field-0 (task c.task-item.result)
     (drop (c.loop-task.task-index + 1) (map task c.args.tasks.now)) c.loop-task.attempts.items c.settle_first.new.attempts.items
     c.loop-task.invariant.so_far c.loop-task.invariant.taken next c.in_ok-outcome.ensures.left c.in_default.is).front
+
+pub returns-in_default-clause-front : goal.returns-in_default-clause-front
+returns-in_default-clause-front c = front_ordered (returns-in_default-clause-for_states c)
 
 pub returns-then-stops-clause-left : goal.returns-then-stops-clause-left
 returns-then-stops-clause-left c =
@@ -45,13 +48,16 @@ returns-then-stops-clause-longest c =
     c.loop-task.invariant.so_far c.loop-task.invariant.taken c.loop-task.invariant.are next c.loop-task.invariant.left c.in_ok-outcome.ensures.taken c.in-Some.is c.settle_first.ensures.goes_on c.in_ok-push.ensures.items in
     s.longest (halting (goes_on c.args.stop_at_veto c.in-Some.outcome.end) c.stops_at-stops.result c.stops_at-stops.ensures c.if-stops.true) _ _
 
-pub returns-then-stops-clause-front : goal.returns-then-stops-clause-front
-returns-then-stops-clause-front c =
+pub returns-then-stops-clause-for_states : goal.returns-then-stops-clause-for_states
+returns-then-stops-clause-for_states c =
     let next = ap (λ n. drop n (map task c.args.tasks.now)) c.loop-task.invariant.count ∙ tasks_left task c.args.tasks.now c.loop-task.task-index c.task-item.result c.loop-task-test.true c.task-item.is in
     let s = step c.args.stop_at_veto (map task c.args.tasks.now) c.args.attempts.items c.loop-task.outcomes.items c.push.new.self.items c.in_ok-outcome.field-0 c.in-Some.outcome (task c.task-item.result)
     (drop (c.loop-task.task-index + 1) (map task c.args.tasks.now)) c.loop-task.attempts.items c.settle_first.new.attempts.items
     c.loop-task.invariant.so_far c.loop-task.invariant.taken c.loop-task.invariant.are next c.loop-task.invariant.left c.in_ok-outcome.ensures.taken c.in-Some.is c.settle_first.ensures.goes_on c.in_ok-push.ensures.items in
     s.last (halting (goes_on c.args.stop_at_veto c.in-Some.outcome.end) c.stops_at-stops.result c.stops_at-stops.ensures c.if-stops.true)
+
+pub returns-then-stops-clause-front : goal.returns-then-stops-clause-front
+returns-then-stops-clause-front c = front_ordered (returns-then-stops-clause-for_states c)
 
 pub loop-task-preserved : goal.loop-task-preserved
 loop-task-preserved c =
@@ -68,8 +74,11 @@ loop-task-preserved c =
       so_far = s.more (not_halting (goes_on c.args.stop_at_veto c.in-Some.outcome.end) c.stops_at-stops.result c.stops_at-stops.ensures c.if-stops.false);
     }
 
+pub returns-clause-for_states : goal.returns-clause-for_states
+returns-clause-for_states c = front_end c.loop-task.invariant.so_far
+
 pub returns-clause-front : goal.returns-clause-front
-returns-clause-front c = front_end c.loop-task.invariant.so_far
+returns-clause-front c = front_ordered (returns-clause-for_states c)
 
 pub returns-in_default-clause-taken : goal.returns-in_default-clause-taken
 returns-in_default-clause-taken c =

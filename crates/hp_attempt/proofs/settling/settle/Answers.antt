@@ -1,14 +1,26 @@
 use Rattle.std.proofs.Common.{refl}
 use Rattle.hp_attempt.specs.Mapped.{attempt}
 use Rattle.hp_rule.specs.Mapped.{task}
-use Rattle.hp_attempt.proofs.Taking.{faithful_settled, taken_written, taken_adds, forgotten, same_goes_on, same_restores}
+use Rattle.hp_attempt.specs.States.{ordered_states}
+use Rattle.hp_attempt.proofs.ForStates.{sound_as, faithful_of}
+use Rattle.hp_attempt.proofs.Taking.{stands_settled, taken_written, taken_adds, forgotten, same_goes_on, same_restores}
 use Rattle.hp_attempt.proofs.settling.settle.Goals as goal
 
 pub returns-in-Ok-clause-faithful : goal.returns-in-Ok-clause-faithful
 returns-in-Ok-clause-faithful c = λ accepted library sound.
     let taken = c.in-Ok.ensures.ok in
-    faithful_settled library (attempt c.args.attempt.now) (task c.args.task.now) c.args.attempt.now.layer.value sound (c.may_stand.ensures.0 c.if-not-may_stand.false).0 refl
-    taken.only taken.covers taken.takes
+    let for = (c.may_stand.ensures.0 c.if-not-may_stand.false).0 in
+    faithful_of
+    (stands_settled (attempt c.args.attempt.now) (task c.args.task.now) c.args.attempt.now.layer.value for refl taken.only taken.covers taken.takes
+    ordered_states library (sound_as sound))
+
+pub returns-in-Ok-clause-for_states : goal.returns-in-Ok-clause-for_states
+returns-in-Ok-clause-for_states c = λ accepted.
+    let taken = c.in-Ok.ensures.ok in
+    let for = (c.may_stand.ensures.0 c.if-not-may_stand.false).0 in
+    record {
+      faithful = stands_settled (attempt c.args.attempt.now) (task c.args.task.now) c.args.attempt.now.layer.value for refl taken.only taken.covers taken.takes;
+    }
 
 pub returns-in-Ok-clause-takes : goal.returns-in-Ok-clause-takes
 returns-in-Ok-clause-takes c = λ accepted. taken_written c.in-Ok.ensures.ok

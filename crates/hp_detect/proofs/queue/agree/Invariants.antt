@@ -3,7 +3,7 @@ use lib.Pointwise.{pointwise}
 use Rattle.hp_value.specs.Same.{occurrence_same}
 use Rattle.hp_detect.proofs.queue.agree.Given as goal
 
--- so far both are alike
+-- both are equal so far
 abbrev pub invariant-loop-at : goal.invariant-loop-at
 invariant-loop-at l = (l.at ≤ l.count) × (pointwise occurrence_same (drop l.at l.one) (drop l.at l.other) ≡ pointwise occurrence_same l.one l.other)
 

@@ -9,7 +9,7 @@ use Rattle.hp_ops.specs.Hears.{OnlySteps, Shares}
 use Rattle.hp_ops.proofs.Told.{HaveHeard, mentioned_among}
 use Rattle.hp_ops.proofs.telling.tell_all.Given as goal
 
--- the rules so far that are mentioned have been told, and these are their tasks
+-- the mentioned rules so far have been notified, and these are their tasks
 abbrev pub invariant-loop-number : goal.invariant-loop-number
 invariant-loop-number l =
     record {

@@ -1,5 +1,7 @@
-use Rattle.std.proofs.Common.{ap, ◌∙◌}
+use Rattle.std.proofs.Common.{ap, sym, subst, ◌∙◌}
 use Rattle.hp_store.specs.Changes.{changes}
+use Rattle.hp_store.specs.declared.base.Base.{Base}
+use Rattle.hp_store.specs.Indexed.{AreComplete}
 use Rattle.hp_store.specs.Tables.{base_cells}
 use Rattle.hp_store.proofs.Piled.{unnamed_each}
 use Rattle.hp_store.proofs.Stacked.{taken_more, taken_nothing}
@@ -22,11 +24,13 @@ loop-shared-preserved c = elim c.match-layer.branch [
         ap (λ b. base_cells b q) w.base-is
         ∙ w.in_ok-take_in.ensures.others q (ap (λ l. changes l q) w.in-Some.ensures ∙ unnamed_each c.args.layers.now c.loop-shared.shared-index c.shared-item.result q c.loop-shared-test.true c.shared-item.is none)
         ∙ c.loop-shared.invariant.others q none;
+    complete = λ all. subst (λ (b : Base). AreComplete (base_cells b) b.indexes.items) (sym w.base-is) (w.in_ok-take_in.ensures.complete (c.loop-shared.invariant.complete all));
   }
   | in_default w ↦ record {
     so_far = λ q.
         ap (λ b. base_cells b q) w.base-is ∙ c.loop-shared.invariant.so_far q
         ∙ taken_nothing c.args.base.now c.args.layers.now c.loop-shared.shared-index c.shared-item.result c.loop-shared-test.true c.shared-item.is w.in_default.ensures q;
     others = λ q none. ap (λ b. base_cells b q) w.base-is ∙ c.loop-shared.invariant.others q none;
+    complete = λ all. subst (λ (b : Base). AreComplete (base_cells b) b.indexes.items) (sym w.base-is) (c.loop-shared.invariant.complete all);
   }
 ]

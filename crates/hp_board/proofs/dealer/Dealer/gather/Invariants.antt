@@ -3,7 +3,7 @@ use Rattle.std.specs.Prelude.{All}
 use Rattle.hp_board.specs.Deal.{IsSeatOf, times, times_in, total}
 use Rattle.hp_board.proofs.dealer.Dealer.gather.Given as goal
 
--- the first token holds what the seats that were taken in have drawn, and the others are left
+-- the first token holds what the seats joined so far have drawn, and the others are left
 abbrev pub invariant-loop-seat : goal.invariant-loop-seat
 invariant-loop-seat l = record {
   table : l.first.table_id ≡ l.self.table;

@@ -3,7 +3,7 @@ use Rattle.std.specs.Prelude.{All}
 use Rattle.hp_board.specs.Deal.{IsFresh}
 use Rattle.hp_board.proofs.dealer.Dealer.new.Given as goal
 
--- the first seat's token has a part for each seat that is not made yet
+-- the first seat's token has a share for each seat that isn't made yet
 abbrev pub invariant-loop : goal.invariant-loop
 invariant-loop l = record {
   table : l.first.table_id ≡ l.table.shared.table_id;

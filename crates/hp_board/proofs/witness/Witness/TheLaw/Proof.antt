@@ -1,4 +1,4 @@
--- A `&` to a `Witness` holds what it knows, which can be had twice. Assumes `Logic`.
+-- A `&` to a `Witness` holds what it knows, which can be duplicated. Assumes `Logic`.
 use mathlib.Core.List.{[], ◌∷◌}
 use seplogic.Ra.Ura.{Ura}
 use base.Logic.{ent, sep, wand, snd∗, apply∗}

@@ -1,4 +1,4 @@
--- Two of one cell know one value.
+-- Two witnesses of one cell know one value.
 use Rattle.std.proofs.Common.{◌≡◌, ℕ, List, [], ◌∷◌, refl, IfSome}
 use mir.Syntax.{a_type, named}
 use mir.Val.{Val, vunit, vptr}

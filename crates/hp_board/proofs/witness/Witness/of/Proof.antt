@@ -1,4 +1,4 @@
--- What a note owns can be had twice.
+-- What a note owns can be duplicated.
 use Rattle.std.proofs.Common.{◌≡◌, ℕ, List, [], ◌∷◌, ◌++◌, refl, sym, subst}
 use mir.Syntax.{a_type}
 use mir.Val.{Val, vptr, vstruct, vnil}

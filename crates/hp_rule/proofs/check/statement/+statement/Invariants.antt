@@ -30,7 +30,7 @@ decreases-check_sub l = 4 * l.levels + 2
 abbrev pub decreases-check_parts : goal.decreases-check_parts
 decreases-check_parts l = 4 * l.levels + 3
 
--- what is left of the body passes or fails as the whole body does
+-- the rest of the body passes or fails as the whole body does
 abbrev pub invariant-check_body-loop-i : goal.invariant-check_body-loop-i
 invariant-check_body-loop-i l =
     statements_check (statement_check (scope_of l.context.scope) l.levels) (names_in l.context.names) (steps l.context.place) l.i (body_in (drop l.i l.body))

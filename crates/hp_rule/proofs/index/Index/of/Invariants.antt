@@ -4,7 +4,7 @@ use Rattle.hp_rule.specs.Statements.{rule}
 use Rattle.hp_rule.specs.Index.{listed, may_mention, noted_from}
 use Rattle.hp_rule.proofs.index.Index.of.Given as goal
 
--- what is listed, with the rules to come, is what all rules give
+-- the lists so far, with the rules to come, are those of all rules
 abbrev pub invariant-loop-n : goal.invariant-loop-n
 invariant-loop-n l =
     (p : Primitive) → noted_from (λ e. may_mention e p) l.n (listed l.index p) (map rule (drop l.n l.rules)) ≡ noted_from (λ e. may_mention e p) 0 [] (map rule l.rules)

@@ -1,4 +1,4 @@
-use Rattle.std.proofs.Common.{rules, ◌≡◌, subst}
+use Rattle.std.proofs.Common.{rules, ◌≡◌, ◌∙◌, subst, sym}
 use Rattle.hp_model.specs.Sessions.{HasFitState}
 use Rattle.hp_rule.specs.Mapped as rule
 use Rattle.hp_store.specs.Stack.{cells_in}
@@ -10,5 +10,5 @@ of_words-requires c = begins
 
 pub invariant_of-result : goal.invariant_of-result
 invariant_of-result c =
-    let is : c.args.store ≡ c.in_ok-opening.opening = search rules in
-    (subst (λ s. HasFitState (rule.library c.args.library.value) (cells_in s)) is c.requires, search rules, search rules, search rules, is)
+    let is : c.args.store ≡ c.in_ok-opening.opening = sym (c.in_ok-opening.ensures ∙ c.keep_indexes.ensures) in
+    (subst (λ s. HasFitState (rule.library c.args.library.value) (cells_in s)) is c.requires, search rules, search rules, search rules, sym c.in_ok-opening.ensures)

@@ -1,26 +1,18 @@
-use Rattle.std.proofs.Common.{◌≡◌, to_z, of_z, w64, rules, refl}
-use Rattle.std.specs.Vec.{with_item}
-use Rattle.hp_model.specs.Cells.{Cell}
-use Rattle.hp_store.specs.declared.base.Base.{Base}
+use Rattle.std.proofs.Common.{◌≡◌, ◌∙◌, ap, rules}
+use Rattle.std.specs.Prelude.{option_map}
+use Rattle.hp_value.specs.Mapped.{cell}
+use Rattle.hp_store.specs.Mapped.{cell_value}
 use Rattle.hp_store.specs.Tables.{base_cells}
-use Rattle.hp_store.proofs.Based.{Placed, object_set, object_same, on_err}
+use Rattle.hp_store.proofs.Based.{found_value}
+use Rattle.hp_store.proofs.Indexed.{complete_same, complete_set}
 use Rattle.hp_store.proofs.base.Base.set.Goals as goal
 
-pub returns-in_err-put-in-Object-clause-err : goal.returns-in_err-put-in-Object-clause-err
-returns-in_err-put-in-Object-clause-err c =
-    let there : Placed c.args.self.now c.make_room.new.tables.items c.in-Object.class c.index_mut.result.now =
-    record { same = c.in_ok-make_room-in-Object.ensures.same; within = c.in_ok-make_room-in-Object.ensures.room; is = c.index_mut.ensures.value } in
-    let new : Base =
-    record { statuses = c.args.self.now.statuses; detectors = c.args.self.now.detectors; classes = with_item c.make_room.new.tables c.in-Object.class c.put.new.table } in
-    on_err c.from_residual-in_err-put-in-Object.result ((q : Cell) → base_cells new q ≡ base_cells c.args.self.now q)
-    (object_same c.args.self.now new c.make_room.new.tables.items c.in-Object.class c.index_mut.result.now c.put.new.table there refl refl refl c.in_err-put-in-Object.ensures.err)
+pub returns-in_err-old-clause-complete : goal.returns-in_err-old-clause-complete
+returns-in_err-old-clause-complete c =
+    complete_same (base_cells c.args.self.now) (base_cells c.replace.new.self) c.args.self.now.indexes c.replace.new.self.indexes c.in_err-old.ensures.indexes c.in_err-old.ensures.err
 
-pub returns-in_ok-put-in-Object-clause-ok : goal.returns-in_ok-put-in-Object-clause-ok
-returns-in_ok-put-in-Object-clause-ok c =
-    let there : Placed c.args.self.now c.make_room.new.tables.items c.in-Object.class c.index_mut.result.now =
-    record { same = c.in_ok-make_room-in-Object.ensures.same; within = c.in_ok-make_room-in-Object.ensures.room; is = c.index_mut.ensures.value } in
-    let new : Base =
-    record { statuses = c.args.self.now.statuses; detectors = c.args.self.now.detectors; classes = with_item c.make_room.new.tables c.in-Object.class c.put.new.table } in
-    let key : to_z w64 (of_z w64 c.in-Object.key) ≡ c.in-Object.key = search rules in
-    object_set c.args.self.now new c.make_room.new.tables.items c.args.cell c.in-Object.class c.in-Object.key (to_z w64 (of_z w64 c.in-Object.key)) c.index_mut.result.now c.put.new.table c.args.change
-    there refl refl refl c.in-Object.is key c.in_ok-put-in-Object.ensures.ok
+pub returns-clause-complete : goal.returns-clause-complete
+returns-clause-complete c =
+    let given : c.in_ok-clone.field-0 ≡ c.args.change.now = search rules in
+    complete_set c.args.self.now c.replace.new.self c.renew_all.new.indexes (cell c.args.cell) c.args.change.now c.in_ok-clone.field-0 c.as_ref-2.result given
+    (found_value c.as_ref-2.result ∙ ap (option_map cell_value) c.as_ref-2.ensures.value) c.in_ok-old.ensures.indexes c.in_ok-old.ensures.ok (c.renew_all.ensures (base_cells c.args.self.now))

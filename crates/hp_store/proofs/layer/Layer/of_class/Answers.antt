@@ -13,10 +13,10 @@ pub returns-clause-entries : goal.returns-clause-entries
 returns-clause-entries c =
     let es = c.self.inside.changes.entries in
     ap (map entry) (c.range.ensures.between c.new.ensures.exhausted ∙ (λ i. entries_between cell_cmp (Included (c.new.ensures.start i)) (Included (c.new.ensures.end i)) es))
-    ∙ class_range c.args.class es c.self.invariant ∙ ap (class_entries c.args.class) c.self.view_is
+    ∙ class_range c.args.class es c.self.invariant.0 ∙ ap (class_entries c.args.class) c.self.view_is
 
 pub returns-clause-rise : goal.returns-clause-rise
 returns-clause-rise c = subst (λ es. KeysRise (class_entries c.args.class es)) c.self.view_is (class_rise c.args.class c.self.inside.changes.entries c.range.ensures.ordered)
 
 pub returns-clause-fit : goal.returns-clause-fit
-returns-clause-fit c = fit-class c.args.class c.args.self.now (subst KeysFit c.self.view_is c.self.invariant)
+returns-clause-fit c = fit-class c.args.class c.args.self.now (subst KeysFit c.self.view_is c.self.invariant.0)

@@ -6,6 +6,7 @@ use Rattle.hp_store.specs.Changes.{Entries, changes, changes_in}
 use Rattle.hp_store.specs.Parts.{Covers, is_among, keys_left, no_cells}
 use Rattle.hp_store.specs.Tables.{base_cells}
 use Rattle.hp_store.proofs.Covered.{covers_each}
+use Rattle.hp_store.proofs.Indexed.{complete_shared}
 use Rattle.hp_store.proofs.Picked.{covers_wider, not_before, not_after}
 use Rattle.hp_store.proofs.snapshot.Snapshot.candidates_over.Goals as goal
 
@@ -22,7 +23,7 @@ returns c =
     (λ key out.
     not_after c.new-keys.result.items (keys_left c.candidates.result) first c.in_ok-add.ensures key
     (c.in_ok-add_layers.ensures.kept key (not_before second (keys_left c.candidates-2.result) all c.in_ok-add-2.ensures key out)))
-    c.candidates.ensures))
+    (c.candidates.ensures (complete_shared c.self.inside.base.value c.deref.result.now c.deref.ensures c.self.invariant.2))))
     (subst (λ (ls : List Entries). Covers (is_among all) part class (over no_cells (changes_in ls))) c.deref-2.ensures
     (covers_wider (is_among second) (is_among all) part class (over no_cells (changes_in c.deref-2.result.now)) (not_before second (keys_left c.candidates-2.result) all c.in_ok-add-2.ensures)
     c.in_ok-add_layers.ensures.covers))

@@ -11,4 +11,5 @@ invariant_of-self-then-is_none c =
       c.self.invariant.0,
       kept_more (over (base_cells c.self.inside.base.value) (changes_in c.self.inside.layers.items)) c.self.inside.lists.items c.push_reserved.new.self.items (record { class = c.args.class; objects = c.args.objects })
           c.self.invariant.1 here (c.push_reserved.ensures.items ∙ ap (λ lists. lists ++ record { class = c.args.class; objects = c.args.objects } ∷ []) c.reserve.ensures.items),
+      c.self.invariant.2,
     )

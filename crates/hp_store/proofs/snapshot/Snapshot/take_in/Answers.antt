@@ -23,4 +23,5 @@ invariant_of-self c = (
       ∙ ap (λ es. option_or (changes es q) (changes_in c.self.inside.layers.items q)) (sym c.deref-3.ensures)))
       c.in_ok-lists.ensures
       (subst (AreKept (over (base_cells c.self.inside.base.value) (changes_in c.self.inside.layers.items))) (sym c.deref-2.ensures.value) c.self.invariant.1),
+  c.settle.ensures.complete c.self.invariant.2,
 )

@@ -7,6 +7,7 @@ use Rattle.hp_store.specs.Parts.{Covers, is_told, keys_left, no_cells}
 use Rattle.hp_store.specs.Stack.{cells_in}
 use Rattle.hp_store.specs.Tables.{base_cells}
 use Rattle.hp_store.proofs.Covered.{covers_each}
+use Rattle.hp_store.proofs.Indexed.{complete_shared}
 use Rattle.hp_store.proofs.Told.{tells_covers, tells_always, all_pass}
 use Rattle.hp_store.proofs.snapshot.Snapshot.tells_each.Goals as goal
 
@@ -21,7 +22,8 @@ returns-clause-covers c = λ holds.
     let part = class_part c.args.part.now in
     covers_each test part c.args.class c.self.inside.base.value c.self.inside.layers.items c.args.self.now c.args.writes.now c.self.view_is
     (subst (λ (b : Base). Covers test part c.args.class (base_cells b)) c.deref.ensures
-    (tells_covers test part c.args.class (base_cells c.deref.result.now) (keys_left c.candidates-keys.result) c.tells.result c.tells.ensures c.candidates-keys.ensures c.if-not-tells.false))
+    (tells_covers test part c.args.class (base_cells c.deref.result.now) (keys_left c.candidates-keys.result) c.tells.result c.tells.ensures
+    (c.candidates-keys.ensures (complete_shared c.self.inside.base.value c.deref.result.now c.deref.ensures c.self.invariant.2)) c.if-not-tells.false))
     (subst (λ (ls : List Entries). Covers test part c.args.class (over no_cells (changes_in ls))) c.deref-2.ensures (c.tells_layers.ensures.covers c.if-not-tells_layers.false))
     (tells_covers test part c.args.class (over no_cells (changes c.args.writes.now)) (keys_left c.candidates-written.result) c.tells-2.result c.tells-2.ensures c.candidates-written.ensures holds)
 

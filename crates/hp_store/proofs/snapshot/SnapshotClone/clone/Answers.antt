@@ -4,6 +4,7 @@ use Rattle.std.specs.Option.{option_or}
 use Rattle.hp_store.specs.Changes.{changes, changes_in}
 use Rattle.hp_store.specs.Kept.{AreKept}
 use Rattle.hp_store.specs.Tables.{base_cells}
+use Rattle.hp_store.proofs.Indexed.{complete_shared}
 use Rattle.hp_store.proofs.Keeping.{kept_shown}
 use Rattle.hp_store.proofs.snapshot.SnapshotClone.clone.Goals as goal
 
@@ -16,4 +17,5 @@ invariant_of-result c =
           ∙ ap (λ es. changed (base_cells c.self.inside.base.value q) (option_or (changes es q) (changes_in c.self.inside.layers.items q))) (sym c.new.ensures))
           c.in_ok-lists.ensures
           (subst (AreKept (over (base_cells c.self.inside.base.value) (changes_in c.self.inside.layers.items))) (sym c.deref-2.ensures.value) c.self.invariant.1),
+      complete_shared c.self.inside.base.value c.in_ok-try_clone.field-0.value c.in_ok-try_clone.ensures c.self.invariant.2,
     )

@@ -1,0 +1,8 @@
+use Rattle.hp_attempt.proofs.ForStates.{sound_for_ordered, sound_for_fit}
+use Rattle.hp_attempt.proofs.laws.sound.Goals as goal
+
+pub returns-clause-ordered : goal.returns-clause-ordered
+returns-clause-ordered c = sound_for_ordered
+
+pub returns-clause-fit : goal.returns-clause-fit
+returns-clause-fit c = sound_for_fit
