@@ -3,7 +3,7 @@ use Rattle.std.specs.Prelude.{ℕ, List}
 use Rattle.serde_json.specs.Data.{Data}
 use Rattle.hp_model.specs.Rules.{Statement}
 use Rattle.hp_model.specs.Refusals.{Decoded}
-use Rattle.hp_model.specs.StatementGrammar.{StatementForm, statement_from, statement_within, statements_by, statements_at}
+use Rattle.hp_model.specs.StatementGrammar.{StatementForm, statement_from, statement_within, statements_by}
 use Rattle.hp_script.specs.Forms.{scope_view}
 use Rattle.hp_script.specs.Place.{path_to}
 use Rattle.hp_script.specs.Rows.{names_in}
@@ -22,7 +22,3 @@ statement_here c levels d = statement_within (scope_view c.scope) levels (names_
 abbrev pub statements_here : Context → (levels : ℕ) → Data → Decoded (List Statement)
 statements_here c levels d =
     statements_by (statement_within (scope_view c.scope) levels) (names_in c.rows) (path_to c.place) d
-
--- the statements of a whole body
-abbrev pub body_here : Context → Data → Decoded (List Statement)
-body_here c d = statements_at (scope_view c.scope) (names_in c.rows) (path_to c.place) d

@@ -12,7 +12,6 @@ ghost use Rattle.hp_script.specs.OwnBodies.{AreOf, StayOf};
 ghost use Rattle.hp_script.specs.Place.{path_to};
 ghost use Rattle.hp_script.specs.Scopes.{library_scope};
 
-use crate::context::Context;
 use crate::list::list_at;
 use crate::moment::due_moments;
 use crate::number::number_from;
@@ -85,13 +84,7 @@ fn transaction_at(
 {
     let rows = no_rows();
     let scope = Scope::of_library(library);
-    let context = Context {
-        alloc,
-        place: place.item(1),
-        scope,
-        rows,
-    };
-    let statements = statements_at(&context, body)?;
+    let statements = statements_at(alloc, &place.item(1), &scope, &rows, body)?;
     let body = Body::of_checked(library, statements)?;
     let Schedule { mut units, clock } = before;
     units.push(Unit::Transaction(body))?;

@@ -11,7 +11,6 @@ ghost use Rattle.hp_script.specs.Forms.{head_view, heads_view, scope_view, versi
 ghost use Rattle.hp_script.specs.Mapped.{Gives};
 ghost use Rattle.hp_script.specs.Place.{path_to};
 
-use crate::context::Context;
 use crate::coupling::coupling_at;
 use crate::event::event_at;
 use crate::place::Place;
@@ -28,17 +27,16 @@ use std::alloc::Global;
 use std::sync::Arc;
 
 /// The action at a place, of a rule with this condition.
-fn action_at<'a>(
+fn action_at(
     alloc: Global,
-    place: &Place<'a>,
-    scope: &Scope<'a>,
-    condition: &'a [Query],
+    place: &Place<'_>,
+    scope: &Scope<'_>,
+    condition: &[Query],
     value: &Value,
 ) -> Result<Vec<Stmt>, DecodeError>
-    ensures { let queries = map query condition.now in
-        Gives (λ body. map statement body.items) result
-        (statements_at (acting (scope_view scope.entry.now) queries) (query_names queries)
-        (path_to place.now) (view value.now)) }
+    ensures { Gives (λ body. map statement body.items) result
+        (statements_at (acting (scope_view scope.entry.now) (map query condition.now))
+        (query_names (map query condition.now)) (path_to place.now) (view value.now)) }
 {
     let acting = Scope {
         classes: scope.classes,
@@ -46,13 +44,8 @@ fn action_at<'a>(
         queries: condition,
         in_action: true,
     };
-    let context = Context {
-        alloc,
-        place: *place,
-        scope: acting,
-        rows: Rows::Queries(condition),
-    };
-    statements_at(&context, value)
+    let rows = Rows::Queries(condition);
+    statements_at(alloc, place, &acting, &rows, value)
 }
 
 /// The rule with this head.

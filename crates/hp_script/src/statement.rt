@@ -2,21 +2,27 @@
 
 ghost use Rattle.std.specs.Prelude.{map};
 ghost use Rattle.serde_json.specs.View.{view};
-ghost use Rattle.hp_model.specs.StatementGrammar.{if_form, each_form, for_form, with_form, sub_form};
+ghost use Rattle.hp_model.specs.StatementGrammar.{if_form, each_form, for_form, with_form, sub_form, statements_at};
 ghost use Rattle.hp_rule.specs.Mapped.{statement};
-ghost use Rattle.hp_script.specs.Contexts.{form_here, statement_here, statements_here, body_here};
+ghost use Rattle.hp_script.specs.Contexts.{form_here, statement_here, statements_here};
+ghost use Rattle.hp_script.specs.Forms.{scope_view};
 ghost use Rattle.hp_script.specs.Mapped.{Gives};
+ghost use Rattle.hp_script.specs.Place.{path_to};
+ghost use Rattle.hp_script.specs.Rows.{names_in};
 
 use crate::context::Context;
 use crate::expression::boxed_expression_at;
 use crate::list::list_at;
 use crate::operation::{Write, delete_at, emit_at, fire_at, on_rule_at, signal_at, write_at};
+use crate::place::Place;
 use crate::reference::{class_at, query_at};
 use crate::refusal::{DecodeError, Limit, Refusal};
-use crate::rows::new_row_at;
+use crate::rows::{Rows, new_row_at};
+use crate::scope::Scope;
 use crate::statement_form::{StatementForm, statement_form_at};
 use hp_rule::Stmt;
 use serde_json::Value;
+use std::alloc::Global;
 
 /// The most levels of statements in statements.
 const MAX_LEVELS: usize = 16;
@@ -202,9 +208,22 @@ fn statements_within(
     Ok(body)
 }
 
-/// The statements of the body here.
-pub(crate) fn statements_at(context: &Context<'_>, value: &Value) -> Result<Vec<Stmt>, DecodeError>
-    ensures { Gives (λ body. map statement body.items) result (body_here context.entry.now (view value.now)) }
+/// The statements of the body at a place.
+pub(crate) fn statements_at(
+    alloc: Global,
+    place: &Place<'_>,
+    scope: &Scope<'_>,
+    rows: &Rows<'_>,
+    value: &Value,
+) -> Result<Vec<Stmt>, DecodeError>
+    ensures { Gives (λ body. map statement body.items) result
+        (statements_at (scope_view scope.entry.now) (names_in rows.now) (path_to place.now) (view value.now)) }
 {
-    statements_within(context, MAX_LEVELS, value)
+    let context = Context {
+        alloc,
+        place: *place,
+        scope: *scope,
+        rows: *rows,
+    };
+    statements_within(&context, MAX_LEVELS, value)
 }
