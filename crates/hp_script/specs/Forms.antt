@@ -1,5 +1,5 @@
 -- What forms whose parts are still JSON stand for, and the names that are known to them.
-use Rattle.std.specs.Prelude.{List, map, option_map}
+use Rattle.std.specs.Prelude.{map, option_map}
 use Rattle.serde_json.specs.View.{view}
 use Rattle.hp_model.specs.Json as J
 use Rattle.hp_model.specs.Scopes as S
