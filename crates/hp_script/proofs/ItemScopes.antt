@@ -1,19 +1,17 @@
 -- The library of a script, and what its items are read with.
-use Rattle.std.proofs.Common.{◌≡◌, ◌≤◌, ◌<◌, ℕ, nat_lt, Bool, true, false, cond, List, [], length, map, refl, sym, ap, ◌∙◌, Ok, Err, arith}
+use Rattle.std.proofs.Common.{◌≡◌, ◌≤◌, ℕ, nat_lt, Bool, true, false, cond, List, [], length, map, refl, sym, ap, ◌∙◌, Ok, Err, arith}
 use Rattle.std.proofs.lemmas.List.{length-map}
 use Rattle.std.proofs.lemmas.Bool.Decides.{nat_tests}
-use Rattle.std.specs.Prelude.{⊤, codes}
+use Rattle.std.specs.Prelude.{⊤}
 use Rattle.hp_model.specs.Values.{ClassDef, ◌>>=◌}
 use Rattle.hp_model.specs.Rules as R
-use Rattle.hp_model.specs.Scopes as S
-use Rattle.hp_model.specs.Refusals.{Path, Limit, Refusal, under_root, classes_limit, rules_limit, over_limit, Decoded}
+use Rattle.hp_model.specs.Refusals.{Path, Limit, Refusal, classes_limit, rules_limit, over_limit, Decoded}
 use Rattle.hp_model.specs.RuleHeads as H
 use Rattle.hp_model.specs.Decode.{Version, rules_at, script_scope}
-use Rattle.hp_model.specs.Checked.{depth_check, classes_check, heads_check, library_check, limit_check, script_body_check}
+use Rattle.hp_model.specs.Checked.{classes_check, heads_check, library_check, limit_check, script_body_check}
 use Rattle.hp_model.specs.StatementGrammar.{body_of, statements_at}
 use Rattle.serde_json.specs.Data.{Data}
 use Rattle.hp_model.proofs.WellFormedScripts.{rules_read, IsScriptScope, body_passes}
-use Rattle.hp_script.specs.RuleNames.{names_in}
 use Rattle.hp_script.specs.Scopes.{library_scope}
 
 abbrev Passed : Decoded ⊤ → Type 0

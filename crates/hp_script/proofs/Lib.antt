@@ -1,4 +1,5 @@
 pub mod Listed
+pub mod NamePlaces
 pub mod Bodies
 pub mod Moments
 pub mod Readings

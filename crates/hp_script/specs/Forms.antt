@@ -1,5 +1,5 @@
 -- What forms whose parts are still JSON stand for, and the names that are known to them.
-use Rattle.std.specs.Prelude.{List, map, option_map}
+use Rattle.std.specs.Prelude.{map, option_map}
 use Rattle.serde_json.specs.View.{view}
 use Rattle.hp_model.specs.Json as J
 use Rattle.hp_model.specs.Scopes as S
@@ -24,7 +24,7 @@ use Rattle.hp_script.specs.declared.version.Version.{Version}
 use Rattle.hp_script.specs.declared.version.Version.TheVariants.{First, Second}
 use Rattle.hp_script.specs.declared.decoding.Root.{Root}
 pub use Rattle.hp_script.specs.Heads.{parts_view, head_view, heads_view}
-use Rattle.hp_script.specs.RuleNames.{names_of}
+use Rattle.hp_script.specs.Names.{names_of}
 
 abbrev pub form_view : Form → J.Form
 form_view f = record { word = f.word.now; parts = map view f.parts.now }
@@ -74,10 +74,13 @@ statement_form_view (statement.Update class key pairs) = T.update_form (view cla
 statement_form_view (statement.Delete class key) = T.delete_form (view class.now) (view key.now)
 statement_form_view (statement.Signal name arguments) = T.signal_form (view name.now) (view arguments.now)
 statement_form_view (statement.Emit value) = T.emit_form (view value.now)
-statement_form_view (statement.If test then_body else_body) = T.if_form (view test.now) (view then_body.now) (view else_body.now)
-statement_form_view (statement.Each x class predicate body) = T.each_form (view x.now) (view class.now) (view predicate.now) (view body.now)
+statement_form_view (statement.If test then_body else_body) =
+    T.if_form (view test.now) (view then_body.now) (view else_body.now)
+statement_form_view (statement.Each x class predicate body) =
+    T.each_form (view x.now) (view class.now) (view predicate.now) (view body.now)
 statement_form_view (statement.For query body) = T.for_form (view query.now) (view body.now)
-statement_form_view (statement.With x class key body) = T.with_form (view x.now) (view class.now) (view key.now) (view body.now)
+statement_form_view (statement.With x class key body) =
+    T.with_form (view x.now) (view class.now) (view key.now) (view body.now)
 statement_form_view (statement.Sub body otherwise) = T.sub_form (view body.now) (view otherwise.now)
 statement_form_view statement.Abort = T.abort_form
 statement_form_view statement.Veto = T.veto_form

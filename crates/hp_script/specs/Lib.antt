@@ -3,9 +3,14 @@ pub mod Place
 pub mod Rows
 pub mod Moments
 pub mod Heads
-pub mod RuleNames
+pub mod Names
 pub mod Forms
 pub mod Scopes
+pub mod Contexts
+pub mod Items
+pub mod Events
+pub mod Sides
+pub mod Writes
 pub mod OwnBodies
 pub mod Timed
 pub mod Requests

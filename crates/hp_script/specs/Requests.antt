@@ -40,4 +40,5 @@ request_at library clock d = if asks_for_state d then Ok state else item_of libr
 
 -- the size is checked first, as in a script
 unfoldable pub request_of : Library → (clock : ℕ) → List ℕ → Decoded Request
-request_of library clock bytes = if nat_lt 1048576 (length bytes) then Err (over_limit size_limit) else json_at bytes >>= request_at library clock
+request_of library clock bytes =
+    if nat_lt 1048576 (length bytes) then Err (over_limit size_limit) else json_at bytes >>= request_at library clock

@@ -33,7 +33,8 @@ timed_script_at d = do
 
 -- the script in the bytes, with the time after it, or the first refusal
 unfoldable pub timed_script_of : List ℕ → Decoded TimedScript
-timed_script_of bytes = if nat_lt 1048576 (length bytes) then Err (over_limit size_limit) else json_at bytes >>= timed_script_at
+timed_script_of bytes =
+    if nat_lt 1048576 (length bytes) then Err (over_limit size_limit) else json_at bytes >>= timed_script_at
 
 -- without the time
 abbrev pub untimed : Decoded TimedScript → Decoded Script

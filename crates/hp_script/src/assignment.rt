@@ -1,11 +1,10 @@
 //! Assignments: a field of a class and its new value.
 
-ghost use Rattle.std.specs.Prelude.{◌≡◌, map};
+ghost use Rattle.std.specs.Prelude.{map};
 ghost use Rattle.serde_json.specs.View.{view};
-ghost use Rattle.hp_model.specs.Parts.{place_of};
 ghost use Rattle.hp_model.specs.Scopes.{field_names};
-ghost use Rattle.hp_model.specs.StatementGrammar.{assigned_names, assigned_field_at, assignment_at, assignments_at};
-ghost use Rattle.hp_model.specs.StatementGrammar.{all_assignments_at};
+ghost use Rattle.hp_model.specs.StatementGrammar.{assigned_names, assigned_field_at};
+ghost use Rattle.hp_model.specs.StatementGrammar.{assignment_at, assignments_at, all_assignments_at};
 ghost use Rattle.hp_value.specs.Mapped.{field};
 ghost use Rattle.hp_rule.specs.Mapped.{assignment};
 ghost use Rattle.hp_script.specs.Mapped.{Gives};
@@ -13,31 +12,19 @@ ghost use Rattle.hp_script.specs.Place.{path_to};
 ghost use Rattle.hp_script.specs.Rows.{names_in};
 
 use crate::expression::boxed_expression_at;
-use crate::known::field_place;
-use crate::name::name_at;
+use crate::list::list_at;
+use crate::names::{Names, new_name_at};
 use crate::place::{Place, misnamed, misshapen};
 use crate::refusal::DecodeError;
 use crate::rows::Rows;
-use crate::shape::{list_of, pair_of};
+use crate::shape::pair_of;
 use hp_rule::Assignment;
 use hp_value::Field;
 use serde_json::Value;
 use std::alloc::Global;
 
-/// The position of the assignment to the field of this name.
-fn assignment_place(pairs: &[Assignment], name: &str) -> Option<usize>
-    ensures { result ≡ place_of (assigned_names (map assignment pairs.now)) name.now }
-{
-    for (place, pair) in pairs.iter().enumerate() {
-        if pair.field.as_str() == name {
-            return Some(place);
-        }
-    }
-    None
-}
-
 /// The name of a field of the class that no assignment before sets.
-#[tactic(auto, unfolding(hp_model::specs::StatementGrammar::assigned_field_at, hp_model::specs::Parts::new_name_at))]
+#[tactic(auto, unfolding(hp_model::specs::StatementGrammar::assigned_field_at))]
 fn assigned_field_at<'a>(
     alloc: Global,
     place: &Place<'_>,
@@ -49,11 +36,8 @@ fn assigned_field_at<'a>(
         (assigned_field_at (field_names (map field fields.now)) (assigned_names (map assignment before.now))
         (path_to place.now) (view value.entry.now)) }
 {
-    let name = name_at(alloc, place, value)?;
-    if assignment_place(before, name).is_some() {
-        return Err(misnamed(alloc, place));
-    }
-    if field_place(fields, name).is_none() {
+    let name = new_name_at(alloc, place, Names::Assignments(before), value)?;
+    if Names::Fields(fields).place(name).is_none() {
         return Err(misnamed(alloc, place));
     }
     Ok(name)
@@ -91,12 +75,10 @@ pub(crate) fn assignments_at(
     value: &Value,
 ) -> Result<Vec<Assignment>, DecodeError>
     ensures { Gives (λ pairs. map assignment pairs.items) result
-        (assignments_at (field_names (map field fields.now)) (names_in rows.now) (path_to place.now)
-        (view value.now)) }
+        (assignments_at (field_names (map field fields.now)) (names_in rows.now)
+        (path_to place.now) (view value.now)) }
 {
-    let Some(values) = list_of(value) else {
-        return Err(misshapen(alloc, place));
-    };
+    let values = list_at(alloc, place, value)?;
     let mut pairs = Vec::new(alloc);
     for (i, value) in values.iter().enumerate() {
         let pair = assignment_at(alloc, &place.item(i), fields, rows, pairs.as_slice(), value)?;
@@ -115,8 +97,8 @@ pub(crate) fn all_assignments_at(
     value: &Value,
 ) -> Result<Vec<Assignment>, DecodeError>
     ensures { Gives (λ pairs. map assignment pairs.items) result
-        (all_assignments_at (field_names (map field fields.now)) (names_in rows.now) (path_to place.now)
-        (view value.now)) }
+        (all_assignments_at (field_names (map field fields.now)) (names_in rows.now)
+        (path_to place.now) (view value.now)) }
 {
     let pairs = assignments_at(alloc, place, fields, rows, value)?;
     if pairs.len() < fields.len() {

@@ -7,11 +7,11 @@ ghost use Rattle.hp_value.specs.Mapped.{kind, field, class_def};
 ghost use Rattle.hp_script.specs.Mapped.{Gives};
 ghost use Rattle.hp_script.specs.Place.{path_to};
 
-use crate::known::{class_place, field_place};
-use crate::name::name_at;
-use crate::place::{Place, misnamed, misshapen};
-use crate::refusal::{DecodeError, Limit, Refusal};
-use crate::shape::{list_of, pair_of};
+use crate::list::short_list_at;
+use crate::names::{Names, new_name_at};
+use crate::place::{Place, misshapen};
+use crate::refusal::{DecodeError, Limit};
+use crate::shape::pair_of;
 use hp_value::{ClassDef, Field, Kind};
 use serde_json::Value;
 use std::alloc::Global;
@@ -46,7 +46,7 @@ fn kind_at(alloc: Global, place: &Place<'_>, value: &Value) -> Result<Kind, Deco
     }
 }
 
-#[tactic(auto, unfolding(hp_model::specs::Decode::field_at, hp_model::specs::Parts::new_name_at))]
+#[tactic(auto, unfolding(hp_model::specs::Decode::field_at))]
 fn field_at(
     alloc: Global,
     place: &Place<'_>,
@@ -58,25 +58,17 @@ fn field_at(
     let Some((name, kind)) = pair_of(value) else {
         return Err(misshapen(alloc, place));
     };
-    let name = name_at(alloc, &place.item(0), name)?;
-    if field_place(before, name).is_some() {
-        return Err(misnamed(alloc, &place.item(0)));
-    }
+    let name = new_name_at(alloc, &place.item(0), Names::Fields(before), name)?;
     let kind = kind_at(alloc, &place.item(1), kind)?;
     let name = String::from_str(alloc, name)?;
     Ok(Field { name, kind })
 }
 
-#[tactic(auto, unfolding(hp_model::specs::Decode::fields_at, hp_model::specs::Parts::short_list_at))]
+#[tactic(auto, unfolding(hp_model::specs::Decode::fields_at))]
 fn fields_at(alloc: Global, place: &Place<'_>, value: &Value) -> Result<Vec<Field>, DecodeError>
     ensures { Gives (λ fields. map field fields.items) result (fields_at (path_to place.now) (view value.now)) }
 {
-    let Some(values) = list_of(value) else {
-        return Err(misshapen(alloc, place));
-    };
-    if values.len() > MAX_FIELDS {
-        return Err(DecodeError::Refused(Refusal::S5(Limit::Fields)));
-    }
+    let values = short_list_at(alloc, place, MAX_FIELDS, Limit::Fields, value)?;
     let mut fields = Vec::new(alloc);
     for (i, value) in values.iter().enumerate() {
         let field = field_at(alloc, &place.item(i), fields.as_slice(), value)?;
@@ -85,7 +77,7 @@ fn fields_at(alloc: Global, place: &Place<'_>, value: &Value) -> Result<Vec<Fiel
     Ok(fields)
 }
 
-#[tactic(auto, unfolding(hp_model::specs::Decode::class_at, hp_model::specs::Parts::new_name_at))]
+#[tactic(auto, unfolding(hp_model::specs::Decode::class_at))]
 fn class_at(
     alloc: Global,
     place: &Place<'_>,
@@ -97,10 +89,7 @@ fn class_at(
     let Some((name, fields)) = pair_of(value) else {
         return Err(misshapen(alloc, place));
     };
-    let name = name_at(alloc, &place.item(0), name)?;
-    if class_place(before, name).is_some() {
-        return Err(misnamed(alloc, &place.item(0)));
-    }
+    let name = new_name_at(alloc, &place.item(0), Names::Classes(before), name)?;
     let fields = fields_at(alloc, &place.item(1), fields)?;
     let fields = Arc::new(alloc, fields)?;
     let name = String::from_str(alloc, name)?;
@@ -108,7 +97,7 @@ fn class_at(
 }
 
 /// The classes at a place.
-#[tactic(auto, unfolding(hp_model::specs::Decode::classes_at, hp_model::specs::Parts::short_list_at))]
+#[tactic(auto, unfolding(hp_model::specs::Decode::classes_at))]
 pub(crate) fn classes_at(
     alloc: Global,
     place: &Place<'_>,
@@ -118,12 +107,7 @@ pub(crate) fn classes_at(
         (classes_at (path_to place.now) (view value.now)) }
     ensures few { IfOk result (λ classes. length classes.items ≤ 64) }
 {
-    let Some(values) = list_of(value) else {
-        return Err(misshapen(alloc, place));
-    };
-    if values.len() > MAX_CLASSES {
-        return Err(DecodeError::Refused(Refusal::S5(Limit::Classes)));
-    }
+    let values = short_list_at(alloc, place, MAX_CLASSES, Limit::Classes, value)?;
     let mut classes = Vec::new(alloc);
     for (i, value) in values.iter().enumerate() {
         let class = class_at(alloc, &place.item(i), classes.as_slice(), value)?;

@@ -3,23 +3,23 @@
 ghost use Rattle.std.specs.Prelude.{◌≡◌, ◌≤◌, ◌<◌, codes, length, map, option_map, IfOk};
 ghost use Rattle.serde_json.specs.View.{view};
 ghost use Rattle.hp_model.specs.Refusals.{under_root};
-ghost use Rattle.hp_model.specs.Decode.{wanted_count, root_of, rules_at, units_at, script_scope, script_of};
+ghost use Rattle.hp_model.specs.Decode.{wanted_count, root_of, rules_at, script_scope, script_of};
 ghost use Rattle.hp_value.specs.Mapped.{class_def};
 ghost use Rattle.hp_rule.specs.Mapped.{library as model_library, rule};
 ghost use Rattle.hp_script.specs.Forms.{heads_view, root_view, version_view};
+ghost use Rattle.hp_script.specs.Items.{items_over};
 ghost use Rattle.hp_script.specs.Mapped.{Gives, schedule, script, timed_script};
 ghost use Rattle.hp_script.specs.OwnBodies.{AreOf};
-ghost use Rattle.hp_script.specs.Scopes.{library_scope};
 ghost use Rattle.hp_script.specs.Timed.{library_at, timed_script_at, timed_script_of};
 
 use crate::class::classes_at;
 use crate::item::units_at;
 use crate::json::{json_at, member_count};
+use crate::names::Names;
 use crate::place::{Place, misshapen};
 use crate::refusal::{DecodeError, Limit, Member, Refusal};
 use crate::rule::rules_at;
 use crate::rule_head::{RuleHead, rule_heads_at};
-use crate::rule_names::RuleNames;
 use crate::schedule::Schedule;
 use crate::scope::Scope;
 use crate::script::Script;
@@ -80,13 +80,13 @@ fn rules_of(
 ) -> Result<Vec<Rule>, DecodeError>
     requires few_classes { length classes.now ≤ 64 }
     requires few_rules { length heads.now ≤ 256 }
-    ensures { Gives (λ rules. map rule rules.items) result
-        (rules_at (version_view version) (script_scope (map class_def classes.now) (heads_view heads.entry.now))
-        (under_root (codes "rules")) (heads_view heads.entry.now)) }
+    ensures { let scope = script_scope (map class_def classes.now) (heads_view heads.entry.now) in
+        Gives (λ rules. map rule rules.items) result
+        (rules_at (version_view version) scope (under_root (codes "rules")) (heads_view heads.entry.now)) }
 {
     let scope = Scope {
         classes,
-        rules: RuleNames::Heads(heads),
+        rules: Names::Heads(heads),
         queries: &[],
         in_action: false,
     };
@@ -97,8 +97,7 @@ fn rules_of(
 fn items_of(alloc: Global, library: &Arc<Library>, value: &Value) -> Result<Schedule, DecodeError>
     ensures own { IfOk result (λ s. AreOf library.now.value s.units.items) }
     ensures reads { Gives schedule result
-        (units_at (model_library library.now.value).rules (library_scope (model_library library.now.value))
-        (under_root (codes "items")) (view value.now)) }
+        (items_over (model_library library.now.value) (under_root (codes "items")) (view value.now)) }
 {
     units_at(alloc, &Place::Member(Member::Items), library, value)
 }

@@ -3,10 +3,11 @@
 ghost use Rattle.std.specs.Prelude.{◌≡◌, map, option_map};
 ghost use Rattle.serde_json.specs.View.{view};
 ghost use Rattle.hp_model.specs.EventGrammar.{event_form, event_form_of_one, event_form_of_two, event_form_at};
-ghost use Rattle.hp_model.specs.EventGrammar.{on_create_at, on_update_at, on_delete_at, on_signal_at, at_moment_at};
-ghost use Rattle.hp_model.specs.EventGrammar.{every_moment_at, parts_at, event_within, event_at};
+ghost use Rattle.hp_model.specs.EventGrammar.{on_signal_at, at_moment_at, every_moment_at};
+ghost use Rattle.hp_model.specs.EventGrammar.{parts_at, event_within, event_at};
 ghost use Rattle.hp_model.specs.Scopes.{class_names};
 ghost use Rattle.hp_detect.specs.Mapped.{event};
+ghost use Rattle.hp_script.specs.Events.{on_change_at};
 ghost use Rattle.hp_script.specs.Forms.{event_form_view, scope_view};
 ghost use Rattle.hp_script.specs.Mapped.{Gives};
 ghost use Rattle.hp_script.specs.Place.{path_to};
@@ -25,6 +26,14 @@ use std::alloc::Global;
 
 /// The most levels that an event may have.
 const MAX_LEVELS: usize = 16;
+
+/// The kinds of changes to an object.
+#[derive(Clone, Copy)]
+pub(crate) enum Change {
+    Create,
+    Update,
+    Delete,
+}
 
 /// An event whose parts are still JSON.
 #[derive(Clone, Copy)]
@@ -98,46 +107,23 @@ fn event_form_at<'a>(
     }
 }
 
-#[tactic(auto, unfolding(hp_model::specs::EventGrammar::on_create_at))]
-fn on_create_at(
+#[tactic(auto, unfolding(hp_model::specs::EventGrammar::on_create_at, hp_model::specs::EventGrammar::on_update_at, hp_model::specs::EventGrammar::on_delete_at))]
+fn on_change_at(
     alloc: Global,
     place: &Place<'_>,
     scope: &Scope<'_>,
+    change: Change,
     class: &Value,
 ) -> Result<EventExpr, DecodeError>
     ensures { Gives event result
-        (on_create_at (class_names (scope_view scope.entry.now).classes) (path_to place.now) (view class.now)) }
+        (on_change_at change (class_names (scope_view scope.entry.now).classes) (path_to place.now) (view class.now)) }
 {
     let class = class_at(alloc, &place.item(1), scope, class)?;
-    Ok(EventExpr::One(Pattern::Create(class)))
-}
-
-#[tactic(auto, unfolding(hp_model::specs::EventGrammar::on_update_at))]
-fn on_update_at(
-    alloc: Global,
-    place: &Place<'_>,
-    scope: &Scope<'_>,
-    class: &Value,
-) -> Result<EventExpr, DecodeError>
-    ensures { Gives event result
-        (on_update_at (class_names (scope_view scope.entry.now).classes) (path_to place.now) (view class.now)) }
-{
-    let class = class_at(alloc, &place.item(1), scope, class)?;
-    Ok(EventExpr::One(Pattern::Update(class)))
-}
-
-#[tactic(auto, unfolding(hp_model::specs::EventGrammar::on_delete_at))]
-fn on_delete_at(
-    alloc: Global,
-    place: &Place<'_>,
-    scope: &Scope<'_>,
-    class: &Value,
-) -> Result<EventExpr, DecodeError>
-    ensures { Gives event result
-        (on_delete_at (class_names (scope_view scope.entry.now).classes) (path_to place.now) (view class.now)) }
-{
-    let class = class_at(alloc, &place.item(1), scope, class)?;
-    Ok(EventExpr::One(Pattern::Delete(class)))
+    match change {
+        Change::Create => Ok(EventExpr::One(Pattern::Create(class))),
+        Change::Update => Ok(EventExpr::One(Pattern::Update(class))),
+        Change::Delete => Ok(EventExpr::One(Pattern::Delete(class))),
+    }
 }
 
 #[tactic(auto, unfolding(hp_model::specs::EventGrammar::on_signal_at))]
@@ -182,8 +168,7 @@ fn event_within(
     value: &Value,
 ) -> Result<EventExpr, DecodeError>
     ensures { Gives event result
-        (event_within (class_names (scope_view scope.entry.now).classes) levels (path_to place.now)
-        (view value.now)) }
+        (event_within (class_names (scope_view scope.entry.now).classes) levels (path_to place.now) (view value.now)) }
 {
     let form = event_form_at(alloc, place, value)?;
     if levels == 0 {
@@ -191,9 +176,9 @@ fn event_within(
     }
     let levels = levels - 1;
     match form {
-        EventForm::Create(class) => on_create_at(alloc, place, scope, class),
-        EventForm::Update(class) => on_update_at(alloc, place, scope, class),
-        EventForm::Delete(class) => on_delete_at(alloc, place, scope, class),
+        EventForm::Create(class) => on_change_at(alloc, place, scope, Change::Create, class),
+        EventForm::Update(class) => on_change_at(alloc, place, scope, Change::Update, class),
+        EventForm::Delete(class) => on_change_at(alloc, place, scope, Change::Delete, class),
         EventForm::Signal(name) => on_signal_at(alloc, place, name),
         EventForm::Commit => Ok(EventExpr::One(Pattern::Commit)),
         EventForm::At(time) => at_moment_at(alloc, place, time),
@@ -222,8 +207,7 @@ fn part_at(
     value: &Value,
 ) -> Result<Box<EventExpr>, DecodeError>
     ensures { Gives (λ e. event e.value) result
-        (event_within (class_names (scope_view scope.entry.now).classes) levels (path_to place.now)
-        (view value.now)) }
+        (event_within (class_names (scope_view scope.entry.now).classes) levels (path_to place.now) (view value.now)) }
 {
     let part = event_within(alloc, place, scope, levels, value)?;
     Ok(Box::new(alloc, part)?)

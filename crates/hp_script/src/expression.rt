@@ -4,14 +4,14 @@ ghost use Rattle.std.specs.Prelude.{◌≡◌, map, option_map};
 ghost use Rattle.serde_json.specs.View.{view};
 ghost use Rattle.hp_model.specs.ExpressionGrammar.{arithmetic_of, comparison_of, form_of_one, other_form_of_two};
 ghost use Rattle.hp_model.specs.ExpressionGrammar.{form_of_two, expression_form, expression_form_at, text_at};
-ghost use Rattle.hp_model.specs.ExpressionGrammar.{field_of_at, key_of_at, new_field_at, old_field_at, key_in_at};
-ghost use Rattle.hp_model.specs.ExpressionGrammar.{argument_at, time_of_at, operands_at, expression_within};
-ghost use Rattle.hp_model.specs.ExpressionGrammar.{expression_at};
+ghost use Rattle.hp_model.specs.ExpressionGrammar.{field_of_at, key_of_at, key_in_at, argument_at, time_of_at};
+ghost use Rattle.hp_model.specs.ExpressionGrammar.{operands_at, expression_within, expression_at};
 ghost use Rattle.hp_value.specs.Mapped.{arithmetic, comparison, expression};
 ghost use Rattle.hp_script.specs.Forms.{expression_form_view};
 ghost use Rattle.hp_script.specs.Mapped.{Gives};
 ghost use Rattle.hp_script.specs.Place.{path_to};
 ghost use Rattle.hp_script.specs.Rows.{names_in};
+ghost use Rattle.hp_script.specs.Sides.{side_field_at};
 
 use crate::name::name_at;
 use crate::number::index_at;
@@ -28,6 +28,13 @@ const MAX_LEVELS: usize = 16;
 
 /// The most bytes that a text may have.
 const MAX_TEXT: usize = 1_024;
+
+/// The row after a change, or the row before it.
+#[derive(Clone, Copy)]
+pub(crate) enum Side {
+    New,
+    Old,
+}
 
 /// An expression whose parts are still JSON.
 #[derive(Clone, Copy)]
@@ -209,34 +216,23 @@ fn key_of_at(
     Ok(Expr::KeyOf { variable })
 }
 
-#[tactic(auto, unfolding(hp_model::specs::ExpressionGrammar::new_field_at))]
-fn new_field_at(
+#[tactic(auto, unfolding(hp_model::specs::ExpressionGrammar::new_field_at, hp_model::specs::ExpressionGrammar::old_field_at))]
+fn side_field_at(
     alloc: Global,
     place: &Place<'_>,
+    side: Side,
     part: &Value,
     field: &Value,
 ) -> Result<Expr, DecodeError>
-    ensures { Gives expression result (new_field_at (path_to place.now) (view part.now) (view field.now)) }
+    ensures { Gives expression result (side_field_at side (path_to place.now) (view part.now) (view field.now)) }
 {
     let part = index_at(alloc, &place.item(1), part)?;
     let field = name_at(alloc, &place.item(2), field)?;
     let field = String::from_str(alloc, field)?;
-    Ok(Expr::NewField { part, field })
-}
-
-#[tactic(auto, unfolding(hp_model::specs::ExpressionGrammar::old_field_at))]
-fn old_field_at(
-    alloc: Global,
-    place: &Place<'_>,
-    part: &Value,
-    field: &Value,
-) -> Result<Expr, DecodeError>
-    ensures { Gives expression result (old_field_at (path_to place.now) (view part.now) (view field.now)) }
-{
-    let part = index_at(alloc, &place.item(1), part)?;
-    let field = name_at(alloc, &place.item(2), field)?;
-    let field = String::from_str(alloc, field)?;
-    Ok(Expr::OldField { part, field })
+    match side {
+        Side::New => Ok(Expr::NewField { part, field }),
+        Side::Old => Ok(Expr::OldField { part, field }),
+    }
 }
 
 #[tactic(auto, unfolding(hp_model::specs::ExpressionGrammar::key_in_at))]
@@ -322,8 +318,20 @@ fn expression_within(
             alloc, place, rows, variable, field,
         ),
         ExpressionForm::KeyOf(variable) => key_of_at(alloc, place, rows, variable),
-        ExpressionForm::NewField(part, field) => new_field_at(alloc, place, part, field),
-        ExpressionForm::OldField(part, field) => old_field_at(alloc, place, part, field),
+        ExpressionForm::NewField(part, field) => side_field_at(
+            alloc,
+            place,
+            Side::New,
+            part,
+            field,
+        ),
+        ExpressionForm::OldField(part, field) => side_field_at(
+            alloc,
+            place,
+            Side::Old,
+            part,
+            field,
+        ),
         ExpressionForm::KeyIn(part) => key_in_at(alloc, place, part),
         ExpressionForm::Argument(part, position) => argument_at(alloc, place, part, position),
         ExpressionForm::TimeOf(part) => time_of_at(alloc, place, part),
@@ -358,8 +366,8 @@ fn operands_at(
     right: &Value,
 ) -> Result<(Box<Expr>, Box<Expr>), DecodeError>
     ensures { Gives (λ p. (expression p.0.value, expression p.1.value)) result
-        (operands_at (expression_within (names_in rows.now) levels) (path_to place.now) (view left.now)
-        (view right.now)) }
+        (operands_at (expression_within (names_in rows.now) levels) (path_to place.now)
+        (view left.now) (view right.now)) }
 {
     let left = operand_at(alloc, &place.item(1), rows, levels, left)?;
     let right = operand_at(alloc, &place.item(2), rows, levels, right)?;

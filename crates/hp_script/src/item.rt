@@ -4,14 +4,15 @@ ghost use Rattle.std.specs.Prelude.{◌≡◌, ◌++◌, map, option_map, IfOk};
 ghost use Rattle.serde_json.specs.View.{view};
 ghost use Rattle.hp_model.specs.Cascade.{moment};
 ghost use Rattle.hp_model.specs.Decode.{item_form_of_one, item_form, item_form_at, transaction_at, clock_at};
-ghost use Rattle.hp_model.specs.Decode.{unit_at, units_at};
 ghost use Rattle.hp_rule.specs.Mapped.{library as model_library, rule, unit};
 ghost use Rattle.hp_script.specs.Forms.{item_form_view};
+ghost use Rattle.hp_script.specs.Items.{item_over, items_over};
 ghost use Rattle.hp_script.specs.Mapped.{Gives, schedule};
-ghost use Rattle.hp_script.specs.OwnBodies.{AreOf};
+ghost use Rattle.hp_script.specs.OwnBodies.{AreOf, StayOf};
 ghost use Rattle.hp_script.specs.Place.{path_to};
 ghost use Rattle.hp_script.specs.Scopes.{library_scope};
 
+use crate::list::list_at;
 use crate::moment::due_moments;
 use crate::number::number_from;
 use crate::place::{Place, misshapen};
@@ -19,7 +20,7 @@ use crate::refusal::{DecodeError, Limit, Refusal};
 use crate::rows::no_rows;
 use crate::schedule::Schedule;
 use crate::scope::Scope;
-use crate::shape::{form_of, list_of};
+use crate::shape::form_of;
 use crate::statement::statements_at;
 use hp_rule::{Body, Library, Rule, Unit};
 use serde_json::Value;
@@ -76,11 +77,10 @@ fn transaction_at(
     before: Schedule,
     body: &Value,
 ) -> Result<Schedule, DecodeError>
-    ensures own { IfOk result (λ s.
-        AreOf library.now.value before.units.items → AreOf library.now.value s.units.items) }
+    ensures own { IfOk result (StayOf library.now.value before) }
     ensures reads { Gives schedule result
-        (transaction_at (library_scope (model_library library.now.value)) (path_to place.now) (schedule before)
-        (view body.now)) }
+        (transaction_at (library_scope (model_library library.now.value)) (path_to place.now)
+        (schedule before) (view body.now)) }
 {
     let rows = no_rows();
     let scope = Scope::of_library(library);
@@ -111,8 +111,7 @@ fn clock_at(
     before: Schedule,
     time: &Value,
 ) -> Result<Schedule, DecodeError>
-    ensures own { IfOk result (λ s.
-        (library : Library) → AreOf library before.units.items → AreOf library s.units.items) }
+    ensures own { IfOk result (λ s. (library : Library) → StayOf library before s) }
     ensures reads { Gives schedule result
         (clock_at (map rule rules.now) (path_to place.now) (schedule before) (view time.now)) }
 {
@@ -133,11 +132,9 @@ pub(crate) fn unit_at(
     before: Schedule,
     value: &Value,
 ) -> Result<Schedule, DecodeError>
-    ensures own { IfOk result (λ s.
-        AreOf library.now.value before.units.items → AreOf library.now.value s.units.items) }
+    ensures own { IfOk result (StayOf library.now.value before) }
     ensures reads { Gives schedule result
-        (unit_at (model_library library.now.value).rules (library_scope (model_library library.now.value))
-        (path_to place.now) (schedule before) (view value.now)) }
+        (item_over (model_library library.now.value) (path_to place.now) (schedule before) (view value.now)) }
 {
     match item_form_at(alloc, place, value)? {
         ItemForm::Transaction(body) => transaction_at(alloc, place, library, before, body),
@@ -155,12 +152,9 @@ pub(crate) fn units_at(
 ) -> Result<Schedule, DecodeError>
     ensures own { IfOk result (λ s. AreOf library.now.value s.units.items) }
     ensures reads { Gives schedule result
-        (units_at (model_library library.now.value).rules (library_scope (model_library library.now.value))
-        (path_to place.now) (view value.now)) }
+        (items_over (model_library library.now.value) (path_to place.now) (view value.now)) }
 {
-    let Some(values) = list_of(value) else {
-        return Err(misshapen(alloc, place));
-    };
+    let values = list_at(alloc, place, value)?;
     let mut schedule = Schedule {
         units: Vec::new(alloc),
         clock: 0,

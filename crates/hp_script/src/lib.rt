@@ -5,15 +5,17 @@
 
 mod assignment;
 mod class;
+mod context;
 mod coupling;
 mod decoding;
 mod event;
 mod expression;
 mod item;
 mod json;
-mod known;
+mod list;
 mod moment;
 mod name;
+mod names;
 mod number;
 mod operation;
 mod place;
@@ -24,7 +26,6 @@ mod request;
 mod rows;
 mod rule;
 mod rule_head;
-mod rule_names;
 mod schedule;
 mod scope;
 mod script;

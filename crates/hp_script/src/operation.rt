@@ -2,24 +2,25 @@
 
 ghost use Rattle.std.specs.Prelude.{map};
 ghost use Rattle.serde_json.specs.View.{view};
-ghost use Rattle.hp_model.specs.StatementGrammar.{create_at, update_at, delete_at, arguments_at, signal_at};
-ghost use Rattle.hp_model.specs.StatementGrammar.{emit_at, on_rule_at, fire_at};
+ghost use Rattle.hp_model.specs.StatementGrammar.{delete_form, signal_form, emit_form, rule_form, fire_form};
+ghost use Rattle.hp_model.specs.StatementGrammar.{arguments_at};
 ghost use Rattle.hp_value.specs.Mapped.{expression};
 ghost use Rattle.hp_rule.specs.Mapped.{rule_operation, statement};
-ghost use Rattle.hp_script.specs.Forms.{scope_view};
+ghost use Rattle.hp_script.specs.Contexts.{form_here};
+ghost use Rattle.hp_script.specs.Writes.{write_form};
 ghost use Rattle.hp_script.specs.Mapped.{Gives};
 ghost use Rattle.hp_script.specs.Place.{path_to};
 ghost use Rattle.hp_script.specs.Rows.{names_in};
 
 use crate::assignment::{all_assignments_at, assignments_at};
+use crate::context::Context;
 use crate::expression::{boxed_expression_at, expression_at};
+use crate::list::short_list_at;
 use crate::name::name_at;
-use crate::place::{Place, misshapen};
+use crate::place::Place;
 use crate::reference::{class_at, fields_of, rule_at};
-use crate::refusal::{DecodeError, Limit, Refusal};
+use crate::refusal::{DecodeError, Limit};
 use crate::rows::Rows;
-use crate::scope::Scope;
-use crate::shape::list_of;
 use hp_rule::{RuleOperation, Stmt};
 use hp_value::Expr;
 use serde_json::Value;
@@ -28,65 +29,56 @@ use std::alloc::Global;
 /// The most arguments that a signal may have.
 const MAX_ARGUMENTS: usize = 32;
 
-#[tactic(auto, unfolding(hp_model::specs::StatementGrammar::create_at))]
-pub(crate) fn create_at(
-    alloc: Global,
-    place: &Place<'_>,
-    scope: &Scope<'_>,
-    rows: &Rows<'_>,
-    class: &Value,
-    key: &Value,
-    pairs: &Value,
-) -> Result<Stmt, DecodeError>
-    ensures { Gives statement result
-        (create_at (scope_view scope.entry.now) (names_in rows.now) (path_to place.now) (view class.now)
-        (view key.now) (view pairs.now)) }
-{
-    let class = class_at(alloc, &place.item(1), scope, class)?;
-    let key = boxed_expression_at(alloc, &place.item(2), rows, key)?;
-    let pairs = all_assignments_at(alloc, &place.item(3), fields_of(scope, class), rows, pairs)?;
-    Ok(Stmt::Create { class, key, pairs })
+/// The statements that set the fields of an object.
+#[derive(Clone, Copy)]
+pub(crate) enum Write {
+    Create,
+    Update,
 }
 
-#[tactic(auto, unfolding(hp_model::specs::StatementGrammar::update_at))]
-pub(crate) fn update_at(
-    alloc: Global,
-    place: &Place<'_>,
-    scope: &Scope<'_>,
-    rows: &Rows<'_>,
+#[tactic(auto, unfolding(hp_model::specs::StatementGrammar::create_at, hp_model::specs::StatementGrammar::update_at))]
+pub(crate) fn write_at(
+    context: &Context<'_>,
+    write: Write,
     class: &Value,
     key: &Value,
     pairs: &Value,
 ) -> Result<Stmt, DecodeError>
     ensures { Gives statement result
-        (update_at (scope_view scope.entry.now) (names_in rows.now) (path_to place.now) (view class.now)
-        (view key.now) (view pairs.now)) }
+        (form_here context.entry.now 0 (write_form write (view class.now) (view key.now) (view pairs.now))) }
 {
-    let class = class_at(alloc, &place.item(1), scope, class)?;
-    let key = boxed_expression_at(alloc, &place.item(2), rows, key)?;
-    let pairs = assignments_at(alloc, &place.item(3), fields_of(scope, class), rows, pairs)?;
-    Ok(Stmt::Update { class, key, pairs })
+    let alloc = context.alloc;
+    let class = class_at(alloc, &context.place.item(1), &context.scope, class)?;
+    let key = boxed_expression_at(alloc, &context.place.item(2), &context.rows, key)?;
+    let place = context.place.item(3);
+    let fields = fields_of(&context.scope, class);
+    match write {
+        Write::Create => {
+            let pairs = all_assignments_at(alloc, &place, fields, &context.rows, pairs)?;
+            Ok(Stmt::Create { class, key, pairs })
+        }
+        Write::Update => {
+            let pairs = assignments_at(alloc, &place, fields, &context.rows, pairs)?;
+            Ok(Stmt::Update { class, key, pairs })
+        }
+    }
 }
 
 #[tactic(auto, unfolding(hp_model::specs::StatementGrammar::delete_at))]
 pub(crate) fn delete_at(
-    alloc: Global,
-    place: &Place<'_>,
-    scope: &Scope<'_>,
-    rows: &Rows<'_>,
+    context: &Context<'_>,
     class: &Value,
     key: &Value,
 ) -> Result<Stmt, DecodeError>
-    ensures { Gives statement result
-        (delete_at (scope_view scope.entry.now) (names_in rows.now) (path_to place.now) (view class.now)
-        (view key.now)) }
+    ensures { Gives statement result (form_here context.entry.now 0 (delete_form (view class.now) (view key.now))) }
 {
-    let class = class_at(alloc, &place.item(1), scope, class)?;
-    let key = boxed_expression_at(alloc, &place.item(2), rows, key)?;
+    let alloc = context.alloc;
+    let class = class_at(alloc, &context.place.item(1), &context.scope, class)?;
+    let key = boxed_expression_at(alloc, &context.place.item(2), &context.rows, key)?;
     Ok(Stmt::Delete { class, key })
 }
 
-#[tactic(auto, unfolding(hp_model::specs::StatementGrammar::arguments_at, hp_model::specs::Parts::short_list_at))]
+#[tactic(auto, unfolding(hp_model::specs::StatementGrammar::arguments_at))]
 fn arguments_at(
     alloc: Global,
     place: &Place<'_>,
@@ -96,12 +88,7 @@ fn arguments_at(
     ensures { Gives (λ es. map expression es.items) result
         (arguments_at (names_in rows.now) (path_to place.now) (view value.now)) }
 {
-    let Some(values) = list_of(value) else {
-        return Err(misshapen(alloc, place));
-    };
-    if values.len() > MAX_ARGUMENTS {
-        return Err(DecodeError::Refused(Refusal::S5(Limit::Arguments)));
-    }
+    let values = short_list_at(alloc, place, MAX_ARGUMENTS, Limit::Arguments, value)?;
     let mut arguments = Vec::new(alloc);
     for (i, value) in values.iter().enumerate() {
         let argument = expression_at(alloc, &place.item(i), rows, value)?;
@@ -112,58 +99,45 @@ fn arguments_at(
 
 #[tactic(auto, unfolding(hp_model::specs::StatementGrammar::signal_at))]
 pub(crate) fn signal_at(
-    alloc: Global,
-    place: &Place<'_>,
-    rows: &Rows<'_>,
+    context: &Context<'_>,
     name: &Value,
     arguments: &Value,
 ) -> Result<Stmt, DecodeError>
     ensures { Gives statement result
-        (signal_at (names_in rows.now) (path_to place.now) (view name.now) (view arguments.now)) }
+        (form_here context.entry.now 0 (signal_form (view name.now) (view arguments.now))) }
 {
-    let name = name_at(alloc, &place.item(1), name)?;
-    let arguments = arguments_at(alloc, &place.item(2), rows, arguments)?;
+    let alloc = context.alloc;
+    let name = name_at(alloc, &context.place.item(1), name)?;
+    let arguments = arguments_at(alloc, &context.place.item(2), &context.rows, arguments)?;
     let name = String::from_str(alloc, name)?;
     Ok(Stmt::Signal { name, arguments })
 }
 
 #[tactic(auto, unfolding(hp_model::specs::StatementGrammar::emit_at))]
-pub(crate) fn emit_at(
-    alloc: Global,
-    place: &Place<'_>,
-    rows: &Rows<'_>,
-    value: &Value,
-) -> Result<Stmt, DecodeError>
-    ensures { Gives statement result (emit_at (names_in rows.now) (path_to place.now) (view value.now)) }
+pub(crate) fn emit_at(context: &Context<'_>, value: &Value) -> Result<Stmt, DecodeError>
+    ensures { Gives statement result (form_here context.entry.now 0 (emit_form (view value.now))) }
 {
-    let value = boxed_expression_at(alloc, &place.item(1), rows, value)?;
+    let value = boxed_expression_at(context.alloc, &context.place.item(1), &context.rows, value)?;
     Ok(Stmt::Emit(value))
 }
 
 #[tactic(auto, unfolding(hp_model::specs::StatementGrammar::on_rule_at))]
 pub(crate) fn on_rule_at(
-    alloc: Global,
-    place: &Place<'_>,
-    scope: &Scope<'_>,
+    context: &Context<'_>,
     operation: RuleOperation,
     rule: &Value,
 ) -> Result<Stmt, DecodeError>
     ensures { Gives statement result
-        (on_rule_at (scope_view scope.entry.now) (rule_operation operation) (path_to place.now) (view rule.now)) }
+        (form_here context.entry.now 0 (rule_form (rule_operation operation) (view rule.now))) }
 {
-    let rule = rule_at(alloc, &place.item(1), scope, rule)?;
+    let rule = rule_at(context.alloc, &context.place.item(1), &context.scope, rule)?;
     Ok(Stmt::OnRule { operation, rule })
 }
 
 #[tactic(auto, unfolding(hp_model::specs::StatementGrammar::fire_at))]
-pub(crate) fn fire_at(
-    alloc: Global,
-    place: &Place<'_>,
-    scope: &Scope<'_>,
-    rule: &Value,
-) -> Result<Stmt, DecodeError>
-    ensures { Gives statement result (fire_at (scope_view scope.entry.now) (path_to place.now) (view rule.now)) }
+pub(crate) fn fire_at(context: &Context<'_>, rule: &Value) -> Result<Stmt, DecodeError>
+    ensures { Gives statement result (form_here context.entry.now 0 (fire_form (view rule.now))) }
 {
-    let rule = rule_at(alloc, &place.item(1), scope, rule)?;
+    let rule = rule_at(context.alloc, &context.place.item(1), &context.scope, rule)?;
     Ok(Stmt::Fire(rule))
 }

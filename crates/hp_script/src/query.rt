@@ -10,6 +10,7 @@ ghost use Rattle.hp_script.specs.Mapped.{Gives};
 ghost use Rattle.hp_script.specs.Place.{path_to};
 
 use crate::expression::boxed_expression_at;
+use crate::list::list_at;
 use crate::place::{Place, misshapen};
 use crate::reference::class_at;
 use crate::refusal::DecodeError;
@@ -40,8 +41,8 @@ fn query_at(
     value: &Value,
 ) -> Result<Query, DecodeError>
     ensures { Gives query result
-        (query_at (class_names (scope_view scope.entry.now).classes) (map query before.now) (path_to place.now)
-        (view value.now)) }
+        (query_at (class_names (scope_view scope.entry.now).classes) (map query before.now)
+        (path_to place.now) (view value.now)) }
 {
     let Some((name, class, predicate)) = triple_of(value) else {
         return Err(misshapen(alloc, place));
@@ -70,9 +71,7 @@ pub(crate) fn condition_at(
     ensures { Gives (λ queries. map query queries.items) result
         (condition_at (class_names (scope_view scope.entry.now).classes) (path_to place.now) (view value.now)) }
 {
-    let Some(values) = list_of(value) else {
-        return Err(misshapen(alloc, place));
-    };
+    let values = list_at(alloc, place, value)?;
     let mut queries = Vec::new(alloc);
     for (i, value) in values.iter().enumerate() {
         let query = query_at(alloc, &place.item(i), scope, queries.as_slice(), value)?;

@@ -10,8 +10,8 @@ ghost use Rattle.hp_script.specs.Forms.{scope_view};
 ghost use Rattle.hp_script.specs.Mapped.{Gives};
 ghost use Rattle.hp_script.specs.Place.{path_to};
 
-use crate::known::class_place;
 use crate::name::name_at;
+use crate::names::class_place;
 use crate::place::{Place, misnamed};
 use crate::refusal::DecodeError;
 use crate::rows::has_query;
@@ -62,7 +62,8 @@ pub(crate) fn rule_at(
     scope: &Scope<'_>,
     value: &Value,
 ) -> Result<RuleNo, DecodeError>
-    ensures { Gives (λ n. n) result (place_at (scope_view scope.entry.now).rules (path_to place.now) (view value.now)) }
+    ensures { Gives (λ n. n) result
+        (place_at (scope_view scope.entry.now).rules (path_to place.now) (view value.now)) }
 {
     let name = name_at(alloc, place, value)?;
     match rule_number(scope, name) {

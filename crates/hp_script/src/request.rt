@@ -3,10 +3,9 @@
 ghost use Rattle.std.specs.Prelude.{◌≡◌, ◌<◌, [], IfOk, length};
 ghost use Rattle.serde_json.specs.View.{view};
 ghost use Rattle.hp_rule.specs.Mapped.{library as model_library};
-ghost use Rattle.hp_model.specs.Decode.{unit_at};
+ghost use Rattle.hp_script.specs.Items.{item_over};
 ghost use Rattle.hp_script.specs.Mapped.{Gives, schedule};
-ghost use Rattle.hp_script.specs.OwnBodies.{AreOf};
-ghost use Rattle.hp_script.specs.Scopes.{library_scope};
+ghost use Rattle.hp_script.specs.OwnBodies.{StayOf};
 ghost use Rattle.hp_script.specs.Requests.{asks_for_state, nothing_since, item_of, request_at, request_of};
 ghost use Rattle.hp_script.specs.Asked.{request, IsRequestOf};
 
@@ -59,11 +58,9 @@ fn item_after(
     before: Schedule,
     value: &Value,
 ) -> Result<Schedule, DecodeError>
-    ensures own { IfOk result (λ s.
-        AreOf library.now.value before.units.items → AreOf library.now.value s.units.items) }
+    ensures own { IfOk result (StayOf library.now.value before) }
     ensures reads { Gives schedule result
-        (unit_at (model_library library.now.value).rules (library_scope (model_library library.now.value)) []
-        (schedule before) (view value.now)) }
+        (item_over (model_library library.now.value) [] (schedule before) (view value.now)) }
 {
     unit_at(alloc, &Place::Root, library, before, value)
 }

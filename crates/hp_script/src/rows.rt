@@ -95,8 +95,7 @@ pub(crate) fn new_row_at<'a>(
 {
     let name = name_at(alloc, place, value)?;
     if is_known(rows, name) {
-        Err(misnamed(alloc, place))
-    } else {
-        Ok(name)
+        return Err(misnamed(alloc, place));
     }
+    Ok(name)
 }

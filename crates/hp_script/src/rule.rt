@@ -58,7 +58,8 @@ fn rule_at(
     head: &RuleHead<'_>,
 ) -> Result<Rule, DecodeError>
     ensures { Gives rule result
-        (rule_at (version_view version) (scope_view scope.entry.now) (path_to place.now) (head_view head.entry.now)) }
+        (rule_at (version_view version) (scope_view scope.entry.now)
+        (path_to place.now) (head_view head.entry.now)) }
 {
     let parts = head.parts;
     let event = event_at(alloc, &place.item(1), scope, parts.event)?;
@@ -93,8 +94,8 @@ pub(crate) fn rules_at(
     heads: &[RuleHead<'_>],
 ) -> Result<Vec<Rule>, DecodeError>
     ensures { Gives (λ rules. map rule rules.items) result
-        (rules_at (version_view version) (scope_view scope.entry.now) (path_to place.now)
-        (heads_view heads.entry.now)) }
+        (rules_at (version_view version) (scope_view scope.entry.now)
+        (path_to place.now) (heads_view heads.entry.now)) }
 {
     let mut rules = Vec::new(alloc);
     for (i, head) in heads.iter().enumerate() {

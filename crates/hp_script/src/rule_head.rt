@@ -7,10 +7,10 @@ ghost use Rattle.hp_script.specs.Forms.{parts_view, head_view, heads_view};
 ghost use Rattle.hp_script.specs.Mapped.{Gives};
 ghost use Rattle.hp_script.specs.Place.{path_to};
 
-use crate::known::head_place;
-use crate::name::name_at;
-use crate::place::{Place, misnamed, misshapen};
-use crate::refusal::{DecodeError, Limit, Refusal};
+use crate::list::short_list_at;
+use crate::names::{Names, new_name_at};
+use crate::place::{Place, misshapen};
+use crate::refusal::{DecodeError, Limit};
 use crate::shape::list_of;
 use serde_json::Value;
 use std::alloc::Global;
@@ -60,7 +60,7 @@ fn rule_parts_of(value: &Value) -> Option<RuleParts<'_>>
 }
 
 /// The head of a rule whose name no rule before has.
-#[tactic(auto, unfolding(hp_model::specs::RuleHeads::rule_head_at, hp_model::specs::Parts::new_name_at))]
+#[tactic(auto, unfolding(hp_model::specs::RuleHeads::rule_head_at))]
 fn rule_head_at<'a>(
     alloc: Global,
     place: &Place<'_>,
@@ -73,15 +73,12 @@ fn rule_head_at<'a>(
     let Some(parts) = rule_parts_of(value) else {
         return Err(misshapen(alloc, place));
     };
-    let name = name_at(alloc, &place.item(0), parts.name)?;
-    if head_place(before, name).is_some() {
-        return Err(misnamed(alloc, &place.item(0)));
-    }
+    let name = new_name_at(alloc, &place.item(0), Names::Heads(before), parts.name)?;
     Ok(RuleHead { name, parts })
 }
 
 /// The heads of the rules at a place.
-#[tactic(auto, unfolding(hp_model::specs::RuleHeads::rule_heads_at, hp_model::specs::Parts::short_list_at))]
+#[tactic(auto, unfolding(hp_model::specs::RuleHeads::rule_heads_at))]
 pub(crate) fn rule_heads_at<'a>(
     alloc: Global,
     place: &Place<'_>,
@@ -91,12 +88,7 @@ pub(crate) fn rule_heads_at<'a>(
         (rule_heads_at (path_to place.now) (view value.entry.now)) }
     ensures few { IfOk result (λ heads. length heads.items ≤ 256) }
 {
-    let Some(values) = list_of(value) else {
-        return Err(misshapen(alloc, place));
-    };
-    if values.len() > MAX_RULES {
-        return Err(DecodeError::Refused(Refusal::S5(Limit::Rules)));
-    }
+    let values = short_list_at(alloc, place, MAX_RULES, Limit::Rules, value)?;
     let mut heads = Vec::new(alloc);
     for (i, value) in values.iter().enumerate() {
         let head = rule_head_at(alloc, &place.item(i), heads.as_slice(), value)?;

@@ -1,9 +1,9 @@
 //! The classes, rules and queries that a body may name.
 
 ghost use Rattle.std.specs.Prelude.{length, ◌≤◌};
-ghost use Rattle.hp_script.specs.RuleNames.{names_of};
+ghost use Rattle.hp_script.specs.Names.{names_of};
 
-use crate::rule_names::RuleNames;
+use crate::names::Names;
 use hp_rule::{Library, Query};
 use hp_value::ClassDef;
 
@@ -11,7 +11,7 @@ use hp_value::ClassDef;
 #[derive(Clone, Copy)]
 pub(crate) struct Scope<'a> {
     pub classes: &'a [ClassDef],
-    pub rules: RuleNames<'a>,
+    pub rules: Names<'a>,
     /// In a rule's action the rule's condition; else none.
     pub queries: &'a [Query],
     pub in_action: bool,
@@ -31,7 +31,7 @@ impl<'a> Scope<'a> {
     {
         Scope {
             classes: library.classes(),
-            rules: RuleNames::Rules(library.rules()),
+            rules: Names::Rules(library.rules()),
             queries: &[],
             in_action: false,
         }

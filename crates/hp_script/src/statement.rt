@@ -2,22 +2,23 @@
 
 ghost use Rattle.std.specs.Prelude.{map};
 ghost use Rattle.serde_json.specs.View.{view};
-ghost use Rattle.hp_model.specs.StatementGrammar.{statements_by, if_at, each_at, for_at, with_at, sub_at};
-ghost use Rattle.hp_model.specs.StatementGrammar.{statement_within, statements_at};
+ghost use Rattle.hp_model.specs.StatementGrammar.{if_form, each_form, for_form, with_form, sub_form, statements_at};
 ghost use Rattle.hp_rule.specs.Mapped.{statement};
+ghost use Rattle.hp_script.specs.Contexts.{form_here, statement_here, statements_here};
 ghost use Rattle.hp_script.specs.Forms.{scope_view};
 ghost use Rattle.hp_script.specs.Mapped.{Gives};
 ghost use Rattle.hp_script.specs.Place.{path_to};
 ghost use Rattle.hp_script.specs.Rows.{names_in};
 
+use crate::context::Context;
 use crate::expression::boxed_expression_at;
-use crate::operation::{create_at, delete_at, emit_at, fire_at, on_rule_at, signal_at, update_at};
-use crate::place::{Place, misshapen};
+use crate::list::list_at;
+use crate::operation::{Write, delete_at, emit_at, fire_at, on_rule_at, signal_at, write_at};
+use crate::place::Place;
 use crate::reference::{class_at, query_at};
 use crate::refusal::{DecodeError, Limit, Refusal};
 use crate::rows::{Rows, new_row_at};
 use crate::scope::Scope;
-use crate::shape::list_of;
 use crate::statement_form::{StatementForm, statement_form_at};
 use hp_rule::Stmt;
 use serde_json::Value;
@@ -29,22 +30,23 @@ const MAX_LEVELS: usize = 16;
 #[cycle(statement)]
 #[tactic(auto, using(crate::proofs::Bodies::if_statement), unfolding(hp_model::specs::StatementGrammar::if_at))]
 fn if_at(
-    alloc: Global,
-    place: &Place<'_>,
-    scope: &Scope<'_>,
-    rows: &Rows<'_>,
+    context: &Context<'_>,
     levels: usize,
     test: &Value,
     then_body: &Value,
     else_body: &Value,
 ) -> Result<Stmt, DecodeError>
     ensures { Gives statement result
-        (if_at (statement_within (scope_view scope.entry.now) levels) (names_in rows.now) (path_to place.now)
-        (view test.now) (view then_body.now) (view else_body.now)) }
+        (form_here context.entry.now levels (if_form (view test.now) (view then_body.now) (view else_body.now))) }
 {
-    let condition = boxed_expression_at(alloc, &place.item(1), rows, test)?;
-    let then_body = statements_within(alloc, &place.item(2), scope, rows, levels, then_body)?;
-    let else_body = statements_within(alloc, &place.item(3), scope, rows, levels, else_body)?;
+    let condition = boxed_expression_at(
+        context.alloc,
+        &context.place.item(1),
+        &context.rows,
+        test,
+    )?;
+    let then_body = statements_within(&context.item(2), levels, then_body)?;
+    let else_body = statements_within(&context.item(3), levels, else_body)?;
     Ok(Stmt::If {
         condition,
         then_body,
@@ -55,10 +57,7 @@ fn if_at(
 #[cycle(statement)]
 #[tactic(auto, unfolding(hp_model::specs::StatementGrammar::each_at))]
 fn each_at(
-    alloc: Global,
-    place: &Place<'_>,
-    scope: &Scope<'_>,
-    rows: &Rows<'_>,
+    context: &Context<'_>,
     levels: usize,
     variable: &Value,
     class: &Value,
@@ -66,15 +65,15 @@ fn each_at(
     body: &Value,
 ) -> Result<Stmt, DecodeError>
     ensures { Gives statement result
-        (each_at (scope_view scope.entry.now) (statement_within (scope_view scope.entry.now) levels)
-        (names_in rows.now) (path_to place.now)
-        (view variable.now) (view class.now) (view predicate.now) (view body.now)) }
+        (form_here context.entry.now levels
+        (each_form (view variable.now) (view class.now) (view predicate.now) (view body.now))) }
 {
-    let variable = new_row_at(alloc, &place.item(1), rows, variable)?;
-    let class = class_at(alloc, &place.item(2), scope, class)?;
-    let inner = (&*rows).named(variable);
-    let predicate = boxed_expression_at(alloc, &place.item(3), &inner, predicate)?;
-    let body = statements_within(alloc, &place.item(4), scope, &inner, levels, body)?;
+    let alloc = context.alloc;
+    let variable = new_row_at(alloc, &context.place.item(1), &context.rows, variable)?;
+    let class = class_at(alloc, &context.place.item(2), &context.scope, class)?;
+    let inner = (&*context).named(variable);
+    let predicate = boxed_expression_at(alloc, &inner.place.item(3), &inner.rows, predicate)?;
+    let body = statements_within(&inner.item(4), levels, body)?;
     let variable = String::from_str(alloc, variable)?;
     Ok(Stmt::Each {
         variable,
@@ -87,20 +86,16 @@ fn each_at(
 #[cycle(statement)]
 #[tactic(auto, unfolding(hp_model::specs::StatementGrammar::for_at))]
 fn for_at(
-    alloc: Global,
-    place: &Place<'_>,
-    scope: &Scope<'_>,
-    rows: &Rows<'_>,
+    context: &Context<'_>,
     levels: usize,
     query: &Value,
     body: &Value,
 ) -> Result<Stmt, DecodeError>
-    ensures { Gives statement result
-        (for_at (scope_view scope.entry.now) (statement_within (scope_view scope.entry.now) levels)
-        (names_in rows.now) (path_to place.now) (view query.now) (view body.now)) }
+    ensures { Gives statement result (form_here context.entry.now levels (for_form (view query.now) (view body.now))) }
 {
-    let query = query_at(alloc, &place.item(1), scope, query)?;
-    let body = statements_within(alloc, &place.item(2), scope, rows, levels, body)?;
+    let alloc = context.alloc;
+    let query = query_at(alloc, &context.place.item(1), &context.scope, query)?;
+    let body = statements_within(&context.item(2), levels, body)?;
     let query = String::from_str(alloc, query)?;
     Ok(Stmt::For { query, body })
 }
@@ -108,10 +103,7 @@ fn for_at(
 #[cycle(statement)]
 #[tactic(auto, unfolding(hp_model::specs::StatementGrammar::with_at))]
 fn with_at(
-    alloc: Global,
-    place: &Place<'_>,
-    scope: &Scope<'_>,
-    rows: &Rows<'_>,
+    context: &Context<'_>,
     levels: usize,
     variable: &Value,
     class: &Value,
@@ -119,14 +111,15 @@ fn with_at(
     body: &Value,
 ) -> Result<Stmt, DecodeError>
     ensures { Gives statement result
-        (with_at (scope_view scope.entry.now) (statement_within (scope_view scope.entry.now) levels)
-        (names_in rows.now) (path_to place.now) (view variable.now) (view class.now) (view key.now) (view body.now)) }
+        (form_here context.entry.now levels
+        (with_form (view variable.now) (view class.now) (view key.now) (view body.now))) }
 {
-    let variable = new_row_at(alloc, &place.item(1), rows, variable)?;
-    let class = class_at(alloc, &place.item(2), scope, class)?;
-    let key = boxed_expression_at(alloc, &place.item(3), rows, key)?;
-    let inner = (&*rows).named(variable);
-    let body = statements_within(alloc, &place.item(4), scope, &inner, levels, body)?;
+    let alloc = context.alloc;
+    let variable = new_row_at(alloc, &context.place.item(1), &context.rows, variable)?;
+    let class = class_at(alloc, &context.place.item(2), &context.scope, class)?;
+    let key = boxed_expression_at(alloc, &context.place.item(3), &context.rows, key)?;
+    let inner = (&*context).named(variable);
+    let body = statements_within(&inner.item(4), levels, body)?;
     let variable = String::from_str(alloc, variable)?;
     Ok(Stmt::With {
         variable,
@@ -139,100 +132,77 @@ fn with_at(
 #[cycle(statement)]
 #[tactic(auto, using(crate::proofs::Bodies::sub_statement), unfolding(hp_model::specs::StatementGrammar::sub_at))]
 fn sub_at(
-    alloc: Global,
-    place: &Place<'_>,
-    scope: &Scope<'_>,
-    rows: &Rows<'_>,
+    context: &Context<'_>,
     levels: usize,
     body: &Value,
     otherwise: &Value,
 ) -> Result<Stmt, DecodeError>
     ensures { Gives statement result
-        (sub_at (statement_within (scope_view scope.entry.now) levels) (names_in rows.now) (path_to place.now)
-        (view body.now) (view otherwise.now)) }
+        (form_here context.entry.now levels (sub_form (view body.now) (view otherwise.now))) }
 {
-    let body = statements_within(alloc, &place.item(1), scope, rows, levels, body)?;
-    let otherwise = statements_within(alloc, &place.item(2), scope, rows, levels, otherwise)?;
+    let body = statements_within(&context.item(1), levels, body)?;
+    let otherwise = statements_within(&context.item(2), levels, otherwise)?;
     Ok(Stmt::Sub { body, otherwise })
 }
 
-/// The statement at a place, which has at most `levels` levels.
+/// The statement here, which has at most `levels` levels.
 #[cycle(statement)]
 #[tactic(auto, unfolding(hp_model::specs::StatementGrammar::statement_within))]
 fn statement_within(
-    alloc: Global,
-    place: &Place<'_>,
-    scope: &Scope<'_>,
-    rows: &Rows<'_>,
+    context: &Context<'_>,
     levels: usize,
     value: &Value,
 ) -> Result<Stmt, DecodeError>
-    ensures { Gives statement result
-        (statement_within (scope_view scope.entry.now) levels (names_in rows.now) (path_to place.now)
-        (view value.now)) }
+    ensures { Gives statement result (statement_here context.entry.now levels (view value.now)) }
 {
-    let form = statement_form_at(alloc, place, scope, value)?;
+    let form = statement_form_at(context.alloc, &context.place, &context.scope, value)?;
     if levels == 0 {
         return Err(DecodeError::Refused(Refusal::S5(Limit::Nesting)));
     }
     let levels = levels - 1;
     match form {
         StatementForm::Create(class, key, pairs) => {
-            create_at(alloc, place, scope, rows, class, key, pairs)
+            write_at(context, Write::Create, class, key, pairs)
         }
         StatementForm::Update(class, key, pairs) => {
-            update_at(alloc, place, scope, rows, class, key, pairs)
+            write_at(context, Write::Update, class, key, pairs)
         }
-        StatementForm::Delete(class, key) => delete_at(alloc, place, scope, rows, class, key),
-        StatementForm::Signal(name, arguments) => signal_at(alloc, place, rows, name, arguments),
-        StatementForm::Emit(value) => emit_at(alloc, place, rows, value),
+        StatementForm::Delete(class, key) => delete_at(context, class, key),
+        StatementForm::Signal(name, arguments) => signal_at(context, name, arguments),
+        StatementForm::Emit(value) => emit_at(context, value),
         StatementForm::If(test, then_body, else_body) => {
-            if_at(
-                alloc, place, scope, rows, levels, test, then_body, else_body,
-            )
+            if_at(context, levels, test, then_body, else_body)
         }
         StatementForm::Each(variable, class, predicate, body) => {
-            each_at(
-                alloc, place, scope, rows, levels, variable, class, predicate, body,
-            )
+            each_at(context, levels, variable, class, predicate, body)
         }
-        StatementForm::For(query, body) => for_at(alloc, place, scope, rows, levels, query, body),
+        StatementForm::For(query, body) => for_at(context, levels, query, body),
         StatementForm::With(variable, class, key, body) => {
-            with_at(
-                alloc, place, scope, rows, levels, variable, class, key, body,
-            )
+            with_at(context, levels, variable, class, key, body)
         }
-        StatementForm::Sub(body, otherwise) => {
-            sub_at(alloc, place, scope, rows, levels, body, otherwise)
-        }
+        StatementForm::Sub(body, otherwise) => sub_at(context, levels, body, otherwise),
         StatementForm::Abort => Ok(Stmt::Abort),
         StatementForm::Veto => Ok(Stmt::Veto),
-        StatementForm::OnRule(operation, rule) => on_rule_at(alloc, place, scope, operation, rule),
-        StatementForm::Fire(rule) => fire_at(alloc, place, scope, rule),
+        StatementForm::OnRule(operation, rule) => on_rule_at(context, operation, rule),
+        StatementForm::Fire(rule) => fire_at(context, rule),
     }
 }
 
-/// The statements of the body at a place, each of which has at most `levels` levels.
+/// The statements of the body here, each of which has at most `levels` levels.
 #[cycle(statement)]
 #[tactic(auto, unfolding(hp_model::specs::StatementGrammar::statements_by))]
 fn statements_within(
-    alloc: Global,
-    place: &Place<'_>,
-    scope: &Scope<'_>,
-    rows: &Rows<'_>,
+    context: &Context<'_>,
     levels: usize,
     value: &Value,
 ) -> Result<Vec<Stmt>, DecodeError>
     ensures { Gives (λ body. map statement body.items) result
-        (statements_by (statement_within (scope_view scope.entry.now) levels) (names_in rows.now)
-        (path_to place.now) (view value.now)) }
+        (statements_here context.entry.now levels (view value.now)) }
 {
-    let Some(values) = list_of(value) else {
-        return Err(misshapen(alloc, place));
-    };
-    let mut body = Vec::new(alloc);
+    let values = list_at(context.alloc, &context.place, value)?;
+    let mut body = Vec::new(context.alloc);
     for (i, value) in values.iter().enumerate() {
-        let statement = statement_within(alloc, &place.item(i), scope, rows, levels, value)?;
+        let statement = statement_within(&context.item(i), levels, value)?;
         body.push(statement)?;
     }
     Ok(body)
@@ -249,5 +219,11 @@ pub(crate) fn statements_at(
     ensures { Gives (λ body. map statement body.items) result
         (statements_at (scope_view scope.entry.now) (names_in rows.now) (path_to place.now) (view value.now)) }
 {
-    statements_within(alloc, place, scope, rows, MAX_LEVELS, value)
+    let context = Context {
+        alloc,
+        place: *place,
+        scope: *scope,
+        rows: *rows,
+    };
+    statements_within(&context, MAX_LEVELS, value)
 }

@@ -1,6 +1,7 @@
-use Rattle.std.proofs.Common.{◌≡◌, ◌+◌, ◌*◌, [], drop, map}
+use Rattle.std.proofs.Common.{◌≡◌, ◌+◌, ◌*◌, List, [], drop, map}
 use Rattle.serde_json.specs.View.{view}
 use Rattle.hp_model.specs.Parts.{read_from}
+use Rattle.hp_model.specs.Rules.{Statement}
 use Rattle.hp_model.specs.StatementGrammar.{statement_within}
 use Rattle.hp_rule.specs.Mapped.{statement}
 use Rattle.hp_script.specs.Forms.{scope_view}
@@ -31,5 +32,6 @@ decreases-sub_at l = 3 * l.levels + 2
 
 abbrev pub invariant-statements_within-loop-i : goal.invariant-statements_within-loop-i
 invariant-statements_within-loop-i l =
-    read_from (λ _. statement_within (scope_view l.scope) l.levels (names_in l.rows)) (path_to l.place) (map statement l.body.items) l.i (map view (drop l.i l.values))
-    ≡ read_from (λ _. statement_within (scope_view l.scope) l.levels (names_in l.rows)) (path_to l.place) [] 0 (map view l.values)
+    let read = λ (before : List Statement). statement_within (scope_view l.context.scope) l.levels (names_in l.context.rows) in
+    read_from read (path_to l.context.place) (map statement l.body.items) l.i (map view (drop l.i l.values))
+    ≡ read_from read (path_to l.context.place) [] 0 (map view l.values)

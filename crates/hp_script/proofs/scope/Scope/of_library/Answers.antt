@@ -2,7 +2,7 @@ use Rattle.std.proofs.Common.{◌∙◌, ap, length}
 use Rattle.std.proofs.lemmas.List.{length-map}
 use Rattle.hp_model.specs.Rules as R
 use Rattle.hp_value.specs.Mapped.{class_def}
-use Rattle.hp_rule.specs.Mapped.{library, rule}
+use Rattle.hp_rule.specs.Mapped.{library}
 use Rattle.hp_script.proofs.ItemScopes.{few_classes, few_rules, shorter}
 use Rattle.hp_script.proofs.scope.Scope.of_library.Goals as goal
 

@@ -1,0 +1,15 @@
+use Rattle.std.proofs.Common.{rules, tests, ◌∙◌}
+use Rattle.std.proofs.lemmas.Iterator.{YieldsList-from_slice}
+use Rattle.std.proofs.lemmas.Iterator.Search.{position_from_yields_List}
+use Rattle.std.specs.Prelude.{string_bytes}
+use Rattle.std.specs.Str.{bytes_eq}
+use Rattle.hp_model.specs.Rules.{Assignment}
+use Rattle.hp_rule.specs.Mapped.{assignment}
+use Rattle.hp_script.proofs.NamePlaces.{place_of_item}
+use Rattle.hp_script.proofs.names.assignment_place.Goals as goal
+
+pub returns-clause-place : goal.returns-clause-place
+returns-clause-place c =
+    position_from_yields_List (λ a. bytes_eq (string_bytes a.field) c.args.name.now) _ _ c.position.result c.position.ensures.ran
+    (YieldsList-from_slice c.args.assignments.now (cc)) (λ x b q k. search (rules, tests))
+    ∙ place_of_item assignment (λ (a : Assignment). a.field) c.args.name.now c.args.assignments.now

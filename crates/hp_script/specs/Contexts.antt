@@ -1,0 +1,24 @@
+-- What the grammar reads in a context.
+use Rattle.std.specs.Prelude.{ℕ, List}
+use Rattle.serde_json.specs.Data.{Data}
+use Rattle.hp_model.specs.Rules.{Statement}
+use Rattle.hp_model.specs.Refusals.{Decoded}
+use Rattle.hp_model.specs.StatementGrammar.{StatementForm, statement_from, statement_within, statements_by}
+use Rattle.hp_script.specs.Forms.{scope_view}
+use Rattle.hp_script.specs.Place.{path_to}
+use Rattle.hp_script.specs.Rows.{names_in}
+use Rattle.hp_script.specs.declared.context.Context.{Context}
+
+-- the statement of a form, with at most so many levels of statements in it
+abbrev pub form_here : Context → (levels : ℕ) → StatementForm → Decoded Statement
+form_here c levels form =
+    statement_from (scope_view c.scope) (statement_within (scope_view c.scope) levels) (names_in c.rows) (path_to c.place) form
+
+-- the statement that a value is, of at most so many levels
+abbrev pub statement_here : Context → (levels : ℕ) → Data → Decoded Statement
+statement_here c levels d = statement_within (scope_view c.scope) levels (names_in c.rows) (path_to c.place) d
+
+-- the statements of a body, each of at most so many levels
+abbrev pub statements_here : Context → (levels : ℕ) → Data → Decoded (List Statement)
+statements_here c levels d =
+    statements_by (statement_within (scope_view c.scope) levels) (names_in c.rows) (path_to c.place) d
