@@ -133,13 +133,17 @@ def condition(name, size, firings=2000):
 
 # ---- a sequence of which many first parts wait
 
-def backlog(size, signals=1000):
-    """Each further signal is both a first part that waits and the second part of one that has waited."""
+def backlog(size, signals=2000, before=1000):
+    """Each further signal is both a first part that waits and the second part of one that has waited.
+
+    Some further signals are in both scripts: in the first ones the allocator sorts what the transaction before freed.
+    """
     event = ["seq", ["signal", "a"], ["signal", "b"]]
     rule = immediate("pair", event, [], [["emit", ["arg", 0, 0]]])
     waiting = [["signal", "a", [n]] for n in range(size)]
     begin = [["tx", installs([rule]) + waiting]]
-    body = [["tx", [["signal", "a", [0]], ["signal", "b", [0]]]] for _ in range(signals // 2)]
+    begin += [["tx", [["signal", "a", [0]], ["signal", "b", [0]]]]] * (before // 2)
+    body = [["tx", [["signal", "a", [0]], ["signal", "b", [0]]]]] * (signals // 2)
     return Case(size, signals, script([], [rule], begin), script([], [rule], begin + body))
 
 
