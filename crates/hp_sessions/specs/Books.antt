@@ -97,10 +97,10 @@ IsUnable b body (Refusal.HistoryFull n) = (rules.library body.library.value ≡ 
 IsUnable b body (Refusal.Stale entries cell) = ⊥
 IsUnable b body Refusal.NoMemory = MayCome b body
 
--- a refusal that isn't for what a unit read
+-- a refusal that isn't for what a unit read. That of a full history tells how many units it has
 abbrev pub IsNotStale : Refusal → Type 0
 IsNotStale Refusal.OtherLibrary = Unit {0}
-IsNotStale (Refusal.HistoryFull n) = Unit {0}
+IsNotStale (Refusal.HistoryFull n) = n ≡ 100000
 IsNotStale (Refusal.Stale entries cell) = ⊥
 IsNotStale Refusal.NoMemory = Unit {0}
 
