@@ -7,7 +7,7 @@ from dataclasses import dataclass
 from typing import Optional
 
 from scripts import ACCOUNT, GO, add, create, deferred, has_key, immediate, installs, lines, on_go, script
-from workloads import scored
+from workloads import richest
 
 
 @dataclass
@@ -159,16 +159,13 @@ def short_group(size, updates=2000):
                 script(classes, rules, [["tx", begin], ["tx", body]]))
 
 
-def long_group(size, objects=1000, rounds=40):
-    """Rules on one event, each of which tests 1,000 objects with 47 operators: at least a millisecond."""
-    classes = [ACCOUNT, ["seen", [["count", "int"]]]]
-    condition = [["rich", "acct", scored(objects)]]
-    rules = [on_go(f"r{n}", condition, [add("seen", "count", n, 1)]) for n in range(size)]
-    begin = installs(rules) + [create(k, k) for k in range(objects)]
-    begin += [["create", "seen", n, [["count", 0]]] for n in range(size)]
-    items = [["tx", begin]]
-    body = [["tx", [GO]] for _ in range(rounds)]
-    return Case(size, rounds, script(classes, rules, items), script(classes, rules, items + body))
+# ---- a class that each transaction scans and changes
+
+def scan_and_write(objects, rounds=100):
+    """One rule that scans a class by a predicate which no index serves, and writes one of its objects."""
+    rules = [on_go("r", [["rich", "acct", richest(objects)]], [add("acct", "bal", 1, 1)])]
+    items = [["tx", installs(rules) + [create(k, k) for k in range(objects)]]]
+    return Case(objects, rounds, script([ACCOUNT], rules, items), script([ACCOUNT], rules, items + [["tx", [GO]]] * rounds))
 
 
 # Each table: its title, what is counted, and its cases, made when they are run.
@@ -181,6 +178,7 @@ TABLES = {
     "backlog": ("a sequence, first parts that wait", "signal",
                 [lambda n=n: ("sequence", backlog(n)) for n in (500, 16000)]),
     "groups": ("rules on one event", "update",
-               [lambda n=n: ("short rules", short_group(n)) for n in (1, 2, 3, 4, 8, 9, 16)]
-               + [lambda n=n: ("long rules", long_group(n)) for n in (2, 4)]),
+               [lambda n=n: ("short rules", short_group(n)) for n in (1, 2, 3, 4, 8, 9, 16)]),
+    "scans": ("a class that each transaction scans, and one object of which it writes", "transaction",
+              [lambda n=n: ("objects", scan_and_write(n)) for n in (1000, 4000)]),
 }

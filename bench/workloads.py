@@ -38,6 +38,11 @@ def wide_long_scans():
     return wide_scans(objects=4000, rounds=24)
 
 
+def long_siblings(siblings):
+    """A few siblings, each of which takes a millisecond and more."""
+    return wide_scans(scored, siblings=siblings, objects=1000, rounds=40)
+
+
 def conflict(siblings=64, rounds=60):
     """Siblings that all read and write one object."""
     rules = [on_go(f"r{n}", [], [add("acct", "bal", 1, 1)]) for n in range(siblings)]
@@ -101,4 +106,6 @@ WORKLOADS = [
     ("e", "(a) with 47 operators an object in place of 3", wide_scores, None),
     ("f", "(b) where each scans 400 objects first", conflict_of_scans, None),
     ("g", "(a) with 4,000 objects in place of 400", wide_long_scans, None),
+    ("h", "(e) with 2 siblings a group and 1,000 objects", lambda: long_siblings(2), None),
+    ("i", "(h) with 4 siblings", lambda: long_siblings(4), None),
 ]

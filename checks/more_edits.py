@@ -4,15 +4,19 @@
     checks/more_edits.py [--anew] [--untried] [NAME ..]  tries those of these crates, or of all crates
     checks/more_edits.py --apply-only [NAME ..]          proves nothing: checks that the edits of both folders apply
 
-The gate tries the edits of must-fail and not these. This script copies the crates to a temporary folder, with
-more-edits in place of must-fail, and runs `rt must-fail NAME` there, crate by crate, lowest first. The copy begins with
-what checks of the same crates kept on this machine, and the result of an edit is kept for a later run. `--anew` tries
-all again. `--untried` tries only those that have a line `# untried`.
+The gate tries the edits of must-fail and not these. This script copies the crates to a temporary folder and works
+there, crate by crate, lowest first. It checks a crate without an edit, and then with each edit in turn. It begins with
+what earlier checks of the crate kept in its out/, and each edit begins with what the check without an edit kept.
+
+That an edit was refused is kept in the crate's out/, so a later run doesn't try the edit again until it, the crate, a
+crate below it or the toolchain changes. `--anew` tries all again. `--untried` tries only those that have a line
+`# untried`. Several runs may work side by side on different crates.
 
 The status is 0 if each edit applies and was refused, 1 if one wasn't, and 130 if the run was interrupted. The copy is
-then removed, and the results of finished crates stay kept.
+then removed.
 """
 
+import hashlib
 import os
 import re
 import shutil
@@ -28,12 +32,26 @@ TOP = os.path.dirname(os.path.dirname(os.path.abspath(__file__)))
 FIRST = "must-fail"
 MORE = "more-edits"
 
+# What a check reads of a crate.
+PARTS = ("src", "specs", "proofs")
+
 # The line of an edit that was never tried. It is removed when the prover has refused the edit.
 UNTRIED = "# untried"
 
-# The words of `rt` on an edit.
-SAYS = re.compile(r"rt: must-fail [^/]+/(\S+): (refused, as it must be|NOT REFUSED|BAD EDIT|NOT TRIED)")
+# What an edit can come to. The second: the first goal that fails is a proof file's that names what the edit took away,
+# so that no contract was tried.
+REFUSED = "refused"
+BY_NAME = "refused, since a proof names what it took away"
+PROVED = "NOT REFUSED"
+BAD = "bad"
+NOT_TRIED = "not tried"
 
+# A complaint of the prover, with its file, the definition that it is of, if any, and its words.
+COMPLAINT = re.compile(r"(?:\./)?(\S+?):\d+:\d+: error: (?:(`[^`]*`): )?(.*)")
+
+# The words of complaints of a text that can't be read, and of a proof that names what is not there.
+UNREAD = re.compile(r"is not in scope|has no field|is no name|operand is missing|expected the end|cannot continue")
+NO_SUCH_NAME = re.compile(r"has no field|is not in scope|has no `|was not admitted")
 
 SIGNALS = (signal.SIGINT, signal.SIGTERM, signal.SIGHUP)
 
@@ -49,23 +67,30 @@ def interrupt(_number, _frame):
     raise Interrupted
 
 
-def crates_in_order():
-    """The crates in the order of crates.txt, each after those that it uses."""
-    below = {}
+def lines_of_crates():
+    """The line of each crate in crates.txt."""
     with open(os.path.join(TOP, "crates.txt"), encoding="utf-8") as file:
-        for line in file:
-            name, _, uses = line.partition("#")[0].partition(":")
-            if name.strip():
-                below[name.split()[0]] = uses.split()
-    order = []
+        return {line.split()[0].rstrip(":"): line for line in file if line.partition("#")[0].strip()}
+
+
+def uses():
+    """The crates that each crate uses."""
+    lines = lines_of_crates()
+    named = {name: line.partition("#")[0].partition(":")[2].split() for name, line in lines.items()}
+    return {name: [use for use in words if use in lines] for name, words in named.items()}
+
+
+def in_order(names):
+    """Crates and all that they use, each after those that it uses."""
+    below, order = uses(), []
 
     def add(name):
-        if name in below and name not in order:
+        if name not in order:
             for use in below[name]:
                 add(use)
             order.append(name)
 
-    for name in below:
+    for name in names:
         add(name)
     return order
 
@@ -87,35 +112,36 @@ def is_untried(path):
     return UNTRIED in text_of(path).split("\n")
 
 
-def why_not_applied(crate, path):
-    """Why an edit does not apply to the current sources, by the rules of `rt`; None if it does."""
+def edited(crate, path):
+    """The texts of the files that an edit changes, by their paths in the crate, or why it does not apply to the current
+    sources, by the rules of `rt`."""
     if not re.fullmatch(r"[A-Za-z0-9_-][A-Za-z0-9_.-]*\.edit", os.path.basename(path)):
-        return "its name is not that of an edit"
+        return None, "its name is not that of an edit"
     file, old, pairs, before, after = "", "", 0, {}, {}
     for line in text_of(path).split("\n"):
         if line.startswith("file: "):
             file = line[len("file: ") :].strip()
-            if os.path.normpath(file) != file or not file.startswith(("src/", "specs/", "proofs/")):
-                return f"{file} is no file below src/, specs/ or proofs/"
+            if os.path.normpath(file) != file or not file.startswith(tuple(f"{part}/" for part in PARTS)):
+                return None, f"{file} is no file below src/, specs/ or proofs/"
             if not os.path.isfile(os.path.join(TOP, "crates", crate, file)):
-                return f"there is no file {file}"
+                return None, f"there is no file {file}"
         elif line.startswith("old: "):
             old = line[len("old: ") :]
         elif line.startswith("new:"):
             if not file or not old:
-                return "a new text stands before any file or any old text"
+                return None, "a new text stands before any file or any old text"
             if file not in after:
                 before[file] = after[file] = text_of(os.path.join(TOP, "crates", crate, file))
             found = after[file].count(old)
             if found != 1:
-                return f"an old text stands in {file} {found} times, and not once: {old.strip()[:80]}"
+                return None, f"an old text stands in {file} {found} times, and not once: {old.strip()[:80]}"
             after[file] = after[file].replace(old, line[len("new:") :].removeprefix(" "))
             old, pairs = "", pairs + 1
         elif line.strip() and not line.startswith(("#", "--", "//")):
-            return f"a line that is not read: {line.strip()[:80]}"
+            return None, f"a line that is not read: {line.strip()[:80]}"
     if old or not pairs:
-        return "an old text has no new one" if old else "it has no old and new text"
-    return "it changes nothing" if after == before else None
+        return None, "an old text has no new one" if old else "it has no old and new text"
+    return (None, "it changes nothing") if after == before else (after, None)
 
 
 def apply_all(crates):
@@ -127,7 +153,7 @@ def apply_all(crates):
             for path in edits(crate, folder):
                 counts[folder] += 1
                 name = os.path.basename(path)
-                why = why_not_applied(crate, path)
+                why = edited(crate, path)[1]
                 if name in names:
                     why = f"an edit of this name stands in {names[name]} too"
                 names[name] = folder
@@ -139,16 +165,64 @@ def apply_all(crates):
     return faults
 
 
-def copy_crates(to):
-    """Copies the crates without build results and without their edits."""
+# ---- results of earlier runs
+
+
+def sum_of(crate):
+    """A sum of all that the result of an edit depends on but the edit itself."""
+    version = subprocess.run(["rt", "version"], stdin=subprocess.DEVNULL, stdout=subprocess.PIPE, check=True).stdout
+    whole = hashlib.sha256(version)
+    for name in in_order([crate]):
+        whole.update(repr((name, uses()[name])).encode())
+        for part in PARTS:
+            for at, folders, files in os.walk(os.path.join(TOP, "crates", name, part)):
+                folders.sort()
+                for file in sorted(files):
+                    path = os.path.join(at, file)
+                    with open(path, "rb") as read:
+                        whole.update(repr((os.path.relpath(path, TOP), read.read())).encode())
+    return whole.hexdigest()
+
+
+class Results:
+    """The edits of a crate that were refused, each with a sum of what that depends on."""
+
+    def __init__(self, crate):
+        self.at = os.path.join(TOP, "crates", crate, "out", "refused-edits")
+        self.sum = sum_of(crate)
+
+    def line(self, path):
+        lines = [line for line in text_of(path).split("\n") if line != UNTRIED]
+        return hashlib.sha256("\n".join([self.sum, *lines]).encode()).hexdigest()
+
+    def has(self, path):
+        kept = os.path.join(self.at, os.path.basename(path))
+        return os.path.isfile(kept) and text_of(kept) == self.line(path)
+
+    def keep(self, path):
+        os.makedirs(self.at, exist_ok=True)
+        with open(os.path.join(self.at, os.path.basename(path)), "w", encoding="utf-8") as file:
+            file.write(self.line(path))
+
+
+# ---- the copy
+
+
+def copy_crates(wanted, to):
+    """Copies crates and all that they use, without edits. Of what earlier checks kept, it copies the libraries, and the
+    work on the crates that are wanted."""
     os.makedirs(to)
-    for name in ("crates.txt", "HANDLES"):
-        shutil.copyfile(os.path.join(TOP, name), os.path.join(to, name))
-    top = os.path.join(TOP, "crates")
-    for crate in sorted(os.listdir(top)):
-        left_out = lambda at, _, whole=os.path.join(top, crate): {"out", FIRST, MORE} if at == whole else set()
-        if os.path.isdir(os.path.join(top, crate)):
-            shutil.copytree(os.path.join(top, crate), os.path.join(to, "crates", crate), ignore=left_out)
+    shutil.copyfile(os.path.join(TOP, "HANDLES"), os.path.join(to, "HANDLES"))
+    with open(os.path.join(to, "crates.txt"), "w", encoding="utf-8") as file:
+        # (`rt` wants a folder for each crate that is listed)
+        file.writelines(line for name, line in lines_of_crates().items() if name in in_order(wanted))
+    for crate in in_order(wanted):
+        own, copy = os.path.join(TOP, "crates", crate), os.path.join(to, "crates", crate)
+        has_library = os.path.isdir(os.path.join(own, "out", "rlib"))
+        kept = ["out/rlib"] + ["out/incremental"] * (crate in wanted or not has_library)
+        for part in [*PARTS, *kept]:
+            if os.path.isdir(os.path.join(own, part)):
+                shutil.copytree(os.path.join(own, part), os.path.join(copy, part))
 
 
 def remove(path):
@@ -161,83 +235,182 @@ def remove(path):
     print(f"{path} could not be removed", file=sys.stderr)
 
 
-def must_fail(crate, copy, room, anew):
-    """Runs `rt must-fail` on a crate of the copy, prints its lines and returns them. Its children end with it."""
-    words = ["rt", "must-fail", *(["--anew"] if anew else []), crate]
-    how = {"cwd": copy, "stdin": subprocess.DEVNULL, "stdout": subprocess.PIPE, "stderr": subprocess.STDOUT}
+def files_in(folder):
+    """The size and the time of each file of a folder, by its path there."""
+    found = {}
+    for at, _, names in os.walk(folder):
+        for name in names:
+            path = os.path.join(at, name)
+            found[os.path.relpath(path, folder)] = (os.stat(path).st_size, os.stat(path).st_mtime_ns)
+    return found
+
+
+def restore(work, kept):
+    """Makes a folder hold what another one does, and copies only what differs in size or time."""
+    wanted, there = files_in(kept), files_in(work)
+    for path in there.keys() - wanted.keys():
+        os.remove(os.path.join(work, path))
+    for path, what in wanted.items():
+        if there.get(path) != what:
+            os.makedirs(os.path.dirname(os.path.join(work, path)), exist_ok=True)
+            shutil.copy2(os.path.join(kept, path), os.path.join(work, path))
+
+
+# ---- checks
+
+
+def said_by(words, folder, room):
+    """Runs a command in a folder, and returns its status and the lines that it printed. Its children end with it."""
+    how = {"cwd": folder, "stdin": subprocess.DEVNULL, "stdout": subprocess.PIPE, "stderr": subprocess.STDOUT}
     how.update(env={**os.environ, "TMPDIR": room}, start_new_session=True, encoding="utf-8", errors="replace")
-    lines = []
     with subprocess.Popen(words, **how) as running:
         try:
-            for line in running.stdout:
-                print(line, end="", flush=True)
-                lines.append(line)
+            said = running.communicate()[0]
         finally:
             if running.poll() is None:
                 # (the checks that it started end too)
                 running.kill()
-    return lines
+    return running.returncode, said.rstrip("\n").split("\n")
 
 
-def try_crate(crate, paths, copy, room, anew):
-    """Tries edits of a crate, prints the result of each, and returns how many were not refused, were bad and were
-    not tried."""
+def is_unread(line, changed):
+    """Whether a line says that a text of src/, specs/ or an edited file can't be read: no contract was tried."""
+    found = COMPLAINT.match(line)
+    if not found or not (found[1] in changed or found[1].startswith(("src/", "specs/"))):
+        return False
+    return not found[2] or bool(UNREAD.search(re.sub(r"`[^`]*`", "", found[3])))
+
+
+def came_to(status, lines, changed):
+    """What an edit came to, by the status and the lines of its check, and the line that shows it."""
+    for line in lines:
+        if is_unread(line, changed):
+            return BAD, line
+    if status == 0:
+        return PROVED, "the crate is still proved"
+    if status != 1 or not any(line.startswith("logic=not-proved") for line in lines):
+        return BAD, next((line for line in lines if "error" in line), lines[-1])
+    told = [line for line in lines if COMPLAINT.match(line)]
+    of_contracts = [
+        line for line in told if not (COMPLAINT.match(line)[1].startswith("proofs/") and NO_SUCH_NAME.search(line))
+    ]
+    if told and not of_contracts:
+        return BY_NAME, told[0]
+    notes = [line for line in lines if line.startswith("note: ")]
+    return REFUSED, next(iter(of_contracts + notes), lines[-1])
+
+
+class Room:
+    """A crate of the copy, with the work that is kept on it."""
+
+    def __init__(self, crate, copy, room):
+        self.at = os.path.join(copy, "crates", crate)
+        self.work = os.path.join(self.at, "out", "incremental")
+        self.kept = os.path.join(room, f"kept-{crate}")
+        self.room = room
+
+    def check(self):
+        return said_by(["rt", "check", "--jobs", "1"], self.at, self.room)
+
+    def begin(self):
+        """Checks the crate without an edit, and keeps the work on it. The result is its status and its lines."""
+        status, lines = self.check()
+        if status == 0:
+            shutil.copytree(self.work, self.kept)
+        return status, lines
+
+    def try_edit(self, texts):
+        """Checks the crate with other texts of some files, and then puts all back."""
+        own = {path: text_of(os.path.join(self.at, path)) for path in texts}
+        self.write(texts)
+        try:
+            return came_to(*self.check(), texts)
+        finally:
+            self.write(own)
+            restore(self.work, self.kept)
+
+    def write(self, texts):
+        for path, text in texts.items():
+            with open(os.path.join(self.at, path), "w", encoding="utf-8") as file:
+                file.write(text)
+
+    def end(self):
+        """Builds the library for the crates above, and removes the work, which is large and which they don't need."""
+        if os.path.isfile(os.path.join(self.at, "src", "lib.rt")):
+            said_by(["rt", "lib", "--jobs", "1"], self.at, self.room)
+        remove(self.work)
+        remove(self.kept)
+
+
+def try_crate(crate, paths, copy, room):
+    """Tries edits of a crate, prints the result of each, and returns how many came to what."""
     begun = time.monotonic()
-    paths = {os.path.basename(path): path for path in paths}
     print(f"== {crate}: {len(paths)} edits, from {time.strftime('%H:%M')}", flush=True)
-    at = os.path.join(copy, "crates", crate, FIRST)
-    os.makedirs(at)
-    for name, path in paths.items():
-        shutil.copyfile(path, os.path.join(at, name))
-    came_to = {}
-    for line in must_fail(crate, copy, room, anew):
-        said = SAYS.match(line)
-        if said:
-            came_to[said[1]] = said[2]
-    named = lambda kind: [name[: -len(".edit")] for name in paths if came_to.get(name, "NOT TRIED") == kind]
-    refused, missed, bad, untried = map(named, ("refused, as it must be", "NOT REFUSED", "BAD EDIT", "NOT TRIED"))
-    for title, names in (("refused", refused), ("NOT REFUSED", missed), ("bad", bad), ("not tried", untried)):
-        if names:
-            print(f"{crate}: {len(names)} {title}: {' '.join(names)}", flush=True)
-    marked = [name for name in refused if is_untried(paths[f"{name}.edit"])]
+    here, results, names = Room(crate, copy, room), Results(crate), {}
+    status, lines = here.begin()
+    if status != 0:
+        print(f"{crate} is not proved without an edit:", *lines[-8:], sep="\n  ", flush=True)
+        return {NOT_TRIED: len(paths)}
+    print(f"{crate}: proved without an edit after {time.monotonic() - begun:.0f} seconds", flush=True)
+    for path in paths:
+        name, (texts, why) = os.path.basename(path)[: -len(".edit")], edited(crate, path)
+        kind, shown = here.try_edit(texts) if texts else (BAD, why)
+        names.setdefault(kind, []).append(name)
+        print(f"{time.strftime('%H:%M:%S')} {crate}/{name}: {kind}: {shown.strip()[:200]}", flush=True)
+        if kind in (REFUSED, BY_NAME):
+            results.keep(path)
+    here.end()
+    for kind, found in names.items():
+        print(f"{crate}: {len(found)} {kind}: {' '.join(found)}", flush=True)
+    marked = [os.path.basename(path)[: -len(".edit")] for path in paths if is_untried(path)]
+    marked = [name for name in marked if name in names.get(REFUSED, [])]
     if marked:
         print(f"{crate}: take the line '{UNTRIED}' out of {' '.join(marked)}", flush=True)
     print(f"{crate}: done in {time.monotonic() - begun:.0f} seconds", flush=True)
-    # The crates above need the libraries; the rest is large, and they don't need it.
-    for each in os.listdir(os.path.join(copy, "crates")):
-        remove(os.path.join(copy, "crates", each, "out", "incremental"))
-    return len(missed), len(bad), len(untried)
+    return {kind: len(found) for kind, found in names.items()}
+
+
+def left_to_try(crate, anew, untried_alone):
+    """The edits of a crate that a run has to try."""
+    wanted = [path for path in edits(crate, MORE) if is_untried(path) or not untried_alone]
+    if not wanted or anew:
+        return wanted
+    results = Results(crate)
+    left = [path for path in wanted if not results.has(path)]
+    if len(left) < len(wanted):
+        print(f"{crate}: {len(wanted) - len(left)} edits were refused before, as all is now", flush=True)
+    return left
 
 
 def try_all(crates, anew, untried_alone):
     """Tries the edits of crates, and returns the status."""
-    wanted = {crate: [path for path in edits(crate, MORE) if is_untried(path) or not untried_alone] for crate in crates}
+    wanted = {crate: left_to_try(crate, anew, untried_alone) for crate in crates}
     crates = [crate for crate in crates if wanted[crate]]
-    missed, bad, untried, ended = 0, 0, 0, []
+    counts, ended = {}, []
     whole = tempfile.mkdtemp(prefix="more-edits-")
     try:
         copy, room = os.path.join(whole, "copy"), os.path.join(whole, "room")
         os.mkdir(room)
-        copy_crates(copy)
+        copy_crates(crates, copy)
         for crate in crates:
-            found = try_crate(crate, wanted[crate], copy, room, anew)
-            missed, bad, untried = missed + found[0], bad + found[1], untried + found[2]
+            for kind, count in try_crate(crate, wanted[crate], copy, room).items():
+                counts[kind] = counts.get(kind, 0) + count
             ended.append(crate)
     except Interrupted:
         print(f"interrupted, with {', '.join(crates[len(ended) :])} left", flush=True)
         return 130
     finally:
         remove(whole)
-    of = sum(map(len, wanted.values()))
-    left = missed + bad + untried
-    print(f"{of - left} of {of} edits refused; {missed} not refused, {bad} bad, {untried} not tried")
-    return 1 if left else 0
+    of, refused = sum(map(len, wanted.values())), counts.pop(REFUSED, 0) + counts.get(BY_NAME, 0)
+    others = [f"{count} {kind}" for kind, count in counts.items()]
+    print(f"{refused} of {of} edits refused{'; ' * bool(others)}{', '.join(others)}")
+    return 0 if refused == of else 1
 
 
 def main(words):
     names = [word for word in words if not word.startswith("-")]
     options = {word for word in words if word.startswith("-")}
-    every = crates_in_order()
+    every = in_order(uses())
     if options - {"--anew", "--untried", "--apply-only"} or set(names) - set(every):
         print(__doc__.strip(), file=sys.stderr)
         return 2

@@ -4,12 +4,17 @@ from __future__ import annotations
 
 import os
 import subprocess
+import sys
+import threading
 from dataclasses import dataclass
 from pathlib import Path
 
 from .command import FAILED
 
 REPOSITORY = Path(__file__).resolve().parents[2]
+
+# What the launcher says before it makes the program, or waits for it. That takes a minute, so it is shown at once.
+PROGRESS = ("making the program", "makes the program: waiting")
 
 
 @dataclass(frozen=True)
@@ -26,11 +31,28 @@ def program_path() -> str:
     return os.environ.get("HIPAC") or str(REPOSITORY / "hipac")
 
 
+def read_errors(pipe: int, lines: list[str]) -> None:
+    """Collects the lines of a program's standard error, and shows at once those that ask for patience."""
+    with open(pipe, encoding="utf-8", errors="replace") as errors:
+        for line in errors:
+            lines.append(line)
+            if any(words in line for words in PROGRESS):
+                print(line, end="", file=sys.stderr, flush=True)
+
+
 def run(script_bytes: bytes, words: list[str]) -> Ended:
     """Runs the program with these words of the command line and the script on its standard input. A program that can't
     be started counts as one that failed."""
+    reads, writes = os.pipe()
+    lines: list[str] = []
+    reader = threading.Thread(target=read_errors, args=(reads, lines))
+    reader.start()
     try:
-        ended = subprocess.run([program_path(), *words], input=script_bytes, capture_output=True, check=False)
+        ended = subprocess.run([program_path(), *words], input=script_bytes, stdout=subprocess.PIPE, stderr=writes,
+                               check=False)
     except OSError as fault:
         return Ended(FAILED, "", f"the program can't be run: {fault}\n")
-    return Ended(ended.returncode, ended.stdout.decode("utf-8", "replace"), ended.stderr.decode("utf-8", "replace"))
+    finally:
+        os.close(writes)
+        reader.join()
+    return Ended(ended.returncode, ended.stdout.decode("utf-8", "replace"), "".join(lines))

@@ -404,7 +404,7 @@ fn a_transaction_ends_as_its_course_does(rt: HostRuntime) -> Result<(), Fail> {
 }
 
 #[test]
-fn endings_are_told_by_their_cause(rt: HostRuntime) -> Result<(), Fail> {
+fn endings_have_their_cause(rt: HostRuntime) -> Result<(), Fail> {
     assert_eq!(rt; ending(End::Done), Ending::Committed);
     assert_eq!(rt;
         ending(End::Abort(Cause::Depth)),

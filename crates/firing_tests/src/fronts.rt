@@ -40,7 +40,7 @@ fn tried(
     Ok(Some(attempt))
 }
 
-// How many attempts were taken in, how many places are left, whether an attempt stands in the first of these, and the
+// How many attempts were accepted, how many places are left, whether an attempt stands in the first of these, and the
 // balances.
 type Settled = (usize, usize, bool, Balances);
 
@@ -62,7 +62,7 @@ fn settle_on(
     Ok((outcomes.len(), left.len(), stands, all_shown(view)))
 }
 
-// The same of the tasks of both rules, in the bank. What isn't taken in is then tried again alone.
+// The same of the tasks of both rules, in the bank. What isn't accepted is then tried again alone.
 fn settle_twice(
     rt: &(impl Threads + Sync),
     alloc: Global,
@@ -79,7 +79,7 @@ fn settle_twice(
 }
 
 #[test]
-fn attempts_that_touch_different_objects_are_all_taken_in(rt: HostRuntime) -> Result<(), Fail> {
+fn attempts_that_touch_different_objects_are_all_accepted(rt: HostRuntime) -> Result<(), Fail> {
     let alloc = rt.alloc();
     let (first, second) = settle_twice(&rt, alloc, disjoint(alloc), &[true, true])?;
     let balances = (Some(11), Some(22), None, None, None);
@@ -101,7 +101,7 @@ fn an_attempt_that_missed_a_predecessors_effect_stays(rt: HostRuntime) -> Result
 }
 
 #[test]
-fn nothing_is_taken_in_where_the_first_attempt_is_missing(rt: HostRuntime) -> Result<(), Fail> {
+fn nothing_is_accepted_where_the_first_attempt_is_missing(rt: HostRuntime) -> Result<(), Fail> {
     let alloc = rt.alloc();
     let (first, second) = settle_twice(&rt, alloc, disjoint(alloc), &[false, true])?;
     assert_eq!(rt;

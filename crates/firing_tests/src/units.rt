@@ -49,14 +49,19 @@ fn are_listed_after(
     Ok(store.snapshot()?.kept_objects(0).is_some())
 }
 
+// The list goes on under the first change, and not under the second, before which nobody asked for it.
 #[test]
-fn a_class_that_was_read_whole_is_listed_until_it_changes(rt: HostRuntime) -> Result<(), Fail> {
+fn a_class_that_was_read_whole_is_listed_until_it_changes_twice(
+    rt: HostRuntime,
+) -> Result<(), Fail> {
     let alloc = rt.alloc();
     let lib = asking(alloc)?;
     let mut store = stocked(alloc, &lib)?;
     let goes = going(alloc);
     assert!(rt; are_listed_after(&rt, alloc, &lib, &mut store, goes)?);
     let sets = alone(alloc, set(alloc, 1, 5)?);
+    assert!(rt; are_listed_after(&rt, alloc, &lib, &mut store, sets)?);
+    let sets = alone(alloc, set(alloc, 1, 6)?);
     assert!(rt; !are_listed_after(&rt, alloc, &lib, &mut store, sets)?);
     Ok(())
 }

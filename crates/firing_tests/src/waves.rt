@@ -7,9 +7,10 @@ use crate::fixtures::{
 use crate::groups::fire_all_on;
 use crate::seen::Balances;
 use hp_fire::{Gate, NoGate};
-use hp_rule::{Assignment, CheckError, Library, Rule, Stmt, Task};
-use hp_store::Snapshot;
-use hp_value::{Arithmetic, Coupling, Expr, Halt, Key};
+use hp_rule::{Assignment, CheckError, Library, Query, Rule, Stmt, Task};
+use hp_store::{Snapshot, Store};
+use hp_top::keep_indexes;
+use hp_value::{Arithmetic, Comparison, Coupling, Expr, Halt, Key};
 use hp_view::View;
 use std::alloc::{AllocError, Global};
 use std::process::Abort;
@@ -440,5 +441,76 @@ fn a_line_without_room_loses_no_attempt(rt: HostRuntime) -> Result<(), Fail> {
     let (counts, _) = fire(&rt, alloc, asking(alloc), &[(1, 19)], forty, 2, &gate)?;
     assert!(rt; !gate.was_late());
     assert_eq!(rt; counts, (40, 0, 1));
+    Ok(())
+}
+
+// A rule that adds 1 to the balance of each account that its condition finds.
+fn adds_to_found(alloc: Global, name: &str, predicate: Box<Expr>) -> Result<Rule, AllocError> {
+    let adds = Stmt::Update {
+        class: 0,
+        key: key_of(alloc, "row")?,
+        pairs: computed(alloc, plus(0))?,
+    };
+    let each = Stmt::For {
+        query: text(alloc, "row")?,
+        body: alone(alloc, adds)?,
+    };
+    let mut rule = on_go(alloc, name, Coupling::Immediate, alone(alloc, each)?)?;
+    rule.condition.push(Query {
+        name: text(alloc, "row")?,
+        class: 0,
+        predicate,
+    })?;
+    Ok(rule)
+}
+
+fn key_of(alloc: Global, variable: &str) -> Result<Box<Expr>, AllocError> {
+    let variable = text(alloc, variable)?;
+    Ok(Box::new(alloc, Expr::KeyOf { variable })?)
+}
+
+// Two such rules, of which each finds one account: by its key, or by its balance.
+fn finders(alloc: Global, by_key: bool) -> Result<Library, CheckError> {
+    let mut rules = Vec::new(alloc);
+    for (at, account) in [1, 2].iter().enumerate() {
+        let (asked, wanted) = if by_key {
+            (key_of(alloc, "row")?, number(alloc, *account)?)
+        } else {
+            (balance_in(alloc, "row")?, number(alloc, *account * 10)?)
+        };
+        let is_found = Expr::Comparison(Comparison::Equal, asked, wanted);
+        rules.push(adds_to_found(alloc, NAMES[at], Box::new(alloc, is_found)?)?)?;
+    }
+    checked(alloc, rules)
+}
+
+// A view of a store with two accounts, and the indexes that the library's conditions ask for.
+fn stored(alloc: Global, lib: &Library) -> Result<View, Fail> {
+    let (_, layer) = bank(alloc, &[(1, 10), (2, 20)])?.into_parts();
+    let mut store = Store::empty(alloc)?;
+    store.apply(alloc, layer)?;
+    keep_indexes(alloc, &mut store, lib)?;
+    Ok(View::new(alloc, store.snapshot()?)?)
+}
+
+// Fires both rules over that store. The second task has ended before the first starts.
+fn find_both(
+    rt: &(impl Threads + Abort + Sync),
+    alloc: Global,
+    by_key: bool,
+) -> Result<Gave, Fail> {
+    let lib = finders(alloc, by_key)?;
+    let mut view = stored(alloc, &lib)?;
+    let gate = Hold::of(0, Awaited::End(1));
+    let gave = fire_in(rt, alloc, &lib, &mut view, tasks(alloc, 2), 2, &gate)?;
+    assert!(rt; !gate.was_late());
+    Ok(gave)
+}
+
+#[test]
+fn siblings_that_look_for_different_parts_are_accepted(rt: HostRuntime) -> Result<(), Fail> {
+    let both = ((2, 0, 1), (Some(11), Some(21), None, None, None));
+    assert_eq!(rt; find_both(&rt, rt.alloc(), true)?, both);
+    assert_eq!(rt; find_both(&rt, rt.alloc(), false)?, both);
     Ok(())
 }

@@ -3,22 +3,9 @@ use Rattle.std.specs.Prelude.{ℕ, List, Result, Ok, Err}
 use Rattle.hp_model.specs.Cascade.{Script}
 use Rattle.hp_model.specs.Decode.{script_of}
 use Rattle.hp_model.specs.Refusals.{Refusal}
-use Rattle.hp_report.specs.declared.input.ReadFault.{ReadFault}
-use Rattle.hp_report.specs.declared.input.ReadFault.TheVariants as reading
-use Rattle.hp_report.specs.declared.output.WriteFault.{WriteFault}
-use Rattle.hp_report.specs.declared.output.WriteFault.TheVariants as writing
-use Rattle.hipac.specs.declared.fault.Status.{Status}
-use Rattle.hipac.specs.declared.fault.Status.TheVariants.{Reported, Refused}
-use Rattle.hipac.specs.declared.fault.Fault.{Fault}
-use Rattle.hipac.specs.declared.fault.Fault.TheVariants as fault
-
-abbrev pub read_fault : ReadFault → Fault
-read_fault reading.Read = fault.Read
-read_fault reading.NoMemory = fault.NoMemory
-
-abbrev pub write_fault : WriteFault → Fault
-write_fault writing.Write = fault.Write
-write_fault writing.NoMemory = fault.NoMemory
+use Rattle.hp_report.specs.declared.fault.Fault.{Fault}
+use Rattle.hipac.specs.declared.status.Status.{Status}
+use Rattle.hipac.specs.declared.status.Status.TheVariants.{Reported, Refused}
 
 abbrev pub status_for : Result Script Refusal → Status
 status_for (Ok script) = Reported

@@ -1,15 +1,15 @@
 //! The rule manager: reads a script from standard input, runs it, and writes its firing report.
 #![tactic(auto)]
 
-mod fault;
 mod running;
+mod status;
 #[cfg(test)]
 mod tests;
 
-use fault::exit_code;
 use hp_report::Watched;
 use hp_words::{options_of, word_code};
 use running::run;
+use status::exit_code;
 use std::process::ExitCode;
 
 fn main(rt: HostRuntime) -> ExitCode {

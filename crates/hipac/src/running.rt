@@ -9,8 +9,8 @@ ghost use Rattle.hp_report.specs.Mapped.{library, evaluation};
 ghost use Rattle.hp_script.specs.Mapped.{script as script_of_model};
 ghost use Rattle.hipac.specs.Ends.{status_of};
 
-use crate::fault::{Fault, Status};
-use hp_report::{Report, Sink, Source, final_state, read_up_to, write_report, write_text};
+use crate::status::Status;
+use hp_report::{Fault, Report, Sink, Source, final_state, read_up_to, write_report, write_text};
 use hp_script::{DecodeError, Script, decode, refusal_text};
 use hp_top::{Items, opening, run_items};
 use hp_tree::UnitReport;
@@ -68,7 +68,8 @@ fn respond<T: Threads + Sync, W: Sink>(
     options: Options,
 ) -> Result<Status, Fault>
     requires { W.has_failed writer.old ≡ false }
-    ensures output { OnOk result (Appends (W.contents writer.old) (W.contents writer.new) (output input.now options.tree)) }
+    ensures output { OnOk result (
+        Appends (W.contents writer.old) (W.contents writer.new) (output input.now options.tree)) }
     ensures status { IfOk result (λ status. status ≡ status_of input.now) }
     ensures begins { Begins (W.contents writer.old) (W.contents writer.new) (output input.now options.tree) }
     ensures read { result ≢ Err Fault.Read }

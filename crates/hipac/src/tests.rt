@@ -1,6 +1,6 @@
-use crate::fault::{Fault, Status, exit_code};
 use crate::running::run;
-use hp_report::Watched;
+use crate::status::{Status, exit_code};
+use hp_report::{Fault, Watched};
 use hp_words::{Options, WordFault, parse_words, word_code};
 use std::io;
 use std::io::{Read, Write};

@@ -78,7 +78,7 @@ none_yet stops tasks attempts outcomes v is = subst (λ os. SoFar stops tasks at
     none true = refl
     none false = refl
 
--- ---- what the view has taken in so far
+-- ---- what the view has accepted so far
 
 pub takes_none : (attempts : List (Option Attempt)) (outcomes : List Outcome) (v : Seeing) → outcomes ≡ [] → TakesSome (length outcomes) attempts v v
 takes_none attempts outcomes v is = subst (λ os. TakesSome (length os) attempts v v) (sym is) (record { base = refl; reads = refl; changes = refl; undo = refl })
@@ -89,7 +89,7 @@ no_outcomes attempts outcomes is = subst (λ os. AreOutcomes os attempts) (sym i
 same_then : {first old new : Seeing} → IsSame first old → IsSame old new → IsSame first new
 same_then p q = record { base = q.base ∙ p.base; reads = q.reads ∙ p.reads; changes = q.changes ∙ p.changes; undo = q.undo ∙ p.undo }
 
--- a view that is the same has taken in the same
+-- a view that is the same has accepted the same
 pub takes_same : (n : ℕ) (attempts : List (Option Attempt)) (first : Seeing) {old new : Seeing} → TakesSome n attempts first old → IsSame old new → TakesSome n attempts first new
 takes_same zero attempts first taken same = same_then taken same
 takes_same (suc n) attempts first (a, rest, mid, at, before, takes) same = (
@@ -126,7 +126,7 @@ pub on_err : {X E P : Type 0} (r : Result X E) → P → OnErr r P
 on_err (Ok x) p = tt
 on_err (Err e) p = p
 
--- the attempt was taken in, whose outcome found no room
+-- the attempt was accepted, whose outcome found no room
 pub takes_unpushed : (attempts : List (Option Attempt)) (outcomes : List Outcome) (given : Option Outcome) (o : Outcome) (t : Task) (old_left left : List (Option Attempt)) (first old new : Seeing)
     → TakesSome (length outcomes) attempts first old → old_left ≡ drop (length outcomes) attempts → IfSome given (λ o. TakesFirst t old new old_left left o) → given ≡ Some o → TakesSome (length (outcomes ++ o ∷ [])) attempts first new
 takes_unpushed attempts outcomes given o t old_left left first old new so_far was taken is =
@@ -225,7 +225,7 @@ pub longest_done : (v : Option ℕ) (now : Cells) (tasks : List Task) (left : Li
 longest_done (Some r) now tasks left none = tt
 longest_done None now tasks left none = subst (λ ts. StopsAt now ts left) (sym none) tt
 
--- the first attempt that is left can't be taken in
+-- the first attempt that is left can't be accepted
 longest_stays : (v : Option ℕ) (now : Cells) (tasks ts : List Task) (t : Task) (left : List (Option Attempt)) → tasks ≡ t ∷ ts → Stays now t left → IsLongest v now tasks left
 longest_stays (Some r) now tasks ts t left next stays = tt
 longest_stays None now tasks ts t left next stays = subst (λ l. StopsAt now l left) (sym next) stays

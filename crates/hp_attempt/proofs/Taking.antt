@@ -1,4 +1,4 @@
--- Attempts that are taken in.
+-- Attempts that are accepted.
 use Rattle.std.proofs.Common.{◌≡◌, refl, sym, ap, ◌∙◌, subst, ℕ, ℤ, List, [], ◌∷◌, ◌++◌, append-nil, length, take, drop, slice_index_or, inl, inr, arith}
 use Rattle.std.specs.Prelude.{Result, Ok, Err, OnOk, OnErr}
 use Rattle.hp_model.specs.Rules.{Library}
@@ -24,7 +24,7 @@ use Rattle.hp_view.specs.Mapped.{read}
 use Rattle.hp_view.specs.Adding.{AddsReads, IsOfClass}
 use Rattle.hp_view.proofs.Adding.{adds_noted, adds_then, adds_more}
 use Rattle.hp_attempt.specs.States.{States, LeadsToOne, IsSoundFor, FaithfulFiringFor}
-use Rattle.hp_attempt.specs.Holding.{IsReadOf, IsReadAgain, IsFor, IsForAny, IsTakenIn, ReadsMore, Covers}
+use Rattle.hp_attempt.specs.Holding.{IsReadOf, IsReadAgain, IsFor, IsForAny, IsAccepted, ReadsMore, Covers}
 
 -- ---- a view that only read
 
@@ -132,11 +132,11 @@ class_for_part layer n p objects (keys_read m keys) fits = fits
 class_for_part layer n p objects (objects_read m found) fits = fits
 class_for_part layer n p objects (part_read m q found) fits = absurd fits
 
--- what an attempt that is taken in does
-pub taken_written : {old new : Seeing} {reads : List Read} {layer : Entries} → IsTakenIn old new reads layer → written new ≡ stacked (written old) (changes layer)
+-- what an accepted attempt does
+pub taken_written : {old new : Seeing} {reads : List Read} {layer : Entries} → IsAccepted old new reads layer → written new ≡ stacked (written old) (changes layer)
 taken_written {layer = layer} taken = taken.takes.changes ∙ ap (λ w. stacked w (changes layer)) (same_written taken.only)
 
-pub taken_adds : {old new : Seeing} {reads : List Read} {layer : Entries} → IsTakenIn old new reads layer → AddsReads (IsForAny (written old) reads) old.reads new.reads
+pub taken_adds : {old new : Seeing} {reads : List Read} {layer : Entries} → IsAccepted old new reads layer → AddsReads (IsForAny (written old) reads) old.reads new.reads
 taken_adds {old} {reads = reads} taken = subst (AddsReads (IsForAny (written old) reads) old.reads) (sym taken.takes.reads) taken.adds
 
 -- where memory runs out: the reads, or the writes
@@ -180,7 +180,7 @@ forgotten {old} {more} count only is forgets =
 
 -- ---- an attempt
 
--- an attempt whose reads hold, and which is taken in, stands for the firing, for each class for which it is sound
+-- an attempt whose reads hold, and which is accepted, stands for the firing, for each class for which it is sound
 pub stands_settled : (a : Attempt) (t : Task) (layer : Entries) {first read new : Seeing} → a.task ≡ t → changes layer ≡ a.layer
     → OnlyReads first read → Covers read a.reads → TakesIn read new layer → (states : States) (library : Library) → IsSoundFor states library a
     → FaithfulFiringFor states library (λ S. fire_task library S t) new.reads (written first) (written new) a.answer

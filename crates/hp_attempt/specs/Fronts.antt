@@ -39,7 +39,7 @@ abbrev pub stopped_by : (stops : Bool) → List Outcome → Option ℕ
 stopped_by false outcomes = None
 stopped_by true outcomes = last_end None outcomes
 
--- the first attempt can't be taken in for the task: there is none, it is for another task, or its reads don't hold
+-- the first attempt can't be accepted for the task: there is none, it is for another task, or its reads don't hold
 abbrev pub Stays : Cells → Task → List (Option Attempt) → Type 0
 Stays now t [] = Unit {0}
 Stays now t (None ∷ attempts) = Unit {0}
@@ -49,7 +49,7 @@ abbrev pub StopsAt : Cells → List Task → List (Option Attempt) → Type 0
 StopsAt now [] attempts = Unit {0}
 StopsAt now (t ∷ tasks) attempts = Stays now t attempts
 
--- it is the longest front: it stopped at a veto, or no task is left, or the first attempt that is left can't be taken in
+-- it is the longest front: it stopped at a veto, or no task is left, or the first attempt that is left can't be accepted
 abbrev pub IsLongest : (stopped_by : Option ℕ) → Cells → (tasks : List Task) → (left : List (Option Attempt)) → Type 0
 IsLongest (Some r) now tasks left = Unit {0}
 IsLongest None now tasks left = StopsAt now tasks left
@@ -74,7 +74,7 @@ pub record StandsFor (t : Task) (a : Attempt) (old new : Seeing) : Type 0 where
 
 -- ---- what becomes of the view
 
--- an attempt is taken in: of what it read, the view reads what its own writes up to then leave open, and nothing else; and the
+-- an attempt is accepted: of what it read, the view reads what its own writes up to then leave open, and nothing else; and the
 -- attempt's layer is written over these writes
 pub record TakesAttempt (a : Attempt) (old new : Seeing) : Type 0 where
   pub base : new.base ≡ old.base
@@ -96,7 +96,7 @@ AreOutcomes (o ∷ outcomes) (Some a ∷ attempts) = (a.outcome ≡ o) × AreOut
 
 -- ---- one attempt
 
--- the first attempt is taken in, and gives its outcome
+-- the first attempt is accepted, and gives its outcome
 pub record TakesFirst (t : Task) (old new : Seeing) (before after : List (Option Attempt)) (outcome : Outcome) : Type 0 where
   pub taken : Attempt
   pub first : before ≡ Some taken ∷ after

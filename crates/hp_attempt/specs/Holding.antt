@@ -59,10 +59,10 @@ abbrev pub IsForAny : Changes → (tried : List Read) → Read → Type 0
 IsForAny layer [] r = ⊥
 IsForAny layer (t ∷ ts) r = IsFor layer t r ⊎ IsForAny layer ts r
 
--- ---- how an attempt is taken in
+-- ---- how an attempt is accepted
 
 -- what it read is read, and then its layer is written
-pub record IsTakenIn (old new : Seeing) (reads : List Read) (layer : Entries) : Type 0 where
+pub record IsAccepted (old new : Seeing) (reads : List Read) (layer : Entries) : Type 0 where
   pub recorded : Seeing
   pub only : OnlyReads old recorded
   pub covers : Covers recorded reads

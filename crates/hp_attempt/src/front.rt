@@ -1,4 +1,4 @@
-//! How the front of a row of attempts is taken in.
+//! How the front of a row of attempts is accepted.
 
 ghost use Rattle.std.specs.Prelude.{◌≡◌, ℕ, not, IfOk, IfSome, IfNone, OnErr, map, drop, length};
 ghost use Rattle.hp_model.proofs.FaithfulFirings.{goes_on};
@@ -17,10 +17,10 @@ use std::collections::VecDeque;
 /// `settle` rejects, or past one that ended with a veto where `stop_at_veto` is set.
 ///
 /// `attempts` has a place for each task, in the same order; of two rows of different lengths the longer one's end isn't
-/// looked at. The answer is the outcomes of the attempts taken in, and the places that are left, as they were: a
+/// looked at. The answer is the outcomes of the accepted attempts, and the places that are left, as they were: a
 /// rejected attempt stays in its place.
 ///
-/// An error means that memory ran out. The view has then taken in some of the front's first attempts, and nothing else.
+/// An error means that memory ran out. Some of the front's first attempts have then been accepted, and nothing else.
 pub fn settle_front(
     alloc: Global,
     view: &mut View,
@@ -29,8 +29,11 @@ pub fn settle_front(
     stop_at_veto: bool,
 ) -> Result<(Vec<Outcome>, VecDeque<Option<Attempt>>), AllocError>
     ensures left { IfOk result (λ r. r.1.items ≡ drop (length r.0.items) attempts.items) }
-    ensures longest { IfOk result (λ r. IsLongest (stopped_by stop_at_veto r.0.items) (now_in view.new) (drop (length r.0.items) (map task_of tasks.now)) r.1.items) }
-    ensures front { IfOk result (λ r. FrontIs stop_at_veto (map task_of tasks.now) attempts.items r.0.items view.old view.new) }
+    ensures longest { IfOk result (λ r.
+        IsLongest (stopped_by stop_at_veto r.0.items) (now_in view.new)
+        (drop (length r.0.items) (map task_of tasks.now)) r.1.items) }
+    ensures front { IfOk result (λ r.
+        FrontIs stop_at_veto (map task_of tasks.now) attempts.items r.0.items view.old view.new) }
     ensures for_states { let all = map task_of tasks.now in
         IfOk result (λ r. FrontIsFor stop_at_veto all attempts.items r.0.items view.old view.new) }
     ensures taken { IfOk result (λ r. TakesSome (length r.0.items) attempts.items view.old view.new) }
@@ -66,8 +69,10 @@ fn settle_first(
     task: &Task,
     attempts: &mut VecDeque<Option<Attempt>>,
 ) -> Result<Option<Outcome>, AllocError>
-    ensures taken { IfOk result (λ taken. IfSome taken (λ outcome. TakesFirst (task_of task.now) view.old view.new attempts.old.items attempts.new.items outcome)) }
-    ensures left { IfOk result (λ taken. IfNone taken (LeavesFirst (task_of task.now) view.old view.new attempts.old.items attempts.new.items)) }
+    ensures taken { IfOk result (λ taken. IfSome taken (λ outcome.
+        TakesFirst (task_of task.now) view.old view.new attempts.old.items attempts.new.items outcome)) }
+    ensures left { IfOk result (λ taken. IfNone taken (
+        LeavesFirst (task_of task.now) view.old view.new attempts.old.items attempts.new.items)) }
     ensures goes_on { GoesOn view.old view.new }
     ensures err { OnErr result (IsSame view.old view.new) }
 {

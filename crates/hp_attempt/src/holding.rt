@@ -29,7 +29,7 @@ pub fn first_failed<'a>(reads: &'a Reads, view: &View) -> Option<&'a Seen>
     ensures some { IfSome result (λ seen. FirstFailed (now_in view.now) reads.now seen.now) }
 {
     for (seen, found) in reads.iter() {
-        if !is_told(view, seen, found) {
+        if !read_holds(view, seen, found) {
             return Some(seen);
         }
     }
@@ -37,18 +37,18 @@ pub fn first_failed<'a>(reads: &'a Reads, view: &View) -> Option<&'a Seen>
 }
 
 // Whether this is found in a view's cells.
-fn is_told(view: &View, seen: &Seen, found: &Found) -> bool
+fn read_holds(view: &View, seen: &Seen, found: &Found) -> bool
     ensures { IsTrue result ↔ IsTold (now_in view.now) (read (seen.now, found.now)) }
 {
     match seen {
         Seen::Cell(cell) => are_same(view.peek(*cell), found.value()),
-        Seen::Keys(class) => is_class_told(view, *class, found),
+        Seen::Keys(class) => class_read_holds(view, *class, found),
         Seen::Part(class, _) => view.has_part(*class, &found.part(), found.objects()),
     }
 }
 
 // Whether this is found in a class, in a view's cells.
-fn is_class_told(view: &View, class: ClassNo, found: &Found) -> bool
+fn class_read_holds(view: &View, class: ClassNo, found: &Found) -> bool
     ensures { IsTrue result ↔ IsTold (now_in view.now) (class_read class found.now) }
 {
     match found {
@@ -61,7 +61,8 @@ fn is_class_told(view: &View, class: ClassNo, found: &Found) -> bool
 
 // Whether two cells hold the same, or both are empty.
 fn are_same(value: Option<&CellValue>, other: Option<&CellValue>) -> bool
-    ensures { IsTrue result ↔ (option_map (λ v. cell_value v.now) value.entry ≡ option_map (λ v. cell_value v.now) other.entry) }
+    ensures { IsTrue result
+        ↔ (option_map (λ v. cell_value v.now) value.entry ≡ option_map (λ v. cell_value v.now) other.entry) }
 {
     match (value, other) {
         (Some(value), Some(other)) => *value == *other,

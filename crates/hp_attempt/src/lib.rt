@@ -1,4 +1,4 @@
-//! Attempts at firings on a snapshot, and how they are taken in where their reads hold.
+//! Attempts at firings on a snapshot, and how they are accepted where their reads hold.
 //!
 //! The types stand for those of `hp_model`: `specs/Mapped.antt` has a function for each.
 #![tactic(auto)]

@@ -1,4 +1,4 @@
-//! How an attempt is taken in.
+//! How an attempt is accepted.
 
 ghost use Rattle.std.specs.Prelude.{◌≡◌, ◌↔◌, IsTrue, IsOk, IfOk, OnOk, OnErr};
 ghost use Rattle.hp_model.specs.Rules.{Library};
@@ -14,7 +14,7 @@ ghost use Rattle.hp_view.specs.Adding.{AddsReads};
 ghost use Rattle.hp_view.specs.Seeing.{beneath, now_in, written, IsSame, OnlyReads, GoesOn, Restores};
 ghost use Rattle.hp_attempt.specs.Mapped.{firing, attempt as attempt_of};
 ghost use Rattle.hp_attempt.specs.Fronts.{StandsFor};
-ghost use Rattle.hp_attempt.specs.Holding.{IsFor, IsForAny, IsReadAgain, IsTakenIn, ReadsMore, Covers};
+ghost use Rattle.hp_attempt.specs.Holding.{IsFor, IsForAny, IsReadAgain, IsAccepted, ReadsMore, Covers};
 
 use crate::holding::holds;
 use crate::outcome::Attempt;
@@ -23,7 +23,7 @@ use hp_value::ClassNo;
 use hp_view::{Found, Reads, Seen, View};
 use std::alloc::{AllocError, Global};
 
-/// Whether an attempt was taken in.
+/// Whether an attempt was accepted.
 #[derive(Clone, Copy, Debug, PartialEq, Eq)]
 pub enum Settled {
     /// It was: the view is as if the task had fired on it.
@@ -37,21 +37,30 @@ pub enum Settled {
 /// What an accepted attempt read is then read by the view, and what it wrote is written over the view's writes, so that
 /// the view is as if the task had fired on it.
 ///
-/// A rejection takes no memory. An error means that memory ran out as the attempt was taken in; the view is then as before.
+/// A rejection takes no memory. An error means that memory ran out as the attempt was accepted; the view is then as before.
 pub fn settle(
     alloc: Global,
     view: &mut View,
     task: &Task,
     attempt: &Attempt,
 ) -> Result<Settled, AllocError>
-    ensures accepted { IfOk result (λ r. (r ≡ Settled.Accepted) ↔ ((task_of attempt.now.task ≡ task_of task.now) × Holds (now_in view.old) attempt.now.reads)) }
+    ensures accepted { IfOk result (λ r.
+        (r ≡ Settled.Accepted)
+        ↔ ((task_of attempt.now.task ≡ task_of task.now) × Holds (now_in view.old) attempt.now.reads)) }
     ensures rejected { IfOk result (λ r. r ≡ Settled.Rejected → view.new ≡ view.old) }
-    ensures spares { ((task_of attempt.now.task ≡ task_of task.now) × Holds (now_in view.old) attempt.now.reads → ⊥) → IsOk result }
-    ensures faithful { IfOk result (λ r. r ≡ Settled.Accepted → (library : Library) → IsSound library (attempt_of attempt.now) → FaithfulFiring library (λ S. fire_task library S (task_of task.now)) view.new.reads (written view.old) (written view.new) (firing attempt.now.outcome)) }
+    ensures spares { ((task_of attempt.now.task ≡ task_of task.now) × Holds (now_in view.old) attempt.now.reads → ⊥)
+        → IsOk result }
+    ensures faithful { IfOk result (λ r.
+        r ≡ Settled.Accepted → (library : Library) → IsSound library (attempt_of attempt.now) →
+        FaithfulFiring library (λ S. fire_task library S (task_of task.now)) view.new.reads (written view.old)
+        (written view.new) (firing attempt.now.outcome)) }
     ensures for_states { let wanted = task_of task.now in
         IfOk result (λ r. r ≡ Settled.Accepted → StandsFor wanted attempt.now view.old view.new) }
-    ensures takes { IfOk result (λ r. r ≡ Settled.Accepted → written view.new ≡ stacked (written view.old) (changes attempt.now.layer.value)) }
-    ensures reads { IfOk result (λ r. r ≡ Settled.Accepted → AddsReads (IsForAny (written view.old) attempt.now.reads) view.old.reads view.new.reads) }
+    ensures takes { IfOk result (λ r.
+        r ≡ Settled.Accepted → written view.new ≡ stacked (written view.old) (changes attempt.now.layer.value)) }
+    ensures reads { IfOk result (λ r.
+        r ≡ Settled.Accepted →
+        AddsReads (IsForAny (written view.old) attempt.now.reads) view.old.reads view.new.reads) }
     ensures so_it_was { IfOk result (λ r. r ≡ Settled.Accepted → Holds (beneath view.new) view.new.reads) }
     ensures goes_on { GoesOn view.old view.new }
     ensures unchanged { OnErr result (IsSame view.old view.new) }
@@ -73,7 +82,7 @@ pub fn settle(
 // Takes in an attempt whose reads hold. An error means that memory ran out; some of what it read may have been recorded.
 fn take_in(alloc: Global, view: &mut View, attempt: &Attempt) -> Result<(), AllocError>
     requires { Holds (now_in view.old) attempt.now.reads }
-    ensures ok { OnOk result (IsTakenIn view.old view.new attempt.now.reads attempt.now.layer.value) }
+    ensures ok { OnOk result (IsAccepted view.old view.new attempt.now.reads attempt.now.layer.value) }
     ensures goes_on { GoesOn view.old view.new }
     ensures err { OnErr result (ReadsMore view.old view.new) }
 {
@@ -84,7 +93,8 @@ fn take_in(alloc: Global, view: &mut View, attempt: &Attempt) -> Result<(), Allo
 
 // Whether an attempt may stand for the firing of this task on the view. It takes no memory.
 fn may_stand(attempt: &Attempt, view: &View, task: &Task) -> bool
-    ensures { IsTrue result ↔ ((task_of attempt.now.task ≡ task_of task.now) × Holds (now_in view.now) attempt.now.reads) }
+    ensures { IsTrue result
+        ↔ ((task_of attempt.now.task ≡ task_of task.now) × Holds (now_in view.now) attempt.now.reads) }
 {
     attempt.task == *task && holds(&attempt.reads, view)
 }
@@ -144,10 +154,13 @@ fn read_part_again(
     class: ClassNo,
     found: &Found,
 ) -> Result<(), AllocError>
-    ensures reads { AddsReads (IsFor (written view.old) (part_read class (part_found found.now) (objects_found found.now))) view.old.reads view.new.reads }
+    ensures reads { AddsReads
+        (IsFor (written view.old)
+        (part_read class (part_found found.now) (objects_found found.now))) view.old.reads view.new.reads }
     ensures only { OnlyReads view.old view.new }
     ensures goes_on { GoesOn view.old view.new }
-    ensures again { OnOk result (IsReadAgain view.old view.new (part_read class (part_found found.now) (objects_found found.now))) }
+    ensures again { OnOk result (
+        IsReadAgain view.old view.new (part_read class (part_found found.now) (objects_found found.now))) }
 {
     if view.read_part(alloc, class, &found.part())? {
         return Ok(());

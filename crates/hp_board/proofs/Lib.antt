@@ -1,5 +1,5 @@
 pub mod Totals
-pub mod Deals
+pub mod Draws
 pub mod Passes
 pub mod Settlings
 pub mod GroupMoves

@@ -1,15 +1,15 @@
 -- Numbers that seats draw from one counter.
 --
--- The counter is the number of draws so far. Each seat has a view, its hand: what it drew, how often it found no number
--- left, and its shares. The rule says that all hands together have drawn the numbers below the counter, each once. A
--- hand with all shares has drawn all of them, and so knows all that was drawn.
+-- The counter is the number of draws so far. Each seat has a view, its tally: what it drew, how often it found no number
+-- left, and its shares. The rule says that all tallies together have drawn the numbers below the counter, each once. A
+-- tally with all shares has drawn all of them, and so knows all that was drawn.
 use Rattle.std.specs.Prelude.{◌≡◌, ℕ, ◌+◌, ◌-◌, ◌<◌, ◌≤◌, ◌^◌, List, [], ◌∷◌, ◌++◌, length, min, Bool, true, false, cond, nat_lt, nat_eq, All}
 use mathlib.Core.Option.{some}
 use lib.ListN.{get_elem?}
 use Rattle.atomic_table.specs.Table.{State, Me}
 use Rattle.atomic_table.specs.Seated.{TableId}
-use Rattle.hp_board.specs.declared.deal.Hand.{Hand}
-use Rattle.hp_board.specs.declared.deal.Shape.{Shape}
+use Rattle.hp_board.specs.declared.tally.Tally.{Tally}
+use Rattle.hp_board.specs.declared.tally.Shape.{Shape}
 
 -- how often x occurs in the list
 abbrev pub times : ℕ → List ℕ → ℕ
@@ -25,14 +25,14 @@ abbrev pub total : {X : Type 0} → (X → ℕ) → List X → ℕ
 total f [] = 0
 total f (v ∷ vs) = f v + total f vs
 
-abbrev pub hand : ℕ → ℕ → List ℕ → ℕ → Hand
-hand numbers parts drawn missed = record { numbers = numbers; parts = parts; drawn = drawn; missed = missed }
+abbrev pub tally : ℕ → ℕ → List ℕ → ℕ → Tally
+tally numbers parts drawn missed = record { numbers = numbers; parts = parts; drawn = drawn; missed = missed }
 
--- what each hand says, where the counter is w
-pub record IsHand (numbers w : ℕ) (v : Hand) : Type 0 where
-  -- a hand without shares has drawn nothing
+-- what each tally says, where the counter is w
+pub record IsTally (numbers w : ℕ) (v : Tally) : Type 0 where
+  -- a tally without shares has drawn nothing
   pub idle : v.parts ≡ 0 → v.drawn ≡ []
-  -- a hand with a share knows the number of tasks
+  -- a tally with a share knows the number of tasks
   pub same : 0 < v.parts → v.numbers ≡ numbers
   -- each share finds at most once that no number is left
   pub missed : v.missed ≤ v.parts
@@ -40,42 +40,42 @@ pub record IsHand (numbers w : ℕ) (v : Hand) : Type 0 where
 
 -- The rule, where the counter is w. The counter stays within 64 bits, since each seat finds at most once that no number
 -- is left.
-pub record IsDealt (shape : Shape) (w : ℕ) (views : List Hand) : Type 0 where
+pub record IsCounted (shape : Shape) (w : ℕ) (views : List Tally) : Type 0 where
   pub fits : shape.numbers + shape.seats < 2 ^ 64
   pub parts : total (λ v. v.parts) views ≡ shape.seats
   pub drawn : (x : ℕ) → total (λ v. times x v.drawn) views ≡ once_below x (min w shape.numbers)
   pub bound : w ≤ shape.numbers + total (λ v. v.missed) views
-  pub each : (k : ℕ) (v : Hand) → get_elem? views k ≡ some v → IsHand shape.numbers w v
+  pub each : (k : ℕ) (v : Tally) → get_elem? views k ≡ some v → IsTally shape.numbers w v
 
 -- the rule of the table: one word, the counter, under the rule above
-abbrev pub Dealt : Shape → State ℕ Hand → Type 0
-Dealt shape s = (w : ℕ) × (s.words ≡ w ∷ []) × IsDealt shape w s.views
+abbrev pub Counted : Shape → State ℕ Tally → Type 0
+Counted shape s = (w : ℕ) × (s.words ≡ w ∷ []) × IsCounted shape w s.views
 
--- the hand after a draw that found this counter
-abbrev pub dealt : Hand → ℕ → Hand
-dealt v found = cond (nat_lt found v.numbers) (hand v.numbers v.parts (v.drawn ++ found ∷ []) v.missed) (hand v.numbers v.parts v.drawn (v.missed + 1))
+-- the tally after a draw that found this counter
+abbrev pub after_draw : Tally → ℕ → Tally
+after_draw v found = cond (nat_lt found v.numbers) (tally v.numbers v.parts (v.drawn ++ found ∷ []) v.missed) (tally v.numbers v.parts v.drawn (v.missed + 1))
 
 -- one share less
-abbrev pub fewer : Hand → Hand
-fewer v = hand v.numbers (v.parts - 1) v.drawn v.missed
+abbrev pub fewer : Tally → Tally
+fewer v = tally v.numbers (v.parts - 1) v.drawn v.missed
 
 -- one share, and nothing drawn
-abbrev pub newcomer : Hand → Hand
-newcomer v = hand v.numbers 1 [] 0
+abbrev pub newcomer : Tally → Tally
+newcomer v = tally v.numbers 1 [] 0
 
--- two hands in one
-abbrev pub joined : Hand → Hand → Hand
-joined v w = hand v.numbers (v.parts + w.parts) (v.drawn ++ w.drawn) (v.missed + w.missed)
+-- two tallies in one
+abbrev pub joined : Tally → Tally → Tally
+joined v w = tally v.numbers (v.parts + w.parts) (v.drawn ++ w.drawn) (v.missed + w.missed)
 
--- what is left of a hand that was joined to another
-abbrev pub nobody : Hand
-nobody = hand 0 0 [] 0
+-- what is left of a tally that was joined to another
+abbrev pub nobody : Tally
+nobody = tally 0 0 [] 0
 
 -- a table of one word and no slots
 abbrev pub IsOneWord : TableId → Type 0
 IsOneWord id = (id.words ≡ 1) × (id.slots ≡ 0)
 
--- what a dealer of n numbers for k seats keeps of its table
+-- what a counter of n numbers for k seats keeps of its table
 pub record IsTable (id : TableId) (key : Shape) (n k : ℕ) : Type 0 where
   pub word : IsOneWord id
   pub numbers : key.numbers ≡ n
@@ -84,7 +84,7 @@ pub record IsTable (id : TableId) (key : Shape) (n k : ℕ) : Type 0 where
 
 -- What a seat keeps of its token: one share and no slot. It has found at most once that no number is left, which makes
 -- it done.
-pub record IsToken (me : Me ℕ Hand) (done : Bool) : Type 0 where
+pub record IsToken (me : Me ℕ Tally) (done : Bool) : Type 0 where
   pub slots : me.1 ≡ []
   pub parts : me.0.parts ≡ 1
   pub missed : me.0.missed ≡ cond done 1 0
@@ -99,21 +99,21 @@ pub record Taken : Type 0 where
   pub drawn : List ℕ
   pub done : Bool
 
--- A dealer: its table, how many numbers there are, and how many seats.
+-- A counter: its table, how many numbers there are, and how many seats.
 pub record Deal : Type 0 where
   pub table : TableId
   pub numbers : ℕ
   pub seats : ℕ
 
--- a dealer of the numbers below n, for k seats
-abbrev pub IsDealer : ℕ → ℕ → Deal → Type 0
-IsDealer n k d = (d.numbers ≡ n) × (d.seats ≡ k)
+-- a counter of the numbers below n, for k seats
+abbrev pub IsCounter : ℕ → ℕ → Deal → Type 0
+IsCounter n k d = (d.numbers ≡ n) × (d.seats ≡ k)
 
--- a seat of this dealer
+-- a seat of this counter
 abbrev pub IsSeatOf : Deal → Taken → Type 0
 IsSeatOf d t = (t.table ≡ d.table) × (t.numbers ≡ d.numbers)
 
--- a seat of this dealer that has drawn nothing yet
+-- a seat of this counter that has drawn nothing yet
 abbrev pub IsFresh : Deal → Taken → Type 0
 IsFresh d t = IsSeatOf d t × (t.drawn ≡ []) × (t.done ≡ false)
 
@@ -131,14 +131,14 @@ times_in x ts = total (λ t. times x t.drawn) ts
 
 -- ---- the end
 
--- the hand holds all that these seats have drawn
-pub record Gathers (v : Hand) (ts : List Taken) : Type 0 where
+-- the tally holds all that these seats have drawn
+pub record Gathers (v : Tally) (ts : List Taken) : Type 0 where
   pub parts : v.parts ≡ length ts
   pub drawn : (x : ℕ) → times x v.drawn ≡ times_in x ts
   pub missed : v.missed ≡ total (λ t. cond t.done 1 0) ts
 
--- what a hand knows at the end, where the word is w
-pub record Knows (shape : Shape) (w : ℕ) (v : Hand) : Type 0 where
+-- what a tally knows at the end, where the word is w
+pub record Knows (shape : Shape) (w : ℕ) (v : Tally) : Type 0 where
   pub once : (x : ℕ) → times x v.drawn ≤ once_below x (min w shape.numbers)
   pub every : v.parts ≡ shape.seats → (x : ℕ) → times x v.drawn ≡ once_below x (min w shape.numbers)
   pub past : 0 < v.missed → shape.numbers ≤ w

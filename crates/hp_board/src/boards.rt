@@ -6,7 +6,7 @@ ghost use Rattle.hp_board.specs.Passes.{IsPassOf, Learns, known_at};
 ghost use Rattle.hp_board.specs.Boards.{IsBoard};
 
 use crate::cells::{OnceCells, Pass, Posted};
-use crate::dealer::{Dealer, Drawn, Seat};
+use crate::counter::{Counter, Drawn, Seat};
 use std::alloc::{AllocError, Global};
 use std::marker::Model;
 
@@ -26,7 +26,7 @@ use std::marker::Model;
 /// does.
 #[derive(Drop)]
 pub struct Board<T> {
-    dealer: Dealer,
+    counter: Counter,
     cells: OnceCells<T>,
 }
 
@@ -36,9 +36,9 @@ impl<T> Model for Board<T> {
 
     ghost Value = { BoardView };
 
-    ghost view = { λ b. record { deal = b.dealer; cells = b.cells } };
+    ghost view = { λ b. record { deal = b.counter; cells = b.cells } };
 
-    ghost invariant = { λ b. length b.cells ≡ b.dealer.numbers };
+    ghost invariant = { λ b. length b.cells ≡ b.counter.numbers };
 }
 
 impl<T: Drop> Board<T> {
@@ -51,9 +51,9 @@ impl<T: Drop> Board<T> {
         ensures board { IfOk result (λ r. IsBoard n seats r.0) }
         ensures seats { IfOk result (λ r. (vec_len r.1 ≡ seats) × All (IsFresh r.0.deal) r.1.items) }
     {
-        let (dealer, all) = Dealer::new(alloc, n, seats)?;
+        let (counter, all) = Counter::new(alloc, n, seats)?;
         let cells = OnceCells::new(alloc, n)?;
-        Ok((Board { dealer, cells }, all))
+        Ok((Board { counter, cells }, all))
     }
 
     /// A pass of this board that knows nothing.
@@ -76,7 +76,7 @@ impl<T: Drop> Board<T> {
         ensures none { IfNone result.0 (FindsNone seat result.1) }
         ensures still { seat.done ≡ true → result.0 ≡ None }
     {
-        self.dealer.draw(seat)
+        self.counter.draw(seat)
     }
 
     /// Looks at what task `j` has posted. The pass then knows the value that was found: a later look with it finds that
@@ -125,7 +125,7 @@ impl<T: Drop> Board<T> {
             (x : ℕ) → times_in x seats.items ≡ once_below x result.below }
         ensures done { All (λ t. t.done ≡ true → result.below ≡ self.deal.numbers) seats.items }
     {
-        let Board { dealer, cells: _ } = self;
-        dealer.close(seats)
+        let Board { counter, cells: _ } = self;
+        counter.close(seats)
     }
 }

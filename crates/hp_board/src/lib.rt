@@ -16,13 +16,13 @@
 
 mod boards;
 mod cells;
-mod deal;
-mod dealer;
+mod counter;
 mod known;
 mod machine;
+mod tally;
 mod witness;
 
 pub use boards::Board;
 pub use cells::{Pass, Posted, meet};
-pub use dealer::{Drawn, Seat};
+pub use counter::{Drawn, Seat};
 pub use machine::{Event, Group};

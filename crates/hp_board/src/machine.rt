@@ -204,11 +204,11 @@ impl<T: Drop> Group<T> {
     {
         self.is_drawn_by(worker, task)
             && !self.is_looked_at(task)
-            && self.are_posted_elders(task, elders)
+            && self.are_posted_predecessors(task, elders)
     }
 
     // Each of these tasks precedes the task and is posted.
-    fn are_posted_elders(&self, task: usize, elders: &[usize]) -> bool
+    fn are_posted_predecessors(&self, task: usize, elders: &[usize]) -> bool
         ensures { result ≡ list_all (λ j. nat_lt j task && is_some (posted_at self.now j)) elders.now }
     {
         elders.iter().all(|j| *j < task && self.is_posted(*j))

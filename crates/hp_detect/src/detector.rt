@@ -78,7 +78,8 @@ impl Detector {
         ensures event { self.new.event ≡ self.old.event }
         ensures answers { IfOk result (λ o. (past : History) → Knows self.old past
             → option_map occurrence o ≡ model.occurrence_of self.old.event (primitive prim.now ∷ past)) }
-        ensures learns { OnOk result ((past : History) → Knows self.old past → Knows self.new (primitive prim.now ∷ past)) }
+        ensures learns { OnOk result ((past : History) →
+            Knows self.old past → Knows self.new (primitive prim.now ∷ past)) }
         ensures unmentioned { model.mentions self.old.event (primitive prim.now) ≡ false
             → (result ≡ Ok None) × (self.new ≡ self.old) }
         ensures err { OnErr result (self.new ≡ self.old) }

@@ -95,7 +95,8 @@ pub fn occurs_now(
     prim: &Prim,
 ) -> Result<Option<Occurrence>, AllocError>
     requires { model.is_pure (event expr.now) ≡ true }
-    ensures { IfOk result (λ o. (past : History) → option_map occurrence o ≡ model.occurrence_of (event expr.now) (primitive prim.now ∷ past)) }
+    ensures { IfOk result (λ o. (past : History) →
+        option_map occurrence o ≡ model.occurrence_of (event expr.now) (primitive prim.now ∷ past)) }
 {
     if !expr.mentions(prim) {
         return Ok(None);

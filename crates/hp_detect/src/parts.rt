@@ -25,7 +25,9 @@ pub fn joined(
     first: Option<&Occurrence>,
     second: Option<Occurrence>,
 ) -> Result<Option<Occurrence>, AllocError>
-    ensures { IfOk result (λ o. option_map occurrence o ≡ model.joined (option_map (λ f. occurrence f.now) first.entry) (option_map occurrence second)) }
+    ensures { IfOk result (λ o.
+        option_map occurrence o
+        ≡ model.joined (option_map (λ f. occurrence f.now) first.entry) (option_map occurrence second)) }
 {
     let (Some(first), Some(second)) = (first, second) else {
         return Ok(None);
@@ -42,7 +44,9 @@ pub fn closed(
     gathered: Option<&Occurrence>,
     end: Option<Occurrence>,
 ) -> Result<Option<Occurrence>, AllocError>
-    ensures { IfOk result (λ o. option_map occurrence o ≡ model.closed (option_map (λ g. occurrence g.now) gathered.entry) (option_map occurrence end)) }
+    ensures { IfOk result (λ o.
+        option_map occurrence o
+        ≡ model.closed (option_map (λ g. occurrence g.now) gathered.entry) (option_map occurrence end)) }
 {
     let (Some(gathered), Some(end)) = (gathered, end) else {
         return Ok(None);
@@ -61,7 +65,9 @@ pub fn gathered(
     body: Option<Occurrence>,
     before: &Option<Arc<Occurrence>>,
 ) -> Result<Option<Arc<Occurrence>>, AllocError>
-    ensures { IfOk result (λ g. option_map (λ o. occurrence o.value) g ≡ gathered_after ended (option_map occurrence body) (option_map (λ o. occurrence o.value) before.now)) }
+    ensures { IfOk result (λ g.
+        option_map (λ o. occurrence o.value) g
+        ≡ gathered_after ended (option_map occurrence body) (option_map (λ o. occurrence o.value) before.now)) }
 {
     if ended {
         return Ok(None);

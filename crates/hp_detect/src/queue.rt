@@ -106,7 +106,8 @@ impl Queue {
         takes: bool,
         arriving: Option<Occurrence>,
     ) -> Result<Queue, AllocError>
-        ensures { IfOk result (λ q. q ≡ (if takes then drop 1 self.now else self.now) ++ option_to_list (option_map occurrence arriving)) }
+        ensures { IfOk result (λ q.
+            q ≡ (if takes then drop 1 self.now else self.now) ++ option_to_list (option_map occurrence arriving)) }
     {
         let left = if takes {
             self.without_first(alloc)?
@@ -228,7 +229,8 @@ fn behind<'a>(middle: &'a Option<Arc<Rope>>, tail: &'a Chunk, at: usize) -> &'a 
 }
 
 fn shared(middle: &Option<Arc<Rope>>) -> Result<Option<Arc<Rope>>, AllocError>
-    ensures { IfOk result (λ m. (rest_laid_out m ≡ rest_laid_out middle.now) × (RestIsCounted middle.now → RestIsCounted m)) }
+    ensures { IfOk result (λ m.
+        (rest_laid_out m ≡ rest_laid_out middle.now) × (RestIsCounted middle.now → RestIsCounted m)) }
 {
     match middle {
         Some(middle) => Ok(Some(Arc::try_clone(middle)?)),
@@ -262,7 +264,8 @@ fn alike_from(one: &Queue, other: &Queue, at: usize) -> usize
     requires within_other { at < length other.now }
     ensures most { at + result ≤ length one.now }
     ensures differ { result ≡ 0 → pointwise occurrence_same one.now other.now ≡ false }
-    ensures alike { pointwise occurrence_same (drop at one.now) (drop at other.now) ≡ pointwise occurrence_same (drop (at + result) one.now) (drop (at + result) other.now) }
+    ensures alike { pointwise occurrence_same (drop at one.now) (drop at other.now)
+        ≡ pointwise occurrence_same (drop (at + result) one.now) (drop (at + result) other.now) }
 {
     let here = one.run(at);
     let there = other.run(at);

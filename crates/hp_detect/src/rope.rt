@@ -65,7 +65,8 @@ pub fn with(alloc: Global, rope: &Arc<Rope>, last: Chunk) -> Result<Arc<Rope>, A
 fn both(alloc: Global, first: &Arc<Rope>, second: Arc<Rope>) -> Result<Arc<Rope>, AllocError>
     requires first { IsCounted first.now.value }
     requires second { IsCounted second.value }
-    ensures { IfOk result (λ r. (laid_out r.value ≡ laid_out first.now.value ++ laid_out second.value) × IsCounted r.value) }
+    ensures { IfOk result (λ r.
+        (laid_out r.value ≡ laid_out first.now.value ++ laid_out second.value) × IsCounted r.value) }
 {
     let Some(count) = count(first).checked_add(count(&second)) else {
         return Err(AllocError);

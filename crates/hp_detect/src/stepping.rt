@@ -71,7 +71,8 @@ fn pattern_step(
     before: &Arc<Known>,
     prim: &Prim,
 ) -> Result<Step, AllocError>
-    ensures { IfOk result (λ s. step s ≡ model.pattern_step (pattern matched.now) (known before.now.value) (primitive prim.now)) }
+    ensures { IfOk result (λ s.
+        step s ≡ model.pattern_step (pattern matched.now) (known before.now.value) (primitive prim.now)) }
 {
     if !matched.matches(prim) {
         return idle_step(before);
@@ -112,7 +113,8 @@ fn closure_step(
     body: Step,
     end: Step,
 ) -> Result<Step, AllocError>
-    ensures { IfOk result (λ s. step s ≡ model.closure_step (option_map (λ o. occurrence o.value) unfinished.now) (step body) (step end)) }
+    ensures { IfOk result (λ s.
+        step s ≡ model.closure_step (option_map (λ o. occurrence o.value) unfinished.now) (step body) (step end)) }
 {
     let left = gathered(alloc, end.occurrence.is_some(), body.occurrence, unfinished)?;
     Ok(Step {

@@ -61,10 +61,10 @@ module _ {library : Library} {stops : Bool} {tasks : List Task} where
   comes_same v p sound = comes_put v p p refl sound
 
   -- the front of the attempts is accepted
-  pub comes_settled : {v w : Seeing} (p q : Progress) (taken : ℕ) → length q.settled.outcomes.items ≡ length p.settled.outcomes.items + taken → (taken ≡ 0 → p.settled.end ≡ None → q.settled.end ≡ None) → (q.counts.waves ≡ p.counts.waves) × (q.counts.retried ≡ p.counts.retried)
-      → q.counts.accepted ≤ p.counts.accepted + taken → (0 < taken → IsRetried p.counts (length p.settled.outcomes.items) → q.counts.accepted < p.counts.accepted + taken) → AreSound library q.pending.attempts.items
+  pub comes_settled : {v w : Seeing} (p q : Progress) (n : ℕ) → length q.settled.outcomes.items ≡ length p.settled.outcomes.items + n → (n ≡ 0 → p.settled.end ≡ None → q.settled.end ≡ None) → (q.counts.waves ≡ p.counts.waves) × (q.counts.retried ≡ p.counts.retried)
+      → q.counts.accepted ≤ p.counts.accepted + n → (0 < n → IsRetried p.counts (length p.settled.outcomes.items) → q.counts.accepted < p.counts.accepted + n) → AreSound library q.pending.attempts.items
       → ((first : Seeing) → IsSoFar library stops tasks first v p.settled.outcomes.items p.settled.end → IsSoFar library stops tasks first w q.settled.outcomes.items q.settled.end) → Comes library stops tasks v p w q
-  comes_settled p q taken longer none same accepted reran sound so_far = record {
+  comes_settled p q n longer none same accepted reran sound so_far = record {
     ahead = record {
       longer = omega (arith, longer);
       waves = same.0;

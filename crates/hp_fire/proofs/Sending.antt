@@ -51,7 +51,7 @@ use Rattle.hp_fire.specs.contracts.speculate.wave.Wave as Wave
 use Rattle.hp_fire.specs.contracts.speculate.pending.Tried as Tried
 use Rattle.hp_fire.specs.contracts.speculate.progress.Progress as Progress
 use Rattle.hp_fire.specs.contracts.speculate.channel.Sent as Sent
-use Rattle.hp_board.proofs.dealer.Seat.TheSendSync as seat
+use Rattle.hp_board.proofs.counter.Seat.TheSendSync as seat
 use Rattle.rtrb.proofs.producer.Producer.TheSendSync as sender
 use Rattle.hp_fire.specs.contracts.speculate.wave.Job as Job
 use Rattle.hp_value.proofs.env.Answer.TheSendSync as answer

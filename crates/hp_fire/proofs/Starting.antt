@@ -24,7 +24,7 @@ use Rattle.hp_fire.proofs.Steps.{GroupLoop, grows, runs_answer, goes_unvetoed, g
 
 pub signal_runs : {library : Library} {depth : ℕ} {p : Primitive} {tasks : List Task} {v w z : Seeing} {a : Answer} → IsTriggered library depth p v w tasks → GoesOn v w
     → Runs library (start (level_at library depth).below tasks) w z a → Runs library (signal_in (level_at library depth) p) v z a
-signal_runs {library} {depth} {p} told on r = record { goes_on = GoesOn-then on r.goes_on; faithful = faithful_signal (level_at library depth) p (grows r.goes_on) told.heard r.faithful }
+signal_runs {library} {depth} {p} triggered on r = record { goes_on = GoesOn-then on r.goes_on; faithful = faithful_signal (level_at library depth) p (grows r.goes_on) triggered.heard r.faithful }
 
 pub start_none : (library : Library) (depth : ℕ) {tasks : List Task} → tasks ≡ [] → (v : Seeing) (a : Answer) → a ≡ ended done → Runs library (start (level_at library depth).below tasks) v v a
 start_none library depth {tasks} none v a is =
@@ -50,10 +50,10 @@ start_runs {library} {depth} (t ∷ ts) ready some r = record {
   faithful = faithful_start depth t ts (ready.within t ts refl) (at_filter (suc depth) (λ (u : Task). is_immediate u.place) (t ∷ ts) ready.at) r.faithful;
 }
 
--- a task alone is a group of one
-alone_group : {library : Library} {v w : Seeing} {f : FiringAnswer} (t : Task) → RunsFiring library (λ S. fire_task library S t) v w f
+-- a single task is a group of one
+single_group : {library : Library} {v w : Seeing} {f : FiringAnswer} (t : Task) → RunsFiring library (λ S. fire_task library S t) v w f
     → RunsGroup library (siblings (fire_task library) true (t ∷ [])) v w (record { firings = f ∷ []; vetoed_by = f.vetoed_by })
-alone_group {library} {v} {w} {f} t r = by f.vetoed_by refl
+single_group {library} {v} {w} {f} t r = by f.vetoed_by refl
   where
     whole : GroupLoop library true (t ∷ []) (t ∷ []) v v []
     whole = group_starts v [] refl
@@ -65,14 +65,14 @@ alone_group {library} {v} {w} {f} t r = by f.vetoed_by refl
         subst (λ o. RunsGroup library (siblings (fire_task library) true (t ∷ [])) v w (record { firings = f ∷ []; vetoed_by = o })) (sym e) (group_ends refl over)
 
 -- it is the only one that starts
-pub start_alone : {library : Library} {depth : ℕ} {v w : Seeing} {f : FiringAnswer} (tasks : List Task) (t : Task) → AreReady library depth tasks → tasks ≡ t ∷ [] → AllImmediate tasks
+pub start_single : {library : Library} {depth : ℕ} {v w : Seeing} {f : FiringAnswer} (tasks : List Task) (t : Task) → AreReady library depth tasks → tasks ≡ t ∷ [] → AllImmediate tasks
     → RunsFiring library (λ S. fire_task library S t) v w f
     → Runs library (start (level_at library depth).below tasks) v w (group_answer (record { firings = f ∷ []; vetoed_by = f.vetoed_by }))
-start_alone {library} {depth} {v} {w} {f} tasks t ready is at_once r =
+start_single {library} {depth} {v} {w} {f} tasks t ready is at_once r =
     subst (λ ts. Runs library (start (level_at library depth).below ts) v w (group_answer group)) (sym is)
     (runs_answer (λ i. record { end = (group_answer group).end; queued = ap (λ ts. ts ++ queued_in group.firings) (sym (none_is_deferred (t ∷ []) now)) i; detached = ap (λ ts. map unreleased ts ++ detached_in group.firings) (sym (none_is_detached (t ∷ []) now)) i; items = items_in group.firings })
     (start_runs (t ∷ []) (subst (AreReady library depth) is ready) (λ none. cc)
-    (subst (λ ts. RunsGroup library (siblings (fire_task library) true ts) v w group) (sym (all_fire (t ∷ []) now)) (alone_group t r))))
+    (subst (λ ts. RunsGroup library (siblings (fire_task library) true ts) v w group) (sym (all_fire (t ∷ []) now)) (single_group t r))))
   where
     now : AllImmediate (t ∷ [])
     now = subst AllImmediate is at_once
@@ -87,10 +87,10 @@ group_falls firings below deepest less =
     let one : suc below * (deepest + 2) ≡ below * (deepest + 2) + (deepest + 2) = suc-mul below (deepest + 2) in
     omega (arith, more, one)
 
--- a task alone has less left to run than the signal that starts it
-pub alone_measure : (lib : RustLibrary) (depth : ℕ) (tasks : List RustTask) (t : RustTask) → AreReady (library lib) depth (map task tasks) → map task tasks ≡ task t ∷ []
+-- a single task has less left to run than the signal that starts it
+pub single_measure : (lib : RustLibrary) (depth : ℕ) (tasks : List RustTask) (t : RustTask) → AreReady (library lib) depth (map task tasks) → map task tasks ≡ task t ∷ []
     → 16 * left lib (levels lib t.depth) (deepest lib) + 3 < 16 * left lib (levels lib depth) 0 + 1
-alone_measure lib depth tasks t ready is =
+single_measure lib depth tasks t ready is =
     let at : AreAt (suc depth) (task t ∷ []) = subst (AreAt (suc depth)) is ready.at in
     let below : t.depth ≡ suc depth = at.0 in
     let low : depth < lib.depth_limit = ready.within (task t) [] is in

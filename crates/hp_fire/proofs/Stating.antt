@@ -8,11 +8,13 @@ use Rattle.hp_model.specs.Occurrences.{Primitive, signalled}
 use Rattle.hp_model.specs.Rules as R
 use Rattle.hp_model.specs.Rules.{Library, Statement, fire}
 use Rattle.hp_model.specs.State.{State, Status, absent, enabled, disabled}
-use Rattle.hp_model.specs.Tree.{Task}
+use Rattle.hp_model.specs.Tree.{Task, without_detachments}
 use Rattle.hp_model.specs.Transactions.{Work, with_value, abort_by}
-use Rattle.hp_model.specs.Firing.{Level, level_at, Context, run_statement, start, start_fired, fired_task}
+use Rattle.hp_model.specs.Firing.{Level, level_at, Context, run_statement, signal_in, start, start_fired, fired_task}
+use Rattle.hp_model.specs.Cells.{Read, Changes}
 use Rattle.hp_model.specs.Soundness.{Answer}
-use Rattle.hp_model.specs.Answers.{FaithfulWork, ended}
+use Rattle.hp_model.specs.Answers.{FaithfulWork, ended, tells, followed}
+use Rattle.hp_model.specs.Operations.{operation_items}
 use Rattle.hp_model.proofs.Faithful.{finds_more}
 use Rattle.hp_model.proofs.FaithfulOperations.{faithful_fire}
 use Rattle.hp_value.specs.declared.halt.Halt.{Halt}
@@ -27,10 +29,10 @@ use Rattle.hp_rule.specs.declared.stmt.Stmt.TheViews.{the_lemmas}
 use Rattle.hp_rule.specs.Mapped.{statement, body_in}
 use Rattle.hp_rule.proofs.Bodies.{row_body_lem}
 use Rattle.hp_view.specs.Seeing.{Seeing, written, OnlyReads}
-use Rattle.hp_view.proofs.Views.{GoesOn-then}
+use Rattle.hp_view.proofs.Views.{GoesOn-same, GoesOn-then}
 use Rattle.hp_view.proofs.Reading.{GoesOn-only}
 use Rattle.hp_fire.specs.declared.course.Course.{Course}
-use Rattle.hp_fire.specs.Runs.{Runs, Steps, Looks}
+use Rattle.hp_fire.specs.Runs.{Runs, Steps, Looks, Makes}
 use Rattle.hp_fire.specs.Signals.{signal_of}
 use Rattle.hp_fire.proofs.Making.{steps_halt}
 use Rattle.hp_fire.proofs.Steps.{runs_as, found_cause, grows, only_written}
@@ -59,22 +61,26 @@ signal_halt x next (Err d) (ByCause c) library v f is = steps_halt (λ (vs : Lis
         as_values (Err e) = Err e
 signal_halt x next o Memory library v f is = tt
 
-steps_as : (library : Library) (f g : Work) (v w : Seeing) (result : Result Course Halt) → ((S : State) → g S ≡ f S) → Steps library f v w result → Steps library g v w result
-steps_as library f g v w (Ok c) same p = runs_as f g same p
-steps_as library f g v w (Err (ByCause c)) same p = runs_as f g same p
-steps_as library f g v w (Err Memory) same p = tt
-
-pub signal_steps : (x : Name) (signals : Primitive → Work) (o : Outcome (List Value)) (p : Primitive) (library : Library) (v w : Seeing) (result : Result Course Halt) → Ok p ≡ signal_of x o
-    → Steps library (signals p) v w result → Steps library (λ S. with_value o (λ vs. signals (signalled x vs)) S) v w result
-signal_steps x signals (Ok vs) p library v w result is s = steps_as library (signals p) (signals (signalled x vs)) v w result (λ S. ap (λ q. signals q S) (sym (the_value is))) s
+-- the occurrence of a signal was made, or a cause ends the statement
+pub signal_makes : {X : Type 0} (f : X → Primitive) (library : Library) (level : Level) (x : Name) (o : Outcome (List Value)) (v : Seeing) (result : Result X Halt) → Meets f result (signal_of x o)
+    → Makes f library level (λ S. with_value o (λ vs. signal_in level (signalled x vs)) S) v v result
+signal_makes f library level x (Ok vs) v (Ok q) is = record { goes_on = GoesOn-same v; then_signal = λ grows p. signal_made (f q) (the_value is) p }
   where
-    the_value : ◌≡◌ {A = Outcome Primitive} (Ok p) (Ok (signalled x vs)) → p ≡ signalled x vs
+    the_value : ◌≡◌ {A = Outcome Primitive} (Ok (f q)) (Ok (signalled x vs)) → f q ≡ signalled x vs
     the_value e = ap (λ (o : Outcome Primitive). or_it o) e
       where
         or_it : Outcome Primitive → Primitive
-        or_it (Ok q) = q
-        or_it (Err c) = p
-signal_steps x signals (Err c) p library v w result is s = cc
+        or_it (Ok p) = p
+        or_it (Err c) = f q
+
+    signal_made : (p : Primitive) → p ≡ signalled x vs → {more : List Read} {before after : Changes} {a : Answer} → FaithfulWork library (signal_in level p) more before after a
+        → FaithfulWork library (signal_in level (signalled x vs)) more before after (followed (tells (without_detachments (operation_items p))) a)
+    signal_made p same {more} {before} {after} {a} q =
+        subst (λ r. FaithfulWork library (signal_in level (signalled x vs)) more before after (followed (tells (without_detachments (operation_items r))) a)) (sym same)
+        (subst (λ r. FaithfulWork library (signal_in level r) more before after a) same q)
+signal_makes f library level x (Err d) v (Ok q) is = cc
+signal_makes f library level x o v (Err (ByCause c)) is = signal_halt x (λ vs. signal_in level (signalled x vs)) o (ByCause c) library v f is
+signal_makes f library level x o v (Err Memory) is = tt
 
 -- ---- what is found
 

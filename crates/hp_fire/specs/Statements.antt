@@ -41,9 +41,9 @@ StatementRuns lib c s old new result = Steps (library lib) (statement_in lib c s
 abbrev pub OperationIsMade : Library → Context → Statement → Seeing → Seeing → Result Primitive Halt → Type 0
 OperationIsMade lib c s old new result = Makes primitive (library lib) (level_at (library lib) c.depth) (statement_in lib c s) old new result
 
--- the body runs and takes this course
+-- the body runs with this course
 abbrev pub BodyRuns : Library → Context → Body → Seeing → Seeing → Course → Type 0
-BodyRuns lib c b old new taken = Runs (library lib) (body_work lib c b) old new (course taken)
+BodyRuns lib c b old new result = Runs (library lib) (body_work lib c b) old new (course result)
 
 -- the occurrence is signalled, unless a cause ends that or memory runs out
 abbrev pub SignalRuns : Library → (depth : ℕ) → Primitive → Seeing → Seeing → Result Course Halt → Type 0
@@ -51,7 +51,7 @@ SignalRuns lib depth p old new result = Steps (library lib) (signal_in (level_at
 
 -- the tasks are started in a transaction of this depth
 abbrev pub TasksStart : Library → (depth : ℕ) → List Task → Seeing → Seeing → Course → Type 0
-TasksStart lib depth tasks old new taken = Runs (library lib) (start (level_at (library lib) depth).below (map task tasks)) old new (course taken)
+TasksStart lib depth tasks old new result = Runs (library lib) (start (level_at (library lib) depth).below (map task tasks)) old new (course result)
 
 -- the tasks fire as siblings
 abbrev pub SiblingsFire : Library → (stops : Bool) → List Task → Seeing → Seeing → GroupOutcome → Type 0

@@ -78,25 +78,25 @@ pub fn detached_after(
 {
     match how {
         End::Done => Ok(detached),
-        End::Abort(_) | End::Veto(_) => survivors(alloc, detached),
+        End::Abort(_) | End::Veto(_) => left_after_abort(alloc, detached),
     }
 }
 
 /// The detached tasks that remain when the transaction around them aborts.
-fn survivors(alloc: Global, detached: Vec<Detached>) -> Result<Vec<Detached>, AllocError>
+fn left_after_abort(alloc: Global, detached: Vec<Detached>) -> Result<Vec<Detached>, AllocError>
     ensures { IfOk result (λ ds. map detached_of ds.items ≡ model.survivors (map detached_of detached.items)) }
 {
     let mut left = Vec::new(alloc);
     for d in detached {
-        if let Some(survivor) = survivor(d) {
-            left.push(survivor)?;
+        if let Some(kept) = after_abort(d) {
+            left.push(kept)?;
         }
     }
     Ok(left)
 }
 
 /// A detached task when the transaction around it aborts, if it remains.
-fn survivor(d: Detached) -> Option<Detached>
+fn after_abort(d: Detached) -> Option<Detached>
     ensures { option_map detached_of result ≡ model.survivor_by (detached_of d).task.place (detached_of d) }
 {
     match d.task.place {

@@ -30,7 +30,7 @@ use std::alloc::{AllocError, Global};
 use std::sync::Arc;
 
 /// What remains of a task's firing.
-#[derive(Debug, Drop)]
+#[derive(Drop)]
 pub(crate) enum Decision {
     /// Nothing: the firing is over.
     Over(Outcome),

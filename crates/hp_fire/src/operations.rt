@@ -2,6 +2,7 @@
 
 ghost use Rattle.std.specs.Prelude.{◌≡◌, IfOk, map};
 ghost use Rattle.hp_model.specs.Tree.{without_detachments};
+ghost use Rattle.hp_model.specs.Transactions.{Work};
 ghost use Rattle.hp_model.specs.Rules as rules;
 ghost use Rattle.hp_model.specs.Firing as model;
 ghost use Rattle.hp_model.specs.Firing.{Level, values_of, boolean_value};
@@ -13,7 +14,7 @@ ghost use Rattle.hp_query.specs.Mapped.{keyed_rows};
 ghost use Rattle.hp_rule.specs.Mapped.{assignment, library};
 ghost use Rattle.hp_view.specs.Seeing.{Seeing};
 ghost use Rattle.hp_fire.specs.Mapped.{context as context_in, course as course_in};
-ghost use Rattle.hp_fire.specs.Runs.{Steps, Looks};
+ghost use Rattle.hp_fire.specs.Runs.{Runs, Steps, Looks, Made};
 ghost use Rattle.hp_fire.specs.Signals.{signal_of};
 ghost use Rattle.hp_fire.specs.Statements.{OperationIsMade};
 
@@ -21,6 +22,7 @@ use crate::context::Context;
 use crate::counting::Counting;
 use crate::course::{Course, End};
 use crate::engine::Engine;
+use crate::settling::settled;
 use hp_ops::{create, delete, find_object, given_values, new_object, set_rule, update};
 use hp_query::selected_rows;
 use hp_rule::{Assignment, RuleOperation};
@@ -208,8 +210,26 @@ pub(crate) fn emitted(alloc: Global, context: &Context<'_>, expr: &Expr) -> Resu
     Ok(course)
 }
 
+/// The course of a statement that made an occurrence and signalled it: its operation, if it is one, and then what the
+/// signal did. A cause for which the signal ended aborts the transaction.
+pub(crate) fn operated_course(
+    alloc: Global,
+    prim: &Prim,
+    given: Result<Course, Halt>,
+) -> Result<Course, AllocError>
+    ensures { IfOk result (λ c. (library : rules.Library) (level : Level) (work : Work) (old middle new : Seeing)
+        → Made library level work old middle (primitive prim.now)
+        → Steps library (model.signal_in level (primitive prim.now)) middle new given
+        → Runs library work old new (course_in c)) }
+{
+    let mut course = operation_course(alloc, prim)?;
+    let more = settled(alloc, given)?;
+    course.join(more)?;
+    Ok(course)
+}
+
 /// The course of an operation. An occurrence that isn't an operation gives an empty one.
-pub(crate) fn operation_course(alloc: Global, prim: &Prim) -> Result<Course, AllocError>
+fn operation_course(alloc: Global, prim: &Prim) -> Result<Course, AllocError>
     ensures { IfOk result (λ c. course_in c ≡ tells (without_detachments (operation_items (primitive prim.now)))) }
 {
     let operation = match prim {

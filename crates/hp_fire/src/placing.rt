@@ -3,9 +3,10 @@
 ghost use Rattle.std.specs.List.{list_all};
 ghost use Rattle.std.specs.Prelude.{◌≡◌, IfOk, IfErr, OnOk, [], ◌∷◌, map, filter, true};
 ghost use Rattle.hp_model.specs.Rules.{is_immediate};
-ghost use Rattle.hp_model.specs.Tree.{Task as ModelTask};
-ghost use Rattle.hp_model.specs.Answers.{group_answer};
-ghost use Rattle.hp_model.specs.Transactions.{deferred_of, detached_of as detached_tasks, unreleased};
+ghost use Rattle.hp_model.specs.Tree.{Task as ModelTask, no_items};
+ghost use Rattle.hp_model.specs.Soundness.{Answer};
+ghost use Rattle.hp_model.specs.Answers.{followed, group_answer};
+ghost use Rattle.hp_model.specs.Transactions.{deferred_of, detached_of as detached_tasks, done, unreleased};
 ghost use Rattle.hp_model.specs.Firing.{end_of};
 ghost use Rattle.hp_rule.specs.Mapped.{task as task_of, detached as detached_of};
 ghost use Rattle.hp_fire.specs.Mapped.{course as course_in, group as group_in};
@@ -20,7 +21,7 @@ use hp_value::{Cause, Coupling, RuleNo};
 use std::alloc::{AllocError, Global};
 
 /// New tasks by where they run.
-#[derive(Debug, Drop)]
+#[derive(Drop)]
 pub(crate) struct Placed {
     /// Tasks that fire at once.
     pub(crate) immediate: Vec<Task>,
@@ -64,7 +65,7 @@ fn sort_tasks(alloc: Global, tasks: Vec<Task>) -> Result<Placed, AllocError>
             Coupling::Immediate => immediate.push(task)?,
             Coupling::Deferred => queued.push(task)?,
             Coupling::Separate | Coupling::Dependent | Coupling::Exclusive => {
-                detached.push(unreleased(task))?
+                detached.push(as_detached(task))?
             }
         }
     }
@@ -114,7 +115,7 @@ pub(crate) fn one_task(alloc: Global, task: Task) -> Result<Vec<Task>, AllocErro
 }
 
 /// A detached task that isn't released.
-fn unreleased(task: Task) -> Detached
+fn as_detached(task: Task) -> Detached
     ensures { detached_of result ≡ unreleased (task_of task) }
 {
     Detached {
@@ -132,6 +133,31 @@ pub fn group_course(alloc: Global, group: GroupOutcome) -> Result<Course, AllocE
     for outcome in group.outcomes {
         add_firing(&mut course, outcome)?;
     }
+    Ok(course)
+}
+
+/// The course of a signal: the tasks that it queued and detached, and then its group.
+pub(crate) fn placed_course(
+    alloc: Global,
+    placed: Placed,
+    group: GroupOutcome,
+) -> Result<Course, AllocError>
+    ensures { let queued = map task_of placed.queued.items in let detached = map detached_of placed.detached.items in
+        let before : Answer = record { end = done; queued = queued; detached = detached; items = no_items } in
+        IfOk result (λ c. course_in c ≡ followed before (group_answer (group_in group))) }
+{
+    let Placed {
+        immediate: _,
+        queued,
+        detached,
+    } = placed;
+    let mut course = Course {
+        end: End::Done,
+        queued,
+        detached,
+        items: Vec::new(alloc),
+    };
+    course.join(group_course(alloc, group)?)?;
     Ok(course)
 }
 

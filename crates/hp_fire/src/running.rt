@@ -1,14 +1,16 @@
 //! Signals, groups and firings. They call the statements in `statement`, which call them.
 
-ghost use Rattle.std.specs.Prelude.{◌≡◌, ◌+◌, true, IfOk, All, map};
+ghost use Rattle.std.specs.Prelude.{◌≡◌, ◌+◌, true, IfOk, All, [], map};
 ghost use Rattle.std.specs.Thread.{IsSync};
 ghost use Rattle.hp_model.specs.Cells.{Holds};
+ghost use Rattle.hp_model.specs.Rules.{Library};
 ghost use Rattle.hp_model.specs.Soundness.{IsSound};
-ghost use Rattle.hp_model.specs.Firing.{level_at, run_action};
+ghost use Rattle.hp_model.specs.Firing.{level_at, run_action, fire_task};
 ghost use Rattle.hp_value.specs.Mapped as mapped;
 ghost use Rattle.hp_rule.specs.Mapped.{library, task as task_of};
 ghost use Rattle.hp_tree.specs.Mapped.{what as what_of};
 ghost use Rattle.hp_store.specs.Stack.{cells_in};
+ghost use Rattle.hp_view.specs.Seeing.{Seeing};
 ghost use Rattle.hp_attempt.specs.Mapped.{firing as firing_of, attempt as attempt_of};
 ghost use Rattle.hp_fire.specs.Runs.{RunsFiring, AreReady};
 ghost use Rattle.hp_fire.specs.Statements.{SignalRuns, TasksStart, SiblingsFire, TaskFires};
@@ -18,7 +20,7 @@ use crate::context::Context;
 use crate::course::{Course, End, GroupOutcome};
 use crate::deciding::{Decision, action_of};
 use crate::engine::Engine;
-use crate::placing::{Placed, firing_course, group_course, place_tasks, single_immediate};
+use crate::placing::{firing_course, place_tasks, placed_course, single_immediate};
 use crate::speculate::{Effort, FIRING, Group, NoGate};
 use hp_attempt::{Attempt, Outcome};
 use hp_ops::trigger;
@@ -63,19 +65,9 @@ impl<R: Threads + Sync> Engine<'_, R> {
             }
             Err(tasks) => tasks,
         };
-        let Placed {
-            immediate,
-            queued,
-            detached,
-        } = place_tasks(self.alloc, tasks)?;
-        let mut course = Course {
-            end: End::Done,
-            queued,
-            detached,
-            items: Vec::new(self.alloc),
-        };
-        let group = self.group(view, &immediate, depth)?;
-        course.join(group_course(self.alloc, group)?)?;
+        let placed = place_tasks(self.alloc, tasks)?;
+        let group = self.group(view, &placed.immediate, depth)?;
+        let course = placed_course(self.alloc, placed, group)?;
         Ok(course)
     }
 
@@ -127,16 +119,10 @@ impl<R: Threads + Sync> Engine<'_, R> {
         ensures sound { IfOk result (λ a. IsSound (library self.now.lib.now) (attempt_of a)) }
         ensures so_it_was { IfOk result (λ a. Holds (cells_in snapshot) a.reads) }
     {
-        let copy = task.clone()?;
         let mut view = View::new(self.alloc, snapshot)?;
         let outcome = self.firing(&mut view, task)?;
-        let (reads, layer) = view.into_parts();
-        Ok(Attempt {
-            task: copy,
-            reads,
-            layer,
-            outcome,
-        })
+        let attempt = attempt_on(view, task, outcome)?;
+        Ok(attempt)
     }
 
     /// Fires a task.
@@ -177,4 +163,21 @@ impl<R: Threads + Sync> Engine<'_, R> {
         let outcome = close_action(self.alloc, view, mark, what, course)?;
         Ok(outcome)
     }
+}
+
+/// The attempt at a task, from the view on which the task fired.
+fn attempt_on(view: View, task: &Task, outcome: Outcome) -> Result<Attempt, AllocError>
+    ensures sound { IfOk result (λ a. (library : Library) (first : Seeing) → first.writes ≡ []
+        → RunsFiring library (λ S. fire_task library S (task_of task.now)) first view (firing_of outcome)
+        → IsSound library (attempt_of a)) }
+    ensures so_it_was { IfOk result (λ a. Holds (cells_in view.base) a.reads) }
+{
+    let copy = task.clone()?;
+    let (reads, layer) = view.into_parts();
+    Ok(Attempt {
+        task: copy,
+        reads,
+        layer,
+        outcome,
+    })
 }

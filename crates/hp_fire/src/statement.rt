@@ -8,14 +8,14 @@ ghost use Rattle.hp_value.specs.Mapped.{expression, primitive};
 ghost use Rattle.hp_rule.specs.Mapped.{body_in, library, statement as statement_of};
 ghost use Rattle.hp_view.specs.Seeing.{Seeing};
 ghost use Rattle.hp_fire.specs.Mapped.{course as course_in};
-ghost use Rattle.hp_fire.specs.Runs.{Runs, Steps, Makes, SubRuns};
-ghost use Rattle.hp_fire.specs.Statements.{StatementRuns, BodyRuns, body_work, body_for_each};
+ghost use Rattle.hp_fire.specs.Runs.{Runs, Steps, Makes};
+ghost use Rattle.hp_fire.specs.Statements.{StatementRuns, BodyRuns, body_for_each};
 
 use crate::closing::close_sub;
 use crate::context::Context;
 use crate::course::{Course, End};
 use crate::engine::Engine;
-use crate::operations::{Binding, Selection, emitted, is_true, operation_course, signalled};
+use crate::operations::{Binding, Selection, emitted, is_true, operated_course, signalled};
 use crate::placing::one_task;
 use crate::settling::{settled, vetoed};
 use crate::speculate::STATEMENT;
@@ -68,7 +68,10 @@ impl<R: Threads + Sync> Engine<'_, R> {
                 let made = self.deleted(view, context, *class, key);
                 self.operated(view, made, context.depth)
             }
-            Stmt::Signal { name, arguments } => self.give_signal(view, name, arguments, context),
+            Stmt::Signal { name, arguments } => {
+                let made = signalled(self.alloc, &context.env, name, arguments);
+                self.operated(view, made, context.depth)
+            }
             Stmt::Emit(value) => emitted(self.alloc, context, value),
             Stmt::If {
                 condition,
@@ -112,22 +115,6 @@ impl<R: Threads + Sync> Engine<'_, R> {
 
     // Most kinds of statements have functions of their own, which keeps the stack frame of a level of statements small:
     // a frame holds the temporaries of all its arms and clears them on entry, whichever arm runs.
-
-    /// Runs a statement `signal`.
-    #[cycle(fire)]
-    fn give_signal(
-        &self,
-        view: &mut View,
-        name: &str,
-        arguments: &[Expr],
-        context: &Context<'_>,
-    ) -> Result<Course, Halt>
-        ensures { let statement = rules.signal name.now (map expression arguments.now) in
-            StatementRuns self.now.lib.now context.now statement view.old view.new result }
-    {
-        let prim = signalled(self.alloc, &context.env, name, arguments)?;
-        self.signal(view, &prim, context.depth)
-    }
 
     /// Runs a statement `if`.
     #[cycle(fire)]
@@ -220,7 +207,9 @@ impl<R: Threads + Sync> Engine<'_, R> {
         ensures { let statement = rules.subtransaction (body_in body.now) (body_in otherwise.now) in
             StatementRuns self.now.lib.now context.now statement view.old view.new result }
     {
-        let (mut course, aborted) = self.sub(view, body, context)?;
+        let mark = view.enter();
+        let inside = self.statements(view, body, context)?;
+        let (mut course, aborted) = close_sub(self.alloc, view, mark, inside)?;
         if !aborted {
             return Ok(course);
         }
@@ -270,24 +259,8 @@ impl<R: Threads + Sync> Engine<'_, R> {
         Ok(so_far)
     }
 
-    /// Runs the body of a statement `sub` as a subtransaction. The answer also says whether it aborted.
-    #[cycle(fire)]
-    fn sub(
-        &self,
-        view: &mut View,
-        body: &[Stmt],
-        context: &Context<'_>,
-    ) -> Result<(Course, bool), AllocError>
-        ensures { let work = body_work self.now.lib.now context.now (body_in body.now) in
-            IfOk result (λ r. SubRuns (library self.now.lib.now) work view.old view.new (course_in r.0) r.1) }
-    {
-        let mark = view.enter();
-        let course = self.statements(view, body, context)?;
-        let closed = close_sub(self.alloc, view, mark, course)?;
-        Ok(closed)
-    }
-
-    /// Signals the event of an operation that succeeded. A cause for which it failed ends the statement.
+    /// Signals what a statement has made: the event of an operation, or the signal of a statement `signal`. A cause for
+    /// which it was not made ends the statement.
     #[cycle(fire)]
     fn operated(&self, view: &mut View, made: Result<Prim, Halt>, depth: u8) -> Result<Course, Halt>
         ensures { (work : Work) (before : Seeing)
@@ -296,10 +269,8 @@ impl<R: Threads + Sync> Engine<'_, R> {
             → Steps (library self.now.lib.now) work before view.new result }
     {
         let prim = made?;
-        let mut course = operation_course(self.alloc, &prim)?;
         let result = self.signal(view, &prim, depth);
-        let more = settled(self.alloc, result)?;
-        course.join(more)?;
+        let course = operated_course(self.alloc, &prim, result)?;
         Ok(course)
     }
 }

@@ -1,5 +1,5 @@
 -- The answers to bytes that arrive in pieces.
-use Rattle.std.proofs.Common.{◌≡◌, ℕ, suc, drop-cons, ◌+◌, ◌<◌, List, [], ◌∷◌, ◌++◌, length, take, drop, slice_index_or, Option, Some, None, IfSome, Bool, false, refl, sym, ap, subst, ◌∙◌, append_assoc, append-nil, arith}
+use Rattle.std.proofs.Common.{◌≡◌, ◌≢◌, ◌≤◌, ℕ, suc, drop-cons, ◌+◌, ◌<◌, List, [], ◌∷◌, ◌++◌, length, take, drop, length-take-le, slice_index_or, Option, Some, None, IfSome, Bool, false, refl, sym, ap, subst, ◌∙◌, append_assoc, append-nil, arith}
 use Rattle.std.specs.Io.KnownBytes.{Appends, Consumes, Keeps, IsAtEnd}
 use Rattle.std.proofs.Math.Seq.{take-suc}
 use Rattle.std.proofs.lemmas.List.{take-append-drop}
@@ -10,11 +10,11 @@ use Rattle.hp_lines.specs.Live as L
 use Rattle.hp_lines.specs.Live.{said, after, told, next, said_at_end, new_desk, output, closed, stage_after, unopened}
 use Rattle.hp_lines.proofs.Said.{said-append, after-append, in_all, in_all-append, in_all_of, stage_in_all, stage_of, stage-append, closed_says, closed_stays}
 use Rattle.hp_lines.proofs.Kept.{begins_whole, begins_more, begins_on}
-use Rattle.hp_live.specs.Kept.{IsDesk}
+use Rattle.hp_live.specs.Kept.{IsDesk, StopsAtRefusal}
 use Rattle.hp_live.specs.Ends.{status_at, status_of}
 use Rattle.hp_live.specs.declared.desk.Desk.{Desk}
-use Rattle.hp_live.specs.declared.fault.Status.{Status}
-use Rattle.hp_live.specs.declared.fault.Status.TheVariants.{Refused}
+use Rattle.hp_live.specs.declared.status.Status.{Status}
+use Rattle.hp_live.specs.declared.status.Status.TheVariants.{Refused}
 
 -- ---- a piece
 
@@ -62,6 +62,32 @@ begins_piece old mid new was before now xs i fed begins low d here =
 
 -- ---- a whole run
 
+not_closed : L.unopened ≢ closed
+not_closed e = cc
+
+-- a run that doesn't end with the refusal of the script
+pub open_by : (s : L.Stage) (status : Status) → status ≢ Refused → status ≡ status_at s → s ≢ closed
+open_by s status isnt told shut = isnt (told ∙ ap status_at shut)
+
+pub stops_whole : (left rest : Option (List ℕ)) (first : L.Desk) (bytes : List ℕ) → Consumes left rest bytes → (after first bytes).stage ≢ closed → StopsAtRefusal left rest first
+stops_whole left rest first bytes taken unrefused = record {
+  before = bytes;
+  piece = [];
+  taken = subst (Consumes left rest) (sym (append-nil bytes)) taken;
+  short = omega arith;
+  unrefused = unrefused;
+}
+
+pub stops_piece : (left rest more : Option (List ℕ)) (first : L.Desk) (bytes buf : List ℕ) (n : ℕ) → Consumes left rest bytes → Consumes rest more (take n buf) → n ≤ length buf → length buf ≡ 4096
+    → (after first bytes).stage ≢ closed → StopsAtRefusal left more first
+stops_piece left rest more first bytes buf n taken next fits room unrefused = record {
+  before = bytes;
+  piece = take n buf;
+  taken = Consumes-trans left rest more bytes (take n buf) taken next;
+  short = omega (arith, length-take-le n buf fits, fits, room);
+  unrefused = unrefused;
+}
+
 -- the answers to all that was read were written
 pub record Served (left rest : Option (List ℕ)) (lost : Bool) (old new : Option (List ℕ)) (failed : Bool) (first : L.Desk) (now : Desk) : Type 0 where
   pub bytes : List ℕ
@@ -70,22 +96,34 @@ pub record Served (left rest : Option (List ℕ)) (lost : Bool) (old new : Optio
   pub out : Appends old new (said first bytes)
   pub at : IsDesk now (after first bytes)
   pub whole : failed ≡ false
+  pub stops : StopsAtRefusal left rest first
 
-pub none_served : (left old : Option (List ℕ)) (lost failed : Bool) (first : L.Desk) (desk : Desk) → lost ≡ false → failed ≡ false → IsDesk desk first → Served left left lost old old failed first desk
-none_served left old lost failed first desk sound whole at = record { bytes = []; taken = Consumes-nil left; sound = sound; out = Appends-nil old; at = at; whole = whole }
+pub none_served : (left old : Option (List ℕ)) (lost failed : Bool) (with_tree : Bool) (desk : Desk) → lost ≡ false → failed ≡ false → IsDesk desk (new_desk with_tree)
+    → Served left left lost old old failed (new_desk with_tree) desk
+none_served left old lost failed with_tree desk sound whole at = record {
+  bytes = [];
+  taken = Consumes-nil left;
+  sound = sound;
+  out = Appends-nil old;
+  at = at;
+  whole = whole;
+  stops = stops_whole left left (new_desk with_tree) [] (Consumes-nil left) not_closed;
+}
 
 -- the same after one more read
 pub served_on : (left rest more : Option (List ℕ)) (lost gone : Bool) (old mid new : Option (List ℕ)) (was is : Bool) (first : L.Desk) (now then : Desk) (piece : List ℕ)
     → Served left rest lost old mid was first now → Consumes rest more piece → gone ≡ false
     → ((d : L.Desk) → IsDesk now d → Appends mid new (said d piece)) → ((d : L.Desk) → IsDesk now d → IsDesk then (after d piece)) → is ≡ false
+    → StopsAtRefusal left more first
     → Served left more gone old new is first then
-served_on left rest more lost gone old mid new was is first now then piece s taken sound out at whole = record {
+served_on left rest more lost gone old mid new was is first now then piece s taken sound out at whole stops = record {
   bytes = s.bytes ++ piece;
   taken = Consumes-trans left rest more s.bytes piece s.taken taken;
   sound = sound;
   out = subst (Appends old new) (sym (said-append first s.bytes piece)) (Appends-trans old mid new (said first s.bytes) (said (after first s.bytes) piece) s.out (out (after first s.bytes) s.at));
   at = subst (IsDesk then) (sym (after-append first s.bytes piece)) (at (after first s.bytes) s.at);
   whole = whole;
+  stops = stops;
 }
 
 -- the answers to the bytes so far are a prefix of the output

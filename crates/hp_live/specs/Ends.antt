@@ -1,17 +1,10 @@
 -- How a run ends.
 use Rattle.std.specs.Prelude.{List, ℕ, Bool, Result, Ok, Err}
-use Rattle.hp_report.specs.declared.output.WriteFault.{WriteFault}
-use Rattle.hp_report.specs.declared.output.WriteFault.TheVariants as writing
+use Rattle.hp_report.specs.declared.fault.Fault.{Fault}
 use Rattle.hp_lines.specs.Lines.{lines_of}
 use Rattle.hp_lines.specs.Live.{Stage, unopened, up, closed, stage_after}
-use Rattle.hp_live.specs.declared.fault.Fault.{Fault}
-use Rattle.hp_live.specs.declared.fault.Fault.TheVariants as fault
-use Rattle.hp_live.specs.declared.fault.Status.{Status}
-use Rattle.hp_live.specs.declared.fault.Status.TheVariants.{Ended, Refused}
-
-abbrev pub write_fault : WriteFault → Fault
-write_fault writing.Write = fault.Write
-write_fault writing.NoMemory = fault.NoMemory
+use Rattle.hp_live.specs.declared.status.Status.{Status}
+use Rattle.hp_live.specs.declared.status.Status.TheVariants.{Ended, Refused}
 
 abbrev pub status_at : Stage → Status
 status_at unopened = Ended

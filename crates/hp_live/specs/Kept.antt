@@ -1,5 +1,5 @@
 -- What the program keeps of a rule base, and what that stands for.
-use Rattle.std.specs.Prelude.{◌≡◌, ⊤, ℕ, List, ◌++◌, Option, string_bytes, Bool, false}
+use Rattle.std.specs.Prelude.{◌≡◌, ◌≢◌, ◌≤◌, ⊤, ℕ, List, ◌++◌, length, Option, string_bytes, Bool, false}
 use Rattle.std.specs.declared.string.String.{String}
 use Rattle.std.specs.declared.alloc.Global.{Global}
 use Rattle.std.specs.Io.KnownBytes.{Appends, Consumes}
@@ -39,6 +39,14 @@ pub record Answers (text : String Global) (kept : Stage) (a : L.Answer) : Type 0
   pub text_is : string_bytes text ≡ a.body ++ a.last
   pub stage_is : IsStage kept a.stage
 
--- the answers to all that was read were written
+-- the answers to all that was read were written, and the script wasn't refused
 abbrev pub WasTold : (left rest : Option (List ℕ)) → (old new : Option (List ℕ)) → L.Desk → Type 0
-WasTold left rest old new d = (bytes : List ℕ) × Consumes left rest bytes × Appends old new (L.said d bytes)
+WasTold left rest old new d = (bytes : List ℕ) × Consumes left rest bytes × Appends old new (L.said d bytes) × ((L.after d bytes).stage ≢ L.closed)
+
+-- bytes were read only as long as the script wasn't refused: they are some that leave it so, and one piece more
+pub record StopsAtRefusal (left rest : Option (List ℕ)) (d : L.Desk) : Type 0 where
+  pub before : List ℕ
+  pub piece : List ℕ
+  pub taken : Consumes left rest (before ++ piece)
+  pub short : length piece ≤ 4096
+  pub unrefused : (L.after d before).stage ≢ L.closed

@@ -91,7 +91,9 @@ impl RuleBase {
         options: Options,
     ) -> Result<String, AllocError>
         ensures text { IfOk result (λ text. (base : L.RuleBase) → StandsFor self.old base →
-            string_bytes text ≡ (L.ran options.tree base (model_schedule schedule)).body ++ (L.ran options.tree base (model_schedule schedule)).last) }
+            string_bytes text
+            ≡ (L.ran options.tree base (model_schedule schedule)).body
+            ++ (L.ran options.tree base (model_schedule schedule)).last) }
         ensures state { OnOk result ((base : L.RuleBase) → StandsFor self.old base →
             StandsFor self.new (ran_base base (model_schedule schedule))) }
     {

@@ -11,9 +11,9 @@ ghost use Rattle.hp_live.specs.Ends.{status_at};
 ghost use Rattle.hp_live.specs.Kept.{StandsFor, IsStage, IsDesk, Answers};
 
 use crate::base::RuleBase;
-use crate::fault::{Fault, Status};
 use crate::options::Options;
-use hp_report::{Sink, write_text};
+use crate::status::Status;
+use hp_report::{Fault, Sink, write_text};
 use hp_script::{DecodeError, Request, Schedule, Script, decode, decode_request, refusal_text};
 use std::alloc::{AllocError, Global};
 use std::thread::Threads;
@@ -84,7 +84,8 @@ fn answer_later<T: Threads + Sync>(
     line: &[u8],
     options: Options,
 ) -> Result<String, AllocError>
-    ensures { IfOk result (λ text. (now : L.RuleBase) → StandsFor base.old now → Answers text (Stage.Up base.new) (L.answer options.tree (L.up now) line.now)) }
+    ensures { IfOk result (λ text. (now : L.RuleBase) →
+        StandsFor base.old now → Answers text (Stage.Up base.new) (L.answer options.tree (L.up now) line.now)) }
 {
     match decode_request(alloc, &base.library, base.clock, line) {
         Ok(Request::Item(schedule)) => base.run(rt, alloc, schedule, options),
@@ -102,7 +103,8 @@ fn answer_at<T: Threads + Sync>(
     line: &[u8],
     options: Options,
 ) -> Result<String, AllocError>
-    ensures { IfOk result (λ text. (now : L.Stage) → IsStage stage.old now → Answers text stage.new (L.answer options.tree now line.now)) }
+    ensures { IfOk result (λ text. (now : L.Stage) →
+        IsStage stage.old now → Answers text stage.new (L.answer options.tree now line.now)) }
 {
     match stage {
         Stage::Unopened => {
@@ -156,9 +158,11 @@ impl Desk {
         writer: &mut W,
     ) -> Result<(), Fault>
         requires { W.has_failed writer.old ≡ false }
-        ensures said { OnOk result ((d : L.Desk) → IsDesk self.old d → Appends (W.contents writer.old) (W.contents writer.new) (L.reply d)) }
+        ensures said { OnOk result ((d : L.Desk) →
+            IsDesk self.old d → Appends (W.contents writer.old) (W.contents writer.new) (L.reply d)) }
         ensures next { OnOk result ((d : L.Desk) → IsDesk self.old d → IsDesk self.new (L.answered d)) }
-        ensures begins { (d : L.Desk) → IsDesk self.old d → Begins (W.contents writer.old) (W.contents writer.new) (L.reply d) }
+        ensures begins { (d : L.Desk) →
+            IsDesk self.old d → Begins (W.contents writer.old) (W.contents writer.new) (L.reply d) }
         ensures write { result ≡ Err Fault.Write ↔ (W.has_failed writer.new ≡ true) }
         ensures whole { OnOk result (W.has_failed writer.new ≡ false) }
         ensures read { result ≢ Err Fault.Read }
@@ -177,9 +181,11 @@ impl Desk {
         byte: u8,
     ) -> Result<(), Fault>
         requires { W.has_failed writer.old ≡ false }
-        ensures said { OnOk result ((d : L.Desk) → IsDesk self.old d → Appends (W.contents writer.old) (W.contents writer.new) (L.told d byte)) }
+        ensures said { OnOk result ((d : L.Desk) →
+            IsDesk self.old d → Appends (W.contents writer.old) (W.contents writer.new) (L.told d byte)) }
         ensures next { OnOk result ((d : L.Desk) → IsDesk self.old d → IsDesk self.new (L.next d byte)) }
-        ensures begins { (d : L.Desk) → IsDesk self.old d → Begins (W.contents writer.old) (W.contents writer.new) (L.told d byte) }
+        ensures begins { (d : L.Desk) →
+            IsDesk self.old d → Begins (W.contents writer.old) (W.contents writer.new) (L.told d byte) }
         ensures write { result ≡ Err Fault.Write ↔ (W.has_failed writer.new ≡ true) }
         ensures whole { OnOk result (W.has_failed writer.new ≡ false) }
         ensures read { result ≢ Err Fault.Read }
@@ -205,9 +211,11 @@ impl Desk {
         piece: &[u8],
     ) -> Result<(), Fault>
         requires { W.has_failed writer.old ≡ false }
-        ensures said { OnOk result ((d : L.Desk) → IsDesk self.old d → Appends (W.contents writer.old) (W.contents writer.new) (L.said d piece.now)) }
+        ensures said { OnOk result ((d : L.Desk) →
+            IsDesk self.old d → Appends (W.contents writer.old) (W.contents writer.new) (L.said d piece.now)) }
         ensures next { OnOk result ((d : L.Desk) → IsDesk self.old d → IsDesk self.new (L.after d piece.now)) }
-        ensures begins { (d : L.Desk) → IsDesk self.old d → Begins (W.contents writer.old) (W.contents writer.new) (L.said d piece.now) }
+        ensures begins { (d : L.Desk) →
+            IsDesk self.old d → Begins (W.contents writer.old) (W.contents writer.new) (L.said d piece.now) }
         ensures write { result ≡ Err Fault.Write ↔ (W.has_failed writer.new ≡ true) }
         ensures whole { OnOk result (W.has_failed writer.new ≡ false) }
         ensures read { result ≢ Err Fault.Read }
@@ -228,9 +236,12 @@ impl Desk {
         writer: &mut W,
     ) -> Result<(), Fault>
         requires { W.has_failed writer.old ≡ false }
-        ensures said { OnOk result ((d : L.Desk) → IsDesk self.old d → Appends (W.contents writer.old) (W.contents writer.new) (L.said_at_end d)) }
-        ensures stage { OnOk result ((d : L.Desk) → IsDesk self.old d → IsStage self.new.stage (L.stage_after d.with_tree d.stage (begun d.line))) }
-        ensures begins { (d : L.Desk) → IsDesk self.old d → Begins (W.contents writer.old) (W.contents writer.new) (L.said_at_end d) }
+        ensures said { OnOk result ((d : L.Desk) →
+            IsDesk self.old d → Appends (W.contents writer.old) (W.contents writer.new) (L.said_at_end d)) }
+        ensures stage { OnOk result ((d : L.Desk) →
+            IsDesk self.old d → IsStage self.new.stage (L.stage_after d.with_tree d.stage (begun d.line))) }
+        ensures begins { (d : L.Desk) →
+            IsDesk self.old d → Begins (W.contents writer.old) (W.contents writer.new) (L.said_at_end d) }
         ensures write { result ≡ Err Fault.Write ↔ (W.has_failed writer.new ≡ true) }
         ensures whole { OnOk result (W.has_failed writer.new ≡ false) }
         ensures read { result ≢ Err Fault.Read }

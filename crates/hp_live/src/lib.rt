@@ -6,11 +6,12 @@
 
 mod base;
 mod desk;
-mod fault;
 mod options;
 mod serving;
+mod status;
 
 pub use desk::Desk;
-pub use fault::{Fault, Status, exit_code};
+pub use hp_report::Fault;
 pub use options::Options;
 pub use serving::serve;
+pub use status::{Status, exit_code};

@@ -4,13 +4,13 @@ ghost use Rattle.std.specs.Prelude.{◌≡◌, ◌↔◌, OnOk, IfOk, IfSome, tr
 ghost use Rattle.std.specs.Io.KnownBytes.{Appends};
 ghost use Rattle.hp_report.specs.Device.{Begins};
 ghost use Rattle.hp_lines.specs.Live as L;
-ghost use Rattle.hp_live.specs.Kept.{WasTold};
+ghost use Rattle.hp_live.specs.Kept.{WasTold, StopsAtRefusal};
 ghost use Rattle.hp_live.specs.Ends.{status_of};
 
 use crate::desk::Desk;
-use crate::fault::{Fault, Status};
 use crate::options::Options;
-use hp_report::{Sink, Source};
+use crate::status::Status;
+use hp_report::{Fault, Sink, Source};
 use std::alloc::Global;
 use std::thread::Threads;
 
@@ -32,15 +32,20 @@ pub fn serve<T: Threads + Sync, R: Source, W: Sink>(
     // On `Ok` it has written the definition's answers for all bytes up to the reader's end.
     ensures output { OnOk result (IfSome (R.remaining reader.old) (λ input.
         Appends (W.contents writer.old) (W.contents writer.new) (L.output options.tree input))) }
-    ensures status { IfOk result (λ status. IfSome (R.remaining reader.old) (λ input. status ≡ status_of options.tree input)) }
+    ensures status { IfOk result (λ status. IfSome (R.remaining reader.old) (λ input.
+        status ≡ status_of options.tree input)) }
 
     // However it ends, what was written is a prefix of these answers.
     ensures begins { IfSome (R.remaining reader.old) (λ input.
         Begins (W.contents writer.old) (W.contents writer.new) (L.output options.tree input)) }
 
-    // After a failed read, all lines that were complete before it have been answered: no answer is held back.
+    // After a failed read, all lines that were complete before it have been answered: no answer is held back. The
+    // script wasn't refused by then.
     ensures at_once { result ≡ Err Fault.Read → WasTold (R.remaining reader.old) (R.remaining reader.new)
         (W.contents writer.old) (W.contents writer.new) (L.new_desk options.tree) }
+
+    // It reads on only while the script isn't refused, in pieces of at most 4096 bytes.
+    ensures stops { StopsAtRefusal (R.remaining reader.old) (R.remaining reader.new) (L.new_desk options.tree) }
 
     // It returns a fault of a device exactly if a call has failed.
     ensures read { result ≡ Err Fault.Read ↔ (R.has_failed reader.new ≡ true) }

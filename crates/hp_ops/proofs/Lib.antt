@@ -3,5 +3,5 @@ mod Adding
 mod GivenRows
 mod Operating
 mod Ruling
-mod Told
+mod Notices
 mod Triggering

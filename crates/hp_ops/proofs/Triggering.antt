@@ -14,13 +14,13 @@ use Rattle.hp_model.proofs.Faithful.{Grows-same}
 use Rattle.hp_model.proofs.FaithfulFirings.{AreAt, faithful_start_deep, faithful_signal}
 use Rattle.hp_model.proofs.FaithfulOperations.{finds_unknown, faithful_fire, faithful_fire_missing}
 use Rattle.hp_view.specs.Seeing.{Seeing, written}
-use Rattle.hp_ops.specs.Hears.{AllHear, at_depth, condition_task}
+use Rattle.hp_ops.specs.Notified.{AllNotified, at_depth, condition_task}
 use Rattle.hp_store.specs.declared.value.Status.{Status as RustStatus}
 use Rattle.hp_store.specs.declared.value.Status.TheVariants.{Enabled, Disabled}
 use Rattle.hp_ops.specs.Performs.{status_of}
 use Rattle.hp_ops.specs.Triggers.{IsTriggered, IsFired}
 use Rattle.hp_ops.proofs.Ruling.{StatusFound, past_end, found_at}
-use Rattle.hp_ops.proofs.Told.{same_depth}
+use Rattle.hp_ops.proofs.Notices.{same_depth}
 
 -- a rule's status, and none
 pub is_absent : (o : Option RustStatus) → is_some o ≡ false → status_of o ≡ absent
@@ -43,7 +43,7 @@ some_seen f (x ∷ xs) some e = cc
 
 -- ---- a signal
 
-module _ (library : Library) (depth : ℕ) (p : Primitive) (v w : Seeing) (tasks : List Task) (all : AllHear library p v w tasks) where
+module _ (library : Library) (depth : ℕ) (p : Primitive) (v w : Seeing) (tasks : List Task) (all : AllNotified library p v w tasks) where
   pub triggers_none : tasks ≡ [] → IsTriggered library depth p v w tasks
   triggers_none none = record {
     heard = subst (Faithful library (λ S. triggered (level_at library depth) (extended p S)) (extended p) w.reads (written v) (written w)) (ap (map (at_depth (suc depth))) none ∙ sym none) (all.heard depth);

@@ -1,5 +1,5 @@
 pub mod Given
 pub mod Performs
 pub mod Reading
-pub mod Hears
+pub mod Notified
 pub mod Triggers

@@ -16,7 +16,7 @@ use Rattle.hp_value.specs.Mapped.{cause}
 use Rattle.hp_rule.specs.declared.task.Task.{Task as RustTask}
 use Rattle.hp_rule.specs.Mapped.{task}
 use Rattle.hp_view.specs.Seeing.{Seeing, written}
-use Rattle.hp_ops.specs.Hears.{OnlySteps}
+use Rattle.hp_ops.specs.Notified.{OnlySteps}
 
 -- all rules that the occurrence concerns have been notified, and these are the tasks of those that it triggers
 pub record IsTriggered (library : Library) (depth : ℕ) (p : Primitive) (old new : Seeing) (tasks : List Task) : Type 0 where

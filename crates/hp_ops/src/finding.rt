@@ -25,7 +25,8 @@ pub fn find_object(
     class: ClassNo,
     key: Key,
 ) -> Result<Option<Row>, AllocError>
-    ensures finds { IfOk result (λ row. (lib : Library) → Finds lib (λ S. model.find_object S.objects class key) view.new.reads (written view.new) row) }
+    ensures finds { IfOk result (λ row. (lib : Library) →
+        Finds lib (λ S. model.find_object S.objects class key) view.new.reads (written view.new) row) }
     ensures reads { AddsReads (IsReadOf (object_cell class key)) view.old.reads view.new.reads }
     ensures only { OnlyReads view.old view.new }
     ensures goes_on { GoesOn view.old view.new }
@@ -49,8 +50,10 @@ fn row_in(value: Option<&CellValue>) -> Result<Option<Row>, AllocError>
 ///
 /// Only the rule's cell is read. After an error the view is as before.
 pub fn find_status(view: &mut View, rule: RuleNo) -> Result<Option<Status>, AllocError>
-    ensures finds { IfOk result (λ status. (lib : Library) → Finds lib (λ S. (model.rule_state S rule).status) view.new.reads (written view.new) (status_of status)) }
-    ensures shows { IfOk result (λ status. (base : Cells) → Holds base view.new.reads → status_at (over base (written view.new) (rule_cell rule)) ≡ status_of status) }
+    ensures finds { IfOk result (λ status. (lib : Library) →
+        Finds lib (λ S. (model.rule_state S rule).status) view.new.reads (written view.new) (status_of status)) }
+    ensures shows { IfOk result (λ status. (base : Cells) →
+        Holds base view.new.reads → status_at (over base (written view.new) (rule_cell rule)) ≡ status_of status) }
     ensures reads { OnOk result (view.new ≡ record view.old { reads = read_cell view.old (rule_cell rule) }) }
     ensures err { OnErr result (view.new ≡ view.old) }
     ensures only { OnlyReads view.old view.new }

@@ -5,11 +5,11 @@
 #![tactic(auto)]
 
 mod finding;
+mod notifying;
 mod objects;
 mod rows;
 mod rules;
 mod signals;
-mod telling;
 
 pub use finding::{find_object, find_status};
 pub use objects::{create, delete, update};

@@ -28,7 +28,8 @@ pub fn create(
     key: Key,
     new: Row,
 ) -> Result<Prim, Halt>
-    ensures operation { (lib : Library) → Performs primitive lib (create_object class key new) view.old view.new result }
+    ensures operation { (lib : Library) →
+        Performs primitive lib (create_object class key new) view.old view.new result }
     ensures reads { AddsReads (IsReadOf (object_cell class key)) view.old.reads view.new.reads }
     ensures goes_on { GoesOn view.old view.new }
     ensures refused { OnErr result (OnlyReads view.old view.new) }
@@ -51,7 +52,8 @@ pub fn update(
     key: Key,
     given: &[Given<'_>],
 ) -> Result<Prim, Halt>
-    ensures operation { (lib : Library) → Performs primitive lib (update_object class key (given_in given.now)) view.old view.new result }
+    ensures operation { (lib : Library) →
+        Performs primitive lib (update_object class key (given_in given.now)) view.old view.new result }
     ensures reads { AddsReads (IsReadOf (object_cell class key)) view.old.reads view.new.reads }
     ensures goes_on { GoesOn view.old view.new }
     ensures refused { OnErr result (OnlyReads view.old view.new) }

@@ -33,7 +33,9 @@ pub fn new_object(
     key: &Expr,
     pairs: &[Assignment],
 ) -> Result<KeyedRow, Halt>
-    ensures { Meets keyed_row result (model.keyed_row (environment env.now) (expression key.now) (map assignment pairs.now) (model.made_row (class_at (library lib.now) class).fields)) }
+    ensures { Meets keyed_row result
+        (model.keyed_row (environment env.now) (expression key.now) (map assignment pairs.now)
+        (model.made_row (class_at (library lib.now) class).fields)) }
 {
     let key = key.eval(alloc, env)?;
     let given = assigned(alloc, env, pairs)?;
@@ -52,7 +54,9 @@ pub fn given_values<'a>(
     key: &Expr,
     pairs: &'a [Assignment],
 ) -> Result<(Key, Vec<Given<'a>>), Halt>
-    ensures { Meets (λ k. keyed_in k.0 k.1.items) result (model.keyed_row (environment env.now) (expression key.now) (map assignment pairs.now) (model.checked_kinds (class_at (library lib.now) class).fields)) }
+    ensures { Meets (λ k. keyed_in k.0 k.1.items) result
+        (model.keyed_row (environment env.now) (expression key.now) (map assignment pairs.now)
+        (model.checked_kinds (class_at (library lib.now) class).fields)) }
 {
     let key = key.eval(alloc, env)?;
     let given = assigned(alloc, env, pairs)?;
@@ -138,7 +142,8 @@ fn is_of_kind(v: &Value, wanted: Kind) -> bool
 
 /// Tests that each given value is of its field's kind. `Kind` means that one isn't, or that the class lacks its field.
 fn check_kinds(fields: &[Field], given: &[Given<'_>]) -> Result<(), Cause>
-    ensures { outcome (λ _. given_in given.now) result ≡ model.checked_kinds (map field fields.now) (given_in given.now) }
+    ensures { outcome (λ _. given_in given.now) result
+        ≡ model.checked_kinds (map field fields.now) (given_in given.now) }
 {
     for g in given {
         match kind_in(fields, g.field) {

@@ -30,7 +30,8 @@ pub fn set_rule(
     operation: RuleOperation,
     rule: RuleNo,
 ) -> Result<(), Halt>
-    ensures operation { Performs (λ _. tt) (library lib.now) (model.set_rule (rule_operation operation) rule) view.old view.new result }
+    ensures operation { Performs (λ _. tt) (library lib.now) (model.set_rule (rule_operation operation) rule)
+        view.old view.new result }
     ensures reads { AddsReads (IsReadOf (rule_cell rule)) view.old.reads view.new.reads }
     ensures goes_on { GoesOn view.old view.new }
     ensures refused { OnErr result (Restores view.old view.new) }

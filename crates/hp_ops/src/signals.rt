@@ -10,7 +10,7 @@ ghost use Rattle.hp_ops.specs.Reading.{AddsReads, IsReadOf};
 ghost use Rattle.hp_ops.specs.Triggers.{Triggers, Fires};
 
 use crate::finding::find_status;
-use crate::telling::{new_task, tell_all};
+use crate::notifying::{new_task, notify_all};
 use hp_rule::{Library, Task};
 use hp_value::{Cause, Halt, Occurrence, Prim, RuleNo};
 use hp_view::View;
@@ -32,7 +32,7 @@ pub fn trigger(
     ensures triggers { Triggers (library lib.now) depth (primitive prim.now) view.old view.new result }
     ensures goes_on { GoesOn view.old view.new }
 {
-    let tasks = tell_all(alloc, view, lib, prim, depth.saturating_add(1))?;
+    let tasks = notify_all(alloc, view, lib, prim, depth.saturating_add(1))?;
     if tasks.is_empty() {
         return Ok(tasks);
     }

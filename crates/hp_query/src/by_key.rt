@@ -19,7 +19,8 @@ pub(crate) fn asked_key(
     predicate: &Expr,
     env: &Env,
 ) -> Result<Option<Key>, AllocError>
-    ensures { IfOk result (λ asked. IfSome asked (λ key. IsFalseElsewhere (environment env.now) name.now (expression predicate.now) key)) }
+    ensures { IfOk result (λ asked. IfSome asked (λ key.
+        IsFalseElsewhere (environment env.now) name.now (expression predicate.now) key)) }
 {
     let Some(wanted) = wanted_key(name, predicate) else {
         return Ok(None);
@@ -54,7 +55,8 @@ fn wanted_key<'e>(name: &str, predicate: &'e Expr) -> Option<&'e Expr>
 
 // The other side of an equation, if one side is the key of the row of this name.
 fn other_side<'e>(name: &str, a: &'e Expr, b: &'e Expr) -> Option<&'e Expr>
-    ensures { IfSome result (λ wanted. AsksFor name.now (compared equal (expression a.now) (expression b.now)) (expression wanted.now)) }
+    ensures { IfSome result (λ wanted.
+        AsksFor name.now (compared equal (expression a.now) (expression b.now)) (expression wanted.now)) }
 {
     if is_key_of(name, a) {
         return Some(b);

@@ -19,7 +19,8 @@ pub(crate) fn objects_of<L: Look>(
 ) -> Result<Arc<ObjectList>, AllocError>
     ensures goes_on { L.goes_on look.old look.new }
     ensures narrows { (world : Objects) → L.allows look.new world → L.allows look.old world }
-    ensures listed { IfOk result (λ objects. (world : Objects) → ObjectsRise world → L.allows look.new world → objects.value ≡ rows_of class world) }
+    ensures listed { IfOk result (λ objects. (world : Objects) →
+        ObjectsRise world → L.allows look.new world → objects.value ≡ rows_of class world) }
 {
     match look.objects(alloc, class)? {
         Some(objects) => Ok(objects),
@@ -35,7 +36,8 @@ fn collected<L: Look>(
 ) -> Result<Arc<ObjectList>, AllocError>
     ensures goes_on { L.goes_on look.old look.new }
     ensures narrows { (world : Objects) → L.allows look.new world → L.allows look.old world }
-    ensures listed { IfOk result (λ objects. (world : Objects) → ObjectsRise world → L.allows look.new world → objects.value ≡ rows_of class world) }
+    ensures listed { IfOk result (λ objects. (world : Objects) →
+        ObjectsRise world → L.allows look.new world → objects.value ≡ rows_of class world) }
 {
     let keys = look.keys(alloc, class)?;
     let mut objects = ObjectList::new(alloc);

@@ -40,7 +40,9 @@ pub fn evaluate_condition<L: Look>(
     ensures goes_on { L.goes_on look.old look.new }
     ensures narrows { (world : Objects) → L.allows look.new world → L.allows look.old world }
     ensures verdict { IfOk result (λ found. (world : Objects) → ObjectsRise world → L.allows look.new world
-        → mapped.verdict found ≡ model.verdict world (record { occurrence = Some (value.occurrence occurrence.now); rows = [] }) (map mapped.query queries.now)) }
+        → mapped.verdict found
+        ≡ model.verdict world (record { occurrence = Some (value.occurrence occurrence.now); rows = [] })
+        (map mapped.query queries.now)) }
 {
     let mut answers = Vec::new(alloc);
     for query in queries {

@@ -28,12 +28,14 @@ pub trait Look {
     /// The row of the object with this key in this class, or `None` if there is no such object.
     fn row(&mut self, alloc: Global, class: ClassNo, key: Key) -> Result<Option<Row>, AllocError>
         ensures goes_on { goes_on self.old self.new }
-        ensures found { IfOk result (λ found. (world : Objects) → ObjectsRise world → allows self.new world → found ≡ find_object world class key) };
+        ensures found { IfOk result (λ found. (world : Objects) →
+            ObjectsRise world → allows self.new world → found ≡ find_object world class key) };
 
     /// The keys of a class's objects, in ascending order.
     fn keys(&mut self, alloc: Global, class: ClassNo) -> Result<Vec<Key>, AllocError>
         ensures goes_on { goes_on self.old self.new }
-        ensures listed { IfOk result (λ keys. (world : Objects) → ObjectsRise world → allows self.new world → keys.items ≡ class_keys class world) };
+        ensures listed { IfOk result (λ keys. (world : Objects) →
+            ObjectsRise world → allows self.new world → keys.items ≡ class_keys class world) };
 
     /// All objects of a class with their rows, in ascending key order, if the look keeps such a list. The list is
     /// shared. `None` if the objects have to be read one by one.
@@ -43,7 +45,8 @@ pub trait Look {
         class: ClassNo,
     ) -> Result<Option<Arc<ObjectList>>, AllocError>
         ensures goes_on { goes_on self.old self.new }
-        ensures listed { IfOk result (λ found. IfSome found (λ objects. (world : Objects) → ObjectsRise world → allows self.new world → objects.value ≡ rows_of class world)) };
+        ensures listed { IfOk result (λ found. IfSome found (λ objects. (world : Objects) →
+            ObjectsRise world → allows self.new world → objects.value ≡ rows_of class world)) };
 
     /// The objects of a part of a class with their rows, in ascending key order, if the look finds them without reading
     /// the others and knows that no other object is in the part. `None` if it can't.
@@ -54,7 +57,9 @@ pub trait Look {
         part: &ClassPart<'_>,
     ) -> Result<Option<Vec<KeyedRow>>, AllocError>
         ensures goes_on { goes_on self.old self.new }
-        ensures listed { IfOk result (λ found. IfSome found (λ objects. (world : Objects) → ObjectsRise world → allows self.new world → picked (class_part part.now) (rows_of class world) ≡ Ok (keyed_rows objects))) };
+        ensures listed { IfOk result (λ found. IfSome found (λ objects. (world : Objects) →
+            ObjectsRise world → allows self.new world →
+            picked (class_part part.now) (rows_of class world) ≡ Ok (keyed_rows objects))) };
 
     ghost goes_on_same: { (look : Self) → goes_on look look };
 

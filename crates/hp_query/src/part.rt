@@ -21,7 +21,9 @@ impl AskedPart<'_> {
     ///
     /// Both bounds are inclusive, whatever the comparison is: the predicate is still tested on the part's rows.
     pub(crate) fn class_part(&self) -> Option<ClassPart<'_>>
-        ensures { IfSome result (λ part. class_part part ≡ part_compared (attribute self.now.attribute) (comparison self.now.comparison) (value self.now.value)) }
+        ensures { IfSome result (λ part.
+            class_part part
+            ≡ part_compared (attribute self.now.attribute) (comparison self.now.comparison) (value self.now.value)) }
     {
         let bounds = match &self.value {
             Value::Int(number) => {
@@ -64,7 +66,9 @@ pub(crate) fn asked_part<'e>(
     predicate: &'e Expr,
     env: &Env,
 ) -> Result<Option<AskedPart<'e>>, AllocError>
-    ensures { IfOk result (λ asked. IfSome asked (λ a. IsFalseOutside (environment env.now) name.now (expression predicate.now) (part_compared (attribute a.attribute) (comparison a.comparison) (value a.value)))) }
+    ensures { IfOk result (λ asked. IfSome asked (λ a.
+        IsFalseOutside (environment env.now) name.now (expression predicate.now)
+        (part_compared (attribute a.attribute) (comparison a.comparison) (value a.value)))) }
 {
     let Some(compared) = compared_attribute(name, predicate) else {
         return Ok(None);
@@ -104,7 +108,9 @@ struct Compared<'e> {
 
 // The comparison by which a predicate begins, if it is one of an attribute of the row of this name.
 fn compared_attribute<'e>(name: &str, predicate: &'e Expr) -> Option<Compared<'e>>
-    ensures { IfSome result (λ c. AsksForPart name.now (expression predicate.now) (attribute c.attribute) (comparison c.comparison) (expression c.other.now)) }
+    ensures { IfSome result (λ c.
+        AsksForPart name.now (expression predicate.now) (attribute c.attribute) (comparison c.comparison)
+        (expression c.other.now)) }
 {
     match predicate {
         Expr::And(first, _) => compared_attribute(name, first),
@@ -121,7 +127,9 @@ fn compared_side<'e>(
     a: &'e Expr,
     b: &'e Expr,
 ) -> Option<Compared<'e>>
-    ensures { IfSome result (λ c. AsksForPart name.now (compared (comparison compares) (expression a.now) (expression b.now)) (attribute c.attribute) (comparison c.comparison) (expression c.other.now)) }
+    ensures { IfSome result (λ c.
+        AsksForPart name.now (compared (comparison compares) (expression a.now) (expression b.now))
+        (attribute c.attribute) (comparison c.comparison) (expression c.other.now)) }
 {
     if let Some(attribute) = own_attribute(name, a) {
         return Some(Compared {

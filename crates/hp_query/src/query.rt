@@ -55,7 +55,8 @@ pub fn answer<L: Look>(
 ) -> Result<Vec<KeyedRow>, Halt>
     ensures goes_on { L.goes_on look.old look.new }
     ensures narrows { (world : Objects) → L.allows look.new world → L.allows look.old world }
-    ensures answer { let asked = mapped.query query.now in (world : Objects) → ObjectsRise world → L.allows look.new world
+    ensures answer { let asked = mapped.query query.now in
+        (world : Objects) → ObjectsRise world → L.allows look.new world
         → Meets keyed_rows result (model.answer (environment env.now) asked.name asked.class asked.predicate world) }
 {
     selected_rows(
@@ -117,11 +118,14 @@ fn selected_at<L: Look>(
     key: Key,
     look: &mut L,
 ) -> Result<Vec<KeyedRow>, Halt>
-    requires { IsFalseElsewhere (environment asked.now.env.now) asked.now.name.now (expression asked.now.predicate.now) key }
+    requires { IsFalseElsewhere (environment asked.now.env.now) asked.now.name.now
+        (expression asked.now.predicate.now) key }
     ensures goes_on { L.goes_on look.old look.new }
     ensures narrows { (world : Objects) → L.allows look.new world → L.allows look.old world }
     ensures answer { (world : Objects) → ObjectsRise world → L.allows look.new world
-        → Meets keyed_rows result (model.answer (environment asked.now.env.now) asked.now.name.now asked.now.class (expression asked.now.predicate.now) world) }
+        → Meets keyed_rows result
+        (model.answer (environment asked.now.env.now) asked.now.name.now asked.now.class
+        (expression asked.now.predicate.now) world) }
 {
     match look.row(alloc, asked.class, key)? {
         Some(row) => {
@@ -144,7 +148,8 @@ fn part_rows<L: Look>(
     ensures answer { let env = environment asked.now.env.now in
         let predicate = expression asked.now.predicate.now in
         IfOk result (λ found. IfSome found (λ objects. (world : Objects) → ObjectsRise world → L.allows look.new world
-        → model.selected env asked.now.name.now predicate (keyed_rows objects) ≡ model.answer env asked.now.name.now asked.now.class predicate world)) }
+        → model.selected env asked.now.name.now predicate (keyed_rows objects)
+        ≡ model.answer env asked.now.name.now asked.now.class predicate world)) }
 {
     let Some(compared) = asked_part(alloc, asked.name, asked.predicate, asked.env)? else {
         return Ok(None);
@@ -163,7 +168,8 @@ fn selected(
     predicate: &Expr,
     env: &Env,
 ) -> Result<Vec<KeyedRow>, Halt>
-    ensures { Meets keyed_rows result (model.selected (environment env.now) name.now (expression predicate.now) (map keyed_row objects.now)) }
+    ensures { Meets keyed_rows result
+        (model.selected (environment env.now) name.now (expression predicate.now) (map keyed_row objects.now)) }
 {
     let mut rows = Vec::new(alloc);
     for object in objects {
@@ -183,7 +189,9 @@ fn is_selected(
     predicate: &Expr,
     env: &Env,
 ) -> Result<bool, Halt>
-    ensures { Meets (λ b. b) result (boolean_value (bound name.now (record { key = key; row = row.now }) (environment env.now)) (expression predicate.now)) }
+    ensures { Meets (λ b. b) result
+        (boolean_value (bound name.now (record { key = key; row = row.now }) (environment env.now))
+        (expression predicate.now)) }
 {
     let value = predicate.eval(alloc, &env.bound(name, key, row))?;
     Ok(value.as_bool()?)

@@ -5,6 +5,7 @@
 
 mod device;
 mod ending;
+mod fault;
 mod input;
 mod names;
 mod output;
@@ -15,6 +16,7 @@ mod watched;
 
 pub use device::{Sink, Source};
 pub use ending::{final_objects, final_state, final_statuses, replay_units};
+pub use fault::Fault;
 pub use input::{ReadFault, read_up_to};
 pub use output::{WriteFault, write_text};
 pub use parts::{state_text, units_text};

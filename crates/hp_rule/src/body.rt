@@ -42,7 +42,8 @@ impl Library {
         statements: Vec<Stmt>,
     ) -> Result<Body, CheckError>
         ensures well_named { IfOk result (λ b. IsWellNamedBody (libraries.library shared.now.value) (body b)) }
-        ensures body { Gives body result (checked_body (libraries.library shared.now.value) (body_in statements.items)) }
+        ensures body { Gives body result
+            (checked_body (libraries.library shared.now.value) (body_in statements.items)) }
         ensures library { IfOk result (λ b. b.library.value ≡ shared.now.value) }
     {
         let scope = Scope {

@@ -65,7 +65,8 @@ impl Index {
         wanted: &Pattern,
         number: RuleNo,
     ) -> Result<(), AllocError>
-        ensures { OnOk result ((p : Primitive) → listed self.new p ≡ noted_if (may_match (pattern wanted.now) p) number (listed self.old p)) }
+        ensures { OnOk result ((p : Primitive) →
+            listed self.new p ≡ noted_if (may_match (pattern wanted.now) p) number (listed self.old p)) }
     {
         match wanted {
             Pattern::Create(class) => note_class(alloc, &mut self.created, *class, number),
@@ -84,7 +85,8 @@ impl Index {
         expr: &EventExpr,
         number: RuleNo,
     ) -> Result<(), AllocError>
-        ensures { OnOk result ((p : Primitive) → listed self.new p ≡ noted_if (may_mention (event expr.now) p) number (listed self.old p)) }
+        ensures { OnOk result ((p : Primitive) →
+            listed self.new p ≡ noted_if (may_mention (event expr.now) p) number (listed self.old p)) }
     {
         match expr {
             EventExpr::One(pattern) => self.add_pattern(alloc, pattern, number),

@@ -149,7 +149,8 @@ impl Library {
     /// The rules that the index lists for the occurrence, in rule order. `mentions` gives those of them for which
     /// `is_mentioned` is true. It allocates nothing.
     pub fn listed(&self, prim: &Prim) -> &[RuleNo]
-        ensures { filter (is_mentioned (library self.now).rules (primitive prim.now)) result.now ≡ mentioning (library self.now) (primitive prim.now) }
+        ensures { filter (is_mentioned (library self.now).rules (primitive prim.now)) result.now
+            ≡ mentioning (library self.now) (primitive prim.now) }
     {
         self.index.listed(prim)
     }

@@ -60,7 +60,8 @@ pub(crate) fn note_name(
     name: &String,
     number: RuleNo,
 ) -> Result<(), AllocError>
-    ensures { OnOk result ((x : List ℕ) → of_name map.new x ≡ noted_if (bytes_eq (string_bytes name.now) x) number (of_name map.old x)) }
+    ensures { OnOk result ((x : List ℕ) →
+        of_name map.new x ≡ noted_if (bytes_eq (string_bytes name.now) x) number (of_name map.old x)) }
 {
     let mut numbers = map.remove(name.as_str()).unwrap_or(Vec::new(alloc));
     note(&mut numbers, number)?;

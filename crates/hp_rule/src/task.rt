@@ -64,7 +64,8 @@ impl PartialEq for Step {
 
 /// Whether kept answers are equal.
 fn are_same(answers: &Arc<Vec<Answer>>, others: &Arc<Vec<Answer>>) -> bool
-    ensures { result ≡ pointwise answer_same (mapped.answers answers.now.value.items) (mapped.answers others.now.value.items) }
+    ensures { result
+        ≡ pointwise answer_same (mapped.answers answers.now.value.items) (mapped.answers others.now.value.items) }
 {
     let answers: &Vec<Answer> = answers;
     let others: &Vec<Answer> = others;

@@ -17,11 +17,11 @@ use Rattle.std.specs.declared.alloc.Global.{Global}
 use Rattle.hp_tree.specs.declared.report.UnitReport.{UnitReport}
 use Rattle.hp_store.specs.Stack.{Stack, cells_in}
 use Rattle.hp_tree.specs.Mapped.{unit_report}
-use Rattle.hp_sessions.specs.declared.entry.Entry.{Entry as Told}
+use Rattle.hp_sessions.specs.declared.entry.Entry.{Entry as RustEntry}
 use Rattle.hp_sessions.specs.Mapped as mapped
 use Rattle.hp_sessions.specs.Units.{Made, IsSound}
 use Rattle.hp_sessions.specs.Kept.{LeadsInOrder, IsKept}
-use Rattle.hp_sessions.specs.Books.{Ledger, Told as Receipt, IsLegalBook, IsKeptBook, MayBeCommitted, entry_of, IsCommitted, IsRun, IsReply}
+use Rattle.hp_sessions.specs.Books.{Ledger, ReceiptView as Receipt, IsLegalBook, IsKeptBook, MayBeCommitted, entry_of, IsCommitted, IsRun, IsReply}
 
 -- the empty history
 pub begins : (library : Library) (opening : Cells) → HasFitState library opening → IsKept library opening opening []
@@ -52,7 +52,7 @@ legal library opening now es kept = record { opened = kept.opened; serial = λ S
 
 -- ---- books
 
-pub opens : (library : Code) (opening store : Stack) (history : List Told) → HasFitState (rules.library library) (cells_in opening) → store ≡ opening → history ≡ []
+pub opens : (library : Code) (opening store : Stack) (history : List RustEntry) → HasFitState (rules.library library) (cells_in opening) → store ≡ opening → history ≡ []
     → IsKeptBook library opening store history
 opens library opening store history fit same none =
     subst (λ es. IsKeptBook library opening store es) (sym none)
@@ -62,7 +62,7 @@ pub legal_book : (b : Ledger) → IsKeptBook b.library b.opening b.store b.histo
 legal_book b = legal (rules.library b.library) (cells_in b.opening) (cells_in b.store) (mapped.history b.history)
 
 -- the book after a unit that may be committed
-pub keeps : (b : Ledger) (session : ℕ) (u : Made) (store : Stack) (history : List Told) → IsKeptBook b.library b.opening b.store b.history → IsSound u → MayBeCommitted b u
+pub keeps : (b : Ledger) (session : ℕ) (u : Made) (store : Stack) (history : List RustEntry) → IsKeptBook b.library b.opening b.store b.history → IsSound u → MayBeCommitted b u
     → cells_in store ≡ over (cells_in b.store) (changes u.layer) → history ≡ b.history ++ entry_of session u ∷ [] → IsKeptBook b.library b.opening store history
 keeps b session u store history kept sound might changed added =
     let library = rules.library b.library in
@@ -92,17 +92,17 @@ ran session u before now r body same c =
 
 -- ---- receipts
 
-last_of : (h : List Told) (e : Told) → slice_get (h ++ e ∷ []) (length h) ≡ Some e
+last_of : (h : List RustEntry) (e : RustEntry) → slice_get (h ++ e ∷ []) (length h) ≡ Some e
 last_of [] e = refl
 last_of (x ∷ h) e = last_of h e
 
 -- the new entry stands at the new number
-pub there : (h list : List Told) (e : Told) (n : ℕ) → list ≡ h ++ e ∷ [] → n ≡ length h + 1 → slice_get list (n - 1) ≡ Some e
+pub there : (h list : List RustEntry) (e : RustEntry) (n : ℕ) → list ≡ h ++ e ∷ [] → n ≡ length h + 1 → slice_get list (n - 1) ≡ Some e
 there h list e n is m =
     let k : n - 1 ≡ length h = omega (arith, m) in
-    ap₂ (λ (l : List Told) (j : ℕ). slice_get l j) is k ∙ last_of h e
+    ap₂ (λ (l : List RustEntry) (j : ℕ). slice_get l j) is k ∙ last_of h e
 
-pub replies : (h list : List Told) (e : Told) (n : ℕ) (reply : Arc UnitReport Global) → list ≡ h ++ e ∷ [] → n ≡ length h + 1 → reply.value ≡ e.reply.value
+pub replies : (h list : List RustEntry) (e : RustEntry) (n : ℕ) (reply : Arc UnitReport Global) → list ≡ h ++ e ∷ [] → n ≡ length h + 1 → reply.value ≡ e.reply.value
     → IsReply reply (slice_get list (n - 1))
 replies h list e n reply is m same = subst (IsReply reply) (sym (there h list e n is m)) same
 

@@ -17,7 +17,7 @@ use Rattle.hp_tree.specs.declared.report.UnitReport.{UnitReport}
 use Rattle.hp_tree.specs.Mapped.{unit_report}
 use Rattle.hp_top.specs.Units.{RanUnit}
 use Rattle.hp_sessions.specs.declared.entry.Entry.{Entry}
-use Rattle.hp_sessions.specs.declared.telling.View.{View}
+use Rattle.hp_sessions.specs.declared.tokens.View.{View}
 use Rattle.hp_sessions.specs.declared.refusal.Refusal.{Refusal}
 use Rattle.hp_sessions.specs.Units.{Made, IsSound}
 use Rattle.hp_sessions.specs.Kept.{IsKept}
@@ -37,7 +37,7 @@ pub record Ledger : Type 0 where
   pub history : List Entry
 
 -- a receipt: its number, and the entry there
-pub record Told : Type 0 where
+pub record ReceiptView : Type 0 where
   pub number : ℕ
   pub entry : Option Entry
 
@@ -58,7 +58,7 @@ abbrev pub IsToken : TableId → List Entry → Seat Entry View → Type 0
 IsToken table list t = (t.table_id ≡ table) × (t.me.1 ≡ []) × (t.me.0.list ≡ list)
 
 -- the entry stands at the receipt's number
-abbrev pub Stands : List Entry → Told → Type 0
+abbrev pub Stands : List Entry → ReceiptView → Type 0
 Stands entries r = (0 < r.number) × (slice_get entries (r.number - 1) ≡ r.entry)
 
 -- the body's library is the book's, and the history has room
@@ -75,7 +75,7 @@ entry_of session u = record { session = session; body = u.body; reply = u.reply 
 
 -- the unit stands for its body and was committed: its entry was added to the history and its changes to the store, and
 -- the receipt is the entry's
-pub record IsCommitted (session : ℕ) (u : Made) (before now : Ledger) (r : Told) : Type 0 where
+pub record IsCommitted (session : ℕ) (u : Made) (before now : Ledger) (r : ReceiptView) : Type 0 where
   pub sound : IsSound u
   pub might : MayBeCommitted before u
   pub library : now.library ≡ before.library
@@ -98,10 +98,10 @@ IsUnable b body (Refusal.HistoryFull n) = (rules.library body.library.value ≡ 
 IsUnable b body (Refusal.Stale entries cell) = ⊥
 IsUnable b body Refusal.NoMemory = MayCome b body
 
--- a refusal whose reason isn't a read of the unit
+-- a refusal whose reason isn't a read of the unit; that of a full history tells how many units it has
 abbrev pub IsNotStale : Refusal → Type 0
 IsNotStale Refusal.OtherLibrary = Unit {0}
-IsNotStale (Refusal.HistoryFull n) = Unit {0}
+IsNotStale (Refusal.HistoryFull n) = n ≡ 100000
 IsNotStale (Refusal.Stale entries cell) = ⊥
 IsNotStale Refusal.NoMemory = Unit {0}
 
@@ -112,7 +112,7 @@ IsMemory table last (Some t) = (t.table_id ≡ table) × (t.me.1 ≡ []) × (las
 
 -- the body ran as a unit on the current store, and was committed: its entry was added to the history, and the receipt
 -- is the entry's
-pub record IsRun (session : ℕ) (body : Body) (before now : Ledger) (r : Told) : Type 0 where
+pub record IsRun (session : ℕ) (body : Body) (before now : Ledger) (r : ReceiptView) : Type 0 where
   pub might : MayCome before body
   pub library : now.library ≡ before.library
   pub opening : now.opening ≡ before.opening
@@ -132,5 +132,5 @@ IsOf session body None = ⊥
 IsOf session body (Some e) = (e.session ≡ session) × (e.body ≡ body)
 
 -- the session of a receipt
-abbrev pub session_of : Told → Option ℕ
+abbrev pub session_of : ReceiptView → Option ℕ
 session_of r = option_map (λ (e : Entry). e.session) r.entry

@@ -1,5 +1,5 @@
 pub mod Units
 pub mod Mapped
-pub mod Telling
+pub mod Tokens
 pub mod Kept
 pub mod Books

@@ -4,7 +4,7 @@ ghost use Rattle.std.specs.Prelude.{◌≡◌, []};
 
 use crate::book::Book;
 use crate::name::BookName;
-use crate::telling::{Token, Words};
+use crate::tokens::{Token, Words};
 use hp_rule::Library;
 use hp_store::{Snapshot, Store};
 use std::alloc::Global;
@@ -28,7 +28,7 @@ impl Model for Blank {
     ghost use Rattle.std.specs.Coded.{codes};
     ghost use Rattle.hp_rule.specs.contracts.library.Library as of_library;
     ghost use Rattle.hp_store.specs.Stack.{stack_code, cells_in};
-    ghost use Rattle.hp_sessions.specs.Telling.{book_of};
+    ghost use Rattle.hp_sessions.specs.Tokens.{book_of};
     ghost use Rattle.hp_sessions.specs.Books.{Begun};
 
     ghost Value = { Begun };
@@ -37,7 +37,9 @@ impl Model for Blank {
 
     ghost view = { λ b. record { table = b.words.shared.table_id; library = b.library.value; opening = b.opening } };
 
-    ghost invariant = { λ b. HasFitState (rules.library b.library.value) (cells_in b.opening) × (b.words.shared.table_id.words ≡ 1) × (b.token.table_id ≡ b.words.shared.table_id) × (b.token.me ≡ (book_of [], [])) × (b.store ≡ b.opening) };
+    ghost invariant = { λ b.
+        HasFitState (rules.library b.library.value) (cells_in b.opening) × (b.words.shared.table_id.words ≡ 1)
+        × (b.token.table_id ≡ b.words.shared.table_id) × (b.token.me ≡ (book_of [], [])) × (b.store ≡ b.opening) };
 }
 
 impl Blank {
@@ -46,7 +48,8 @@ impl Blank {
     /// The name is a type parameter of the calling function, which is itself called with `Brand`.
     pub fn open<K: BookName>(self, alloc: Global) -> Book<K>
         requires { self.table ≡ K.table }
-        ensures { result ≡ record { library = self.library; opening = self.opening; store = self.opening; history = [] } }
+        ensures { result
+            ≡ record { library = self.library; opening = self.opening; store = self.opening; history = [] } }
     {
         let Blank {
             library,

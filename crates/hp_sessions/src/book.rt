@@ -16,7 +16,7 @@ use crate::history::History;
 use crate::name::BookName;
 use crate::receipt::Receipt;
 use crate::refusal::Refusal;
-use crate::telling::{Token, Words, append, recall, tell};
+use crate::tokens::{Token, Words, append, copy_of, recall};
 use crate::unit::Unit;
 use hp_rule::{Body, Library};
 use hp_store::{Snapshot, Store};
@@ -52,16 +52,24 @@ impl<K: BookName> Model for Book<K> {
     ghost use Rattle.hp_rule.specs.contracts.library.Library as of_library;
     ghost use Rattle.hp_store.specs.Stack.{stack_code};
     ghost use Rattle.hp_sessions.specs.contracts.entry.Entry as of_entry;
-    ghost use Rattle.hp_sessions.specs.Telling.{book_of};
+    ghost use Rattle.hp_sessions.specs.Tokens.{book_of};
     ghost use Rattle.hp_sessions.specs.Books.{Ledger, IsKeptBook};
 
     ghost Value = { Ledger };
 
     ghost coded = { Prim.hlevel (codes, of_library.the_row.coded, of_entry.the_row.coded, stack_code) };
 
-    ghost view = { λ b. record { library = b.library.value; opening = b.opening; store = b.store; history = b.history.items } };
+    ghost view = { λ b. record {
+      library = b.library.value;
+      opening = b.opening;
+      store = b.store;
+      history = b.history.items;
+    } };
 
-    ghost invariant = { λ b. (b.words.shared.table_id ≡ K.table) × (b.words.shared.table_id.words ≡ 1) × (b.token.table_id ≡ K.table) × (b.token.me ≡ (book_of b.history.items, [])) × IsKeptBook b.library.value b.opening b.store b.history.items × (length b.history.items ≤ 100000) };
+    ghost invariant = { λ b.
+        (b.words.shared.table_id ≡ K.table) × (b.words.shared.table_id.words ≡ 1)
+        × (b.token.table_id ≡ K.table) × (b.token.me ≡ (book_of b.history.items, []))
+        × IsKeptBook b.library.value b.opening b.store b.history.items × (length b.history.items ≤ 100000) };
 }
 
 impl Book<Brand> {
@@ -136,11 +144,11 @@ impl<K: BookName> Book<K> {
     }
 
     // A token that has seen the history.
-    pub(crate) fn tell(&mut self) -> Token
+    pub(crate) fn new_token(&mut self) -> Token
         ensures same { self.new ≡ self.old }
         ensures token { IsToken K.table self.old.history result }
     {
-        tell(&self.words, &mut self.token)
+        copy_of(&self.words, &mut self.token)
     }
 
     // The history begins with what the token has seen.
@@ -219,7 +227,7 @@ impl<K: BookName> Book<K> {
         Ok(Receipt {
             number,
             reply,
-            token: tell(&self.words, &mut self.token),
+            token: copy_of(&self.words, &mut self.token),
             of: PhantomData,
         })
     }
@@ -324,13 +332,15 @@ impl<K: BookName> Book<K> {
         mut memory: Option<Token>,
     ) -> (Result<Receipt<K>, Refusal>, Option<Token>)
         requires { IsMemory K.table last memory }
-        ensures ok { IfOk result.0 (λ r. IsRun session unit.body self.old self.new r × (last < r.number) × IsMemory K.table r.number result.1) }
-        ensures err { IfErr result.0 (λ e. (self.new ≡ self.old) × IsUnable self.old unit.body e × IsMemory K.table last result.1) }
+        ensures ok { IfOk result.0 (λ r.
+            IsRun session unit.body self.old self.new r × (last < r.number) × IsMemory K.table r.number result.1) }
+        ensures err { IfErr result.0 (λ e.
+            (self.new ≡ self.old) × IsUnable self.old unit.body e × IsMemory K.table last result.1) }
     {
         self.remember(last, &mut memory);
         match self.settle(rt, alloc, session, unit) {
             Ok(receipt) => {
-                let token = self.tell();
+                let token = self.new_token();
                 (Ok(receipt), Some(token))
             }
             Err(refusal) => (Err(refusal), memory),

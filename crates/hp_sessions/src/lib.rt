@@ -1,7 +1,7 @@
 //! Sessions: the threads of many callers submit bodies to one book under a lock, and get receipts. The book's history
 //! is legal.
 //!
-//! `specs/Books.antt` says what a book, a receipt and a session are in contracts, `specs/Telling.antt` how receipts
+//! `specs/Books.antt` says what a book, a receipt and a session are in contracts, `specs/Tokens.antt` how receipts
 //! know of a history that only grows.
 //!
 //! `AllocError` means that memory ran out, or that an `Arc` could not be cloned.
@@ -16,7 +16,7 @@ mod name;
 mod receipt;
 mod refusal;
 mod session;
-mod telling;
+mod tokens;
 mod unit;
 
 pub use blank::Blank;

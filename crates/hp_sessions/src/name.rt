@@ -10,7 +10,7 @@ pub trait BookName {
 }
 
 impl BookName for Brand {
-    ghost use Rattle.hp_sessions.specs.Telling.{no_table};
+    ghost use Rattle.hp_sessions.specs.Tokens.{no_table};
 
     ghost table = { no_table };
 }

@@ -1,7 +1,7 @@
 //! Receipts.
 
 use crate::name::BookName;
-use crate::telling::Token;
+use crate::tokens::Token;
 use hp_tree::UnitReport;
 use std::marker::{Model, PhantomData};
 use std::sync::Arc;
@@ -22,15 +22,17 @@ impl<K: BookName> Model for Receipt<K> {
     ghost use Rattle.std.specs.Prelude.{◌≡◌, ◌<◌, ◌-◌, [], slice_get};
     ghost use Rattle.std.specs.Coded.{codes};
     ghost use Rattle.hp_sessions.specs.contracts.entry.Entry as of_entry;
-    ghost use Rattle.hp_sessions.specs.Books.{Told, IsReply};
+    ghost use Rattle.hp_sessions.specs.Books.{ReceiptView, IsReply};
 
-    ghost Value = { Told };
+    ghost Value = { ReceiptView };
 
     ghost coded = { Prim.hlevel (codes, of_entry.the_row.coded) };
 
     ghost view = { λ r. record { number = r.number; entry = slice_get r.token.me.0.list (r.number - 1) } };
 
-    ghost invariant = { λ r. (r.token.table_id ≡ K.table) × (r.token.me.1 ≡ []) × (0 < r.number) × IsReply r.reply (slice_get r.token.me.0.list (r.number - 1)) };
+    ghost invariant = { λ r.
+        (r.token.table_id ≡ K.table) × (r.token.me.1 ≡ []) × (0 < r.number)
+        × IsReply r.reply (slice_get r.token.me.0.list (r.number - 1)) };
 }
 
 impl<K: BookName> Receipt<K> {

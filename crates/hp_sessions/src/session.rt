@@ -7,7 +7,7 @@ use crate::book::Book;
 use crate::name::BookName;
 use crate::receipt::Receipt;
 use crate::refusal::Refusal;
-use crate::telling::Token;
+use crate::tokens::Token;
 use crate::unit::Unit;
 use hp_fire::Gate;
 use hp_rule::Body;
@@ -64,7 +64,9 @@ impl<'a, K: BookName> Session<'a, K> {
         body: Body,
         gate: &G,
     ) -> Result<Receipt<K>, Refusal>
-        ensures ok { IfOk result (λ r. IsOf self.old.number body r.entry × (self.old.last < r.number) × (self.new ≡ record { number = self.old.number; last = r.number })) }
+        ensures ok { IfOk result (λ r.
+            IsOf self.old.number body r.entry × (self.old.last < r.number)
+            × (self.new ≡ record { number = self.old.number; last = r.number })) }
         ensures err { IfErr result (λ e. (self.new ≡ self.old) × IsNotStale e) }
     {
         let snapshot = self.book.lock(rt).snapshot()?;

@@ -9,6 +9,7 @@ pub mod Held
 pub mod Stacked
 pub mod Listing
 pub mod Wholes
+pub mod Overlaid
 pub mod Keeping
 pub mod Covered
 pub mod Told

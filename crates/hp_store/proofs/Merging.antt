@@ -30,7 +30,7 @@ use Rattle.hp_store.proofs.Entered.{fit_key, fit_rest}
 abbrev Above : ℤ → List ℤ → Type 0
 Above k ks = AllByRecursion (λ j. int_cmp k j ≡ Less) ks
 
-all_weaker : (P Q : ℤ → Type 0) → ((a : ℤ) → P a → Q a) → (xs : List ℤ) → AllByRecursion P xs → AllByRecursion Q xs
+pub all_weaker : (P Q : ℤ → Type 0) → ((a : ℤ) → P a → Q a) → (xs : List ℤ) → AllByRecursion P xs → AllByRecursion Q xs
 all_weaker P Q step [] all = tt
 all_weaker P Q step (x ∷ xs) all = (step x all.0, all_weaker P Q step xs all.1)
 
@@ -42,7 +42,7 @@ all_choice : (P : ℤ → Type 0) (b : Bool) (x : ℤ) (xs : List ℤ) → P x �
 all_choice P true x xs here rest = (here, rest)
 all_choice P false x xs here rest = rest
 
-all_filter : (P : ℤ → Type 0) (p : ℤ → Bool) (xs : List ℤ) → AllByRecursion P xs → AllByRecursion P (filter p xs)
+pub all_filter : (P : ℤ → Type 0) (p : ℤ → Bool) (xs : List ℤ) → AllByRecursion P xs → AllByRecursion P (filter p xs)
 all_filter P p [] all = tt
 all_filter P p (x ∷ xs) all = all_choice P (p x) x (filter p xs) all.0 (all_filter P p xs all.1)
 
@@ -60,11 +60,11 @@ greater_is Less h = cc
 greater_is Equal h = cc
 greater_is Greater h = refl
 
-below-all : (k : ℤ) (ks : List ℤ) → AllByRecursion (λ j. int_cmp j k ≡ Less) (below k ks)
+pub below-all : (k : ℤ) (ks : List ℤ) → AllByRecursion (λ j. int_cmp j k ≡ Less) (below k ks)
 below-all k [] = tt
 below-all k (j ∷ ks) = passing (λ i. int_cmp i k ≡ Less) (is_lt (int_cmp j k)) j (below k ks) (less_is (int_cmp j k)) (below-all k ks)
 
-above-all : (k : ℤ) (ks : List ℤ) → Above k (above k ks)
+pub above-all : (k : ℤ) (ks : List ℤ) → Above k (above k ks)
 above-all k [] = tt
 above-all k (j ∷ ks) =
     passing (λ i. int_cmp k i ≡ Less) (is_gt (int_cmp j k)) j (above k ks) (λ h. int_cmp_total.antisymm k j ∙ greater_is (int_cmp j k) h) (above-all k ks)
@@ -111,7 +111,7 @@ merged_rise ks ((detector_cell n, x) ∷ es) rise ups = merged_rise ks es rise u
 -- ---- which keys they are
 
 -- the change at a key, of whichever class
-at_key : ℤ → Entries → Option (Option CellValue)
+pub at_key : ℤ → Entries → Option (Option CellValue)
 at_key q [] = None
 at_key q ((object_cell class k, x) ∷ es) = if int_eq k q then Some x else at_key q es
 at_key q ((rule_cell n, x) ∷ es) = at_key q es
@@ -131,6 +131,30 @@ absent_key q k le ((object_cell class j, x) ∷ es) ups =
     ap (λ b. if b then Some x else at_key q es) (apart_keys q j (le_lt_trans int_cmp_total q k j le ups.0)) ∙ absent_key q k le es ups.1
 absent_key q k le ((rule_cell n, x) ∷ es) ups = absent_key q k le es ups
 absent_key q k le ((detector_cell n, x) ∷ es) ups = absent_key q k le es ups
+
+-- before the others, the change at its own key, and those at lower and at higher keys
+pub at_nothing : (q : ℤ) → at_key q [] ≡ None
+unfolding at_key
+at_nothing q = refl
+
+pub at_itself : (key : ℤ) (class : ℕ) (x : Option CellValue) (es : Entries) → at_key key ((object_cell class key, x) ∷ es) ≡ Some x
+unfolding at_key
+at_itself key class x es = ap (λ b. if b then Some x else at_key key es) ((Decides-int_eq key key).1 refl)
+
+pub at_lower : (q key : ℤ) (class : ℕ) (x : Option CellValue) (es : Entries) → int_cmp q key ≡ Less → AboveKeys key es → at_key q ((object_cell class key, x) ∷ es) ≡ None
+unfolding at_key
+at_lower q key class x es less ups = ap (λ b. if b then Some x else at_key q es) (apart_keys q key less) ∙ absent_key q key (ap is_le less) es ups
+
+pub at_higher : (q key : ℤ) (class : ℕ) (x : Option CellValue) (es : Entries) → int_cmp key q ≡ Less → at_key q ((object_cell class key, x) ∷ es) ≡ at_key q es
+unfolding at_key
+at_higher q key class x es more = ap (λ b. if b then Some x else at_key q es) (int_eq_equiv.symm key q ∙ apart_keys key q more)
+
+-- an entry that is no object's
+pub at_skipped : (q : ℤ) (d : Kept) (x : Option Held) (t : List (Kept × Option Held)) → ((class : ℕ) (key : ℤ) → d ≡ Object class key → ⊥) → at_key q (map entry ((d, x) ∷ t)) ≡ at_key q (map entry t)
+unfolding at_key
+at_skipped q (Object class key) x t other = absurd (other class key refl)
+at_skipped q (Rule n) x t other = refl
+at_skipped q (Detector n) x t other = refl
 
 kept_any : (q k : ℤ) (x : Option CellValue) (ks : List ℤ) → list_any (int_eq q) (kept k x ks) ≡ ((is_some x && int_eq q k) || list_any (int_eq q) ks)
 kept_any q k None ks = refl
@@ -184,7 +208,7 @@ unfolding at_key
 at_choice true q k class x es = refl
 at_choice false q k class x es = refl
 
-changes-key : (class : ℕ) (q : ℤ) (es : Entries) → changes es (object_cell class q) ≡ at_key q (class_entries class es)
+pub changes-key : (class : ℕ) (q : ℤ) (es : Entries) → changes es (object_cell class q) ≡ at_key q (class_entries class es)
 unfolding at_key
 changes-key class q [] = refl
 changes-key class q ((object_cell of k, x) ∷ es) =

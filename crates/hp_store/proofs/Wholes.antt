@@ -7,7 +7,7 @@ use Rattle.hp_model.specs.Values.{Row, KeyedRow}
 use Rattle.hp_model.specs.Cells.{CellValue, row_value, Cells, Changes, object_cell, changed, over, AreObjects}
 use Rattle.hp_value.specs.Mapped.{keys_of}
 
-unchanged : (o : Option CellValue) (change : Option (Option CellValue)) → change ≡ None → changed o change ≡ o
+pub unchanged : (o : Option CellValue) (change : Option (Option CellValue)) → change ≡ None → changed o change ≡ o
 unchanged o change none = ap (changed o) none
 
 -- a layer that names no object of the class leaves them

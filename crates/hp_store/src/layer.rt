@@ -1,12 +1,13 @@
 //! Layers of changes.
 
-ghost use Rattle.std.specs.Prelude.{◌≡◌, None, IfOk, map, option_map};
+ghost use Rattle.std.specs.Prelude.{◌≡◌, ◌≤◌, ◌-◌, None, IfOk, IsTrue, map, option_map, length, take, drop};
 ghost use Rattle.std.specs.List.Sorted.{IsStrictlySortedBy};
 ghost use Rattle.std.specs.Ordering.{int_cmp};
 ghost use Rattle.hp_model.specs.Cells.{Cells, changed, over};
 ghost use Rattle.hp_value.specs.Mapped as mapped;
 ghost use Rattle.hp_store.specs.Changes.{changes};
 ghost use Rattle.hp_store.specs.Indexed.{IsComplete, AreComplete, with_value};
+ghost use Rattle.hp_store.specs.Kept.{MakesObjects};
 ghost use Rattle.hp_store.specs.Keys.{below, above};
 ghost use Rattle.hp_store.specs.Mapped as here;
 ghost use Rattle.hp_store.specs.Mapped.{entry};
@@ -15,7 +16,7 @@ ghost use Rattle.hp_store.specs.Parts.{no_cells};
 use crate::candidates::{Candidates, greatest_up_to, key_bounds, least_from};
 use crate::index::{Index, has_index, indexed, renew_all};
 use crate::value::CellValue;
-use hp_value::{Cell, ClassNo, ClassPart, Key};
+use hp_value::{Cell, ClassNo, ClassPart, Key, ObjectList};
 use std::alloc::{AllocError, Global};
 use std::collections::BTreeMap;
 use std::collections::btree_map::{Iter, Range};
@@ -213,10 +214,10 @@ impl Layer {
 }
 
 impl Layer {
-    ghost use Rattle.std.specs.Prelude.{◌≡◌, ◌↔◌, ℤ, false, [], None, IfOk, map};
+    ghost use Rattle.std.specs.Prelude.{◌≡◌, ◌↔◌, ℤ, false, [], None, IfOk, IfSome, map};
     ghost use Rattle.std.specs.List.Sorted.{IsStrictlySortedBy};
     ghost use Rattle.std.specs.Ordering.{int_cmp};
-    ghost use Rattle.hp_model.specs.Cells.{Cells, AreKeys, object_cell, over};
+    ghost use Rattle.hp_model.specs.Cells.{Cells, AreKeys, AreObjects, object_cell, over};
     ghost use Rattle.hp_store.specs.Changes.{changes, class_entries, KeysFit};
     ghost use Rattle.hp_value.specs.Mapped as mapped;
     ghost use Rattle.hp_store.specs.Keys.{KeysRise};
@@ -263,6 +264,36 @@ impl Layer {
         self.of_class(class).next().is_some()
     }
 
+    /// The objects of a class after the layer's changes, from those before them, by rising keys. None where a change gives
+    /// an object something else than a row, which no operation does.
+    ///
+    /// The time goes with the class's objects and the changes of them, and no cell is looked up; rows are shared. An error
+    /// means that memory ran out.
+    pub fn objects_over(
+        &self,
+        alloc: Global,
+        class: ClassNo,
+        objects: &ObjectList,
+    ) -> Result<Option<ObjectList>, AllocError>
+        ensures { IfOk result (λ found. IfSome found (λ merged. (base : Cells) → AreObjects base class objects.now → AreObjects (over base (changes self.now)) class merged)) }
+    {
+        let mut merged = ObjectList::new(alloc);
+        let keys = objects.keys();
+        let mut from = 0;
+        for (cell, change) in self.of_class(class) {
+            if let Cell::Object(_, key) = *cell {
+                let (end, next) = places(keys, from, key);
+                merged.extend(objects, from, end)?;
+                if !add_changed(&mut merged, key, change)? {
+                    return Ok(None);
+                }
+                from = next;
+            }
+        }
+        merged.extend(objects, from, keys.len())?;
+        Ok(Some(merged))
+    }
+
     /// The keys of a class's objects after the layer's changes, from the keys before them. Both rise.
     ///
     /// The time goes with the class's keys and the changes of its objects; the layer's other cells aren't looked at. An
@@ -305,6 +336,40 @@ fn around(keys: &[Key], key: Key) -> (&[Key], &[Key])
     match keys.binary_search(&key) {
         Ok(at) => (&keys[..at], &keys[at + 1..]),
         Err(at) => (&keys[..at], &keys[at..]),
+    }
+}
+
+// Where the keys below a key end, of those from a place on, and where those above it begin.
+fn places(keys: &[Key], from: usize, key: Key) -> (usize, usize)
+    requires { from ≤ length keys.now }
+    ensures start { from ≤ result.0 }
+    ensures order { result.0 ≤ result.1 }
+    ensures bound { result.1 ≤ length keys.now }
+    ensures below { IsStrictlySortedBy int_cmp (drop from keys.now) → take (result.0 - from) (drop from keys.now) ≡ below key (drop from keys.now) }
+    ensures above { IsStrictlySortedBy int_cmp (drop from keys.now) → drop result.1 keys.now ≡ above key (drop from keys.now) }
+{
+    match keys[from..].binary_search(&key) {
+        Ok(at) => (from + at, from + at + 1),
+        Err(at) => (from + at, from + at),
+    }
+}
+
+// Adds an object with the row that a change gives it, unless the change deletes it. The answer is no where the change gives
+// it something else.
+fn add_changed(
+    list: &mut ObjectList,
+    key: Key,
+    change: &Option<CellValue>,
+) -> Result<bool, AllocError>
+    ensures { IfOk result (λ done. IsTrue done → MakesObjects list.old key (here.change change.now) list.new) }
+{
+    match change {
+        Some(CellValue::Row(row)) => {
+            list.push(key, row.clone()?)?;
+            Ok(true)
+        }
+        Some(_) => Ok(false),
+        None => Ok(true),
     }
 }
 

@@ -11,7 +11,7 @@ ghost use Rattle.hp_store.specs.Mapped as here;
 ghost use Rattle.hp_store.specs.Tables.{tables, base_cells};
 
 use crate::base::Base;
-use crate::kept::{KeptList, still_kept};
+use crate::kept::{KeptList, note_asked, still_asked, still_kept};
 use crate::layer::Layer;
 use crate::shared::{Layers, SharedLayer, copied, newest, piled};
 use crate::value::CellValue;
@@ -33,6 +33,8 @@ pub struct Snapshot {
     pub(crate) layers: Layers,
     // Classes that were listed ahead, for all who start from the snapshot.
     lists: Vec<KeptList>,
+    // Those of these classes that were asked for since one of their objects changed.
+    asked: Vec<ClassNo>,
 }
 
 impl Model for Snapshot {
@@ -78,6 +80,7 @@ impl Snapshot {
             base: Arc::new(alloc, Base::new(alloc))?,
             layers: SmallVec::new(alloc),
             lists: Vec::new(alloc),
+            asked: Vec::new(alloc),
         })
     }
 
@@ -134,14 +137,16 @@ impl Snapshot {
     }
 
     /// Lists the objects of a class, so that `objects` shares the list from now on: that of this snapshot, and that of a
-    /// snapshot with a layer more over it that names none of these objects.
+    /// snapshot with a layer more over it. If that layer names one of these objects, the other snapshot's list is made of
+    /// this one and the layer; under a further layer that names one, it is kept only if this was called on that snapshot,
+    /// too.
     ///
     /// An error means that memory ran out.
     pub fn keep_objects(&mut self, alloc: Global, class: ClassNo) -> Result<(), AllocError>
         ensures { self.new ≡ self.old }
     {
         if self.kept_objects(class).is_some() {
-            return Ok(());
+            return note_asked(&mut self.asked, class);
         }
         if let Some(objects) = self.objects(alloc, class)? {
             self.keep_list(class, objects)?;
@@ -149,7 +154,7 @@ impl Snapshot {
         Ok(())
     }
 
-    /// Keeps a list of the objects of a class, unless one is kept.
+    /// Keeps a list of the objects of a class, unless one is kept. Either way it was asked for.
     ///
     /// An error means that memory ran out.
     pub(crate) fn keep_list(
@@ -161,9 +166,18 @@ impl Snapshot {
         ensures { self.new ≡ self.old }
     {
         if self.kept_objects(class).is_none() {
-            self.lists.reserve(1)?;
-            self.lists.push_reserved(KeptList { class, objects });
+            self.add_list(class, objects)?;
         }
+        note_asked(&mut self.asked, class)
+    }
+
+    // Keeps a list more.
+    fn add_list(&mut self, class: ClassNo, objects: Arc<ObjectList>) -> Result<(), AllocError>
+        requires { AreObjects (cells_in self.old) class objects.value }
+        ensures { self.new ≡ self.old }
+    {
+        self.lists.reserve(1)?;
+        self.lists.push_reserved(KeptList { class, objects });
         Ok(())
     }
 
@@ -241,12 +255,14 @@ impl Snapshot {
     pub fn with_layer(&self, alloc: Global, layer: Arc<Layer>) -> Result<Snapshot, AllocError>
         ensures { IfOk result (λ s. cells_in s ≡ over (cells_in self.now) (changes layer.value)) }
     {
-        let lists = still_kept(alloc, &self.lists, &layer)?;
+        let lists = still_kept(alloc, &self.lists, &self.asked, &layer)?;
+        let asked = still_asked(alloc, &self.asked, &layer)?;
         let layers = piled(alloc, &self.layers, layer, &self.base.indexes)?;
         Ok(Snapshot {
             base: Arc::try_clone(&self.base)?,
             layers,
             lists,
+            asked,
         })
     }
 
@@ -261,9 +277,11 @@ impl Snapshot {
         if layer.is_empty() {
             return Ok(());
         }
-        let lists = still_kept(alloc, &self.lists, &layer)?;
+        let lists = still_kept(alloc, &self.lists, &self.asked, &layer)?;
+        let asked = still_asked(alloc, &self.asked, &layer)?;
         self.layers = piled(alloc, &self.layers, layer, &self.base.indexes)?;
         self.lists = lists;
+        self.asked = asked;
         settle(alloc, &mut self.base, &mut self.layers);
         Ok(())
     }
@@ -489,18 +507,20 @@ impl Clone for Snapshot {
 
     ghost is_clone = { λ s t. t ≡ s };
 
-    /// The same snapshot once more. It shares the base, the layers and the lists that are kept, and copies no cell.
+    /// The same snapshot once more. It shares the base, the layers and the lists that are kept, and copies no cell. Nobody
+    /// has asked it for a list yet.
     ///
     /// An error means that memory ran out.
     fn clone(&self) -> Result<Snapshot, AllocError> {
         let alloc = *self.layers.allocator();
         let layers = copied(alloc, &self.layers)?;
         // Under a layer that changes nothing all of them are still true.
-        let lists = still_kept(alloc, &self.lists, &Layer::new(alloc))?;
+        let lists = still_kept(alloc, &self.lists, &[], &Layer::new(alloc))?;
         Ok(Snapshot {
             base: Arc::try_clone(&self.base)?,
             layers,
             lists,
+            asked: Vec::new(alloc),
         })
     }
 }

@@ -70,8 +70,11 @@ impl Store {
         self.state.keys(alloc, class)
     }
 
-    /// Keeps a list of all objects of a class, as they are in the store. Snapshots share it from now on, until a layer is
-    /// applied that names one of these objects. Where the class has such a list, it stays.
+    /// Keeps a list of all objects of a class, as they are in the store. Snapshots share it from now on. Where the class has
+    /// such a list, it stays.
+    ///
+    /// Under the next layer that names one of these objects the list goes on, made of the list before and the layer. Under a
+    /// second one it goes, unless this is called in between.
     ///
     /// An error means that memory ran out.
     pub fn keep_objects(
@@ -101,7 +104,7 @@ impl Store {
     }
 
     /// Overwrites the cells by a layer. Where no snapshot of the store is left, the changes go into the cells in place, and
-    /// cost no more than what they change.
+    /// cost no more than what they change. A list that goes on under the changes costs one pass over its objects.
     ///
     /// An error means that memory ran out; the store is then as before. A layer that changes nothing costs nothing.
     pub fn apply(&mut self, alloc: Global, layer: Arc<Layer>) -> Result<(), AllocError>

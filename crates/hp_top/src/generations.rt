@@ -29,7 +29,9 @@ impl<R: Threads + Sync> Runner<'_, R> {
         view: &mut View,
         tasks: Vec<Task>,
     ) -> Result<Vec<TopReport>, AllocError>
-        ensures { IfOk result (λ reports. RunsCascade (library self.now.engine.lib.now) (map task_of tasks.items) view.old view.new (map top_report reports.items)) }
+        ensures { IfOk result (λ reports.
+            RunsCascade (library self.now.engine.lib.now) (map task_of tasks.items) view.old view.new
+            (map top_report reports.items)) }
     {
         let most = most_rounds(self.engine.lib);
         let mut reports = Vec::new(self.alloc());
@@ -47,7 +49,9 @@ impl<R: Threads + Sync> Runner<'_, R> {
 
     /// Runs a generation: each task as a top-level transaction, in order.
     fn run_generation(&self, view: &mut View, tasks: &[Task]) -> Result<Generation, AllocError>
-        ensures { IfOk result (λ g. RunsGeneration (library self.now.engine.lib.now) (map task_of tasks.now) view.old view.new (generation_of g)) }
+        ensures { IfOk result (λ g.
+            RunsGeneration (library self.now.engine.lib.now) (map task_of tasks.now) view.old view.new
+            (generation_of g)) }
     {
         let mut tops = Vec::new(self.alloc());
         let mut detached = Vec::new(self.alloc());
@@ -85,7 +89,8 @@ pub fn cascade<R: Threads + Sync>(
     tasks: Vec<Task>,
     width: usize,
 ) -> Result<Vec<TopReport>, AllocError>
-    ensures { IfOk result (λ reports. RunsCascade (library lib.now) (map task_of tasks.items) view.old view.new (map top_report reports.items)) }
+    ensures { IfOk result (λ reports.
+        RunsCascade (library lib.now) (map task_of tasks.items) view.old view.new (map top_report reports.items)) }
 {
     let past = Past::new(alloc, lib, width);
     let reports = Runner::new(rt, alloc, lib, width, &past).cascade(view, tasks)?;

@@ -21,9 +21,13 @@ impl<R: Threads + Sync> Runner<'_, R> {
     ///
     /// The reports are those of the units before it, and the store is as the last of these left it.
     pub fn run_items(&self, store: &mut Store, items: &[Unit]) -> Items
-        ensures ran { RanUnits (library self.now.engine.lib.now) (map unit_of items.now) (cells_in store.old) (cells_in store.new) (map unit_report result.reports.items) }
-        ensures replayed { AreReplayed (library self.now.engine.lib.now) (map unit_of items.now) (cells_in store.old) (map unit_report result.reports.items) }
-        ensures fit { AllByRecursion (λ u. IsUnitOf (library self.now.engine.lib.now) u) (map unit_of items.now) → HasFitState (library self.now.engine.lib.now) (cells_in store.old) → HasFitState (library self.now.engine.lib.now) (cells_in store.new) }
+        ensures ran { RanUnits (library self.now.engine.lib.now) (map unit_of items.now) (cells_in store.old)
+            (cells_in store.new) (map unit_report result.reports.items) }
+        ensures replayed { AreReplayed (library self.now.engine.lib.now) (map unit_of items.now) (cells_in store.old)
+            (map unit_report result.reports.items) }
+        ensures fit { AllByRecursion (λ u. IsUnitOf (library self.now.engine.lib.now) u) (map unit_of items.now) →
+            HasFitState (library self.now.engine.lib.now) (cells_in store.old) →
+            HasFitState (library self.now.engine.lib.now) (cells_in store.new) }
         ensures all { result.stopped ≡ None → length result.reports.items ≡ length items.now }
         ensures cut { IsSome result.stopped → length result.reports.items < length items.now }
     {
@@ -51,7 +55,9 @@ impl<R: Threads + Sync> Runner<'_, R> {
         unit: &Unit,
         reports: &mut Vec<UnitReport>,
     ) -> Result<(), AllocError>
-        ensures ok { OnOk result (RanNext (library self.now.engine.lib.now) (unit_of unit.now) (cells_in store.old) (cells_in store.new) (map unit_report reports.old.items) (map unit_report reports.new.items)) }
+        ensures ok { OnOk result (
+            RanNext (library self.now.engine.lib.now) (unit_of unit.now) (cells_in store.old) (cells_in store.new)
+            (map unit_report reports.old.items) (map unit_report reports.new.items)) }
         ensures err { OnErr result (store.new ≡ store.old) }
         ensures none { OnErr result (reports.new.items ≡ reports.old.items) }
     {
@@ -91,9 +97,12 @@ pub fn run_items<R: Threads + Sync>(
     items: &[Unit],
     width: usize,
 ) -> Items
-    ensures ran { RanUnits (library lib.now) (map unit_of items.now) (cells_in store.old) (cells_in store.new) (map unit_report result.reports.items) }
-    ensures replayed { AreReplayed (library lib.now) (map unit_of items.now) (cells_in store.old) (map unit_report result.reports.items) }
-    ensures fit { AllByRecursion (λ u. IsUnitOf (library lib.now) u) (map unit_of items.now) → HasFitState (library lib.now) (cells_in store.old) → HasFitState (library lib.now) (cells_in store.new) }
+    ensures ran { RanUnits (library lib.now) (map unit_of items.now) (cells_in store.old) (cells_in store.new)
+        (map unit_report result.reports.items) }
+    ensures replayed { AreReplayed (library lib.now) (map unit_of items.now) (cells_in store.old)
+        (map unit_report result.reports.items) }
+    ensures fit { AllByRecursion (λ u. IsUnitOf (library lib.now) u) (map unit_of items.now) →
+        HasFitState (library lib.now) (cells_in store.old) → HasFitState (library lib.now) (cells_in store.new) }
     ensures all { result.stopped ≡ None → length result.reports.items ≡ length items.now }
     ensures cut { IsSome result.stopped → length result.reports.items < length items.now }
 {

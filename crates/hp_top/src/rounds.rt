@@ -30,7 +30,10 @@ impl<R: Threads + Sync> Runner<'_, R> {
         begun: Course,
         depth: u8,
     ) -> Result<Course, AllocError>
-        ensures { IfOk result (λ c. Continues (library self.now.engine.lib.now) (top_course (library self.now.engine.lib.now) depth) view.old view.new (course_of begun) (course_of c)) }
+        ensures { IfOk result (λ c.
+            Continues (library self.now.engine.lib.now)
+            (top_course (library self.now.engine.lib.now) depth) view.old view.new (course_of begun)
+            (course_of c)) }
     {
         let course = self.signal_commit(view, begun, depth)?;
         let all = self.run_rounds(view, course)?;
@@ -44,7 +47,10 @@ impl<R: Threads + Sync> Runner<'_, R> {
         mut begun: Course,
         depth: u8,
     ) -> Result<Course, AllocError>
-        ensures { IfOk result (λ c. Continues (library self.now.engine.lib.now) (λ work S. then_do (work S) (signal_in (level_at (library self.now.engine.lib.now) depth) commit_reached)) view.old view.new (course_of begun) (course_of c)) }
+        ensures { IfOk result (λ c.
+            Continues (library self.now.engine.lib.now)
+            (λ work S. then_do (work S) (signal_in (level_at (library self.now.engine.lib.now) depth) commit_reached))
+            view.old view.new (course_of begun) (course_of c)) }
     {
         match begun.end {
             End::Done => {
@@ -60,7 +66,11 @@ impl<R: Threads + Sync> Runner<'_, R> {
     /// Runs the queued tasks in rounds, while the course is done and tasks are queued. Each round runs what the one
     /// before it queued.
     fn run_rounds(&self, view: &mut View, begun: Course) -> Result<Course, AllocError>
-        ensures { IfOk result (λ c. Continues (library self.now.engine.lib.now) (λ work S. model.rounds (model.most_rounds (library self.now.engine.lib.now)) (fire_task (library self.now.engine.lib.now)) (work S)) view.old view.new (course_of begun) (course_of c)) }
+        ensures { IfOk result (λ c.
+            Continues (library self.now.engine.lib.now)
+            (λ work S. model.rounds (model.most_rounds (library self.now.engine.lib.now))
+            (fire_task (library self.now.engine.lib.now))
+            (work S)) view.old view.new (course_of begun) (course_of c)) }
     {
         let most = most_rounds(self.engine.lib);
         let mut course = begun;
@@ -76,7 +86,8 @@ impl<R: Threads + Sync> Runner<'_, R> {
     /// Runs a round: the queued tasks fire as siblings, and a veto aborts the transaction.
     fn run_round(&self, view: &mut View, mut course: Course) -> Result<Course, AllocError>
         requires { answers.is_settled (course_of course).end (course_of course).queued ≡ false }
-        ensures { IfOk result (λ c. IsRound (library self.now.engine.lib.now) view.old view.new (course_of course) (course_of c)) }
+        ensures { IfOk result (λ c.
+            IsRound (library self.now.engine.lib.now) view.old view.new (course_of course) (course_of c)) }
     {
         let group = self.engine.run_siblings(view, &course.queued, true)?;
         let next = group_course(self.alloc(), group)?;

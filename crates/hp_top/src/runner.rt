@@ -23,7 +23,8 @@ impl<'a, R> Runner<'a, R> {
         width: usize,
         past: &'a Past,
     ) -> Runner<'a, R>
-        ensures { result.engine.lib ≡ lib.entry }
+        ensures lib { result.engine.lib ≡ lib.entry }
+        ensures width { result.engine.width ≡ width }
     {
         Runner {
             engine: Engine::new(rt, alloc, lib, width, past),

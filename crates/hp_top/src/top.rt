@@ -24,7 +24,10 @@ impl<R: Threads + Sync> Runner<'_, R> {
     /// Runs a unit's own transaction on the view: the script's body, or the signal of the moment, then the commit event
     /// and the deferred rounds.
     pub(crate) fn run_top(&self, view: &mut View, unit: &Unit) -> Result<Top, AllocError>
-        ensures { IfOk result (λ t. RunsTop (library self.now.engine.lib.now) (top (library self.now.engine.lib.now) 0 (unit_work (library self.now.engine.lib.now) (unit_of unit.now))) view.old view.new (top_of t)) }
+        ensures { IfOk result (λ t.
+            RunsTop (library self.now.engine.lib.now)
+            (top (library self.now.engine.lib.now) 0
+            (unit_work (library self.now.engine.lib.now) (unit_of unit.now))) view.old view.new (top_of t)) }
     {
         let mark = view.enter();
         match unit {
@@ -43,11 +46,14 @@ impl<R: Threads + Sync> Runner<'_, R> {
 
     /// Runs a detached task on the view as a top-level transaction of its own. Its veto aborts the transaction.
     pub(crate) fn run_detached(&self, view: &mut View, task: &Task) -> Result<Top, AllocError>
-        ensures { IfOk result (λ t. RunsTop (library self.now.engine.lib.now) (top (library self.now.engine.lib.now) (task_of task.now).depth (task_work (library self.now.engine.lib.now) (task_of task.now))) view.old view.new (top_of t)) }
+        ensures { IfOk result (λ t.
+            RunsTop (library self.now.engine.lib.now)
+            (top (library self.now.engine.lib.now) (task_of task.now).depth
+            (task_work (library self.now.engine.lib.now) (task_of task.now))) view.old view.new (top_of t)) }
     {
         let mark = view.enter();
         let outcome = self.engine.run_firing(view, task)?;
-        let course = firing_course(outcome);
+        let course = task_course(outcome);
         let top = self.finish(view, mark, course, task.depth)?;
         Ok(top)
     }
@@ -61,7 +67,8 @@ impl<R: Threads + Sync> Runner<'_, R> {
         depth: u8,
     ) -> Result<Top, AllocError>
         requires { mark ≤ length view.old.undo }
-        ensures { IfOk result (λ t. Finishes (library self.now.engine.lib.now) depth mark view.old view.new (course_of course) (top_of t)) }
+        ensures { IfOk result (λ t.
+            Finishes (library self.now.engine.lib.now) depth mark view.old view.new (course_of course) (top_of t)) }
     {
         let all = self.complete(view, course, depth)?;
         let top = close(self.alloc(), view, mark, all)?;
@@ -92,7 +99,9 @@ pub fn run_top<R: Threads + Sync>(
     unit: &Unit,
     width: usize,
 ) -> Result<Top, AllocError>
-    ensures { IfOk result (λ t. RunsTop (library lib.now) (top (library lib.now) 0 (unit_work (library lib.now) (unit_of unit.now))) view.old view.new (top_of t)) }
+    ensures { IfOk result (λ t.
+        RunsTop (library lib.now)
+        (top (library lib.now) 0 (unit_work (library lib.now) (unit_of unit.now))) view.old view.new (top_of t)) }
 {
     let past = Past::new(alloc, lib, width);
     let top = Runner::new(rt, alloc, lib, width, &past).run_top(view, unit)?;
@@ -110,7 +119,10 @@ pub fn run_detached<R: Threads + Sync>(
     task: &Task,
     width: usize,
 ) -> Result<Top, AllocError>
-    ensures { IfOk result (λ t. RunsTop (library lib.now) (top (library lib.now) (task_of task.now).depth (task_work (library lib.now) (task_of task.now))) view.old view.new (top_of t)) }
+    ensures { IfOk result (λ t.
+        RunsTop (library lib.now)
+        (top (library lib.now) (task_of task.now).depth
+        (task_work (library lib.now) (task_of task.now))) view.old view.new (top_of t)) }
 {
     let past = Past::new(alloc, lib, width);
     let top = Runner::new(rt, alloc, lib, width, &past).run_detached(view, task)?;
@@ -118,7 +130,7 @@ pub fn run_detached<R: Threads + Sync>(
 }
 
 /// A firing as the whole work of a transaction. Its veto aborts the transaction.
-fn firing_course(outcome: Outcome) -> Course
+fn task_course(outcome: Outcome) -> Course
     ensures { course_of result ≡ task_answer (firing outcome) }
 {
     let end = match outcome.end {

@@ -26,7 +26,8 @@ use std::thread::Threads;
 impl<R: Threads + Sync> Runner<'_, R> {
     /// Runs a unit on the view: its own transaction, and the cascade of what that detaches. The answer is its report.
     pub(crate) fn run_unit_on(&self, view: &mut View, unit: &Unit) -> Result<UnitReport, AllocError>
-        ensures { IfOk result (λ r. RunsUnit (library self.now.engine.lib.now) (unit_of unit.now) view.old view.new (unit_report r)) }
+        ensures { IfOk result (λ r.
+            RunsUnit (library self.now.engine.lib.now) (unit_of unit.now) view.old view.new (unit_report r)) }
     {
         let top = self.run_top(view, unit)?;
         let tasks = due(self.alloc(), top.detached)?;
@@ -46,7 +47,9 @@ impl<R: Threads + Sync> Runner<'_, R> {
 
     /// Tries a unit on a snapshot.
     pub fn attempt_unit(&self, snapshot: Snapshot, unit: &Unit) -> Result<UnitAttempt, AllocError>
-        ensures sound { IfOk result (λ a. IsSoundUnit (library self.now.engine.lib.now) (unit_of unit.now) a.reads (changes a.layer.value) (unit_report a.report)) }
+        ensures sound { IfOk result (λ a.
+            IsSoundUnit (library self.now.engine.lib.now) (unit_of unit.now) a.reads (changes a.layer.value)
+            (unit_report a.report)) }
         ensures so_it_was { IfOk result (λ a. Holds (cells_in snapshot) a.reads) }
     {
         let mut view = View::new(self.alloc(), snapshot)?;
@@ -63,12 +66,20 @@ impl<R: Threads + Sync> Runner<'_, R> {
     ///
     /// The changes go into the store in place if nobody else holds a snapshot of it, at a cost that depends only on
     /// what they change. A class that the unit read as a whole stays listed for later units, until one of its objects
-    /// changes. An error means that memory ran out; the store is then as before.
+    /// changes a second time without such a read in between. A list goes on under the first change at the cost of one
+    /// pass over it. An error means that memory ran out; the store is then as before.
     pub fn run_unit(&self, store: &mut Store, unit: &Unit) -> Result<UnitReport, AllocError>
-        ensures ran { IfOk result (λ r. RanUnit (library self.now.engine.lib.now) (unit_of unit.now) (cells_in store.old) (cells_in store.new) (unit_report r)) }
-        ensures replayed { IfOk result (λ r. IsReplayed (library self.now.engine.lib.now) (unit_of unit.now) (cells_in store.old) (unit_report r)) }
-        ensures lawful { IfOk result (λ r. IsLawful (library self.now.engine.lib.now) (unit_of unit.now) (cells_in store.old) (unit_report r)) }
-        ensures fit { IfOk result (λ r. IsUnitOf (library self.now.engine.lib.now) (unit_of unit.now) → HasFitState (library self.now.engine.lib.now) (cells_in store.old) → HasFitState (library self.now.engine.lib.now) (cells_in store.new)) }
+        ensures ran { IfOk result (λ r.
+            RanUnit (library self.now.engine.lib.now) (unit_of unit.now) (cells_in store.old) (cells_in store.new)
+            (unit_report r)) }
+        ensures replayed { IfOk result (λ r.
+            IsReplayed (library self.now.engine.lib.now) (unit_of unit.now) (cells_in store.old) (unit_report r)) }
+        ensures lawful { IfOk result (λ r.
+            IsLawful (library self.now.engine.lib.now) (unit_of unit.now) (cells_in store.old) (unit_report r)) }
+        ensures fit { IfOk result (λ r.
+            IsUnitOf (library self.now.engine.lib.now) (unit_of unit.now) →
+            HasFitState (library self.now.engine.lib.now) (cells_in store.old) →
+            HasFitState (library self.now.engine.lib.now) (cells_in store.new)) }
         ensures err { OnErr result (store.new ≡ store.old) }
     {
         keep_indexes(self.alloc(), store, self.engine.lib)?;
@@ -128,7 +139,8 @@ pub fn attempt_unit<R: Threads + Sync>(
     unit: &Unit,
     width: usize,
 ) -> Result<UnitAttempt, AllocError>
-    ensures sound { IfOk result (λ a. IsSoundUnit (library lib.now) (unit_of unit.now) a.reads (changes a.layer.value) (unit_report a.report)) }
+    ensures sound { IfOk result (λ a.
+        IsSoundUnit (library lib.now) (unit_of unit.now) a.reads (changes a.layer.value) (unit_report a.report)) }
     ensures so_it_was { IfOk result (λ a. Holds (cells_in snapshot) a.reads) }
 {
     let past = Past::new(alloc, lib, width);
@@ -140,7 +152,8 @@ pub fn attempt_unit<R: Threads + Sync>(
 ///
 /// Groups of firings use at most `width` threads. The changes go into the store in place if nobody else holds a
 /// snapshot of it, at a cost that depends only on what they change. A class that the unit read as a whole stays listed
-/// for later units, until one of its objects changes. An error means that memory ran out; the store is then as before.
+/// for later units, until one of its objects changes a second time without such a read in between. A list goes on under
+/// the first change at the cost of one pass over it. An error means that memory ran out; the store is then as before.
 pub fn run_unit<R: Threads + Sync>(
     rt: &R,
     alloc: Global,
@@ -149,10 +162,15 @@ pub fn run_unit<R: Threads + Sync>(
     unit: &Unit,
     width: usize,
 ) -> Result<UnitReport, AllocError>
-    ensures ran { IfOk result (λ r. RanUnit (library lib.now) (unit_of unit.now) (cells_in store.old) (cells_in store.new) (unit_report r)) }
-    ensures replayed { IfOk result (λ r. IsReplayed (library lib.now) (unit_of unit.now) (cells_in store.old) (unit_report r)) }
-    ensures lawful { IfOk result (λ r. IsLawful (library lib.now) (unit_of unit.now) (cells_in store.old) (unit_report r)) }
-    ensures fit { IfOk result (λ r. IsUnitOf (library lib.now) (unit_of unit.now) → HasFitState (library lib.now) (cells_in store.old) → HasFitState (library lib.now) (cells_in store.new)) }
+    ensures ran { IfOk result (λ r.
+        RanUnit (library lib.now) (unit_of unit.now) (cells_in store.old) (cells_in store.new) (unit_report r)) }
+    ensures replayed { IfOk result (λ r.
+        IsReplayed (library lib.now) (unit_of unit.now) (cells_in store.old) (unit_report r)) }
+    ensures lawful { IfOk result (λ r.
+        IsLawful (library lib.now) (unit_of unit.now) (cells_in store.old) (unit_report r)) }
+    ensures fit { IfOk result (λ r.
+        IsUnitOf (library lib.now) (unit_of unit.now) → HasFitState (library lib.now) (cells_in store.old) →
+        HasFitState (library lib.now) (cells_in store.new)) }
     ensures err { OnErr result (store.new ≡ store.old) }
 {
     let past = Past::new(alloc, lib, width);

@@ -22,7 +22,8 @@ pub fn emits<'a>(alloc: Global, tree: &'a [Item]) -> Result<Vec<&'a Value>, Allo
 /// Adds the values that items emitted.
 #[cycle(emits)]
 fn add_emits<'a>(items: &'a [Item], values: &mut Vec<&'a Value>) -> Result<(), AllocError>
-    ensures { OnOk result (values_behind values.new.items ≡ values_behind values.old.items ++ emits (items_in items.now)) }
+    ensures { OnOk result (
+        values_behind values.new.items ≡ values_behind values.old.items ++ emits (items_in items.now)) }
 {
     for item in items {
         add_emit(item, values)?;
@@ -33,7 +34,8 @@ fn add_emits<'a>(items: &'a [Item], values: &mut Vec<&'a Value>) -> Result<(), A
 /// Adds the values that one item emitted.
 #[cycle(emits)]
 fn add_emit<'a>(item: &'a Item, values: &mut Vec<&'a Value>) -> Result<(), AllocError>
-    ensures { OnOk result (values_behind values.new.items ≡ values_behind values.old.items ++ emits (before item.now no_items)) }
+    ensures { OnOk result (
+        values_behind values.new.items ≡ values_behind values.old.items ++ emits (before item.now no_items)) }
 {
     match item {
         Item::Operation(_) => {}

@@ -1,6 +1,7 @@
 -- Lemmas on rows made of fields and values.
-use Rattle.std.proofs.Common.{◌≡◌, refl, ap, ap₂, subst, ◌++◌, ℤ, ℕ, zero, suc, ◌<◌, ◌≤◌, min, arith, List, [], ◌∷◌, length, take, drop, map, get_or, slice_get, Option, Some, None, string_bytes, bytes_eq, Bool, true, false, cond, not, ◌&&◌, length-drop, drop-cons, append_assoc, append-nil, sym, ◌∙◌}
+use Rattle.std.proofs.Common.{◌≡◌, refl, ap, ap₂, subst, ◌++◌, ℤ, ℕ, zero, suc, ◌+◌, ◌<◌, ◌≤◌, min, arith, List, [], ◌∷◌, length, take, drop, map, get_or, slice_get, Option, Some, None, string_bytes, bytes_eq, Bool, true, false, cond, not, ◌&&◌, length-drop, drop-cons, append_assoc, append-nil, sym, ◌∙◌}
 use Rattle.std.specs.Map.{lookup}
+use Rattle.std.proofs.lemmas.List.{drop_more, drop_all, take-map, drop-map}
 use Rattle.std.proofs.lemmas.Option.{slice_get_read, slice_get_past}
 use Rattle.hp_model.specs.Values as V
 use Rattle.hp_value.specs.declared.value.Value.{Value}
@@ -243,3 +244,53 @@ keys_tell (o ∷ os) (p ∷ ps) e = ap suc (keys_tell os ps (rest (int_eq o.key 
     rest : (a b : Bool) → not (a && b) ≡ false → not b ≡ false
     rest true b e = e
     rest false b e = absurd (true≢false e)
+
+-- ---- rows with these names
+
+pub named_alike : (ns : List V.Name) (os : List V.KeyedRow) → AreNamed ns os → AreAlike os
+named_alike ns [] named = tt
+named_alike ns (o ∷ os) named = subst (λ ms. AreNamed ms (o ∷ os)) (sym named.0) named
+
+pub named_push : (ns : List V.Name) (os : List V.KeyedRow) (o : V.KeyedRow) → AreNamed ns os → names_of o.row ≡ ns → AreNamed ns (os ++ o ∷ [])
+named_push ns [] o named here = (here, tt)
+named_push ns (p ∷ os) o named here = (named.0, named_push ns os o named.1 here)
+
+pub named_take : (ns : List V.Name) (n : ℕ) (os : List V.KeyedRow) → AreNamed ns os → AreNamed ns (take n os)
+named_take ns zero os named = tt
+named_take ns (suc n) [] named = tt
+named_take ns (suc n) (o ∷ os) named = (named.0, named_take ns n os named.1)
+
+pub named_drop : (ns : List V.Name) (n : ℕ) (os : List V.KeyedRow) → AreNamed ns os → AreNamed ns (drop n os)
+named_drop ns zero os named = named
+named_drop ns (suc n) [] named = tt
+named_drop ns (suc n) (o ∷ os) named = named_drop ns n os named.1
+
+pub named_at : (ns : List V.Name) (rows : List KeyedRow) (i : ℕ) (o : KeyedRow) → i < length rows → o ≡ get_or rows i o → AreNamed ns (map keyed_row rows) → names_of o.row ≡ ns
+named_at ns [] i o within is named = absurd (omega arith)
+named_at ns (r ∷ rs) zero o within is named = ap (λ (p : KeyedRow). names_of p.row) is ∙ named.0
+named_at ns (r ∷ rs) (suc i) o within is named = named_at ns rs i o (omega arith) is named.1
+
+-- ---- a list that is extended by objects
+
+-- one object more
+pub extended : (before so_far new : List V.KeyedRow) (objects : List KeyedRow) (i : ℕ) (o : KeyedRow) → i < length objects → o ≡ get_or objects i o
+    → so_far ++ map keyed_row (drop i objects) ≡ before ++ map keyed_row objects → new ≡ so_far ++ keyed_row o ∷ [] → new ++ map keyed_row (drop (i + 1) objects) ≡ before ++ map keyed_row objects
+extended before so_far new objects i o within is held pushed =
+    ap (λ l. l ++ map keyed_row (drop (i + 1) objects)) pushed
+    ∙ append_assoc so_far (keyed_row o ∷ []) (map keyed_row (drop (i + 1) objects))
+    ∙ ap (λ l. so_far ++ l) (ap (λ (p : KeyedRow). keyed_row p ∷ map keyed_row (drop (i + 1) objects)) is ∙ sym (ap (map keyed_row) (drop_more objects i o within)))
+    ∙ held
+
+-- all of those from one place up to another
+pub extended_all : (before after all : List V.KeyedRow) (rows part : List KeyedRow) (start count i : ℕ) → map keyed_row rows ≡ all → part ≡ take count (drop start rows) → length part ≤ i
+    → after ++ map keyed_row (drop i part) ≡ before ++ map keyed_row part → after ≡ before ++ take count (drop start all)
+extended_all before after all rows part start count i view is past held =
+    sym (append-nil after) ∙ ap (λ l. after ++ map keyed_row l) (sym (drop_all i part past)) ∙ held
+    ∙ ap (λ l. before ++ l) (ap (map keyed_row) is ∙ sym (take-map keyed_row count (drop start rows)) ∙ ap (take count) (sym (drop-map keyed_row start rows) ∙ ap (drop start) view))
+
+-- the part has the names of the whole
+pub part_named : (ns : List V.Name) (all : List V.KeyedRow) (rows part : List KeyedRow) (start count : ℕ) → map keyed_row rows ≡ all → part ≡ take count (drop start rows) → AreNamed ns all
+    → AreNamed ns (map keyed_row part)
+part_named ns all rows part start count view is named =
+    subst (AreNamed ns) (sym (ap (map keyed_row) is ∙ sym (take-map keyed_row count (drop start rows)) ∙ ap (take count) (sym (drop-map keyed_row start rows) ∙ ap (drop start) view)))
+    (named_take ns count (drop start all) (named_drop ns start all named))

@@ -1,11 +1,11 @@
 //! Lists of a class's objects.
 
 ghost use lib.Pointwise.{pointwise};
-ghost use Rattle.std.specs.Prelude.{◌≡◌, ◌&&◌, ◌++◌, ◌∷◌, [], List, map, IsTrue, IfOk, OnOk, OnErr};
+ghost use Rattle.std.specs.Prelude.{◌≡◌, ◌≤◌, ◌-◌, ◌&&◌, ◌++◌, ◌∷◌, [], List, map, take, drop, length, IsTrue, IfOk, OnOk, OnErr};
 ghost use Rattle.std.specs.Ordering.{int_eq, on};
 ghost use Rattle.hp_model.specs.Values as model;
 ghost use Rattle.hp_value.specs.Mapped.{keyed_row};
-ghost use Rattle.hp_value.specs.Rows.{first_names, AreAlike, AreValues};
+ghost use Rattle.hp_value.specs.Rows.{first_names, AreAlike, AreNamed, AreValues};
 ghost use Rattle.hp_value.specs.Same.{values_same};
 
 use crate::row::{KeyedRow, Row};
@@ -64,14 +64,50 @@ impl ObjectList {
         ensures ok { OnOk result (self.new ≡ self.old ++ record { key = key; row = row } ∷ []) }
         ensures err { OnErr result (self.new ≡ self.old) }
     {
+        let added = KeyedRow { key, row };
+        let are_alike = self.are_alike && is_like_first(&self.rows, &added);
+        self.add(added, are_alike)
+    }
+
+    // The same. Whether all rows are known to have the same names after it has been found out before.
+    fn add(&mut self, added: KeyedRow, are_alike: bool) -> Result<(), AllocError>
+        requires { IsTrue are_alike → AreAlike (self.old ++ keyed_row added ∷ []) }
+        ensures ok { OnOk result (self.new ≡ self.old ++ keyed_row added ∷ []) }
+        ensures err { OnErr result (self.new ≡ self.old) }
+    {
         self.rows.reserve(1)?;
         self.keys.reserve(1)?;
-        self.numbers = with_numbers(self.numbers.take(), &row)?;
-        self.keys.push_reserved(key);
-        let added = KeyedRow { key, row };
-        self.are_alike = self.are_alike && is_like_first(&self.rows, &added);
+        self.numbers = with_numbers(self.numbers.take(), &added.row)?;
+        self.keys.push_reserved(added.key);
+        self.are_alike = are_alike;
         self.rows.push_reserved(added);
         Ok(())
+    }
+
+    /// Adds the objects of another list from one place up to another. Their rows are shared, and names aren't compared for
+    /// each of them.
+    ///
+    /// An error means that memory ran out; some of them may have been added.
+    pub fn extend(&mut self, other: &ObjectList, start: usize, end: usize) -> Result<(), AllocError>
+        requires order { start ≤ end }
+        requires bound { end ≤ length other.now }
+        ensures { OnOk result (self.new ≡ self.old ++ take (end - start) (drop start other.now)) }
+    {
+        let are_alike = self.is_like(other);
+        for object in &other.rows[start..end] {
+            self.add(object.clone()?, are_alike)?;
+        }
+        Ok(())
+    }
+
+    // Whether all rows of both lists are known to have the names of the other list's first row.
+    fn is_like(&self, other: &ObjectList) -> bool
+        ensures { IsTrue result → AreNamed (first_names other.now) other.now × AreNamed (first_names other.now) self.now }
+    {
+        if self.rows.is_empty() {
+            return other.are_alike;
+        }
+        self.has_names_of(other)
     }
 
     /// The keys of the objects.

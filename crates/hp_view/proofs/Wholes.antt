@@ -1,12 +1,12 @@
 -- Classes that are read as a whole.
-use Rattle.std.proofs.Common.{◌≡◌, refl, sym, ap, ◌∙◌, subst, ℕ, ℤ, pos, ◌+◌, ◌<◌, Bool, false, List, [], ◌∷◌, ◌++◌, length, take, get_or, slice_index_or, Option, Some, None, ◌↔◌, IsTrue}
+use Rattle.std.proofs.Common.{◌≡◌, refl, sym, ap, ◌∙◌, subst, ℕ, ℤ, pos, ◌+◌, ◌<◌, Bool, false, List, [], ◌∷◌, ◌++◌, length, take, get_or, slice_index_or, Option, Some, None, is_some, ◌↔◌, IsTrue}
 use Rattle.std.specs.Prelude.{All, IfSome}
 use Rattle.std.specs.Bool.{Decides}
 use Rattle.std.specs.List.{list_all}
 use Rattle.std.proofs.lemmas.List.{get_or-map, length-map, take_more}
 use Rattle.std.proofs.lemmas.List.Elements.{All-nil, All-cons, All-head, All-tail, All-push}
 use Rattle.hp_model.specs.Values.{Row, KeyedRow}
-use Rattle.hp_model.specs.Cells.{CellValue, row_value, status_value, knowledge_value, Cells, object_cell, over, Read, objects_read, Holds, AreKeys, AreObjects}
+use Rattle.hp_model.specs.Cells.{CellValue, row_value, status_value, knowledge_value, Cells, object_cell, changed, over, Read, objects_read, Holds, AreKeys, AreObjects}
 use Rattle.hp_model.proofs.BridgesCells.{Holds-last, Holds-front}
 use Rattle.hp_model.proofs.BridgesKeys.{one_list}
 use Rattle.hp_value.specs.Mapped.{keys_of}
@@ -67,22 +67,25 @@ told_whole {base} {class} {objects} {keys} {rows} has_rows same_keys same are te
       λ whole. test_is ∙ (rows_decide base class objects).1 whole.rows,
     )
 
--- ---- a call of `objects`, on a view whose fields make v
+-- ---- a call of `whole_beneath`, of `objects` and of `all_objects`
 
--- a class that was read as a whole before
-pub shows_whole : {v old : Seeing} (class : ℕ) (objects : List KeyedRow) → v ≡ old → ((key : ℤ) → written v (object_cell class key) ≡ None)
-    → ((base : Cells) → Holds base v.reads → AreObjects base class objects) → ShowsObjects old class objects
-shows_whole {v} {old} class objects from none held =
-    subst (λ u. ShowsObjects u class objects) from (record { everywhere = λ base here. whole_under base (written v) class objects none (held base here) })
+-- a class that is noted now
+pub whole_noted : (before : List Read) (class : ℕ) (objects : List KeyedRow) (reads : List Read) → keys_were_read before class ≡ false → reads ≡ noted before (objects_read class objects)
+    → (base : Cells) → Holds base reads → AreObjects base class objects
+whole_noted before class objects reads first is base here = Holds-last base before (objects_read class objects) (subst (Holds base) (is ∙ noted-new before (objects_read class objects) first) here)
 
--- it is noted now
-pub shows_noted : (v : Seeing) (class : ℕ) (objects : List KeyedRow) (reads : List Read) → ((key : ℤ) → written v (object_cell class key) ≡ None) → keys_were_read v.reads class ≡ false
-    → reads ≡ noted v.reads (objects_read class objects) → ShowsObjects (record v { reads = reads }) class objects
-shows_noted v class objects reads none first is = record {
+-- objects that are told beneath, where no write names one of the class
+pub shows_beneath : {v old new : Seeing} (class : ℕ) (objects : List KeyedRow) → v ≡ old → OnlyReads old new → ((key : ℤ) → written v (object_cell class key) ≡ None)
+    → ((base : Cells) → Holds base new.reads → AreObjects base class objects) → ShowsObjects new class objects
+shows_beneath {v} {old} {new} class objects from only none held = record {
   everywhere = λ base here.
-      whole_under base (written v) class objects none
-      (Holds-last base v.reads (objects_read class objects) (subst (Holds base) (is ∙ noted-new v.reads (objects_read class objects) first) here));
+      whole_under base (written new) class objects (λ key. ap (λ es. changes es (object_cell class key)) (only.writes ∙ ap (λ (u : Seeing). u.writes) (sym from)) ∙ none key) (held base here);
 }
+
+-- the same with the writes over them
+pub shows_over : {new : Seeing} (class : ℕ) (under objects : List KeyedRow) → ((base : Cells) → Holds base new.reads → AreObjects base class under)
+    → ((base : Cells) → AreObjects base class under → AreObjects (over base (written new)) class objects) → ShowsObjects new class objects
+shows_over class under objects held over_them = record { everywhere = λ base here. over_them base (held base here) }
 
 -- ---- a call of `read_objects`
 
@@ -90,13 +93,22 @@ shows_noted v class objects reads none first is = record {
 now_only : {old new : Seeing} → OnlyReads old new → now_in new ≡ now_in old
 now_only only = (λ i. over (cells_in (only.base i)) (changes (only.writes i)))
 
+-- cells with the same objects of a class have them under the same writes
+objects_along : {A B : Cells} {class : ℕ} {objects : List KeyedRow} → ((key : ℤ) → A (object_cell class key) ≡ B (object_cell class key)) → AreObjects A class objects → AreObjects B class objects
+objects_along {A} {B} {class} {objects} same are = record {
+  keys = record { rise = are.keys.rise; has = λ key. are.keys.has key ∙ ap is_some (same key) };
+  rows = λ i d below. sym (same (slice_index_or objects i d).key) ∙ are.rows i d below;
+}
+
+same_over : {old new : Seeing} {class : ℕ} {under : List KeyedRow} → OnlyReads old new → Holds (beneath new) new.reads → ((base : Cells) → Holds base new.reads → AreObjects base class under)
+    → (base : Cells) → Holds base new.reads → (key : ℤ) → over base (written new) (object_cell class key) ≡ now_in old (object_cell class key)
+same_over {old} {new} {class} only held told base here key =
+    ap (λ o. changed o (written new (object_cell class key))) (same_objects (told base here) (told (beneath new) held) key) ∙ ap (λ cells. cells (object_cell class key)) (now_only only)
+
 -- a class that was read as a whole
-pub whole_still : {old new : Seeing} {class : ℕ} {listed objects : List KeyedRow} → OnlyReads old new → Holds (beneath new) new.reads → ShowsObjects new class listed
+pub whole_still : {old new : Seeing} {class : ℕ} {under objects : List KeyedRow} → OnlyReads old new → Holds (beneath new) new.reads → ((base : Cells) → Holds base new.reads → AreObjects base class under)
     → AreObjects (now_in old) class objects → ShowsObjects new class objects
-whole_still {old} {new} {class} {listed} {objects} only held shows are =
-    let same : now_in new ≡ now_in old = now_only only in
-    let here : AreObjects (now_in old) class listed = subst (λ cells. AreObjects cells class listed) same (shows.everywhere (beneath new) held) in
-    subst (ShowsObjects new class) (one_whole here are) shows
+whole_still only held told are = record { everywhere = λ base here. objects_along (λ key. sym (same_over only held told base here key)) are }
 
 -- a fact of each key of the objects, of the objects
 by_keys : (P : ℤ → Type 0) (objects : List KeyedRow) → All P (keys_of objects) → All (λ (o : KeyedRow). P o.key) objects
@@ -144,11 +156,9 @@ read_more first {now} {new} class keys i key within is before only shown here =
 -- ---- all cells of a class
 
 -- a class that was read as a whole shows each of its cells
-pub cells_of_whole : {old new : Seeing} {class : ℕ} {listed : List KeyedRow} → OnlyReads old new → Holds (beneath new) new.reads → ShowsObjects new class listed
+pub cells_of_whole : {old new : Seeing} {class : ℕ} {under : List KeyedRow} → OnlyReads old new → Holds (beneath new) new.reads → ((base : Cells) → Holds base new.reads → AreObjects base class under)
     → (key : ℤ) → Shows new (object_cell class key) (now_in old (object_cell class key))
-cells_of_whole {old} {new} {class} only held shows key = record {
-  everywhere = λ base here. same_objects (shows.everywhere base here) (shows.everywhere (beneath new) held) key ∙ ap (λ cells. cells (object_cell class key)) (now_only only);
-}
+cells_of_whole only held told key = record { everywhere = λ base here. same_over only held told base here key }
 
 -- and so does one that is read by its keys, and then row by row
 pub cells_by_rows : {old mid new : Seeing} {class : ℕ} {keys : List ℤ} → OnlyReads old mid → ShowsKeys mid class keys → Holds (beneath mid) mid.reads → OnlyReads mid new

@@ -39,7 +39,7 @@ impl Look for View {
         alloc: Global,
         class: ClassNo,
     ) -> Result<Option<Arc<ObjectList>>, AllocError> {
-        let objects = View::objects(self, alloc, class)?;
+        let objects = self.all_objects(alloc, class)?;
         Ok(objects)
     }
 

@@ -3,7 +3,7 @@
 ghost use Rattle.std.specs.Prelude.{◌≡◌, ◌↔◌, ℕ, ℤ, List, All, ◌≤◌, [], true, false, length, take, map, None, Some, is_some, IsTrue, IsOk, IsSome, IfOk, IfSome, IfNone, OnOk, OnErr, option_map};
 ghost use Rattle.std.specs.List.{list_all};
 ghost use Rattle.hp_model.specs.Values as model;
-ghost use Rattle.hp_model.specs.Cells.{AreKeys, AreObjects, ArePart, Holds, object_cell, objects_read};
+ghost use Rattle.hp_model.specs.Cells.{Cells, AreKeys, AreObjects, ArePart, Holds, object_cell, objects_read, over};
 ghost use Rattle.hp_value.specs.Mapped as mapped;
 ghost use Rattle.hp_store.specs.Mapped.{cell_value};
 ghost use Rattle.hp_store.specs.Stack.{cells_in};
@@ -297,6 +297,68 @@ impl View {
         if self.writes.names_objects_of(class) {
             return Ok(None);
         }
+        let objects = self.whole_beneath(alloc, class)?;
+        Ok(objects)
+    }
+
+    /// All objects of a class with their rows, by rising keys, also where the view's own writes name some of them. None where
+    /// the class's keys were read alone, or where the cell of an object holds something else than a row.
+    ///
+    /// The class is read as `objects` reads it: as a whole, as it stands beneath the view's own writes. Where these name none
+    /// of its objects, that list is shared; else one is made of it and the writes, which takes time that goes with the class's
+    /// objects, but no look-up of a cell. An error means that memory ran out.
+    pub fn all_objects(
+        &mut self,
+        alloc: Global,
+        class: ClassNo,
+    ) -> Result<Option<Arc<ObjectList>>, AllocError>
+        ensures reads { AddsReads (IsOfClass (written self.old) class) self.old.reads self.new.reads }
+        ensures shows { IfOk result (λ found. IfSome found (λ objects. ShowsObjects self.new class objects.value)) }
+        ensures only { OnlyReads self.old self.new }
+        ensures goes_on { GoesOn self.old self.new }
+        ensures so_it_was { OnOk result (Holds (beneath self.new) self.new.reads) }
+    {
+        let Some(under) = self.whole_beneath(alloc, class)? else {
+            return Ok(None);
+        };
+        let objects = self.written_over(alloc, class, under)?;
+        Ok(objects)
+    }
+
+    // The objects of a class after the view's own writes, from those beneath. None where a write gives an object something else
+    // than a row.
+    fn written_over(
+        &self,
+        alloc: Global,
+        class: ClassNo,
+        under: Arc<ObjectList>,
+    ) -> Result<Option<Arc<ObjectList>>, AllocError>
+        ensures { IfOk result (λ found. IfSome found (λ objects. (base : Cells) → AreObjects base class under.value → AreObjects (over base (written self.now)) class objects.value)) }
+    {
+        if !self.writes.names_objects_of(class) {
+            return Ok(Some(under));
+        }
+        let Some(objects) = self.writes.objects_over(alloc, class, &under)? else {
+            return Ok(None);
+        };
+        Ok(Some(Arc::new(alloc, objects)?))
+    }
+
+    // Reads a class as a whole, as it stands beneath the view's own writes. None where its keys were read alone, or where the
+    // cell of an object holds something else than a row: then nothing is read.
+    fn whole_beneath(
+        &mut self,
+        alloc: Global,
+        class: ClassNo,
+    ) -> Result<Option<Arc<ObjectList>>, AllocError>
+        ensures reads { IfOk result (λ found. IfSome found (λ objects. self.new ≡ record self.old { reads = noted self.old.reads (objects_read class objects.value) })) }
+        ensures none { IfOk result (λ found. IfNone found (self.new ≡ self.old)) }
+        ensures err { OnErr result (self.new ≡ self.old) }
+        ensures held { IfOk result (λ found. IfSome found (λ objects. (base : Cells) → Holds base self.new.reads → AreObjects base class objects.value)) }
+        ensures only { OnlyReads self.old self.new }
+        ensures goes_on { GoesOn self.old self.new }
+        ensures so_it_was { OnOk result (Holds (beneath self.new) self.new.reads) }
+    {
         if let Some(recorded) = self.reads.objects(class) {
             return Ok(Some(Arc::try_clone(recorded)?));
         }
@@ -311,8 +373,8 @@ impl View {
         Ok(Some(objects))
     }
 
-    /// Reads all objects of a class, which are then those that `has_objects` takes: as a whole where `objects` can, and else
-    /// its keys and the cell of each object.
+    /// Reads all objects of a class, which are then those that `has_objects` takes: as a whole, as `all_objects` does, and
+    /// else its keys and the cell of each object.
     ///
     /// An error means that memory ran out; some of it may have been read.
     pub fn read_objects(&mut self, alloc: Global, class: ClassNo) -> Result<(), AllocError>
@@ -322,7 +384,7 @@ impl View {
         ensures only { OnlyReads self.old self.new }
         ensures goes_on { GoesOn self.old self.new }
     {
-        if self.objects(alloc, class)?.is_some() {
+        if self.whole_beneath(alloc, class)?.is_some() {
             return Ok(());
         }
         let keys = self.keys(alloc, class)?;
@@ -411,16 +473,15 @@ impl View {
         }
     }
 
-    /// Lists the objects of a class beneath the view's own writes, unless these name one of them, so that snapshots which are
-    /// frozen from now on share the list, and `has_objects` looks at it. Nothing is recorded.
+    /// Lists the objects of a class beneath the view's own writes, so that `has_objects` looks at the list, and snapshots which
+    /// are frozen from now on have one, too: this one, or where the writes name some of these objects, one made of this one
+    /// and the writes. Nothing is recorded.
     ///
     /// An error means that memory ran out.
     pub fn keep_objects(&mut self, alloc: Global, class: ClassNo) -> Result<(), AllocError>
         ensures { self.new ≡ self.old }
     {
-        if !self.writes.names_objects_of(class) {
-            self.base.keep_objects(alloc, class)?;
-        }
+        self.base.keep_objects(alloc, class)?;
         Ok(())
     }
 

@@ -1,5 +1,5 @@
 -- What the words of the command line mean, as `clap` reads them.
-use Rattle.std.specs.Prelude.{ℕ, pos, List, [], ◌∷◌, codes, Bool, true, false, ◌&&◌, nat_le, Option, Some, None, if◌then◌else◌}
+use Rattle.std.specs.Prelude.{◌≡◌, ℕ, pos, List, [], ◌∷◌, codes, Bool, true, false, ◌&&◌, nat_le, Option, Some, None, if◌then◌else◌}
 use Rattle.std.specs.Option.{option_map_or}
 use Rattle.std.specs.Str.{bytes_eq}
 use Rattle.clap.specs.Words.{App, Kinds, Row, Rule, fault_of, matches_of, new_app, new_rule, one_of, with_rule}
@@ -56,6 +56,10 @@ are_taken words = is_empty_list (faults_for words) && (nat_le 1 (workers_for wor
 -- the number of workers, and whether trees are wanted
 abbrev pub options_for : List (List ℕ) → Option (ℕ × Bool)
 options_for words = if are_taken words then Some (workers_for words, tree_for words) else None
+
+-- the options of some command line
+abbrev pub AreOfWords : (workers : ℕ) → (tree : Bool) → Type 0
+AreOfWords workers tree = (words : List (List ℕ)) × (options_for words ≡ Some (workers, tree))
 
 -- the program's exit status without options
 abbrev pub word_code_of : WordFault → ℕ

@@ -2,7 +2,7 @@
 
 ghost use Rattle.std.specs.Prelude.{◌≡◌, map, string_bytes, codes, IfOk, Some, None};
 ghost use Rattle.clap.specs.Words.{one_of, rows_of, found_of, FailsBy};
-ghost use Rattle.hp_words.specs.Words.{rows_for, faults_for, number_in, flag_in, options_for, word_code_of};
+ghost use Rattle.hp_words.specs.Words.{rows_for, faults_for, number_in, flag_in, options_for, AreOfWords, word_code_of};
 
 use clap::error::ErrorKind;
 use clap::{Arg, ArgAction, ArgMatches, Command, Error, value_parser};
@@ -35,7 +35,8 @@ pub enum WordFault {
 ///
 /// The defaults are 4 workers and no trees.
 pub fn parse_words(alloc: Global, words: &[String]) -> Result<Options, WordFault>
-    ensures ok { IfOk result (λ options. options_for (map string_bytes words.now) ≡ Some (options.workers, options.tree)) }
+    ensures ok { IfOk result (λ options.
+        options_for (map string_bytes words.now) ≡ Some (options.workers, options.tree)) }
     ensures refused { result ≡ Err WordFault.Refused → options_for (map string_bytes words.now) ≡ None }
 {
     match matches_of(alloc, words) {
@@ -57,8 +58,11 @@ pub fn parse_words(alloc: Global, words: &[String]) -> Result<Options, WordFault
     }
 }
 
-/// The options that the process was started with.
-pub fn options_of<R: Env + AllocGlobal>(rt: &R) -> Result<Options, WordFault> {
+/// The options that the process was started with. The contract can't say which words these were, but that the options
+/// are those of some words.
+pub fn options_of<R: Env + AllocGlobal>(rt: &R) -> Result<Options, WordFault>
+    ensures { IfOk result (λ options. AreOfWords options.workers options.tree) }
+{
     let Ok(words) = env::args(rt) else {
         return Err(WordFault::NoMemory);
     };

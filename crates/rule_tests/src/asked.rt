@@ -1,15 +1,11 @@
 //! The fields that the rules of a library ask for.
 
-use crate::fixtures::{class, rule, text};
+use crate::fixtures::{class, number, rule, text};
 use hp_event::Pattern;
 use hp_rule::{CheckError, EventExpr, Library, Query, Rule, Stmt};
 use hp_value::{ClassNo, Comparison, Expr, Value};
 use std::alloc::{AllocError, Global};
 use std::test::Fail;
-
-fn number(alloc: Global, z: i64) -> Result<Box<Expr>, AllocError> {
-    Ok(Box::new(alloc, Expr::literal(Value::Int(z)))?)
-}
 
 // The row's field equals 0.
 fn field_is(

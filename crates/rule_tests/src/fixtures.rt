@@ -1,12 +1,16 @@
-//! Classes of numbers, and rules without a condition and an action.
+//! Texts, numbers, classes of numbers, and rules without a condition and an action.
 
 use hp_rule::{Coupling, EventExpr, Rule};
-use hp_value::{ClassDef, Field, Kind};
+use hp_value::{ClassDef, Expr, Field, Kind, Value};
 use std::alloc::{AllocError, Global};
 use std::sync::Arc;
 
 pub fn text(alloc: Global, s: &str) -> Result<String, AllocError> {
     String::from_str(alloc, s)
+}
+
+pub fn number(alloc: Global, z: i64) -> Result<Box<Expr>, AllocError> {
+    Ok(Box::new(alloc, Expr::literal(Value::Int(z)))?)
 }
 
 pub fn class(alloc: Global, name: &str, fields: &[&str]) -> Result<ClassDef, AllocError> {

@@ -1,6 +1,6 @@
 //! Libraries and bodies: their contents, the rules that they list for an occurrence, and their first fault.
 
-use crate::fixtures::{class, rule, text};
+use crate::fixtures::{class, number, rule, text};
 use hp_event::Pattern;
 use hp_rule::{
     Assignment, Body, CheckError, CheckFault, EventExpr, Library, Limit, Member, PathStep, Query,
@@ -10,10 +10,6 @@ use hp_value::{ClassDef, Comparison, Expr, Key, Prim, Row, Value};
 use std::alloc::{AllocError, Global};
 use std::sync::Arc;
 use std::test::Fail;
-
-fn number(alloc: Global, z: i64) -> Result<Box<Expr>, AllocError> {
-    Ok(Box::new(alloc, Expr::literal(Value::Int(z)))?)
-}
 
 // A boolean under a number of `not`s.
 fn nested(alloc: Global, nots: usize) -> Result<Box<Expr>, AllocError> {

@@ -126,7 +126,7 @@ fn facts(task: &Task) -> Facts {
     (task.rule, task.place, task.depth, parts, occurrence.count)
 }
 
-fn tell(
+fn signalled(
     alloc: Global,
     view: &mut View,
     lib: &Library,
@@ -148,7 +148,7 @@ fn count(
     name: &str,
     depth: u8,
 ) -> Result<usize, Halt> {
-    let tasks = tell(alloc, view, lib, name, depth)?;
+    let tasks = signalled(alloc, view, lib, name, depth)?;
     Ok(tasks.len())
 }
 
@@ -160,7 +160,7 @@ fn only(
     name: &str,
     depth: u8,
 ) -> Result<Option<Facts>, Halt> {
-    let tasks = tell(alloc, view, lib, name, depth)?;
+    let tasks = signalled(alloc, view, lib, name, depth)?;
     if tasks.len() != 1 {
         return Ok(None);
     }

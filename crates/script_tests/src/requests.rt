@@ -3,6 +3,7 @@
 use hp_rule::Library;
 use hp_script::{DecodeError, Request, Script, decode, decode_request, refusal_text};
 use std::alloc::Global;
+use std::process::Abort;
 use std::sync::Arc;
 use std::test::Fail;
 
@@ -31,31 +32,62 @@ fn asked(alloc: Global, library: &Arc<Library>, clock: u64, line: &str) -> Resul
     }
 }
 
-#[test]
-fn reads_what_is_asked_of_a_rule_base(rt: HostRuntime) -> Result<(), Fail> {
-    let alloc = rt.alloc();
+/// What is answered to a line after the script.
+fn answer(alloc: Global, line: &str) -> Result<String, Fail> {
     let Ok(Script { library, clock, .. }) = decode(alloc, BASE.as_bytes()) else {
         return Err(Fail::from("refused"));
     };
-    assert!(rt; clock == 5);
-    for (line, want) in [
-        (
-            r#"["tx", [["install", "r"], ["delete", "acct", 1]]]"#,
-            "1 at 5",
-        ),
-        (" [\"clock\", 9]\r", "1 at 9"),
-        (r#"["clock", 5]"#, "0 at 5"),
-        (r#"["show"]"#, "state"),
-        (r#"["clock", 4]"#, "refused S2 /1"),
-        (r#"["clock", "5"]"#, "refused S2 /1"),
-        (r#"["tx", [["install", "q"]]]"#, "refused S4 /1/0/1"),
-        (r#"["tx", [["delete", "acc", 1]]]"#, "refused S4 /1/0/1"),
-        (r#"["show", 1]"#, "refused S2 /"),
-        ("{}", "refused S2 /"),
-        ("", "refused S1"),
-    ] {
-        let got = asked(alloc, &library, clock, line)?;
-        assert!(rt; got.as_str() == want, "{line} gives {got}");
-    }
+    asked(alloc, &library, clock, line)
+}
+
+fn expect(rt: &impl Abort, alloc: Global, line: &str, wanted: &str) -> Result<(), Fail> {
+    let found = answer(alloc, line)?;
+    assert!(rt; found.as_str() == wanted, "{line} gives {found}");
     Ok(())
+}
+
+#[test]
+fn reads_a_transaction(rt: HostRuntime) -> Result<(), Fail> {
+    let line = r#"["tx", [["install", "r"], ["delete", "acct", 1]]]"#;
+    expect(&rt, rt.alloc(), line, "1 at 5")
+}
+
+#[test]
+fn reads_moves_of_the_clock(rt: HostRuntime) -> Result<(), Fail> {
+    expect(&rt, rt.alloc(), r#"["clock", 5]"#, "0 at 5")?;
+    expect(&rt, rt.alloc(), r#"["clock", 9]"#, "1 at 9")
+}
+
+#[test]
+fn reads_a_line_with_spaces_and_a_carriage_return(rt: HostRuntime) -> Result<(), Fail> {
+    let alloc = rt.alloc();
+    let mut line = String::from_str(alloc, r#" [ "clock", 9 ]"#)?;
+    line.push('\r')?;
+    expect(&rt, alloc, line.as_str(), "1 at 9")
+}
+
+#[test]
+fn reads_a_question_for_the_state(rt: HostRuntime) -> Result<(), Fail> {
+    expect(&rt, rt.alloc(), r#"["show"]"#, "state")?;
+    expect(&rt, rt.alloc(), r#"["show", 1]"#, "refused S2 /")
+}
+
+#[test]
+fn refuses_a_clock_that_goes_back(rt: HostRuntime) -> Result<(), Fail> {
+    expect(&rt, rt.alloc(), r#"["clock", 4]"#, "refused S2 /1")?;
+    expect(&rt, rt.alloc(), r#"["clock", "5"]"#, "refused S2 /1")
+}
+
+#[test]
+fn refuses_unknown_names(rt: HostRuntime) -> Result<(), Fail> {
+    let rule = r#"["tx", [["install", "q"]]]"#;
+    expect(&rt, rt.alloc(), rule, "refused S4 /1/0/1")?;
+    let class = r#"["tx", [["delete", "acc", 1]]]"#;
+    expect(&rt, rt.alloc(), class, "refused S4 /1/0/1")
+}
+
+#[test]
+fn refuses_what_is_no_item(rt: HostRuntime) -> Result<(), Fail> {
+    expect(&rt, rt.alloc(), "{}", "refused S2 /")?;
+    expect(&rt, rt.alloc(), "", "refused S1")
 }

@@ -230,12 +230,12 @@ fn shows_a_cascade(rt: HostRuntime) -> Result<(), Fail> {
     Ok(())
 }
 
-const OTHER_LINES: &str = "unit 1 time 9223372036854775807 aborted A9 down
+const OTHER_LINES: &str = r#"unit 1 time 9223372036854775807 aborted A9 down
   op delete acct -20
   op remove down
   op enable up
   op disable up
-  emit \"\\u001f\"
+  emit "\u001f"
   sub aborted A8
     emit true
   fire up deferred unsatisfied none
@@ -249,7 +249,7 @@ object acct 10 bal=4
 rule up disabled
 rule down absent
 end
-";
+"#;
 
 const WITHOUT_TREE: &str = "unit 1 time 9223372036854775807 aborted A9 down
 final

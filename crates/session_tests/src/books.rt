@@ -98,7 +98,7 @@ fn a_unit_is_stale(rt: HostRuntime) -> Result<(), Fail> {
 }
 
 // The number of a body's receipt, and how the body ended.
-fn told<K: BookName, R: Threads + Wait + Sync>(
+fn submitted<K: BookName, R: Threads + Wait + Sync>(
     rt: &R,
     alloc: Global,
     session: &mut Session<K>,
@@ -116,14 +116,14 @@ fn thrice<K: BookName, R: Threads + Wait + Abort + Sync>(
     other: &Arc<Library>,
     session: &mut Session<K>,
 ) -> Result<(), Fail> {
-    let one = told(rt, alloc, session, aborting(alloc, library)?);
+    let one = submitted(rt, alloc, session, aborting(alloc, library)?);
     let (number, end) = one.ok().ok_or("a receipt")?;
     assert_eq!(rt; number, 1);
     assert_eq!(rt; end, Some(Ending::Aborted(Cause::Asked)));
-    let two = told(rt, alloc, session, adding(alloc, library, 1)?);
+    let two = submitted(rt, alloc, session, adding(alloc, library, 1)?);
     let (number, _) = two.ok().ok_or("a receipt")?;
     assert_eq!(rt; number, 2);
-    let none = told(rt, alloc, session, adding(alloc, other, 1)?);
+    let none = submitted(rt, alloc, session, adding(alloc, other, 1)?);
     assert!(rt; matches!(none.err(), Some(Refusal::OtherLibrary)));
     Ok(())
 }

@@ -181,7 +181,7 @@ fn stock(alloc: Global, name: &str, held: i64) -> Result<Row, AllocError> {
 }
 
 // A signal, a moment outside the range of `i64`, and an update; the count is out of range too.
-fn told(alloc: Global) -> Result<Occurrence, AllocError> {
+fn three_parts(alloc: Global) -> Result<Occurrence, AllocError> {
     let mut args = Vec::new(alloc);
     args.push(text(alloc, "low")?)?;
     let name = String::from_str(alloc, "alarm")?;
@@ -210,49 +210,26 @@ fn old_field(alloc: Global, part: u16, field: &str) -> Result<Expr, AllocError> 
     Ok(Expr::OldField { part, field })
 }
 
+fn new_is<R: Abort>(
+    rt: &R,
+    alloc: Global,
+    env: &Env<'_>,
+    part: u16,
+    field: &str,
+    want: Result<Value, Halt>,
+) -> Result<(), AllocError> {
+    shows(rt, alloc, env, new_field(alloc, part, field), want)
+}
+
 fn part_values<R: Abort>(rt: &R, alloc: Global, env: &Env<'_>) -> Result<(), AllocError> {
-    shows(
-        rt,
-        alloc,
-        env,
-        new_field(alloc, 2, "held"),
-        Ok(Value::Int(5)),
-    )?;
-    shows(
-        rt,
-        alloc,
-        env,
-        old_field(alloc, 2, "held"),
-        Ok(Value::Int(7)),
-    )?;
-    shows(
-        rt,
-        alloc,
-        env,
-        new_field(alloc, 2, "price"),
-        fault(Cause::Kind),
-    )?;
-    shows(
-        rt,
-        alloc,
-        env,
-        new_field(alloc, 0, "held"),
-        fault(Cause::NoParameter),
-    )?;
-    shows(
-        rt,
-        alloc,
-        env,
-        new_field(alloc, 3, "held"),
-        fault(Cause::NoParameter),
-    )?;
-    shows(
-        rt,
-        alloc,
-        env,
-        Ok(Expr::KeyIn { part: 2 }),
-        Ok(Value::Int(-4)),
-    )
+    new_is(rt, alloc, env, 2, "held", Ok(Value::Int(5)))?;
+    new_is(rt, alloc, env, 2, "price", fault(Cause::Kind))?;
+    new_is(rt, alloc, env, 0, "held", fault(Cause::NoParameter))?;
+    new_is(rt, alloc, env, 3, "held", fault(Cause::NoParameter))?;
+    let old = old_field(alloc, 2, "held");
+    shows(rt, alloc, env, old, Ok(Value::Int(7)))?;
+    let key = Expr::KeyIn { part: 2 };
+    shows(rt, alloc, env, Ok(key), Ok(Value::Int(-4)))
 }
 
 fn other_values<R: Abort>(rt: &R, alloc: Global, env: &Env<'_>) -> Result<(), AllocError> {
@@ -260,19 +237,14 @@ fn other_values<R: Abort>(rt: &R, alloc: Global, env: &Env<'_>) -> Result<(), Al
     shows(rt, alloc, env, Ok(e), Ok(text(alloc, "low")?))?;
     let e = Expr::Argument { part: 0, place: 1 };
     shows(rt, alloc, env, Ok(e), fault(Cause::NoParameter))?;
-    shows(
-        rt,
-        alloc,
-        env,
-        Ok(Expr::TimeOf { part: 1 }),
-        fault(Cause::Overflow),
-    )?;
+    let time = Expr::TimeOf { part: 1 };
+    shows(rt, alloc, env, Ok(time), fault(Cause::Overflow))?;
     shows(rt, alloc, env, Ok(Expr::Count), fault(Cause::Overflow))
 }
 
 #[test]
 fn values_of_an_occurrence(rt: HostRuntime) -> Result<(), Fail> {
-    let occurrence = told(rt.alloc())?;
+    let occurrence = three_parts(rt.alloc())?;
     let env = Env::new(Some(&occurrence), &[]);
     part_values(&rt, rt.alloc(), &env)?;
     other_values(&rt, rt.alloc(), &env)?;
@@ -327,13 +299,8 @@ fn named_values<R: Abort>(
     shows(rt, alloc, &inner, key_of(alloc, "s"), Ok(Value::Int(4)))?;
     let other = env.bound("t", 5, row);
     shows(rt, alloc, &other, key_of(alloc, "s"), Ok(Value::Int(2)))?;
-    shows(
-        rt,
-        alloc,
-        &other,
-        field_of(alloc, "t", "held"),
-        Ok(Value::Int(9)),
-    )?;
+    let held = field_of(alloc, "t", "held");
+    shows(rt, alloc, &other, held, Ok(Value::Int(9)))?;
     shows(rt, alloc, &other, key_of(alloc, "u"), fault(Cause::Kind))
 }
 

@@ -1,7 +1,9 @@
-//! Rows of one field.
+//! Accounts in a plain map, expressions over them, and what a query finds.
 
-use hp_value::{Field, Kind, Row, Value};
+use hp_query::{PlainObjects, Query};
+use hp_value::{Cause, ClassNo, Comparison, Expr, Field, Halt, Key, KeyedRow, Kind, Row, Value};
 use std::alloc::{AllocError, Global};
+use std::process::Abort;
 use std::sync::Arc;
 
 pub fn text(alloc: Global, s: &str) -> Result<String, AllocError> {
@@ -19,4 +21,90 @@ pub fn row(alloc: Global, name: &str, value: Value) -> Result<Row, AllocError> {
 /// An account with a balance.
 pub fn account(alloc: Global, balance: i64) -> Result<Row, AllocError> {
     row(alloc, "bal", Value::Int(balance))
+}
+
+pub fn number(alloc: Global, z: i64) -> Result<Box<Expr>, AllocError> {
+    Ok(Box::new(alloc, Expr::literal(Value::Int(z)))?)
+}
+
+pub fn balance_of(alloc: Global, variable: &str) -> Result<Box<Expr>, AllocError> {
+    let field = Expr::FieldOf {
+        variable: text(alloc, variable)?,
+        field: text(alloc, "bal")?,
+    };
+    Ok(Box::new(alloc, field)?)
+}
+
+pub fn key_of(alloc: Global, variable: &str) -> Result<Box<Expr>, AllocError> {
+    let variable = text(alloc, variable)?;
+    Ok(Box::new(alloc, Expr::KeyOf { variable })?)
+}
+
+pub fn compared(
+    alloc: Global,
+    left: Box<Expr>,
+    how: Comparison,
+    right: Box<Expr>,
+) -> Result<Box<Expr>, AllocError> {
+    Ok(Box::new(alloc, Expr::Comparison(how, left, right))?)
+}
+
+pub fn both(alloc: Global, first: Box<Expr>, second: Box<Expr>) -> Result<Box<Expr>, AllocError> {
+    Ok(Box::new(alloc, Expr::And(first, second))?)
+}
+
+/// The row's balance is above a number.
+pub fn is_above(alloc: Global, variable: &str, z: i64) -> Result<Box<Expr>, AllocError> {
+    let balance = balance_of(alloc, variable)?;
+    let limit = number(alloc, z)?;
+    compared(alloc, balance, Comparison::Greater, limit)
+}
+
+pub fn query(
+    alloc: Global,
+    name: &str,
+    class: ClassNo,
+    predicate: Box<Expr>,
+) -> Result<Query, AllocError> {
+    Ok(Query {
+        name: text(alloc, name)?,
+        class,
+        predicate,
+    })
+}
+
+pub fn put(
+    alloc: Global,
+    objects: &mut PlainObjects,
+    class: ClassNo,
+    key: Key,
+    balance: i64,
+) -> Result<(), AllocError> {
+    objects.insert(class, key, account(alloc, balance)?)
+}
+
+/// Class 0 with the keys -20, -3, 2 and 10, and class 1 with the keys 2 and 5.
+pub fn accounts(alloc: Global) -> Result<PlainObjects, AllocError> {
+    let mut objects = PlainObjects::new(alloc);
+    put(alloc, &mut objects, 1, 5, 7)?;
+    put(alloc, &mut objects, 0, 10, 4)?;
+    put(alloc, &mut objects, 0, -3, 0)?;
+    put(alloc, &mut objects, 0, 2, 3)?;
+    put(alloc, &mut objects, 1, 2, 9)?;
+    put(alloc, &mut objects, 0, -20, 5)?;
+    Ok(objects)
+}
+
+pub fn assert_keys(rt: &impl Abort, rows: &[KeyedRow], wanted: &[Key]) {
+    assert_eq!(rt; rows.len(), wanted.len());
+    for (row, key) in rows.iter().zip(wanted) {
+        assert_eq!(rt; row.key, *key);
+    }
+}
+
+pub fn assert_fault(rt: &impl Abort, found: Result<Vec<KeyedRow>, Halt>, wanted: Cause) {
+    match found {
+        Err(halt) => assert_eq!(rt; halt, Halt::Cause(wanted)),
+        Ok(_) => panic!(rt; "an answer in place of {wanted:?}"),
+    }
 }

@@ -1,8 +1,8 @@
 //! Queries that begin by asking for a part of a class, with a look that finds parts and with one that doesn't.
 
-use crate::fixtures::{account, row, text};
-use crate::queries::{
-    accounts, assert_fault, assert_keys, balance_of, both, compared, key_of, number,
+use crate::fixtures::{
+    account, accounts, assert_fault, assert_keys, balance_of, both, compared, key_of, number, row,
+    text,
 };
 use hp_query::{Look, PlainObjects, selected_rows};
 use hp_value::{

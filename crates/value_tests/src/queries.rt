@@ -1,91 +1,16 @@
 //! Answers over a plain map. The expected values are worked out by hand.
 
-use crate::fixtures::{account, row, text};
+use crate::fixtures::{
+    accounts, assert_fault, assert_keys, balance_of, both, compared, is_above, key_of, number, put,
+    query, row, text,
+};
 use hp_query::{PlainObjects, Query, Verdict, answer, evaluate_condition, selected_rows};
 use hp_value::{
-    Answer, Arithmetic, Cause, ClassNo, Comparison, Env, Expr, Halt, Key, KeyedRow, Occurrence,
-    Value,
+    Answer, Arithmetic, Cause, Comparison, Env, Expr, Halt, Key, KeyedRow, Occurrence, Value,
 };
 use std::alloc::{AllocError, Global};
 use std::process::Abort;
 use std::test::Fail;
-
-pub(crate) fn number(alloc: Global, z: i64) -> Result<Box<Expr>, AllocError> {
-    Ok(Box::new(alloc, Expr::literal(Value::Int(z)))?)
-}
-
-pub(crate) fn balance_of(alloc: Global, variable: &str) -> Result<Box<Expr>, AllocError> {
-    let field = Expr::FieldOf {
-        variable: text(alloc, variable)?,
-        field: text(alloc, "bal")?,
-    };
-    Ok(Box::new(alloc, field)?)
-}
-
-pub(crate) fn compared(
-    alloc: Global,
-    left: Box<Expr>,
-    how: Comparison,
-    right: Box<Expr>,
-) -> Result<Box<Expr>, AllocError> {
-    Ok(Box::new(alloc, Expr::Comparison(how, left, right))?)
-}
-
-// The row's balance is above a number.
-pub(crate) fn is_above(alloc: Global, variable: &str, z: i64) -> Result<Box<Expr>, AllocError> {
-    let balance = balance_of(alloc, variable)?;
-    let limit = number(alloc, z)?;
-    compared(alloc, balance, Comparison::Greater, limit)
-}
-
-pub(crate) fn query(
-    alloc: Global,
-    name: &str,
-    class: ClassNo,
-    predicate: Box<Expr>,
-) -> Result<Query, AllocError> {
-    Ok(Query {
-        name: text(alloc, name)?,
-        class,
-        predicate,
-    })
-}
-
-fn put(
-    alloc: Global,
-    objects: &mut PlainObjects,
-    class: ClassNo,
-    key: Key,
-    balance: i64,
-) -> Result<(), AllocError> {
-    objects.insert(class, key, account(alloc, balance)?)
-}
-
-// Class 0 with the keys -20, -3, 2 and 10, and class 1 with the keys 2 and 5.
-pub(crate) fn accounts(alloc: Global) -> Result<PlainObjects, AllocError> {
-    let mut objects = PlainObjects::new(alloc);
-    put(alloc, &mut objects, 1, 5, 7)?;
-    put(alloc, &mut objects, 0, 10, 4)?;
-    put(alloc, &mut objects, 0, -3, 0)?;
-    put(alloc, &mut objects, 0, 2, 3)?;
-    put(alloc, &mut objects, 1, 2, 9)?;
-    put(alloc, &mut objects, 0, -20, 5)?;
-    Ok(objects)
-}
-
-pub(crate) fn assert_keys(rt: &impl Abort, rows: &[KeyedRow], wanted: &[Key]) {
-    assert_eq!(rt; rows.len(), wanted.len());
-    for (row, key) in rows.iter().zip(wanted) {
-        assert_eq!(rt; row.key, *key);
-    }
-}
-
-pub(crate) fn assert_fault(rt: &impl Abort, found: Result<Vec<KeyedRow>, Halt>, wanted: Cause) {
-    match found {
-        Err(halt) => assert_eq!(rt; halt, Halt::Cause(wanted)),
-        Ok(_) => panic!(rt; "an answer in place of {wanted:?}"),
-    }
-}
 
 #[test]
 fn rows_of_one_class_by_rising_keys(rt: HostRuntime) -> Result<(), Fail> {
@@ -157,19 +82,6 @@ fn a_predicate_without_truth_value(rt: HostRuntime) -> Result<(), Fail> {
     let rows = answer(alloc, &nowhere, &env, &mut objects)?;
     assert_keys(&rt, &rows, &[]);
     Ok(())
-}
-
-pub(crate) fn key_of(alloc: Global, variable: &str) -> Result<Box<Expr>, AllocError> {
-    let variable = text(alloc, variable)?;
-    Ok(Box::new(alloc, Expr::KeyOf { variable })?)
-}
-
-pub(crate) fn both(
-    alloc: Global,
-    first: Box<Expr>,
-    second: Box<Expr>,
-) -> Result<Box<Expr>, AllocError> {
-    Ok(Box::new(alloc, Expr::And(first, second))?)
 }
 
 // The row's key equals a value, with the key on either side.
@@ -329,7 +241,7 @@ fn an_empty_answer_and_a_fault(rt: HostRuntime) -> Result<(), Fail> {
 
 // Runs with each allocation refused in turn: the call returns the error, and the next call answers as usual.
 #[test]
-fn a_refused_allocation_is_told(rt: HostRuntime) {
+fn a_refused_allocation_is_reported(rt: HostRuntime) {
     let alloc = rt.alloc();
     let env = Env::new(None, &[]);
     let Ok(mut objects) = accounts(alloc) else {

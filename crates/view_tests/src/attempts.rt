@@ -2,7 +2,7 @@
 //!
 //! A function that owns views or attempts has few `?`, and hands them on by reference: with many its proof takes minutes.
 
-use crate::fixtures::{balance, bank, shown};
+use crate::fixtures::{bank, set, shown};
 use hp_attempt::{Attempt, Outcome, Settled, first_failed, holds, settle, settle_front};
 use hp_rule::{Step, Task};
 use hp_value::{Cell, Coupling, Key, Occurrence, RuleNo};
@@ -12,10 +12,6 @@ use std::collections::VecDeque;
 use std::process::Abort;
 use std::sync::Arc;
 use std::test::Fail;
-
-fn set(alloc: Global, view: &mut View, key: Key, value: i64) -> Result<(), AllocError> {
-    view.put(Cell::Object(0, key), balance(alloc, value)?)
-}
 
 fn task(alloc: Global, rule: RuleNo, depth: u8) -> Result<Task, AllocError> {
     let occurrence = Occurrence {
@@ -177,7 +173,7 @@ fn assert_read(rt: &impl Abort, alloc: Global, reads: &Reads) -> Result<(), Fail
 }
 
 #[test]
-fn an_attempt_that_holds_is_taken_in(rt: HostRuntime) -> Result<(), Fail> {
+fn an_attempt_that_holds_is_accepted(rt: HostRuntime) -> Result<(), Fail> {
     let mut view = bank(rt.alloc())?;
     take_in(&rt, rt.alloc(), &mut view)?;
     let (reads, layer) = view.into_parts();
@@ -252,7 +248,7 @@ fn try_both(
 }
 
 #[test]
-fn two_attempts_apart_are_taken_in_in_both_orders(rt: HostRuntime) -> Result<(), Fail> {
+fn two_attempts_apart_are_accepted_in_both_orders(rt: HostRuntime) -> Result<(), Fail> {
     for order in [[1, 2], [2, 1]] {
         let mut view = bank(rt.alloc())?;
         try_both(&rt, rt.alloc(), &mut view, order)?;
@@ -331,7 +327,7 @@ fn front(
 }
 
 #[test]
-fn a_whole_front_is_taken_in(rt: HostRuntime) -> Result<(), Fail> {
+fn a_whole_front_is_accepted(rt: HostRuntime) -> Result<(), Fail> {
     let (counts, balances) = front(rt.alloc(), &[ONE, TWO, THREE], true)?;
     assert_eq!(rt; counts, (3, 0, None));
     assert!(rt; balances == [Some(1), Some(2), Some(3)]);
@@ -395,7 +391,7 @@ fn settle_or_not(rt: &impl Abort, alloc: Global, view: &mut View, wanted: &Task,
 
 // Run with each allocation refused in turn: where the call tells it, the cells are as before.
 #[test]
-fn a_refused_allocation_is_told(rt: HostRuntime) {
+fn a_refused_allocation_is_reported(rt: HostRuntime) {
     let alloc = rt.alloc();
     let Ok(wanted) = task(alloc, 7, 1) else {
         return;

@@ -59,6 +59,11 @@ pub fn bank(alloc: Global) -> Result<View, AllocError>
     View::new(alloc, snapshot(alloc)?)
 }
 
+// Sets the balance of an object.
+pub fn set(alloc: Global, view: &mut View, key: Key, value: i64) -> Result<(), AllocError> {
+    view.put(Cell::Object(0, key), balance(alloc, value)?)
+}
+
 // The balance in a cell, if it has one.
 pub fn balance_in(value: Option<&CellValue>) -> Option<i64> {
     if let Some(CellValue::Row(row)) = value {

@@ -8,6 +8,8 @@ mod boards;
 #[cfg(test)]
 mod fixtures;
 #[cfg(test)]
+mod lists;
+#[cfg(test)]
 mod parts;
 #[cfg(test)]
 mod read_parts;

@@ -114,7 +114,7 @@ fn a_part_by_keys_is_found(rt: HostRuntime) -> Result<(), Fail> {
 }
 
 /// Nine layers over a base that somebody else holds, so that the ninth is folded with the newest ones.
-fn pile_nine(alloc: Global, store: &mut Store) -> Result<(), AllocError> {
+fn write_nine_layers(alloc: Global, store: &mut Store) -> Result<(), AllocError> {
     for tenth in 0..9i64 {
         let key = tenth.wrapping_mul(10);
         write(alloc, store, &[(key.wrapping_add(1), tenth)], &[key])?;
@@ -122,16 +122,20 @@ fn pile_nine(alloc: Global, store: &mut Store) -> Result<(), AllocError> {
     Ok(())
 }
 
-fn ask_the_pile(rt: &impl Abort, alloc: Global, store: &Store) -> Result<(), Fail> {
+fn ask_through_layers(rt: &impl Abort, alloc: Global, store: &Store) -> Result<(), Fail> {
     expect(rt, alloc, store, &by_key(Some(20), Some(45)), &[21, 31, 41])?;
     expect(rt, alloc, store, &by_key(Some(80), None), &[81, 90])?;
     Ok(())
 }
 
-fn pile(rt: &impl Abort, alloc: Global, store: &mut Store) -> Result<(), Fail> {
+fn ask_before_and_after_folding(
+    rt: &impl Abort,
+    alloc: Global,
+    store: &mut Store,
+) -> Result<(), Fail> {
     let before = store.snapshot()?;
-    pile_nine(alloc, store)?;
-    ask_the_pile(rt, alloc, store)?;
+    write_nine_layers(alloc, store)?;
+    ask_through_layers(rt, alloc, store)?;
     drop(before);
     write(alloc, store, &[], &[90])?;
     expect(rt, alloc, store, &by_key(Some(80), None), &[81])
@@ -140,7 +144,7 @@ fn pile(rt: &impl Abort, alloc: Global, store: &mut Store) -> Result<(), Fail> {
 #[test]
 fn a_part_by_keys_is_found_through_layers(rt: HostRuntime) -> Result<(), Fail> {
     let mut store = store_of_ten(rt.alloc())?;
-    pile(&rt, rt.alloc(), &mut store)
+    ask_before_and_after_folding(&rt, rt.alloc(), &mut store)
 }
 
 /// Whether objects are seen to be those of the part under some writes.
@@ -260,9 +264,13 @@ fn a_shared_base_gets_no_index(rt: HostRuntime) -> Result<(), Fail> {
     expect(&rt, rt.alloc(), &store, &by_balance(2, 3), &[20, 30])
 }
 
-fn pile_balances(rt: &impl Abort, alloc: Global, store: &mut Store) -> Result<(), Fail> {
+fn ask_balances_through_layers(
+    rt: &impl Abort,
+    alloc: Global,
+    store: &mut Store,
+) -> Result<(), Fail> {
     let before = store.snapshot()?;
-    pile_nine(alloc, store)?;
+    write_nine_layers(alloc, store)?;
     expect(rt, alloc, store, &by_balance(2, 4), &[21, 31, 41])?;
     change_balances(alloc, store)?;
     expect(rt, alloc, store, &by_balance(2, 4), &[21, 26, 31, 41, 70])?;
@@ -275,7 +283,7 @@ fn pile_balances(rt: &impl Abort, alloc: Global, store: &mut Store) -> Result<()
 fn a_part_by_a_field_is_found_through_layers(rt: HostRuntime) -> Result<(), Fail> {
     let mut store = store_of_ten(rt.alloc())?;
     store.keep_index(rt.alloc(), CLASS, "bal")?;
-    pile_balances(&rt, rt.alloc(), &mut store)
+    ask_balances_through_layers(&rt, rt.alloc(), &mut store)
 }
 
 /// Keys from 0 on with their own numbers as balances.
@@ -342,7 +350,7 @@ fn a_part_by_texts_is_found(rt: HostRuntime) -> Result<(), Fail> {
     ask_by_name(&rt, rt.alloc(), &store)
 }
 
-/// A value of another kind than the bounds is a fault, so that nothing is told of the part.
+/// A value of another kind than the bounds is a fault, so that the snapshot answers nothing about the part.
 fn ask_of_two_kinds(rt: &impl Abort, alloc: Global, store: &mut Store) -> Result<(), Fail> {
     store.keep_index(alloc, CLASS, "bal")?;
     ask_without(rt, alloc, store)?;

@@ -2,7 +2,7 @@
 
 ghost use Rattle.std.specs.Prelude.{◌≡◌, []};
 
-use crate::fixtures::{balance, bank};
+use crate::fixtures::{bank, set};
 use hp_attempt::{first_failed, holds};
 use hp_value::{Attribute, Bounds, Cell, ClassPart, Key, KeyedRow};
 use hp_view::{Found, Reads, Seen, View};
@@ -14,10 +14,6 @@ const BY_KEYS: ClassPart<'static> = ClassPart {
     attribute: Attribute::Key,
     bounds: Bounds::Numbers(Some(0), Some(5)),
 };
-
-fn set(alloc: Global, view: &mut View, key: Key, value: i64) -> Result<(), AllocError> {
-    view.put(Cell::Object(0, key), balance(alloc, value)?)
-}
 
 // The objects from a key on.
 fn from_key(low: Key) -> ClassPart<'static> {

@@ -132,12 +132,16 @@ fn keep_in_the_store(rt: &impl Abort, alloc: Global, store: &mut Store) -> Resul
     store.apply(alloc, status_layer(alloc, Status::Enabled)?)?;
     assert!(rt; shares_a_list(store)?);
     store.apply(alloc, layer(alloc, &[4], &[3])?)?;
+    assert!(rt; shares_a_list(store)?);
+    store.apply(alloc, layer(alloc, &[5], &[4])?)?;
     assert!(rt; !shares_a_list(store)?);
     Ok(())
 }
 
 #[test]
-fn a_store_keeps_a_list_until_an_object_of_the_class_changes(rt: HostRuntime) -> Result<(), Fail> {
+fn a_store_keeps_a_list_under_one_change_that_nobody_asked_after(
+    rt: HostRuntime,
+) -> Result<(), Fail> {
     let mut store = store_of_three(rt.alloc())?;
     keep_in_the_store(&rt, rt.alloc(), &mut store)
 }

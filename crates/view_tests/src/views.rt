@@ -176,10 +176,11 @@ fn write(alloc: Global, view: &mut View, cell: Cell) -> Result<(), AllocError> {
     view.put(cell, balance(alloc, 6)?)
 }
 
-// The row that the view wrote is no read.
+// Where the keys were read alone, each row is read by itself, and the row that the view wrote is no read.
 #[test]
 fn a_query_over_a_view(rt: HostRuntime) -> Result<(), Fail> {
     let mut view = bank(rt.alloc())?;
+    view.read_keys(rt.alloc(), 0)?;
     write(rt.alloc(), &mut view, Cell::Object(0, 2))?;
     assert_all(&rt, rt.alloc(), &mut view, &[(-3, 97), (2, 6), (10, 110)])?;
     let (reads, _) = view.into_parts();
@@ -189,6 +190,26 @@ fn a_query_over_a_view(rt: HostRuntime) -> Result<(), Fail> {
         (Seen::Cell(Cell::Object(0, 10)), Some(110), 0),
     ];
     assert_reads(&rt, &reads, &wanted);
+    Ok(())
+}
+
+// Changes an object, makes two and deletes one.
+fn write_four(alloc: Global, view: &mut View) -> Result<(), AllocError> {
+    write(alloc, view, Cell::Object(0, 2))?;
+    write(alloc, view, Cell::Object(0, -9))?;
+    write(alloc, view, Cell::Object(0, 7))?;
+    view.cut(Cell::Object(0, 10))
+}
+
+// The class is one read, as it stands beneath the writes.
+#[test]
+fn a_class_that_was_written_is_read_as_a_whole(rt: HostRuntime) -> Result<(), Fail> {
+    let mut view = bank(rt.alloc())?;
+    write_four(rt.alloc(), &mut view)?;
+    let all = [(-9, 6), (-3, 97), (2, 6), (7, 6)];
+    assert_all(&rt, rt.alloc(), &mut view, &all)?;
+    let (reads, _) = view.into_parts();
+    assert_reads(&rt, &reads, &[(Seen::Keys(0), None, 3)]);
     Ok(())
 }
 
@@ -360,7 +381,7 @@ fn all_shown(view: &View) -> [Option<i64>; 4] {
 
 // Run with each allocation refused in turn: the call tells it, and the cells are as before.
 #[test]
-fn a_refused_allocation_is_told(rt: HostRuntime) {
+fn a_refused_allocation_is_reported(rt: HostRuntime) {
     let alloc = rt.alloc();
     let Ok(mut view) = bank(alloc) else {
         return;

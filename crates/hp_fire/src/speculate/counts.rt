@@ -9,7 +9,7 @@ use std::alloc::{AllocError, Global};
 use std::collections::VecDeque;
 
 /// How the tasks of a group came to be settled.
-#[derive(Debug, Drop)]
+#[derive(Drop)]
 pub(crate) struct Counts {
     /// For each task of the group, whether it was tried again after the first wave.
     pub(crate) retried: Vec<bool>,
@@ -28,12 +28,8 @@ impl Counts {
     pub(crate) fn new(alloc: Global, tasks: usize) -> Result<Counts, AllocError>
         ensures { IfOk result (λ c. (c.accepted ≡ 0) × (c.waves ≡ 0)) }
     {
-        let mut retried = Vec::with_capacity(alloc, tasks)?;
-        for _ in 0..tasks {
-            retried.push(false)?;
-        }
         Ok(Counts {
-            retried,
+            retried: vec![in alloc; false; tasks]?,
             accepted: 0,
             waves: 0,
             tried: 0,
@@ -69,15 +65,15 @@ impl Counts {
         mark(&mut self.retried, done);
     }
 
-    /// The next `taken` tasks were settled from attempts.
-    pub(crate) fn add_kept(&mut self, done: usize, taken: usize)
-        requires { (done + taken < 2 ^ 64) × (self.old.accepted ≤ done) }
+    /// The next `count` tasks were settled from attempts.
+    pub(crate) fn add_kept(&mut self, done: usize, count: usize)
+        requires { (done + count < 2 ^ 64) × (self.old.accepted ≤ done) }
         ensures same { (self.new.waves ≡ self.old.waves) × (self.new.retried ≡ self.old.retried) }
-        ensures accepted { self.new.accepted ≤ self.old.accepted + taken }
-        ensures retried { 0 < taken → IsRetried self.old done → self.new.accepted < self.old.accepted + taken }
+        ensures accepted { self.new.accepted ≤ self.old.accepted + count }
+        ensures retried { 0 < count → IsRetried self.old done → self.new.accepted < self.old.accepted + count }
     {
-        self.accepted += of_first_wave(&self.retried, done, taken);
-        self.kept = self.kept.saturating_add(taken);
+        self.accepted += of_first_wave(&self.retried, done, count);
+        self.kept = self.kept.saturating_add(count);
     }
 }
 

@@ -10,8 +10,8 @@ use hp_view::View;
 use std::alloc::{AllocError, Global};
 
 /// Lists the classes that the conditions of these tasks ask for, as they stand beneath a view's own writes. Workers
-/// share the lists, and the owner compares its own with what workers saw. A class of which the writes name an object is
-/// left out.
+/// share the lists, and the owner compares its own with what workers saw. Where the writes name an object of a class,
+/// the snapshot that is frozen for the workers makes its list of this one and the writes.
 pub(crate) fn share_beneath(
     alloc: Global,
     lib: &Library,

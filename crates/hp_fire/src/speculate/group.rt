@@ -28,7 +28,6 @@ use std::thread::Threads;
 /// A group of sibling firings, and what its owner is given.
 ///
 /// All that it knows of a firing is `fire` and `attempt`.
-#[derive_where(Clone, Copy)]
 pub(crate) struct Group<'a, R, G, F, T> {
     /// Starts threads.
     pub(crate) rt: &'a R,
@@ -56,6 +55,15 @@ pub(crate) struct Group<'a, R, G, F, T> {
     pub(crate) past: &'a Past,
 }
 
+// By hand, since a derived `clone` copies field by field, and its proof takes as long as that of a long function.
+impl<'a, R, G, F, T> Clone for Group<'a, R, G, F, T> {
+    fn clone(&self) -> Result<Group<'a, R, G, F, T>, AllocError> {
+        Ok(*self)
+    }
+}
+
+impl<'a, R, G, F, T> Copy for Group<'a, R, G, F, T> {}
+
 impl<
     R: Threads + Sync,
     G: Gate + Sync,
@@ -75,7 +83,7 @@ impl<
         ensures waves { IfOk result (λ g. g.waves ≤ g.reran + 1) }
         ensures alone { self.now.width < 2 → IfOk result (λ g. g.waves ≡ 0) }
     {
-        let settled = self.fire_alone(view)?;
+        let settled = self.fire_before_workers(view)?;
         if !settled.goes_on(self.tasks.len()) {
             return Ok(GroupOutcome::of_owner(settled.outcomes, settled.end));
         }
@@ -85,17 +93,17 @@ impl<
         }
         progress
             .pending
-            .note_taken(self.tasks, self.past, self.effort);
+            .note_costs(self.tasks, self.past, self.effort);
         Ok(progress.into_outcome())
     }
 
     /// Fires tasks on the owner's thread, in their order, until it is time to start workers.
-    fn fire_alone(&self, view: &mut View) -> Result<Settled, AllocError>
+    fn fire_before_workers(&self, view: &mut View) -> Result<Settled, AllocError>
         requires fires { All (MayFire F.Fn self.now.fire.now) self.now.tasks.now }
         requires firings { Fires F.Fn self.now.fire.now (library self.now.lib.now) }
         ensures so_far { let stops = self.now.stop_at_veto in let tasks = map task_of self.now.tasks.now in
             IfOk result (λ s. IsSoFar (library self.now.lib.now) stops tasks view.old view.new s.outcomes.items s.end) }
-        ensures alone { self.now.width < 2 → IfOk result (λ s. s.end ≡ None
+        ensures one_thread { self.now.width < 2 → IfOk result (λ s. s.end ≡ None
             → length self.now.tasks.now ≤ length s.outcomes.items) }
     {
         let before = self.effort.so_far();
@@ -114,20 +122,20 @@ impl<
     }
 
     /// Whether workers should try the tasks that are left, after the owner has fired `fired` tasks at a cost of
-    /// `taken`.
-    fn starts_workers(&self, fired: usize, taken: u64) -> bool
+    /// `cost`.
+    fn starts_workers(&self, fired: usize, cost: u64) -> bool
         ensures { self.now.width < 2 → result ≡ false }
     {
         let left = self.tasks.len().saturating_sub(fired);
         if self.width < 2 || left < 2 {
             return false;
         }
-        self.eager || self.is_enough_left(fired, taken)
+        self.eager || self.is_enough_left(fired, cost)
     }
 
     /// Whether enough work is left, if it is time to ask.
-    fn is_enough_left(&self, fired: usize, taken: u64) -> bool {
-        let mean = taken / (fired as u64).max(1);
+    fn is_enough_left(&self, fired: usize, cost: u64) -> bool {
+        let mean = cost / (fired as u64).max(1);
         is_time_to_ask(fired)
             && do_workers_pay(self.past, &self.tasks[fired.min(self.tasks.len())..], mean)
     }
@@ -162,8 +170,8 @@ impl<
             OnOk result (ComesFurther (library self.now.lib.now) self.now.stop_at_veto tasks
             view.old progress.old.settled view.new progress.new.settled) }
     {
-        let taken = self.settle_by_wave(view, progress)?;
-        if taken > 0 {
+        let settled = self.settle_by_wave(view, progress)?;
+        if settled > 0 {
             return Ok(());
         }
         let first = &self.tasks[progress.settled.outcomes.len()];
@@ -180,10 +188,10 @@ impl<
         requires going { GoesOnBelow progress.old.settled (length self.now.tasks.now) }
         requires counted { IsCounted progress.old }
         requires sound { AreSound (library self.now.lib.now) progress.old.pending.attempts.items }
-        ensures taken { let before = length progress.old.settled.outcomes.items in
-            IfOk result (λ taken. length progress.new.settled.outcomes.items ≡ before + taken) }
-        ensures none { IfOk result (λ taken. taken ≡ 0 → progress.new.settled.end ≡ None) }
-        ensures counted { IfOk result (λ taken. 0 < taken → IsCounted progress.new) }
+        ensures settled { let before = length progress.old.settled.outcomes.items in
+            IfOk result (λ n. length progress.new.settled.outcomes.items ≡ before + n) }
+        ensures none { IfOk result (λ n. n ≡ 0 → progress.new.settled.end ≡ None) }
+        ensures counted { IfOk result (λ n. 0 < n → IsCounted progress.new) }
         ensures owes { OnOk result (OwesOne progress.new) }
         ensures sound { OnOk result (AreSound (library self.now.lib.now) progress.new.pending.attempts.items) }
         ensures so_far { let tasks = map task_of self.now.tasks.now in
@@ -248,7 +256,7 @@ impl<
         };
         let (found, accepted) = trial.try_all(&wave, (seat, jobs), view, progress, &mut receivers);
         accepted?;
-        progress.pending.put_brought(found);
+        progress.pending.put_returned(found);
         progress.accept_sent(self.alloc, &wave, view, &mut receivers, 1)?;
         Ok(())
     }

@@ -46,7 +46,7 @@ pub struct Past {
     // The work of the run's own thread.
     effort: Effort,
     // For each rule the cost of its last firing, or 0 if it hasn't fired.
-    taken: Vec<AtomicU64>,
+    costs: Vec<AtomicU64>,
 }
 
 impl Past {
@@ -56,7 +56,7 @@ impl Past {
         let rules = if width < 2 { 0 } else { lib.rules().len() };
         Past {
             effort: Effort::new(),
-            taken: unfired(alloc, rules).unwrap_or(Vec::new(alloc)),
+            costs: no_costs(alloc, rules).unwrap_or(Vec::new(alloc)),
         }
     }
 
@@ -67,25 +67,25 @@ impl Past {
 
     /// The cost of the rule's last firing, if it is known.
     pub(crate) fn of(&self, rule: RuleNo) -> Option<u64> {
-        match self.taken.get(rule as usize)?.load(SeqCst) {
+        match self.costs.get(rule as usize)?.load(SeqCst) {
             0 => None,
-            taken => Some(taken),
+            cost => Some(cost),
         }
     }
 
     /// Notes the cost of a firing of the rule.
-    pub(crate) fn note(&self, rule: RuleNo, taken: u64) {
-        if let Some(place) = self.taken.get(rule as usize) {
-            place.store(taken, SeqCst);
+    pub(crate) fn note(&self, rule: RuleNo, cost: u64) {
+        if let Some(last) = self.costs.get(rule as usize) {
+            last.store(cost, SeqCst);
         }
     }
 }
 
 // A zero for each rule.
-fn unfired(alloc: Global, rules: usize) -> Result<Vec<AtomicU64>, AllocError> {
-    let mut taken = Vec::with_capacity(alloc, rules)?;
+fn no_costs(alloc: Global, rules: usize) -> Result<Vec<AtomicU64>, AllocError> {
+    let mut costs = Vec::with_capacity(alloc, rules)?;
     for _ in 0..rules {
-        taken.push(AtomicU64::new(0))?;
+        costs.push(AtomicU64::new(0))?;
     }
-    Ok(taken)
+    Ok(costs)
 }

@@ -19,24 +19,24 @@ use std::alloc::{AllocError, Global};
 use std::collections::VecDeque;
 
 /// A worker's attempt at a task.
-#[derive(Debug, Drop)]
+#[derive(Drop)]
 pub(crate) struct Tried {
     /// The task's index in its group.
     pub(crate) place: usize,
     /// The attempt.
     pub(crate) attempt: Attempt,
     /// The cost of the attempt.
-    pub(crate) taken: u64,
+    pub(crate) cost: u64,
 }
 
 /// The attempts at the tasks of a group that aren't settled, and the costs of attempts.
-#[derive(Debug, Drop)]
+#[derive(Drop)]
 pub(crate) struct Pending {
     /// For each task that isn't settled, in order: the attempt at it, if there is one.
     pub(crate) attempts: VecDeque<Option<Attempt>>,
     /// For each task of the group: the cost of the last attempt at it; 0 if there was none, or if the owner ran the
     /// task.
-    pub(crate) taken: Vec<u64>,
+    pub(crate) costs: Vec<u64>,
 }
 
 impl Pending {
@@ -46,7 +46,7 @@ impl Pending {
     {
         Ok(Pending {
             attempts: no_attempts(alloc, tasks.saturating_sub(settled))?,
-            taken: nothing_taken(alloc, tasks)?,
+            costs: vec![in alloc; 0; tasks]?,
         })
     }
 
@@ -83,22 +83,22 @@ impl Pending {
             → AreSound library self.new.attempts.items }
     {
         let first = self.settled();
-        self.set_taken(first, 0);
+        self.set_cost(first, 0);
         drop(self.attempts.pop_front());
     }
 
     // Sets the cost of the last attempt at a task of the group.
-    fn set_taken(&mut self, place: usize, taken: u64)
+    fn set_cost(&mut self, place: usize, cost: u64)
         ensures { self.new.attempts ≡ self.old.attempts }
     {
-        if let Some(last) = self.taken.get_mut(place) {
-            *last = taken;
+        if let Some(last) = self.costs.get_mut(place) {
+            *last = cost;
         }
     }
 
     // The number of settled tasks of the group.
     fn settled(&self) -> usize {
-        self.taken.len().saturating_sub(self.attempts.len())
+        self.costs.len().saturating_sub(self.attempts.len())
     }
 
     /// Stores an attempt for its task, if that isn't settled.
@@ -109,13 +109,13 @@ impl Pending {
         let Tried {
             place,
             attempt,
-            taken,
+            cost,
         } = tried;
         let settled = self.settled();
         if place < settled {
             return;
         }
-        self.set_taken(place, taken);
+        self.set_cost(place, cost);
         let left = place - settled;
         if left < self.attempts.len() {
             self.attempts[left] = Some(attempt);
@@ -145,7 +145,7 @@ impl Pending {
     }
 
     /// Stores what the workers of a wave return when they end; nothing if memory ran out.
-    pub(crate) fn put_brought(&mut self, found: Result<Vec<Vec<Tried>>, AllocError>)
+    pub(crate) fn put_returned(&mut self, found: Result<Vec<Vec<Tried>>, AllocError>)
         ensures { (library : ModelLibrary) → AreSound library self.old.attempts.items
             → IfOk found (λ all. All (λ tries. AreSoundTries library tries.items) all.items)
             → AreSound library self.new.attempts.items }
@@ -184,11 +184,11 @@ impl Pending {
     }
 
     /// Notes the costs of the attempts that were accepted for these tasks, as if the owner had fired the tasks.
-    pub(crate) fn note_taken(&self, tasks: &[Task], past: &Past, effort: &Effort) {
-        for (task, taken) in tasks.iter().zip(self.taken.iter()) {
-            if *taken > 0 {
-                past.note(task.rule, *taken);
-                effort.add(*taken);
+    pub(crate) fn note_costs(&self, tasks: &[Task], past: &Past, effort: &Effort) {
+        for (task, cost) in tasks.iter().zip(self.costs.iter()) {
+            if *cost > 0 {
+                past.note(task.rule, *cost);
+                effort.add(*cost);
             }
         }
     }
@@ -203,15 +203,6 @@ fn no_attempts(alloc: Global, tasks: usize) -> Result<VecDeque<Option<Attempt>>,
         attempts.push_back(None)?;
     }
     Ok(attempts)
-}
-
-// A list of zero costs.
-fn nothing_taken(alloc: Global, tasks: usize) -> Result<Vec<u64>, AllocError> {
-    let mut taken = Vec::with_capacity(alloc, tasks)?;
-    for _ in 0..tasks {
-        taken.push(0)?;
-    }
-    Ok(taken)
 }
 
 // Whether there is an attempt whose reads hold in the view's cells.

@@ -44,9 +44,9 @@ pub(crate) fn do_workers_pay(past: &Past, tasks: &[Task], mean: u64) -> bool {
     let mut all = 0u64;
     let mut longest = 0u64;
     for task in tasks {
-        let takes = past.of(task.rule).unwrap_or(mean);
-        all = all.saturating_add(takes);
-        longest = longest.max(takes);
+        let cost = past.of(task.rule).unwrap_or(mean);
+        all = all.saturating_add(cost);
+        longest = longest.max(cost);
         if all.saturating_sub(longest) >= PAYS {
             return true;
         }

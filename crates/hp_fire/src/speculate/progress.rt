@@ -22,7 +22,7 @@ use std::hint::spin_loop;
 use std::mem;
 
 /// The progress of a group with workers.
-#[derive(Debug, Drop)]
+#[derive(Drop)]
 pub(crate) struct Progress {
     /// The settled tasks.
     pub(crate) settled: Settled,
@@ -79,15 +79,15 @@ impl Progress {
         stop_at_veto: bool,
     ) -> Result<usize, AllocError>
         requires { IsAcceptedWithin self.old }
-        ensures taken { let before = length self.old.settled.outcomes.items in
-            IfOk result (λ taken. length self.new.settled.outcomes.items ≡ before + taken) }
-        ensures none { IfOk result (λ taken. taken ≡ 0 → self.old.settled.end ≡ None → self.new.settled.end ≡ None) }
+        ensures settled { let before = length self.old.settled.outcomes.items in
+            IfOk result (λ n. length self.new.settled.outcomes.items ≡ before + n) }
+        ensures none { IfOk result (λ n. n ≡ 0 → self.old.settled.end ≡ None → self.new.settled.end ≡ None) }
         ensures waves { OnOk result (self.new.counts.waves ≡ self.old.counts.waves) }
         ensures marks { OnOk result (self.new.counts.retried ≡ self.old.counts.retried) }
-        ensures accepted { IfOk result (λ taken. self.new.counts.accepted ≤ self.old.counts.accepted + taken) }
-        ensures retried { IfOk result (λ taken. 0 < taken
+        ensures accepted { IfOk result (λ n. self.new.counts.accepted ≤ self.old.counts.accepted + n) }
+        ensures retried { IfOk result (λ n. 0 < n
             → IsRetried self.old.counts (length self.old.settled.outcomes.items)
-            → self.new.counts.accepted < self.old.counts.accepted + taken) }
+            → self.new.counts.accepted < self.old.counts.accepted + n) }
         ensures sound { OnOk result ((library : ModelLibrary) → AreSound library self.old.pending.attempts.items
             → AreSound library self.new.pending.attempts.items) }
         ensures so_far { OnOk result ((library : ModelLibrary) → AreSound library self.old.pending.attempts.items
@@ -101,11 +101,11 @@ impl Progress {
         let attempts = mem::replace(&mut self.pending.attempts, VecDeque::new(alloc));
         let left = left_of(tasks, done);
         let (front, rest) = settle_front(alloc, view, left, attempts, stop_at_veto)?;
-        let taken = front.len();
+        let count = front.len();
         self.pending.attempts = rest;
         self.settled.add_front(front, stop_at_veto)?;
-        self.counts.add_kept(done, taken);
-        Ok(taken)
+        self.counts.add_kept(done, count);
+        Ok(count)
     }
 
     /// Adds the firing of the next task, which the owner ran.

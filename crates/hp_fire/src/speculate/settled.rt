@@ -8,7 +8,7 @@ use hp_value::RuleNo;
 use std::alloc::{AllocError, Global};
 
 /// The results of a group's settled tasks, which are its first ones.
-#[derive(Debug, Drop)]
+#[derive(Drop)]
 pub(crate) struct Settled {
     /// The result of each, in order.
     pub(crate) outcomes: Vec<Outcome>,

@@ -28,7 +28,6 @@ use std::alloc::{AllocError, Global};
 use std::thread::Threads;
 
 /// What is needed to try the tasks of a wave.
-#[derive_where(Clone, Copy)]
 pub(crate) struct Trial<'a, R, G, T> {
     /// Starts threads.
     pub(crate) rt: &'a R,
@@ -43,6 +42,15 @@ pub(crate) struct Trial<'a, R, G, T> {
     /// The most threads that a group inside a task may use.
     pub(crate) width: usize,
 }
+
+// By hand, as with a group.
+impl<'a, R, G, T> Clone for Trial<'a, R, G, T> {
+    fn clone(&self) -> Result<Trial<'a, R, G, T>, AllocError> {
+        Ok(*self)
+    }
+}
+
+impl<'a, R, G, T> Copy for Trial<'a, R, G, T> {}
 
 impl<
     R: Threads + Sync,
@@ -233,7 +241,7 @@ impl<
         Some(Tried {
             place,
             attempt,
-            taken: effort.so_far(),
+            cost: effort.so_far(),
         })
     }
 }

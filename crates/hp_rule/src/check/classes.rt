@@ -71,7 +71,8 @@ fn check_class(
     before: &[ClassDef],
     class: &ClassDef,
 ) -> Result<(), CheckError>
-    ensures { Passes result (class_definition_check (map class_def before.now) (steps place.now) (class_def class.now)) }
+    ensures { Passes result
+        (class_definition_check (map class_def before.now) (steps place.now) (class_def class.now)) }
 {
     let name = class.name.as_str();
     check_unless(alloc, &place.item(0), name, has_class(before, name))?;

@@ -64,7 +64,8 @@ fn check_arms(
     first: &EventExpr,
     second: &EventExpr,
 ) -> Result<(), CheckError>
-    ensures { Passes result (operands_check (event_check classes levels) (steps place.now) (event first.now) (event second.now)) }
+    ensures { Passes result
+        (operands_check (event_check classes levels) (steps place.now) (event first.now) (event second.now)) }
 {
     check_event(alloc, &place.item(1), classes, levels, first)?;
     check_event(alloc, &place.item(2), classes, levels, second)

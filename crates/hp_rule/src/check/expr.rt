@@ -100,7 +100,9 @@ fn check_operands(
     left: &Expr,
     right: &Expr,
 ) -> Result<(), CheckError>
-    ensures { Passes result (operands_check (expression_check (names_in names.now) levels) (steps place.now) (expression left.now) (expression right.now)) }
+    ensures { Passes result
+        (operands_check (expression_check (names_in names.now) levels) (steps place.now) (expression left.now)
+        (expression right.now)) }
 {
     check_levels(alloc, &place.item(1), names, levels, left)?;
     check_levels(alloc, &place.item(2), names, levels, right)

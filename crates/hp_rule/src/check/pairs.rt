@@ -39,7 +39,9 @@ fn check_assigned(
     before: &[Assignment],
     name: &str,
 ) -> Result<(), CheckError>
-    ensures { Passes result (assigned_check (field_names (map field fields.now)) (assigned_names (map assignment before.now)) (steps place.now) name.now) }
+    ensures { Passes result
+        (assigned_check (field_names (map field fields.now)) (assigned_names (map assignment before.now))
+        (steps place.now) name.now) }
 {
     check_unless(alloc, place, name, is_assigned(before, name))?;
     if !has_field(fields, name) {
@@ -57,7 +59,9 @@ fn check_pair(
     before: &[Assignment],
     pair: &Assignment,
 ) -> Result<(), CheckError>
-    ensures { Passes result (assignment_check (map field fields.now) (names_in names.now) (map assignment before.now) (steps place.now) (assignment pair.now)) }
+    ensures { Passes result
+        (assignment_check (map field fields.now) (names_in names.now) (map assignment before.now) (steps place.now)
+        (assignment pair.now)) }
 {
     check_assigned(alloc, &place.item(0), fields, before, pair.field.as_str())?;
     check_expr(alloc, &place.item(1), names, &pair.value)
@@ -71,7 +75,9 @@ pub(crate) fn check_pairs(
     names: &Names<'_>,
     pairs: &[Assignment],
 ) -> Result<(), CheckError>
-    ensures { Passes result (assignments_check (map field fields.now) (names_in names.now) (steps place.now) (map assignment pairs.now)) }
+    ensures { Passes result
+        (assignments_check (map field fields.now) (names_in names.now) (steps place.now)
+        (map assignment pairs.now)) }
 {
     for (i, pair) in pairs.iter().enumerate() {
         check_pair(alloc, &place.item(i), fields, names, &pairs[..i], pair)?;

@@ -142,7 +142,8 @@ fn check_rules(
     classes: &[ClassDef],
     rules: &[Rule],
 ) -> Result<(), CheckError>
-    ensures { Passes result (rules_check (map class_def classes.now) (length rules.now) (steps place.now) (map rule rules.now)) }
+    ensures { Passes result
+        (rules_check (map class_def classes.now) (length rules.now) (steps place.now) (map rule rules.now)) }
 {
     for (i, rule) in rules.iter().enumerate() {
         check_rule(alloc, &place.item(i), classes, rules.len(), rule)?;

@@ -5,16 +5,15 @@ use Rattle.std.proofs.lemmas.Result.{err_from_is_err_and}
 use Rattle.std.proofs.Math.ListN.{drop_of_length-le}
 use Rattle.std.proofs.lemmas.List.{map-append}
 use Rattle.hp_model.specs.Values.{requested}
-use Rattle.hp_model.specs.Occurrences.{signalled}
 use Rattle.hp_model.specs.Conditions.{answer}
 use Rattle.std.specs.Prelude.{filter}
-use Rattle.hp_model.specs.Tree.{Task}
+use Rattle.hp_model.specs.Tree.{Task, no_items}
 use Rattle.hp_model.specs.Transactions.{abort_by, deferred_of, detached_of, done, for_each, unreleased}
 use Rattle.hp_model.specs.Soundness.{Answer}
-use Rattle.hp_model.specs.Answers.{is_done, followed}
+use Rattle.hp_model.specs.Answers.{is_done, followed, group_answer}
 use Rattle.hp_model.specs.Rules as R
 use Rattle.hp_model.specs.Rules.{Body, is_immediate, rule_at}
-use Rattle.hp_model.specs.Firing.{Context, level_at, run_body, with_row, action_course, signal_in, values_of, boolean_value, choose, named_object, start, siblings, fire_task}
+use Rattle.hp_model.specs.Firing.{Context, level_at, run_body, with_row, action_course, values_of, boolean_value, choose, named_object, start, siblings, fire_task}
 use Rattle.hp_value.specs.Mapped.{keyed_row, answers, expression, primitive, rule_operation}
 use Rattle.hp_query.specs.Mapped.{keyed_rows}
 use Rattle.hp_rule.specs.declared.stmt.Stmt.TheViews.{the_lemmas}
@@ -22,17 +21,14 @@ use Rattle.hp_rule.specs.Mapped.{library, statement, body_in, task, assignment}
 use Rattle.hp_rule.proofs.Bodies.{row_body_lem}
 use Rattle.hp_attempt.specs.Mapped.{firing}
 use Rattle.hp_ops.proofs.Worlds.{split_at}
-use Rattle.hp_tree.specs.Mapped.{items_in}
 use Rattle.hp_fire.specs.Mapped.{context, course, group}
 use Rattle.hp_fire.specs.Runs.{Runs, RunsGroup, Made, Makes, SubRuns}
 use Rattle.hp_fire.proofs.Making.{steps_halt}
-use Rattle.hp_fire.proofs.Stating.{with_is, steps_at, runs_at, signal_halt, signal_steps, found_halt, fire_halt, fire_runs}
-use Rattle.hp_fire.proofs.Steps.{runs_answer, runs_ends, runs_value, found_value, runs_signal, sub_over, sub_then, body_each, loop_starts, loop_next, loop_stops, loop_ends}
-use Rattle.hp_fire.proofs.Starting.{signal_runs, start_none, start_alone, alone_measure, start_runs, group_measure, none_long, map_none, tasks_at}
+use Rattle.hp_fire.proofs.Stating.{with_is, steps_at, runs_at, signal_makes, found_halt, fire_halt, fire_runs}
+use Rattle.hp_fire.proofs.Steps.{runs_answer, runs_ends, runs_value, found_value, sub_over, sub_then, body_each, loop_starts, loop_next, loop_stops, loop_ends}
+use Rattle.hp_fire.proofs.Starting.{signal_runs, start_none, start_single, single_measure, start_runs, group_measure, none_long, map_none, tasks_at}
 use Rattle.hp_model.specs.Cells.{Holds}
-use Rattle.hp_store.specs.Changes.{changes}
 use Rattle.hp_store.specs.Stack.{Stack, cells_in}
-use Rattle.hp_fire.proofs.Attempting.{attempt_sound}
 use denote.Param.{param}
 use denote.Param.Send.{IsSync, param_sync, sendable}
 use denote.Ref.{NamedLft}
@@ -94,13 +90,11 @@ Engine::each_row-returns g t c = loop_ends (ap (map keyed_row) (drop_of_length-l
 -- ---- attempts
 
 pub Engine::attempted-returns-clause-sound : goal.Engine::attempted-returns-clause-sound
-Engine::attempted-returns-clause-sound g t c =
-    attempt_sound (library c.args.self.now.lib.now) (task c.args.task.now) c.in_ok-view.view c.firing.new.view (firing c.in_ok-outcome.outcome) c.in_ok-view.ensures.writes c.in_ok-outcome.ensures
-    _ _ _ c.in_ok-copy.ensures.cases c.into_parts-reads.ensures.reads (ap changes c.into_parts-reads.ensures.layer)
+Engine::attempted-returns-clause-sound g t c = c.in_ok-attempt.ensures.sound (library c.args.self.now.lib.now) c.in_ok-view.view c.in_ok-view.ensures.writes c.in_ok-outcome.ensures
 
 pub Engine::attempted-returns-clause-so_it_was : goal.Engine::attempted-returns-clause-so_it_was
 Engine::attempted-returns-clause-so_it_was g t c =
-    subst (λ (s : Stack). Holds (cells_in s) c.into_parts-reads.result.0) (c.in_ok-outcome.ensures.goes_on.base ∙ c.in_ok-view.ensures.base) c.into_parts-reads.ensures.so_it_was
+    subst (λ (s : Stack). Holds (cells_in s) c.in_ok-attempt.attempt.reads) (c.in_ok-outcome.ensures.goes_on.base ∙ c.in_ok-view.ensures.base) c.in_ok-attempt.ensures.so_it_was
 
 -- ---- operations and actions
 
@@ -109,8 +103,7 @@ Engine::operated-returns g t c = λ work before made.
     let lib = library c.args.self.now.lib.now in
     let is : c.args.made ≡ Ok c.in_ok-prim.prim = search rules in
     let is_made : Made lib (level_at lib c.args.depth) work before c.args.view.now (primitive c.in_ok-prim.prim) = subst (Makes primitive lib (level_at lib c.args.depth) work before c.args.view.now) is made in
-    runs_answer (c.in_ok-join.ensures ∙ ap (λ (a : Answer). followed a (course c.in_ok-more.more)) c.in_ok-course.ensures)
-    (runs_signal is_made (c.in_ok-more.ensures lib _ c.args.view.now c.signal-result.new.view c.signal-result.ensures))
+    c.in_ok-course.ensures lib (level_at lib c.args.depth) work before c.args.view.now c.signal-result.new.view is_made c.signal-result.ensures
 
 pub Engine::action-returns : goal.Engine::action-returns
 Engine::action-returns g t c =
@@ -136,18 +129,18 @@ Engine::start-returns-then-is_empty g t c =
 
 pub Engine::start-firing-requires : goal.Engine::start-firing-requires
 Engine::start-firing-requires g t c = λ κs lives.
-    (omega (arith, alone_measure c.args.self.now.lib.now c.args.depth c.args.tasks.items c.in-Ok.task c.requires (ap (map task) c.in-Ok.ensures.one.0), c.decreases), (lives, search rules))
+    (omega (arith, single_measure c.args.self.now.lib.now c.args.depth c.args.tasks.items c.in-Ok.task c.requires (ap (map task) c.in-Ok.ensures.one.0), c.decreases), (lives, search rules))
 
 pub Engine::start-returns-in-Ok : goal.Engine::start-returns-in-Ok
 Engine::start-returns-in-Ok g t c =
     runs_answer c.firing_course.ensures
-    (start_alone (map task c.args.tasks.items) (task c.in-Ok.task) c.requires (ap (map task) c.in-Ok.ensures.one.0) c.in-Ok.ensures.one.1 c.in_ok-outcome-in-Ok.ensures)
+    (start_single (map task c.args.tasks.items) (task c.in-Ok.task) c.requires (ap (map task) c.in-Ok.ensures.one.0) c.in-Ok.ensures.one.1 c.in_ok-outcome-in-Ok.ensures)
 
 pub Engine::start-group-requires : goal.Engine::start-group-requires
 Engine::start-group-requires g t c = λ κs lives.
     let long : length c.args.tasks.items ≡ c.args.tasks.len = search rules in
     let some : c.args.tasks.items ≡ [] → ⊥ = λ e. let zero : c.args.tasks.len ≡ 0 = sym long ∙ ap length e in search rules in
-    let now : map task c.deref.result.now ≡ filter (λ (u : Task). is_immediate u.place) (map task c.args.tasks.items) = ap (map task) c.deref.ensures.value ∙ c.in_ok-immediate.ensures.immediate ∙ ap (λ ts. filter (λ (u : Task). is_immediate u.place) (map task ts)) c.in-Err.ensures.others in
+    let now : map task c.deref.result.now ≡ filter (λ (u : Task). is_immediate u.place) (map task c.args.tasks.items) = ap (map task) c.deref.ensures.value ∙ c.in_ok-placed.ensures.immediate ∙ ap (λ ts. filter (λ (u : Task). is_immediate u.place) (map task ts)) c.in-Err.ensures.others in
     let falls = group_measure c.args.self.now.lib.now c.args.depth c.args.tasks.items c.requires some in
     let at = tasks_at c.args.depth c.args.tasks.items c.deref.result.now c.requires now in
     (omega (arith, falls, c.decreases), (lives, search (at, rules)))
@@ -157,11 +150,11 @@ Engine::start-returns g t c =
     let long : length c.args.tasks.items ≡ c.args.tasks.len = search rules in
     let some : c.args.tasks.items ≡ [] → ⊥ = λ e. let zero : c.args.tasks.len ≡ 0 = sym long ∙ ap length e in search rules in
     let same = c.in-Err.ensures.others in
-    let now : map task c.deref.result.now ≡ filter (λ (u : Task). is_immediate u.place) (map task c.args.tasks.items) = ap (map task) c.deref.ensures.value ∙ c.in_ok-immediate.ensures.immediate ∙ ap (λ ts. filter (λ (u : Task). is_immediate u.place) (map task ts)) same in
-    let queued = c.in_ok-immediate.ensures.queued ∙ ap (λ ts. deferred_of (map task ts)) same in
-    let apart = c.in_ok-immediate.ensures.detached ∙ ap (λ ts. map unreleased (detached_of (map task ts))) same in
+    let now : map task c.deref.result.now ≡ filter (λ (u : Task). is_immediate u.place) (map task c.args.tasks.items) = ap (map task) c.deref.ensures.value ∙ c.in_ok-placed.ensures.immediate ∙ ap (λ ts. filter (λ (u : Task). is_immediate u.place) (map task ts)) same in
+    let queued = c.in_ok-placed.ensures.queued ∙ ap (λ ts. deferred_of (map task ts)) same in
+    let apart = c.in_ok-placed.ensures.detached ∙ ap (λ ts. map unreleased (detached_of (map task ts))) same in
     runs_answer
-    (c.in_ok-join.ensures ∙ (λ i. followed (record { end = done; queued = queued i; detached = apart i; items = ap items_in c.new.ensures.items i }) (c.in_ok-group_course.ensures i)))
+    (c.in_ok-course.ensures ∙ (λ i. followed (record { end = done; queued = queued i; detached = apart i; items = no_items }) (group_answer (group c.in_ok-group.group))))
     (start_runs (map task c.args.tasks.items) c.requires (λ e. some (map_none task c.args.tasks.items e))
     (subst (λ ts. RunsGroup (library c.args.self.now.lib.now) (siblings (fire_task (library c.args.self.now.lib.now)) true ts) c.args.view.now c.group.new.view (group c.in_ok-group.group)) now c.in_ok-group.ensures))
 
@@ -191,7 +184,10 @@ Engine::statement-returns-in-Delete g t c =
 pub Engine::statement-returns-in-Signal : goal.Engine::statement-returns-in-Signal
 Engine::statement-returns-in-Signal g t c =
     let is : R.signal c.deref-in-Signal.result.now (map expression c.deref-in-Signal-2.result.now) ≡ statement c.args.stmt.now = search (rules, the_lemmas) in
-    steps_at (library c.args.self.now.lib.now) (level_at (library c.args.self.now.lib.now) c.args.context.now.depth) (context c.args.context.now) c.args.view.now c.give_signal.new.view c.give_signal.result is c.give_signal.ensures
+    let level = level_at (library c.args.self.now.lib.now) c.args.context.now.depth in
+    let values = values_of (context c.args.context.now).environment (map expression c.deref-in-Signal-2.result.now) in
+    steps_at (library c.args.self.now.lib.now) level (context c.args.context.now) c.args.view.now c.operated-in-Signal.new.view c.operated-in-Signal.result is
+    (c.operated-in-Signal.ensures _ c.args.view.now (signal_makes primitive (library c.args.self.now.lib.now) level c.deref-in-Signal.result.now values c.args.view.now c.signalled-made.result c.signalled-made.ensures))
 
 pub Engine::statement-returns-in-Emit : goal.Engine::statement-returns-in-Emit
 Engine::statement-returns-in-Emit g t c =
@@ -246,18 +242,6 @@ Engine::statement-returns-in-Fire g t c =
     steps_at (library c.args.self.now.lib.now) (level_at (library c.args.self.now.lib.now) c.args.context.now.depth) (context c.args.context.now) c.args.view.now c.fire_rule.new.view c.fire_rule.result is c.fire_rule.ensures
 
 -- ---- the functions of the statements
-
-pub Engine::give_signal-returns-in_err-prim : goal.Engine::give_signal-returns-in_err-prim
-Engine::give_signal-returns-in_err-prim g t c =
-    let p = err_from_is_err_and c.from_residual.result c.from_residual.ensures.1 in
-    rw (p.1, p.2)
-    (signal_halt c.args.name.now (λ vs. signal_in (level_at (library c.args.self.now.lib.now) c.args.context.now.depth) (signalled c.args.name.now vs)) (values_of (context c.args.context.now).environment (map expression c.args.arguments.now))
-    c.in_err-prim.field-0.0 (library c.args.self.now.lib.now) c.args.view.now primitive c.in_err-prim.ensures)
-
-pub Engine::give_signal-returns : goal.Engine::give_signal-returns
-Engine::give_signal-returns g t c =
-    signal_steps c.args.name.now (signal_in (level_at (library c.args.self.now.lib.now) c.args.context.now.depth)) (values_of (context c.args.context.now).environment (map expression c.args.arguments.now)) (primitive c.in_ok-prim.prim)
-    (library c.args.self.now.lib.now) c.args.view.now c.signal.new.view c.signal.result c.in_ok-prim.ensures c.signal.ensures
 
 pub Engine::run_branch-returns-in_err-is_true : goal.Engine::run_branch-returns-in_err-is_true
 Engine::run_branch-returns-in_err-is_true g t c =
@@ -316,15 +300,17 @@ Engine::with_object-returns g t c =
 
 pub Engine::sub_or_otherwise-returns-then-not-aborted : goal.Engine::sub_or_otherwise-returns-then-not-aborted
 Engine::sub_or_otherwise-returns-then-not-aborted g t c =
+    let work = (run_body (body_in c.args.body.now) (level_at (library c.args.self.now.lib.now) c.args.context.now.depth) (context c.args.context.now)) in
+    let ran : SubRuns (library c.args.self.now.lib.now) work c.args.view.now c.close_sub.new.view (course c.in_ok-course.course) c.in_ok-course.aborted = c.in_ok-course.ensures (library c.args.self.now.lib.now) work c.args.view.now c.in_ok-inside.ensures (sym c.enter-mark.ensures) in
     sub_over (run_body (body_in c.args.otherwise.now) (level_at (library c.args.self.now.lib.now) c.args.context.now.depth) (context c.args.context.now))
-    (subst (λ b. SubRuns (library c.args.self.now.lib.now) (run_body (body_in c.args.body.now) (level_at (library c.args.self.now.lib.now) c.args.context.now.depth) (context c.args.context.now)) c.args.view.now c.sub.new.view (course c.in_ok-course.course) b) c.if-not-aborted.true
-    c.in_ok-course.ensures)
+    (subst (λ b. SubRuns (library c.args.self.now.lib.now) work c.args.view.now c.close_sub.new.view (course c.in_ok-course.course) b) c.if-not-aborted.true ran)
 
 pub Engine::sub_or_otherwise-returns : goal.Engine::sub_or_otherwise-returns
 Engine::sub_or_otherwise-returns g t c =
+    let work = (run_body (body_in c.args.body.now) (level_at (library c.args.self.now.lib.now) c.args.context.now.depth) (context c.args.context.now)) in
+    let ran : SubRuns (library c.args.self.now.lib.now) work c.args.view.now c.close_sub.new.view (course c.in_ok-course.course) c.in_ok-course.aborted = c.in_ok-course.ensures (library c.args.self.now.lib.now) work c.args.view.now c.in_ok-inside.ensures (sym c.enter-mark.ensures) in
     runs_answer c.in_ok-join.ensures
-    (sub_then (subst (λ b. SubRuns (library c.args.self.now.lib.now) (run_body (body_in c.args.body.now) (level_at (library c.args.self.now.lib.now) c.args.context.now.depth) (context c.args.context.now)) c.args.view.now c.sub.new.view (course c.in_ok-course.course) b) c.if-not-aborted.false
-    c.in_ok-course.ensures) c.in_ok-more.ensures)
+    (sub_then (subst (λ b. SubRuns (library c.args.self.now.lib.now) work c.args.view.now c.close_sub.new.view (course c.in_ok-course.course) b) c.if-not-aborted.false ran) c.in_ok-more.ensures)
 
 pub Engine::fire_rule-returns-in_err-task : goal.Engine::fire_rule-returns-in_err-task
 Engine::fire_rule-returns-in_err-task g t c =

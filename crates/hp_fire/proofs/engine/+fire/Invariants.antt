@@ -21,12 +21,6 @@ decreases-Engine::statements g l = 16 * left l.self.now.lib.now (levels l.self.n
 abbrev pub decreases-Engine::each_row : goal.decreases-Engine::each_row
 decreases-Engine::each_row g l = 16 * left l.self.now.lib.now (levels l.self.now.lib.now l.context.now.depth) (goal.size-Engine::each_row g l) + 2
 
-abbrev pub decreases-Engine::sub : goal.decreases-Engine::sub
-decreases-Engine::sub g l = 16 * left l.self.now.lib.now (levels l.self.now.lib.now l.context.now.depth) (goal.size-Engine::sub g l) + 2
-
-abbrev pub decreases-Engine::give_signal : goal.decreases-Engine::give_signal
-decreases-Engine::give_signal g l = 16 * left l.self.now.lib.now (levels l.self.now.lib.now l.context.now.depth) 0 + 3
-
 abbrev pub decreases-Engine::run_branch : goal.decreases-Engine::run_branch
 decreases-Engine::run_branch g l = 16 * left l.self.now.lib.now (levels l.self.now.lib.now l.context.now.depth) (max (most size-Stmt l.then_body.now) (most size-Stmt l.else_body.now)) + 2
 

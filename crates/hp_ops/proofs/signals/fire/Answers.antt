@@ -4,7 +4,7 @@ use Rattle.hp_model.specs.Occurrences.{no_occurrence}
 use Rattle.hp_value.specs.Mapped.{coupling}
 use Rattle.hp_rule.specs.Mapped.{library, rule as rule_of, task as task_of}
 use Rattle.hp_ops.specs.Performs.{status_of}
-use Rattle.hp_ops.specs.Hears.{condition_task}
+use Rattle.hp_ops.specs.Notified.{condition_task}
 use Rattle.hp_ops.proofs.Triggering.{is_absent, is_there, fires_unknown, fires_absent, fires_deep, fires_task}
 use Rattle.hp_ops.proofs.signals.fire.Goals as goal
 

@@ -7,4 +7,4 @@ use Rattle.hp_top.proofs.top.run_top.Goals as goal
 
 pub returns : goal.returns
 returns g c =
-    subst (λ l. RunsTop (library l) (top (library l) 0 (unit_work (library l) (unit c.args.unit.now))) c.args.view.now c.run_top.new.view (top_of c.in_ok-top.top)) (ap (λ r. r.now) c.new.ensures) c.in_ok-top.ensures
+    subst (λ l. RunsTop (library l) (top (library l) 0 (unit_work (library l) (unit c.args.unit.now))) c.args.view.now c.run_top.new.view (top_of c.in_ok-top.top)) (ap (λ r. r.now) c.new.ensures.lib) c.in_ok-top.ensures

@@ -14,7 +14,7 @@ returns-clause-reports g c base stands =
     let rs = map unit_report items.result.reports.items in
     let all : length rs ≡ length us = length-map items.result.reports.items unit_report ∙ items.ensures.all c.in_ok-reports.ensures.unstopped ∙ sym (length-map c.args.units.now unit) in
     let ran = ran_from (library c.new-runner.result.engine.lib.now) us (cells_in c.args.self.now.store) (cells_in items.new.store) rs base items.ensures.ran items.ensures.replayed all
-    (ap (λ l. library l.now) c.new-runner.ensures ∙ ap library c.deref.ensures ∙ sym stands.library_is) stands.ordered stands.cells_are in
+    (ap (λ l. library l.now) c.new-runner.ensures.lib ∙ ap library c.deref.ensures ∙ sym stands.library_is) stands.ordered stands.cells_are in
     ap (λ v. map unit_report v.items) c.in_ok-reports.ensures.all ∙ sym ran.led.answers
 
 pub returns-clause-state : goal.returns-clause-state
@@ -24,7 +24,7 @@ returns-clause-state g c base stands =
     let rs = map unit_report items.result.reports.items in
     let all : length rs ≡ length us = length-map items.result.reports.items unit_report ∙ items.ensures.all c.in_ok-reports.ensures.unstopped ∙ sym (length-map c.args.units.now unit) in
     let ran = ran_from (library c.new-runner.result.engine.lib.now) us (cells_in c.args.self.now.store) (cells_in items.new.store) rs base items.ensures.ran items.ensures.replayed all
-    (ap (λ l. library l.now) c.new-runner.ensures ∙ ap library c.deref.ensures ∙ sym stands.library_is) stands.ordered stands.cells_are in
+    (ap (λ l. library l.now) c.new-runner.ensures.lib ∙ ap library c.deref.ensures ∙ sym stands.library_is) stands.ordered stands.cells_are in
     let reports_are : map unit_report c.deref-2.result.now ≡ rs = ap (map unit_report) c.deref-2.ensures.value ∙ ap (λ v. map unit_report v.items) c.in_ok-reports.ensures.all in
     record {
       library_is = stands.library_is;

@@ -3,7 +3,7 @@ use Rattle.hp_model.specs.Cells.{over}
 use Rattle.hp_store.specs.Changes.{changes}
 use Rattle.hp_store.specs.Stack.{Stack, cells_in}
 use Rattle.hp_sessions.specs.declared.entry.Entry.{Entry}
-use Rattle.hp_sessions.specs.Telling.{book_of}
+use Rattle.hp_sessions.specs.Tokens.{book_of}
 use Rattle.hp_sessions.specs.Books.{Ledger, MayBeCommitted, IsKeptBook, entry_of}
 use Rattle.hp_sessions.proofs.Legal.{keeps, there, replies}
 use Rattle.hp_sessions.proofs.book.Book.append.Goals as goal
@@ -25,11 +25,11 @@ pub invariant_of-result : goal.invariant_of-result
 invariant_of-result g c =
     let i = c.self.invariant in
     let e = entry_of c.args.session c.args.unit in
-    let list : c.tell.result.me.0.list ≡ c.self.inside.history.items ++ e ∷ [] = search rules in
+    let list : c.copy_of.result.me.0.list ≡ c.self.inside.history.items ++ e ∷ [] = search rules in
     let items : c.push_reserved.new.self.items ≡ c.self.inside.history.items ++ e ∷ [] = search rules in
     let number : c.len-number.result ≡ length c.self.inside.history.items + 1 =
     omega (arith, c.len-number.ensures, ap length items, length-append c.self.inside.history.items (e ∷ [])) in
-    (search rules, search rules, omega (arith, number), replies c.self.inside.history.items c.tell.result.me.0.list e c.len-number.result c.in-Ok.reply list number c.in-Ok.ensures.reply)
+    (search rules, search rules, omega (arith, number), replies c.self.inside.history.items c.copy_of.result.me.0.list e c.len-number.result c.in-Ok.reply list number c.in-Ok.ensures.reply)
 
 pub invariant_of-self-2 : goal.invariant_of-self-2
 invariant_of-self-2 g c =
@@ -41,8 +41,8 @@ invariant_of-self-2 g c =
     let me : c.append.new.book.me ≡ (book_of c.push_reserved.new.self.items, []) = search rules in (
       i.0,
       i.1,
-      c.tell.ensures.same.0 ∙ c.append.ensures.0 ∙ i.2,
-      c.tell.ensures.same.1 ∙ me,
+      c.copy_of.ensures.same.0 ∙ c.append.ensures.0 ∙ i.2,
+      c.copy_of.ensures.same.1 ∙ me,
       keeps b c.args.session c.args.unit c.make_ready.new.store c.push_reserved.new.self.items i.4 c.into_parts-body.ensures.sound might c.in-Ok.ensures.store items,
       omega (arith, ap length items, length-append c.self.inside.history.items (e ∷ []), might.0.1),
     )
@@ -50,11 +50,11 @@ invariant_of-self-2 g c =
 pub returns-clause-ok : goal.returns-clause-ok
 returns-clause-ok g c =
     let e = entry_of c.args.session c.args.unit in
-    let list : c.tell.result.me.0.list ≡ c.self.inside.history.items ++ e ∷ [] = search rules in
+    let list : c.copy_of.result.me.0.list ≡ c.self.inside.history.items ++ e ∷ [] = search rules in
     let items : c.push_reserved.new.self.items ≡ c.self.inside.history.items ++ e ∷ [] = search rules in
     let number : c.len-number.result ≡ length c.self.inside.history.items + 1 =
     omega (arith, c.len-number.ensures, ap length items, length-append c.self.inside.history.items (e ∷ [])) in
-    let stands : slice_get c.tell.result.me.0.list (c.len-number.result - 1) ≡ Some e = there c.self.inside.history.items c.tell.result.me.0.list e c.len-number.result list number in
+    let stands : slice_get c.copy_of.result.me.0.list (c.len-number.result - 1) ≡ Some e = there c.self.inside.history.items c.copy_of.result.me.0.list e c.len-number.result list number in
     let history : c.self.inside.history.items ≡ c.args.self.now.history = ap (λ (l : Ledger). l.history) c.self.view_is in
     record {
       sound = c.into_parts-body.ensures.sound;

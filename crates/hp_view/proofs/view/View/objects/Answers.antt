@@ -1,58 +1,17 @@
-use Rattle.std.proofs.Common.{◌≡◌, ◌∙◌, sym, ap, subst, ℤ, None}
-use Rattle.hp_model.specs.Cells.{AreObjects, object_cell, objects_read}
+use Rattle.std.proofs.Common.{◌∙◌, sym, ap}
+use Rattle.hp_model.specs.Cells.{object_cell}
 use Rattle.hp_store.specs.Changes.{changes}
-use Rattle.hp_store.specs.Stack.{cells_in}
-use Rattle.hp_view.specs.Seeing.{ShowsObjects, noted, written}
-use Rattle.hp_view.specs.contracts.view.View.{the_view}
-use Rattle.hp_view.proofs.Reading.{holds_from, noted_held, noted_only, GoesOn-only}
-use Rattle.hp_store.proofs.Wholes.{told_some}
-use Rattle.hp_view.proofs.Wholes.{shows_whole, shows_noted}
+use Rattle.hp_view.proofs.Reading.{holds_from}
+use Rattle.hp_view.proofs.Wholes.{shows_beneath, told_map}
 use Rattle.hp_view.proofs.view.View.objects.Goals as goal
 
 pub returns-then-names_objects_of-clause-so_it_was : goal.returns-then-names_objects_of-clause-so_it_was
 returns-then-names_objects_of-clause-so_it_was c = holds_from c.self.view_is c.self.invariant.held
 
-pub returns-in-Some-clause-shows : goal.returns-in-Some-clause-shows
-returns-in-Some-clause-shows c =
-    subst (ShowsObjects c.args.self.now c.args.class) (sym c.in_ok-try_clone.ensures)
-    (shows_whole c.args.class c.in-Some.recorded.now.value c.self.view_is
-    (λ key. ap (λ es. changes es (object_cell c.args.class key)) (sym c.deref.ensures) ∙ c.names_objects_of.ensures.leaves c.if-names_objects_of.false key) c.in-Some.ensures.held)
-
-pub returns-in-Some-clause-so_it_was : goal.returns-in-Some-clause-so_it_was
-returns-in-Some-clause-so_it_was c = holds_from c.self.view_is c.self.invariant.held
-
-pub returns-then-is_some-clause-so_it_was : goal.returns-then-is_some-clause-so_it_was
-returns-then-is_some-clause-so_it_was c = holds_from c.self.view_is c.self.invariant.held
-
-pub returns-in_default-2-clause-so_it_was : goal.returns-in_default-2-clause-so_it_was
-returns-in_default-2-clause-so_it_was c = holds_from c.self.view_is c.self.invariant.held
-
-unnamed : (c : goal.In_ok-note_objects) → (key : ℤ) → written (the_view c.self.inside) (object_cell c.args.class key) ≡ None
-unnamed c key = ap (λ es. changes es (object_cell c.args.class key)) (sym c.deref.ensures) ∙ c.names_objects_of.ensures.leaves c.if-names_objects_of.false key
-
-whole : (c : goal.In_ok-note_objects) → AreObjects (cells_in c.self.inside.base) c.args.class c.in-Some-2.objects.value
-whole c = told_some (λ objects. AreObjects (cells_in c.self.inside.base) c.args.class objects.value) c.in-Some-2.is c.in_ok-objects.ensures.objects
-
-reads_are : (c : goal.In_ok-note_objects) → c.note_objects.new.self ≡ noted c.self.inside.reads (objects_read c.args.class c.in-Some-2.objects.value)
-reads_are c = c.in_ok-note_objects.ensures.ok ∙ ap (λ os. noted c.self.inside.reads (objects_read c.args.class os)) c.in_ok-shared.ensures
-
-pub invariant_of-self-2 : goal.invariant_of-self-2
-invariant_of-self-2 c = record {
-  held = noted_held (the_view c.self.inside) (objects_read c.args.class c.in-Some-2.objects.value) c.note_objects.new.self c.self.invariant.held (whole c) (reads_are c);
-  covered = c.self.invariant.covered;
-}
-
 pub returns-clause-shows : goal.returns-clause-shows
 returns-clause-shows c =
-    shows_noted (the_view c.self.inside) c.args.class c.in-Some-2.objects.value c.note_objects.new.self (unnamed c)
-    (sym c.keys.ensures.known ∙ sym c.is_some.ensures ∙ c.if-is_some.false) (reads_are c)
-
-pub returns-clause-only : goal.returns-clause-only
-returns-clause-only c = noted_only (objects_read c.args.class c.in-Some-2.objects.value) c.note_objects.new.self c.self.view_is (reads_are c)
-
-pub returns-clause-goes_on : goal.returns-clause-goes_on
-returns-clause-goes_on c = GoesOn-only (noted_only (objects_read c.args.class c.in-Some-2.objects.value) c.note_objects.new.self c.self.view_is (reads_are c))
-
-pub returns-clause-so_it_was : goal.returns-clause-so_it_was
-returns-clause-so_it_was c =
-    noted_held (the_view c.self.inside) (objects_read c.args.class c.in-Some-2.objects.value) c.note_objects.new.self c.self.invariant.held (whole c) (reads_are c)
+    told_map c.in_ok-objects.objects
+    (λ objects held.
+    shows_beneath c.args.class objects.value c.self.view_is c.whole_beneath.ensures.only
+    (λ key. ap (λ es. changes es (object_cell c.args.class key)) (sym c.deref.ensures) ∙ c.names_objects_of.ensures.leaves c.if-names_objects_of.false key) held)
+    c.in_ok-objects.ensures.held

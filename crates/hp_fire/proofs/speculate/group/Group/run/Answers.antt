@@ -21,12 +21,12 @@ pub loop-view-init : goal.loop-view-init
 loop-view-init g c =
     let b = c.in_ok-progress.ensures.begins in
     let counted : IsCounted c.in_ok-progress.progress = (omega (arith, b.1), omega (arith, b.1, b.2)) in
-    (counted, c.in_ok-progress.ensures.sound (library c.args.self.now.lib.now), subst (λ (s : Settled). IsSoFar (library c.args.self.now.lib.now) c.args.self.now.stop_at_veto (map task c.args.self.now.tasks.now) c.args.view.now c.fire_alone.new.view s.outcomes.items s.end) (sym b.0) c.in_ok-settled.ensures.so_far)
+    (counted, c.in_ok-progress.ensures.sound (library c.args.self.now.lib.now), subst (λ (s : Settled). IsSoFar (library c.args.self.now.lib.now) c.args.self.now.stop_at_veto (map task c.args.self.now.tasks.now) c.args.view.now c.fire_before_workers.new.view s.outcomes.items s.end) (sym b.0) c.in_ok-settled.ensures.so_far)
 
 pub returns-then-not-goes_on-clause-runs : goal.returns-then-not-goes_on-clause-runs
 returns-then-not-goes_on-clause-runs g c =
     let tasks = c.args.self.now.tasks.now in
     let all = c.in_ok-settled.settled.outcomes.items in
-    subst (λ (o : GroupOutcome). RunsGroup (library c.args.self.now.lib.now) (siblings (fire_task (library c.args.self.now.lib.now)) c.args.self.now.stop_at_veto (map task tasks)) c.args.view.now c.fire_alone.new.view (group o)) (sym c.of_owner.ensures)
+    subst (λ (o : GroupOutcome). RunsGroup (library c.args.self.now.lib.now) (siblings (fire_task (library c.args.self.now.lib.now)) c.args.self.now.stop_at_veto (map task tasks)) c.args.view.now c.fire_before_workers.new.view (group o)) (sym c.of_owner.ensures)
     (so_far_ends all c.in_ok-settled.settled.end c.in_ok-settled.ensures.so_far
     (λ none. subst (λ n. n ≤ length all) (sym (length-map tasks task)) (not_less (length all) (length tasks) (λ less. false_true (sym c.if-not-goes_on.true ∙ c.goes_on.ensures.1 (none, less))))))

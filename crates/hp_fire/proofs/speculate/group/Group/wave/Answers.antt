@@ -10,7 +10,7 @@ returns g c =
     let lib = library c.args.self.now.lib.now in
     let tried = c.try_all-found.new.progress in
     let came : ComesInWave lib c.args.start.wave c.args.view.now c.args.progress.now c.try_all-found.new.view c.try_all-found.new.progress = search rules in
-    let sound = c.put_brought.ensures lib came.sound c.try_all-found.ensures.found in
-    let put : Progress = record c.try_all-found.new.progress { pending = c.put_brought.new.self } in
-    let taken = c.in_ok-accept_sent.ensures.comes lib c.try_all-found.ensures.channels sound in
-    comes_then c.args.progress.now tried c.accept_sent.new.self came (comes_then tried put c.accept_sent.new.self (comes_put c.try_all-found.new.view tried put refl sound) taken)
+    let sound = c.put_returned.ensures lib came.sound c.try_all-found.ensures.found in
+    let put : Progress = record c.try_all-found.new.progress { pending = c.put_returned.new.self } in
+    let accepted = c.in_ok-accept_sent.ensures.comes lib c.try_all-found.ensures.channels sound in
+    comes_then c.args.progress.now tried c.accept_sent.new.self came (comes_then tried put c.accept_sent.new.self (comes_put c.try_all-found.new.view tried put refl sound) accepted)

@@ -5,4 +5,4 @@ use Rattle.hp_fire.proofs.speculate.pending.Pending.put.Goals as goal
 
 pub returns-then-left-len : goal.returns-then-left-len
 returns-then-left-len c = λ library sound is.
-    sound_set library c.set_taken.new.self.attempts.items (c.args.tried.place - c.settled-settled.result) (Some c.args.tried.attempt) (subst (λ a. AreSound library a.items) (sym c.set_taken.ensures) sound) is
+    sound_set library c.set_cost.new.self.attempts.items (c.args.tried.place - c.settled-settled.result) (Some c.args.tried.attempt) (subst (λ a. AreSound library a.items) (sym c.set_cost.ensures) sound) is

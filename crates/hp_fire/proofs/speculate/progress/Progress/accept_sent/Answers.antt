@@ -14,7 +14,7 @@ returns-in_err-settle-clause-channels c = λ library all. c.receive_all.ensures.
 
 pub loop-preserved : goal.loop-preserved
 loop-preserved c = record {
-  accepted = omega (arith, c.loop.invariant.accepted, c.in_ok-settle.ensures.taken, c.in_ok-settle.ensures.accepted);
+  accepted = omega (arith, c.loop.invariant.accepted, c.in_ok-settle.ensures.settled, c.in_ok-settle.ensures.accepted);
   channels = λ library all. c.receive_all.ensures.channels library (c.loop.invariant.channels library all);
   comes = λ library all sound.
       let before = c.loop.invariant.comes library all sound in
@@ -23,7 +23,7 @@ loop-preserved c = record {
       let said = c.in_ok-settle.ensures in
       comes_then c.args.self.now c.loop.self c.settle.new.self before
       (comes_then c.loop.self put c.settle.new.self (comes_put c.loop.view c.loop.self put refl here)
-      (comes_settled put c.settle.new.self c.in_ok-settle.field-0 said.taken said.none (said.waves, said.marks) said.accepted said.retried (said.sound library here) (said.so_far library here)));
+      (comes_settled put c.settle.new.self c.in_ok-settle.field-0 said.settled said.none (said.waves, said.marks) said.accepted said.retried (said.sound library here) (said.so_far library here)));
 }
 
 pub returns-after-loop-clause-channels : goal.returns-after-loop-clause-channels
@@ -43,4 +43,4 @@ returns-then-not-lacks_next-clause-comes c = λ library all sound.
     let said = c.in_ok-settle.ensures in
     comes_then c.args.self.now c.loop.self c.settle.new.self before
     (comes_then c.loop.self put c.settle.new.self (comes_put c.loop.view c.loop.self put refl here)
-    (comes_settled put c.settle.new.self c.in_ok-settle.field-0 said.taken said.none (said.waves, said.marks) said.accepted said.retried (said.sound library here) (said.so_far library here)))
+    (comes_settled put c.settle.new.self c.in_ok-settle.field-0 said.settled said.none (said.waves, said.marks) said.accepted said.retried (said.sound library here) (said.so_far library here)))

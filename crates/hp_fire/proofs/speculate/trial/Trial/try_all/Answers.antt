@@ -3,7 +3,7 @@ use denote.Param.{param}
 use denote.Param.Send.{IsSync, param_sync, sendable}
 use denote.Ref.{NamedLft}
 use Rattle.std.proofs.Crossing as heap
-use Rattle.hp_board.proofs.dealer.Seat.TheSendSync as seat
+use Rattle.hp_board.proofs.counter.Seat.TheSendSync as seat
 use Rattle.rtrb.proofs.consumer.Consumer.TheSendSync as receiver
 use Rattle.hp_fire.specs.contracts.speculate.trial.Trial as Trial
 use Rattle.hp_fire.proofs.Sending.{tried_send, job_send, trial_sync, wave_sync, view_send, progress_send, sent_send}

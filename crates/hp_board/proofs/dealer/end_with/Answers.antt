@@ -1,5 +1,0 @@
-use Rattle.hp_board.proofs.Deals.{ends_at}
-use Rattle.hp_board.proofs.dealer.end_with.Goals as goal
-
-pub returns : goal.returns
-returns c = ends_at _ _ _ _ _ _ c.close_with-closed.ensures.values.2 c.word-word.ensures
