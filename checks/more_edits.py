@@ -6,16 +6,19 @@
 
 The gate tries the edits of must-fail and not these. This script copies the crates to a temporary folder and works
 there, crate by crate, lowest first. It checks a crate without an edit, and then with each edit in turn. It begins with
-what earlier checks of the crate kept in its out/, and each edit begins with what the check without an edit kept.
+what earlier checks of the crate kept, in its out/ or in its room of `./build`, whichever is newer. Each edit begins
+with what the check without an edit kept. So after `./build` an edit takes seconds.
 
 That an edit was refused is kept in the crate's out/, so a later run doesn't try the edit again until it, the crate, a
 crate below it or the toolchain changes. `--anew` tries all again. `--untried` tries only those that have a line
 `# untried`. Several runs may work side by side on different crates.
 
-The status is 0 if each edit applies and was refused, 1 if one wasn't, and 130 if the run was interrupted. The copy is
-then removed.
+It says which edit it tries, what came of it, and how many are left; the last line counts them all. The status is 0 if
+each edit applies and was refused, 1 if one wasn't, and 130 if the run was interrupted. The copy is then removed.
 """
 
+import contextlib
+import fcntl
 import hashlib
 import os
 import re
@@ -208,21 +211,67 @@ class Results:
 # ---- the copy
 
 
+def changed_at(folder):
+    """When something was last written in a folder or in one that stands in it."""
+    return max(os.stat(path).st_mtime for path in (folder, *(entry.path for entry in os.scandir(folder))))
+
+
+@contextlib.contextmanager
+def at_rest(folder):
+    """Whether no check works in a crate's folder. None begins there before this ends."""
+    held = os.open(folder, os.O_RDONLY)
+    try:
+        fcntl.flock(held, fcntl.LOCK_SH | fcntl.LOCK_NB)
+        is_free = True
+    except BlockingIOError:
+        is_free = False
+    try:
+        yield is_free
+    finally:
+        os.close(held)
+
+
+def link(there, here):
+    """Makes a file stand in a second place, without a second copy if the file system can."""
+    try:
+        os.link(there, here)
+    except OSError:
+        shutil.copy2(there, here)
+
+
+def take(crate, part, to, by=shutil.copy2):
+    """Copies the newest of what checks of a crate kept: from the crate's folder, or from its room of `./build`. The
+    result is the folder that it was taken from, if there is one."""
+    homes = [os.path.join(top, "crates", crate) for top in (TOP, os.path.join(TOP, ".built", "rooms", crate))]
+    homes = [home for home in homes if os.path.isdir(os.path.join(home, "out", part))]
+    for home in sorted(homes, key=lambda it: changed_at(os.path.join(it, "out", part)), reverse=True):
+        with at_rest(home) as is_free:
+            if is_free:
+                shutil.copytree(os.path.join(home, "out", part), os.path.join(to, "out", part), copy_function=by)
+                return home
+    return None
+
+
 def copy_crates(wanted, to):
-    """Copies crates and all that they use, without edits. Of what earlier checks kept, it copies the libraries, and the
-    work on the crates that are wanted."""
+    """Copies crates and all that they use, without edits, and the libraries that were built of them. The work on a
+    wanted crate is copied in its turn, since it is large."""
     os.makedirs(to)
     shutil.copyfile(os.path.join(TOP, "HANDLES"), os.path.join(to, "HANDLES"))
     with open(os.path.join(to, "crates.txt"), "w", encoding="utf-8") as file:
         # (`rt` wants a folder for each crate that is listed)
         file.writelines(line for name, line in lines_of_crates().items() if name in in_order(wanted))
+    lacking = []
     for crate in in_order(wanted):
         own, copy = os.path.join(TOP, "crates", crate), os.path.join(to, "crates", crate)
-        has_library = os.path.isdir(os.path.join(own, "out", "rlib"))
-        kept = ["out/rlib"] + ["out/incremental"] * (crate in wanted or not has_library)
-        for part in [*PARTS, *kept]:
+        for part in PARTS:
             if os.path.isdir(os.path.join(own, part)):
                 shutil.copytree(os.path.join(own, part), os.path.join(copy, part))
+        # (`rt` removes a library before it builds it anew, and so doesn't write where a link leads)
+        if not take(crate, "rlib", copy, link) and crate not in wanted:
+            lacking.append(crate)
+            take(crate, "incremental", copy)
+    if lacking:
+        print(f"to be built first, since no library of them is kept: {' '.join(lacking)}", flush=True)
 
 
 def remove(path):
@@ -313,7 +362,11 @@ class Room:
         return said_by(["rt", "check", "--jobs", "1"], self.at, self.room)
 
     def begin(self):
-        """Checks the crate without an edit, and keeps the work on it. The result is its status and its lines."""
+        """Checks the crate without an edit, over the work that is kept on it, and keeps the work. The result is the
+        status and the lines of the check."""
+        home = take(os.path.basename(self.at), "incremental", self.at)
+        said = f"begins with the work in {os.path.relpath(home, TOP)}/out" if home else "is proved from nothing"
+        print(f"{os.path.basename(self.at)} {said}", flush=True)
         status, lines = self.check()
         if status == 0:
             shutil.copytree(self.work, self.kept)
@@ -342,23 +395,53 @@ class Room:
         remove(self.kept)
 
 
-def try_crate(crate, paths, copy, room):
-    """Tries edits of a crate, prints the result of each, and returns how many came to what."""
-    begun = time.monotonic()
+class Count:
+    """How many edits of a run came to what, and how many are left."""
+
+    def __init__(self, left, before):
+        self.left, self.before, self.kinds = left, before, {}
+
+    def add(self, kind, number=1):
+        self.kinds[kind] = self.kinds.get(kind, 0) + number
+        self.left -= number
+
+    def refused(self):
+        return self.kinds.get(REFUSED, 0) + self.kinds.get(BY_NAME, 0)
+
+    def __str__(self):
+        others = [f"{number} {kind}" for kind, number in self.kinds.items() if kind != REFUSED]
+        before = [f"{self.before} refused before, as all is now"] * (self.before > 0)
+        return ", ".join([f"{self.kinds.get(REFUSED, 0)} edits refused", *others, *before, f"{self.left} left"])
+
+
+def try_edits(here, paths, count):
+    """Tries edits of a crate, prints the result of each, and returns the names of those that came to each kind."""
+    crate = os.path.basename(here.at)
+    results, names = Results(crate), {}
+    for number, path in enumerate(paths, 1):
+        begun, name, (texts, why) = time.monotonic(), os.path.basename(path)[: -len(".edit")], edited(crate, path)
+        print(f"{time.strftime('%H:%M:%S')} {crate} {number} of {len(paths)}, {name}: ", end="", flush=True)
+        kind, shown = here.try_edit(texts) if texts else (BAD, why)
+        count.add(kind)
+        names.setdefault(kind, []).append(name)
+        spent = f"{time.monotonic() - begun:.0f} seconds, {count.left} left"
+        print(f"{kind}: {shown.strip()[:200]} ({spent})", flush=True)
+        if kind in (REFUSED, BY_NAME):
+            results.keep(path)
+    return names
+
+
+def try_crate(crate, paths, copy, room, count):
+    """Tries edits of a crate, prints what came of them, and counts them."""
+    begun, here = time.monotonic(), Room(crate, copy, room)
     print(f"== {crate}: {len(paths)} edits, from {time.strftime('%H:%M')}", flush=True)
-    here, results, names = Room(crate, copy, room), Results(crate), {}
     status, lines = here.begin()
     if status != 0:
         print(f"{crate} is not proved without an edit:", *lines[-8:], sep="\n  ", flush=True)
-        return {NOT_TRIED: len(paths)}
-    print(f"{crate}: proved without an edit after {time.monotonic() - begun:.0f} seconds", flush=True)
-    for path in paths:
-        name, (texts, why) = os.path.basename(path)[: -len(".edit")], edited(crate, path)
-        kind, shown = here.try_edit(texts) if texts else (BAD, why)
-        names.setdefault(kind, []).append(name)
-        print(f"{time.strftime('%H:%M:%S')} {crate}/{name}: {kind}: {shown.strip()[:200]}", flush=True)
-        if kind in (REFUSED, BY_NAME):
-            results.keep(path)
+        count.add(NOT_TRIED, len(paths))
+        return
+    print(f"{crate} is proved without an edit after {time.monotonic() - begun:.0f} seconds", flush=True)
+    names = try_edits(here, paths, count)
     here.end()
     for kind, found in names.items():
         print(f"{crate}: {len(found)} {kind}: {' '.join(found)}", flush=True)
@@ -367,44 +450,39 @@ def try_crate(crate, paths, copy, room):
     if marked:
         print(f"{crate}: take the line '{UNTRIED}' out of {' '.join(marked)}", flush=True)
     print(f"{crate}: done in {time.monotonic() - begun:.0f} seconds", flush=True)
-    return {kind: len(found) for kind, found in names.items()}
 
 
 def left_to_try(crate, anew, untried_alone):
-    """The edits of a crate that a run has to try."""
+    """The edits of a crate that a run has to try, and the number of those that it hasn't."""
     wanted = [path for path in edits(crate, MORE) if is_untried(path) or not untried_alone]
     if not wanted or anew:
-        return wanted
+        return wanted, 0
     results = Results(crate)
     left = [path for path in wanted if not results.has(path)]
-    if len(left) < len(wanted):
-        print(f"{crate}: {len(wanted) - len(left)} edits were refused before, as all is now", flush=True)
-    return left
+    return left, len(wanted) - len(left)
 
 
 def try_all(crates, anew, untried_alone):
     """Tries the edits of crates, and returns the status."""
-    wanted = {crate: left_to_try(crate, anew, untried_alone) for crate in crates}
-    crates = [crate for crate in crates if wanted[crate]]
-    counts, ended = {}, []
-    whole = tempfile.mkdtemp(prefix="more-edits-")
+    asked = {crate: left_to_try(crate, anew, untried_alone) for crate in crates}
+    wanted = {crate: paths for crate, (paths, _) in asked.items() if paths}
+    whole = sum(map(len, wanted.values()))
+    count = Count(whole, sum(before for _, before in asked.values()))
+    print(f"to try: {whole} edits of {len(wanted)} crates", flush=True)
+    folder = tempfile.mkdtemp(prefix="more-edits-")
     try:
-        copy, room = os.path.join(whole, "copy"), os.path.join(whole, "room")
+        copy, room = os.path.join(folder, "copy"), os.path.join(folder, "room")
         os.mkdir(room)
-        copy_crates(crates, copy)
-        for crate in crates:
-            for kind, count in try_crate(crate, wanted[crate], copy, room).items():
-                counts[kind] = counts.get(kind, 0) + count
-            ended.append(crate)
+        copy_crates(list(wanted), copy)
+        for crate, paths in wanted.items():
+            try_crate(crate, paths, copy, room, count)
     except Interrupted:
-        print(f"interrupted, with {', '.join(crates[len(ended) :])} left", flush=True)
+        print(f"\ninterrupted: {count}", flush=True)
         return 130
     finally:
-        remove(whole)
-    of, refused = sum(map(len, wanted.values())), counts.pop(REFUSED, 0) + counts.get(BY_NAME, 0)
-    others = [f"{count} {kind}" for kind, count in counts.items()]
-    print(f"{refused} of {of} edits refused{'; ' * bool(others)}{', '.join(others)}")
-    return 0 if refused == of else 1
+        remove(folder)
+    print(count, flush=True)
+    return 0 if count.refused() == whole else 1
 
 
 def main(words):
