@@ -4,7 +4,8 @@ ghost use Rattle.std.specs.Prelude.{◌≡◌, ℕ, not, IfOk, IfSome, IfNone, O
 ghost use Rattle.hp_model.proofs.FaithfulFirings.{goes_on};
 ghost use Rattle.hp_rule.specs.Mapped.{task as task_of};
 ghost use Rattle.hp_view.specs.Seeing.{now_in, GoesOn, IsSame};
-ghost use Rattle.hp_attempt.specs.Fronts.{stopped_by, IsLongest, FrontIs, FrontIsFor, TakesSome, AreOutcomes, TakesFirst, LeavesFirst};
+ghost use Rattle.hp_attempt.specs.Fronts.{stopped_by, IsLongest, FrontIs, FrontIsFor};
+ghost use Rattle.hp_attempt.specs.Fronts.{TakesSome, AreOutcomes, TakesFirst, LeavesFirst};
 
 use crate::outcome::{Attempt, Outcome};
 use crate::settling::{Settled, settle};

@@ -37,7 +37,8 @@ pub enum Settled {
 /// What an accepted attempt read is then read by the view, and what it wrote is written over the view's writes, so that
 /// the view is as if the task had fired on it.
 ///
-/// A rejection takes no memory. An error means that memory ran out as the attempt was accepted; the view is then as before.
+/// A rejection takes no memory. An error means that memory ran out as the attempt was accepted; the view is then as
+/// before.
 pub fn settle(
     alloc: Global,
     view: &mut View,
@@ -79,7 +80,8 @@ pub fn settle(
     }
 }
 
-// Takes in an attempt whose reads hold. An error means that memory ran out; some of what it read may have been recorded.
+// Takes in an attempt whose reads hold. An error means that memory ran out; some of what it read may have been
+// recorded.
 fn take_in(alloc: Global, view: &mut View, attempt: &Attempt) -> Result<(), AllocError>
     requires { Holds (now_in view.old) attempt.now.reads }
     ensures ok { OnOk result (IsAccepted view.old view.new attempt.now.reads attempt.now.layer.value) }

@@ -1,6 +1,7 @@
 //! The board of one group.
 
-ghost use Rattle.std.specs.Prelude.{◌≡◌, ℕ, ◌+◌, ◌<◌, ◌≤◌, ◌^◌, ◌↔◌, length, vec_len, All, IfOk, IfErr, IfNone, IfSome, IsTrue, None, true};
+ghost use Rattle.std.specs.Prelude.{◌≡◌, ℕ, ◌+◌, ◌<◌, ◌≤◌, ◌^◌, ◌↔◌, length, vec_len, All};
+ghost use Rattle.std.specs.Prelude.{IfOk, IfErr, IfNone, IfSome, IsTrue, None, true};
 ghost use Rattle.hp_board.specs.Deal.{IsSeatOf, IsFresh, DrawsNumber, FindsNone, times_in, once_below};
 ghost use Rattle.hp_board.specs.Passes.{IsPassOf, Learns, known_at};
 ghost use Rattle.hp_board.specs.Boards.{IsBoard};

@@ -1,7 +1,9 @@
 //! Seats that draw numbers.
 
-ghost use Rattle.std.specs.Prelude.{◌≡◌, ℕ, ◌+◌, ◌<◌, ◌≤◌, ◌^◌, [], All, IfOk, IfSome, IfNone, vec_len, true, IsTrue, ◌↔◌, None};
-ghost use Rattle.hp_board.specs.Deal.{IsSeatOf, IsFresh, IsCounter, DrawsNumber, FindsNone, IsOneWord, Gathers, Knows, Ended, times_in, once_below};
+ghost use Rattle.std.specs.Prelude.{◌≡◌, ℕ, ◌+◌, ◌<◌, ◌≤◌, ◌^◌, [], All, IfOk, IfSome};
+ghost use Rattle.std.specs.Prelude.{IfNone, vec_len, true, IsTrue, ◌↔◌, None};
+ghost use Rattle.hp_board.specs.Deal.{IsSeatOf, IsFresh, IsCounter, DrawsNumber, FindsNone};
+ghost use Rattle.hp_board.specs.Deal.{IsOneWord, Gathers, Knows, Ended, times_in, once_below};
 
 use crate::tally::{CounterRule, Draws, OneMore, Shape, Tally};
 use atomic_table::{Seat as Token, Table};

@@ -1,6 +1,7 @@
 //! The machine of one group: its workers and its owner, one event at a time.
 
-ghost use Rattle.std.specs.Prelude.{◌≡◌, ℕ, ◌+◌, ◌<◌, ◌≤◌, length, List, [], ◌∷◌, ◌++◌, slice_get, slice_set, IfOk, IfSome, IsSome, Some, None, true, is_some, nat_lt, ◌&&◌, ◌==◌, not, replicate};
+ghost use Rattle.std.specs.Prelude.{◌≡◌, ℕ, ◌+◌, ◌<◌, ◌≤◌, length, List, [], ◌∷◌, ◌++◌, slice_get, slice_set, IfOk};
+ghost use Rattle.std.specs.Prelude.{IfSome, IsSome, Some, None, true, is_some, nat_lt, ◌&&◌, ◌==◌, not, replicate};
 ghost use Rattle.std.specs.List.{list_all, slice_index_or};
 ghost use Rattle.std.specs.Option.{option_copied};
 ghost use Rattle.hp_model.specs.Cells.{Cells, Changes};

@@ -1,6 +1,7 @@
 //! Queues of occurrences.
 
-ghost use Rattle.std.specs.Prelude.{◌≡◌, [], ◌++◌, ◌∷◌, ◌<◌, ◌≤◌, ◌+◌, drop, length, map, option_map, option_to_list, if◌then◌else◌, slice_get, false, IfOk};
+ghost use Rattle.std.specs.Prelude.{◌≡◌, [], ◌++◌, ◌∷◌, ◌<◌, ◌≤◌, ◌+◌, drop, length, map, option_map};
+ghost use Rattle.std.specs.Prelude.{option_to_list, if◌then◌else◌, slice_get, false, IfOk};
 ghost use lib.Pointwise.{pointwise};
 ghost use Rattle.hp_value.specs.Mapped.{occurrence};
 ghost use Rattle.hp_value.specs.Same.{occurrence_same};

@@ -13,7 +13,8 @@ ghost use Rattle.hp_rule.specs.declared.task.Task.{Task as AnyTask};
 ghost use Rattle.hp_rule.specs.Mapped.{library, rule as rule_of, task as task_of};
 ghost use Rattle.hp_view.specs.Seeing.{GoesOn, OnlyReads};
 ghost use Rattle.hp_ops.specs.Performs.{status_of};
-ghost use Rattle.hp_ops.specs.Notified.{AllNotified, GoesOnePlace, Notified, NotifiedEnabled, OnlySteps, Shares, StepsOn, condition_task};
+ghost use Rattle.hp_ops.specs.Notified.{AllNotified, GoesOnePlace, Notified, NotifiedEnabled};
+ghost use Rattle.hp_ops.specs.Notified.{OnlySteps, Shares, StepsOn, condition_task};
 
 use crate::finding::find_status;
 use hp_detect::{EventExpr, Knowledge, is_pure, occurs_now};

@@ -63,8 +63,10 @@ pub trait Look {
 
     ghost goes_on_same: { (look : Self) → goes_on look look };
 
-    ghost goes_on_then: { (first second third : Self) → goes_on first second → goes_on second third → goes_on first third };
+    ghost goes_on_then: { (first second third : Self) → goes_on first second → goes_on second third →
+        goes_on first third };
 
     // a later state of the look allows no world that an earlier one didn't
-    ghost narrows: { (first second : Self) → goes_on first second → (world : Objects) → allows second world → allows first world };
+    ghost narrows: { (first second : Self) → goes_on first second → (world : Objects) → allows second world →
+        allows first world };
 }

@@ -3,7 +3,8 @@
 ghost use Rattle.std.specs.Prelude.{◌≡◌, IfOk, IfSome};
 ghost use Rattle.hp_model.specs.Expressions.{compared};
 ghost use Rattle.hp_value.specs.Mapped.{attribute, class_part, comparison, environment, expression, value};
-ghost use Rattle.hp_query.specs.Parts.{IsFalseOutside, AsksForPart, expression_of, low_bound, high_bound, part_compared, turned};
+ghost use Rattle.hp_query.specs.Parts.{IsFalseOutside, AsksForPart, expression_of};
+ghost use Rattle.hp_query.specs.Parts.{low_bound, high_bound, part_compared, turned};
 
 use hp_value::{Attribute, Bounds, ClassPart, Comparison, Env, Expr, Halt, Value};
 use std::alloc::{AllocError, Global};

@@ -1,6 +1,7 @@
 //! The book, which the lock protects.
 
-ghost use Rattle.std.specs.Prelude.{◌≡◌, ◌↔◌, IsTrue, ◌<◌, ◌≤◌, length, vec_len, vec_capacity, IfOk, IfErr, IfSome, IfNone, OnErr};
+ghost use Rattle.std.specs.Prelude.{◌≡◌, ◌↔◌, IsTrue, ◌<◌, ◌≤◌, length, vec_len};
+ghost use Rattle.std.specs.Prelude.{vec_capacity, IfOk, IfErr, IfSome, IfNone, OnErr};
 ghost use mathlib.Core.List.{IsPrefix};
 ghost use Rattle.hp_model.specs.Cells.{Holds, over};
 ghost use Rattle.hp_model.specs.Sessions.{HasFitState};
@@ -8,7 +9,8 @@ ghost use Rattle.hp_rule.specs.Mapped as rules;
 ghost use Rattle.hp_store.specs.Changes.{changes};
 ghost use Rattle.hp_store.specs.Stack.{cells_in};
 ghost use Rattle.hp_sessions.specs.Units.{IsSound};
-ghost use Rattle.hp_sessions.specs.Books.{IsLegalBook, IsToken, MayCome, MayBeCommitted, IsCommitted, IsRefused, IsRun, IsUnable, IsMemory};
+ghost use Rattle.hp_sessions.specs.Books.{IsLegalBook, IsToken, MayCome, MayBeCommitted};
+ghost use Rattle.hp_sessions.specs.Books.{IsCommitted, IsRefused, IsRun, IsUnable, IsMemory};
 
 use crate::blank::Blank;
 use crate::entry::Entry;

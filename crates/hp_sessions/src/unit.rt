@@ -38,7 +38,8 @@ impl Model for Unit {
 
     ghost Value = { Made };
 
-    ghost coded = { Prim.hlevel (codes, of_body.the_row.coded, of_report.the_row.coded, read_code, cell_code, value_code) };
+    ghost coded = { Prim.hlevel
+        (codes, of_body.the_row.coded, of_report.the_row.coded, read_code, cell_code, value_code) };
 
     ghost view = { λ u. record { body = u.body; reads = u.reads; layer = u.layer.value; reply = u.reply } };
 

@@ -28,7 +28,8 @@ pub(crate) struct Base {
 }
 
 impl Base {
-    ghost use Rattle.std.specs.Prelude.{◌≡◌, ℤ, true, false, [], None, IfOk, OnOk, OnErr, MatchOption, option_map, if◌then◌else◌};
+    ghost use Rattle.std.specs.Prelude.{◌≡◌, ℤ, true, false, [], None, IfOk, OnOk, OnErr};
+    ghost use Rattle.std.specs.Prelude.{MatchOption, option_map, if◌then◌else◌};
     ghost use Rattle.hp_store.specs.Tables.{table_at};
     ghost use Rattle.hp_model.specs.Cells.{Cell as ModelCell, object_cell, AreKeys, over, same_cell};
     ghost use Rattle.hp_value.specs.Mapped as mapped;
@@ -74,7 +75,8 @@ impl Base {
 
     /// The table of a class's objects, if there is one.
     pub(crate) fn table(&self, class: ClassNo) -> Option<&BTreeMap<Key, CellValue>>
-        ensures { MatchOption result (table_at self.now.classes.items class ≡ []) (λ table. table.now.entries ≡ table_at self.now.classes.items class) }
+        ensures { MatchOption result (table_at self.now.classes.items class ≡ []) (λ table.
+            table.now.entries ≡ table_at self.now.classes.items class) }
     {
         match self.classes.get(class as usize) {
             Some(table) => Some(table),
@@ -100,7 +102,8 @@ impl Base {
     /// Keys of a class among which all objects of a part are: those of an index, if there is one of the part's field,
     /// and else those up to the part's bounds, if it is one by keys.
     pub(crate) fn candidates(&self, class: ClassNo, part: &ClassPart<'_>) -> Candidates<'_>
-        ensures { AreComplete (base_cells self.now) self.now.indexes.items → Covers (is_among (keys_left result)) (mapped.class_part part.now) class (base_cells self.now) }
+        ensures { AreComplete (base_cells self.now) self.now.indexes.items →
+            Covers (is_among (keys_left result)) (mapped.class_part part.now) class (base_cells self.now) }
     {
         match indexed(&self.indexes, class, part) {
             Some(keys) => keys,
@@ -126,7 +129,8 @@ impl Base {
 
     // The keys of a class between two bounds.
     fn between(&self, class: ClassNo, low: Option<Key>, high: Option<Key>) -> Candidates<'_>
-        ensures { (key : ℤ) → lies_between low high key ≡ true → is_among (keys_left result) key ≡ false → base_cells self.now (object_cell class key) ≡ None }
+        ensures { (key : ℤ) → lies_between low high key ≡ true → is_among (keys_left result) key ≡ false →
+            base_cells self.now (object_cell class key) ≡ None }
     {
         if are_crossed(low, high) {
             return Candidates::Nothing;
@@ -146,9 +150,11 @@ impl Base {
         cell: Cell,
         change: &Option<CellValue>,
     ) -> Result<(), AllocError>
-        ensures ok { OnOk result ((q : ModelCell) → base_cells self.new q ≡ (if same_cell (mapped.cell cell) q then here.change change.now else base_cells self.old q)) }
+        ensures ok { OnOk result ((q : ModelCell) → base_cells self.new q
+            ≡ (if same_cell (mapped.cell cell) q then here.change change.now else base_cells self.old q)) }
         ensures err { OnErr result ((q : ModelCell) → base_cells self.new q ≡ base_cells self.old q) }
-        ensures complete { AreComplete (base_cells self.old) self.old.indexes.items → AreComplete (base_cells self.new) self.new.indexes.items }
+        ensures complete { AreComplete (base_cells self.old) self.old.indexes.items →
+            AreComplete (base_cells self.new) self.new.indexes.items }
     {
         let old = self.replace(alloc, cell, change.clone()?)?;
         renew_all(&mut self.indexes, cell, old.as_ref(), change.as_ref());
@@ -162,7 +168,8 @@ impl Base {
         cell: Cell,
         change: Option<CellValue>,
     ) -> Result<Option<CellValue>, AllocError>
-        ensures ok { OnOk result ((q : ModelCell) → base_cells self.new q ≡ (if same_cell (mapped.cell cell) q then here.change change else base_cells self.old q)) }
+        ensures ok { OnOk result ((q : ModelCell) → base_cells self.new q
+            ≡ (if same_cell (mapped.cell cell) q then here.change change else base_cells self.old q)) }
         ensures err { OnErr result ((q : ModelCell) → base_cells self.new q ≡ base_cells self.old q) }
         ensures indexes { self.new.indexes ≡ self.old.indexes }
     {
@@ -181,9 +188,11 @@ impl Base {
     ///
     /// An error means that memory ran out; some of the changes may have been taken in.
     pub(crate) fn take_in(&mut self, alloc: Global, layer: &Layer) -> Result<(), AllocError>
-        ensures ok { OnOk result ((q : ModelCell) → base_cells self.new q ≡ over (base_cells self.old) (changes layer.now) q) }
+        ensures ok { OnOk result ((q : ModelCell) → base_cells self.new q
+            ≡ over (base_cells self.old) (changes layer.now) q) }
         ensures others { (q : ModelCell) → changes layer.now q ≡ None → base_cells self.new q ≡ base_cells self.old q }
-        ensures complete { AreComplete (base_cells self.old) self.old.indexes.items → AreComplete (base_cells self.new) self.new.indexes.items }
+        ensures complete { AreComplete (base_cells self.old) self.old.indexes.items →
+            AreComplete (base_cells self.new) self.new.indexes.items }
     {
         for (cell, change) in layer.iter() {
             self.set(alloc, *cell, change)?;
@@ -201,7 +210,8 @@ impl Base {
         field: &str,
     ) -> Result<(), AllocError>
         ensures same { tables self.new ≡ tables self.old }
-        ensures complete { AreComplete (base_cells self.old) self.old.indexes.items → AreComplete (base_cells self.new) self.new.indexes.items }
+        ensures complete { AreComplete (base_cells self.old) self.old.indexes.items →
+            AreComplete (base_cells self.new) self.new.indexes.items }
     {
         if has_index(&self.indexes, class, field) {
             return Ok(());
@@ -252,7 +262,8 @@ fn put<K: Ord + Drop>(
     key: K,
     change: Option<CellValue>,
 ) -> Result<Option<CellValue>, AllocError>
-    ensures ok { OnOk result ((q : K) → get K.cmp table.new q ≡ cond (is_at (K.cmp key) q) change (get K.cmp table.old q)) }
+    ensures ok { OnOk result ((q : K) → get K.cmp table.new q
+        ≡ cond (is_at (K.cmp key) q) change (get K.cmp table.old q)) }
     ensures err { OnErr result (IsUnchanged table.old table.new) }
 {
     match change {

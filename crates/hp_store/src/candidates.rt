@@ -55,7 +55,8 @@ impl Candidates<'_> {
 
 /// Two keys between which all objects of a part lie, both included. Where one is None, there is none on that side.
 pub(crate) fn key_bounds(part: &ClassPart<'_>) -> (Option<Key>, Option<Key>)
-    ensures { (o : model.KeyedRow) → lies_between result.0 result.1 o.key ≡ false → belongs (mapped.class_part part.now) o ≡ Ok false }
+    ensures { (o : model.KeyedRow) → lies_between result.0 result.1 o.key ≡ false →
+        belongs (mapped.class_part part.now) o ≡ Ok false }
 {
     match (part.attribute, part.bounds) {
         (Attribute::Key, Bounds::Numbers(low, high)) => (low, high),
@@ -75,7 +76,8 @@ pub(crate) fn included<K: Drop>(bound: Option<K>) -> Bound<K>
 
 /// The least key from a low bound on, if there is one.
 pub(crate) fn least_from(low: Option<Key>) -> Key
-    ensures { (key : ℤ) → IsTrue (fits_64 key) → is_from_start int_cmp (bound_of low) key ≡ true → is_le (int_cmp result key) ≡ true }
+    ensures { (key : ℤ) → IsTrue (fits_64 key) → is_from_start int_cmp (bound_of low) key ≡ true →
+        is_le (int_cmp result key) ≡ true }
 {
     low.unwrap_or(Key::MIN)
 }
@@ -83,7 +85,8 @@ pub(crate) fn least_from(low: Option<Key>) -> Key
 /// The greatest key up to a high bound, if there is one, and at least the least key.
 pub(crate) fn greatest_up_to(least: Key, high: Option<Key>) -> Key
     ensures forward { is_le (int_cmp least result) ≡ true }
-    ensures up_to { (key : ℤ) → IsTrue (fits_64 key) → is_past_end int_cmp (bound_of high) key ≡ false → is_lt (int_cmp result key) ≡ false }
+    ensures up_to { (key : ℤ) → IsTrue (fits_64 key) → is_past_end int_cmp (bound_of high) key ≡ false →
+        is_lt (int_cmp result key) ≡ false }
 {
     match high {
         Some(high) if high < least => least,

@@ -1,6 +1,7 @@
 //! Indexes of fields.
 
-ghost use Rattle.std.specs.Prelude.{◌≡◌, ℤ, Some, Option, true, false, map, IfSome, IfOk, OnOk, IsTrue, ⊤, option_map, string_bytes, MatchOption};
+ghost use Rattle.std.specs.Prelude.{◌≡◌, ℤ, Some, Option, true, false, map, IfSome, IfOk};
+ghost use Rattle.std.specs.Prelude.{OnOk, IsTrue, ⊤, option_map, string_bytes, MatchOption};
 ghost use Rattle.std.specs.BTreeMap.{is_at};
 ghost use Rattle.std.specs.BTreeSet.{contains};
 ghost use Rattle.std.specs.Map.{lookup};
@@ -53,7 +54,8 @@ impl Index {
     /// Keys among which all objects of a part are, if this is the index of its field. None where a value is of another
     /// kind than the part's bounds, so that it can't be told of it.
     pub(crate) fn candidates(&self, class: ClassNo, part: &ClassPart<'_>) -> Option<Candidates<'_>>
-        ensures { IfSome result (λ keys. (cells : Cells) → IsComplete cells self.now → Covers (is_among (keys_left keys)) (mapped.class_part part.now) class cells) }
+        ensures { IfSome result (λ keys. (cells : Cells) → IsComplete cells self.now →
+            Covers (is_among (keys_left keys)) (mapped.class_part part.now) class cells) }
     {
         let Attribute::Field(field) = part.attribute else {
             return None;
@@ -71,7 +73,8 @@ impl Index {
 
     // The keys of objects whose values are of another kind than bounds.
     fn others(&self, bounds: Bounds<'_>) -> Candidates<'_>
-        ensures { (p : Place) → Stands self.now.places p → is_other bounds.entry p ≡ true → is_among (keys_left result) (key_at p) ≡ true }
+        ensures { (p : Place) → Stands self.now.places p → is_other bounds.entry p ≡ true →
+            is_among (keys_left result) (key_at p) ≡ true }
     {
         match bounds {
             Bounds::Numbers(_, _) => between(&self.places, Some(Place::Other(Key::MIN)), None),
@@ -93,7 +96,8 @@ impl Index {
     pub(crate) fn enter_at(&mut self, cell: Cell, value: Option<&CellValue>) -> bool
         ensures same { self.new.class ≡ self.old.class }
         ensures kept { (k : ℤ) (v : Option Held) → IsIn self.old k v → IsIn self.new k v }
-        ensures entered { IsTrue result → (key : ℤ) → mapped.cell cell ≡ object_cell self.old.class key → IsIn self.new key (option_map (λ x. cell_value x.now) value.entry) }
+        ensures entered { IsTrue result → (key : ℤ) → mapped.cell cell ≡ object_cell self.old.class key →
+            IsIn self.new key (option_map (λ x. cell_value x.now) value.entry) }
     {
         match cell {
             Cell::Object(class, key) if class == self.class => self.enter(key, value),
@@ -104,7 +108,8 @@ impl Index {
     // Takes in what an object's cell holds in place of another value. The answer is false where memory runs out.
     fn renew(&mut self, key: Key, old: Option<&CellValue>, new: Option<&CellValue>) -> bool
         ensures same { self.new.class ≡ self.old.class }
-        ensures kept { IsTrue result → (k : ℤ) (v : Option Held) → IsIn self.old k v → (k ≡ key → v ≡ option_map (λ x. cell_value x.now) new.entry) → IsIn self.new k v }
+        ensures kept { IsTrue result → (k : ℤ) (v : Option Held) → IsIn self.old k v →
+            (k ≡ key → v ≡ option_map (λ x. cell_value x.now) new.entry) → IsIn self.new k v }
         ensures entered { IsTrue result → IsIn self.new key (option_map (λ x. cell_value x.now) new.entry) }
     {
         if !self.enter(key, new) {
@@ -118,7 +123,8 @@ impl Index {
 
     // The same of a cell, which may be none of an object of the class.
     fn renew_at(&mut self, cell: Cell, old: Option<&CellValue>, new: Option<&CellValue>) -> bool
-        ensures { IsTrue result → (cells : Cells) → IsComplete cells self.old → IsComplete (with_value cells (mapped.cell cell) (option_map (λ x. cell_value x.now) new.entry)) self.new }
+        ensures { IsTrue result → (cells : Cells) → IsComplete cells self.old →
+            IsComplete (with_value cells (mapped.cell cell) (option_map (λ x. cell_value x.now) new.entry)) self.new }
     {
         let Cell::Object(class, key) = cell else {
             return true;
@@ -134,7 +140,8 @@ impl Index {
     /// An error means that memory ran out.
     pub(crate) fn enter_all(&mut self, table: &BTreeMap<Key, CellValue>) -> Result<(), AllocError>
         ensures same { self.new.class ≡ self.old.class }
-        ensures all { OnOk result ((key : ℤ) → IsIn self.new key (option_map cell_value (lookup (is_at (int_cmp key)) table.now.entries))) }
+        ensures all { OnOk result ((key : ℤ) →
+            IsIn self.new key (option_map cell_value (lookup (is_at (int_cmp key)) table.now.entries))) }
     {
         for (key, value) in table {
             if !self.enter(*key, Some(value)) {
@@ -156,7 +163,8 @@ pub(crate) fn indexed<'a>(
     class: ClassNo,
     part: &ClassPart<'_>,
 ) -> Option<Candidates<'a>>
-    ensures { IfSome result (λ keys. (cells : Cells) → AreComplete cells indexes.now → Covers (is_among (keys_left keys)) (mapped.class_part part.now) class cells) }
+    ensures { IfSome result (λ keys. (cells : Cells) → AreComplete cells indexes.now →
+        Covers (is_among (keys_left keys)) (mapped.class_part part.now) class cells) }
 {
     for index in indexes {
         if let Some(keys) = index.candidates(class, part) {
@@ -173,7 +181,8 @@ pub(crate) fn renew_all(
     old: Option<&CellValue>,
     new: Option<&CellValue>,
 )
-    ensures { (cells : Cells) → AreComplete cells indexes.old.items → AreComplete (with_value cells (mapped.cell cell) (option_map (λ x. cell_value x.now) new.entry)) indexes.new.items }
+    ensures { (cells : Cells) → AreComplete cells indexes.old.items → AreComplete
+        (with_value cells (mapped.cell cell) (option_map (λ x. cell_value x.now) new.entry)) indexes.new.items }
 {
     for i in 0..indexes.len() {
         if !indexes[i].renew_at(cell, old, new) {
@@ -196,7 +205,8 @@ fn add(places: &mut BTreeSet<Place>, place: Option<Place>) -> bool
 
 // Takes out a place, unless it is the new one, too.
 fn leave(places: &mut BTreeSet<Place>, old: Option<Place>, new: Option<Place>)
-    ensures { (p : Place) → contains place_cmp places.old p ≡ true → (old ≡ Some p → new ≡ Some p) → contains place_cmp places.new p ≡ true }
+    ensures { (p : Place) → contains place_cmp places.old p ≡ true → (old ≡ Some p → new ≡ Some p) →
+        contains place_cmp places.new p ≡ true }
 {
     if let Some(place) = old {
         if new != Some(place) {
@@ -207,7 +217,8 @@ fn leave(places: &mut BTreeSet<Place>, old: Option<Place>, new: Option<Place>)
 
 // The keys of the places between two places.
 fn between(places: &BTreeSet<Place>, low: Option<Place>, high: Option<Place>) -> Candidates<'_>
-    ensures { (p : Place) → contains place_cmp places.now p ≡ true → is_between low high p ≡ true → is_among (keys_left result) (key_at p) ≡ true }
+    ensures { (p : Place) → contains place_cmp places.now p ≡ true → is_between low high p ≡ true →
+        is_among (keys_left result) (key_at p) ≡ true }
 {
     if are_crossed(low, high) {
         return Candidates::Nothing;

@@ -19,8 +19,8 @@ pub(crate) struct KeptList {
     pub(crate) objects: Arc<ObjectList>,
 }
 
-/// The lists as they are under a layer. Of a class of which the layer names an object, the list goes on only if the class
-/// is one of those that were asked for: nobody pays for a list that nobody looks at.
+/// The lists as they are under a layer. Of a class of which the layer names an object, the list goes on only if the
+/// class is one of those that were asked for: nobody pays for a list that nobody looks at.
 ///
 /// An error means that memory ran out.
 pub(crate) fn still_kept(
@@ -29,7 +29,8 @@ pub(crate) fn still_kept(
     asked: &[ClassNo],
     layer: &Layer,
 ) -> Result<Vec<KeptList>, AllocError>
-    ensures { IfOk result (λ kept. (base : Cells) → AreKept base lists.now → AreKept (over base (changes layer.now)) kept.items) }
+    ensures { IfOk result (λ kept. (base : Cells) → AreKept base lists.now →
+        AreKept (over base (changes layer.now)) kept.items) }
 {
     let mut kept = Vec::new(alloc);
     for list in lists {
@@ -46,7 +47,9 @@ fn keep_under(
     asked: &[ClassNo],
     layer: &Layer,
 ) -> Result<(), AllocError>
-    ensures { OnOk result ((base : Cells) → AreObjects base list.now.class list.now.objects.value → AreKept (over base (changes layer.now)) kept.old.items → AreKept (over base (changes layer.now)) kept.new.items) }
+    ensures { OnOk result ((base : Cells) → AreObjects base list.now.class list.now.objects.value →
+        AreKept (over base (changes layer.now)) kept.old.items →
+        AreKept (over base (changes layer.now)) kept.new.items) }
 {
     let Some(objects) = objects_under(alloc, list, asked, layer)? else {
         return Ok(());
@@ -65,7 +68,9 @@ fn objects_under(
     asked: &[ClassNo],
     layer: &Layer,
 ) -> Result<Option<Arc<ObjectList>>, AllocError>
-    ensures { IfOk result (λ found. IfSome found (λ objects. (base : Cells) → AreObjects base list.now.class list.now.objects.value → AreObjects (over base (changes layer.now)) list.now.class objects.value)) }
+    ensures { IfOk result (λ found. IfSome found (λ objects. (base : Cells) →
+        AreObjects base list.now.class list.now.objects.value →
+        AreObjects (over base (changes layer.now)) list.now.class objects.value)) }
 {
     if !layer.names_objects_of(list.class) {
         return Ok(Some(Arc::try_clone(&list.objects)?));

@@ -50,11 +50,13 @@ impl Model for Layer {
 
     ghost view = { λ l. map entry l.changes.entries };
 
-    ghost invariant = { λ l. KeysFit (map entry l.changes.entries) × AreComplete (over no_cells (changes_of (map entry l.changes.entries))) l.indexes.items };
+    ghost invariant = { λ l. KeysFit (map entry l.changes.entries)
+        × AreComplete (over no_cells (changes_of (map entry l.changes.entries))) l.indexes.items };
 }
 
 impl Layer {
-    ghost use Rattle.std.specs.Prelude.{◌≡◌, ◌↔◌, [], Some, None, IsTrue, IsSome, IsOk, IfOk, OnOk, OnErr, map, option_map, length};
+    ghost use Rattle.std.specs.Prelude.{◌≡◌, ◌↔◌, [], Some, None, IsTrue, IsSome, IsOk};
+    ghost use Rattle.std.specs.Prelude.{IfOk, OnOk, OnErr, map, option_map, length};
     ghost use Rattle.std.specs.Option.{option_or};
     ghost use Rattle.hp_model.specs.Cells.{Cell as ModelCell, object_cell, with_change};
     ghost use Rattle.hp_value.specs.Mapped as mapped;
@@ -100,15 +102,18 @@ impl Layer {
         self.changes.iter()
     }
 
-    /// Names a cell: gives it a new value, or empties it. The answer is what the layer made of the cell before, if it named it.
+    /// Names a cell: gives it a new value, or empties it. The answer is what the layer made of the cell before, if it
+    /// named it.
     ///
-    /// An error means that memory ran out; the layer is then as before. A cell that the layer names already takes no memory.
+    /// An error means that memory ran out; the layer is then as before. A cell that the layer names already takes no
+    /// memory.
     pub fn insert(
         &mut self,
         cell: Cell,
         change: Option<CellValue>,
     ) -> Result<Option<Option<CellValue>>, AllocError>
-        ensures ok { OnOk result (changes self.new ≡ with_change (changes self.old) (mapped.cell cell) (Some (here.change change))) }
+        ensures ok { OnOk result (changes self.new ≡ with_change (changes self.old) (mapped.cell cell)
+            (Some (here.change change))) }
         ensures old { IfOk result (λ old. option_map here.change old ≡ changes self.old (mapped.cell cell)) }
         ensures covered { IsSome (changes self.old (mapped.cell cell)) → IsOk result }
         ensures err { OnErr result (self.new ≡ self.old) }
@@ -126,7 +131,8 @@ impl Layer {
         key: Key,
         change: Option<CellValue>,
     ) -> Result<Option<Option<CellValue>>, AllocError>
-        ensures ok { OnOk result (changes self.new ≡ with_change (changes self.old) (object_cell class key) (Some (here.change change))) }
+        ensures ok { OnOk result (changes self.new ≡ with_change (changes self.old) (object_cell class key)
+            (Some (here.change change))) }
         ensures old { IfOk result (λ old. option_map here.change old ≡ changes self.old (object_cell class key)) }
         ensures covered { IsSome (changes self.old (object_cell class key)) → IsOk result }
         ensures err { OnErr result (self.new ≡ self.old) }
@@ -140,7 +146,8 @@ impl Layer {
         change: Option<CellValue>,
     ) -> Result<Option<Option<CellValue>>, AllocError>
         requires { IsTrue (cell_fits (mapped.cell cell)) }
-        ensures ok { OnOk result (changes self.new ≡ with_change (changes self.old) (mapped.cell cell) (Some (here.change change))) }
+        ensures ok { OnOk result (changes self.new ≡ with_change (changes self.old) (mapped.cell cell)
+            (Some (here.change change))) }
         ensures old { IfOk result (λ old. option_map here.change old ≡ changes self.old (mapped.cell cell)) }
         ensures covered { IsSome (changes self.old (mapped.cell cell)) → IsOk result }
         ensures err { OnErr result (self.new ≡ self.old) }
@@ -200,10 +207,11 @@ impl Layer {
 
     /// Takes in the changes of a layer over this one. They are shared, and hold where both layers name a cell.
     ///
-    /// An error means that memory ran out; some of the upper layer's changes may have been taken in. What it doesn't name is
-    /// as before.
+    /// An error means that memory ran out; some of the upper layer's changes may have been taken in. What it doesn't
+    /// name is as before.
     pub fn take_in(&mut self, upper: &Layer) -> Result<(), AllocError>
-        ensures ok { OnOk result ((q : ModelCell) → changes self.new q ≡ option_or (changes upper.now q) (changes self.old q)) }
+        ensures ok { OnOk result ((q : ModelCell) → changes self.new q
+            ≡ option_or (changes upper.now q) (changes self.old q)) }
         ensures others { (q : ModelCell) → changes upper.now q ≡ None → changes self.new q ≡ changes self.old q }
     {
         for (cell, change) in upper.iter() {
@@ -233,10 +241,11 @@ impl Layer {
         self.changes.range(Cell::Object(class, Key::MIN)..=Cell::Object(class, Key::MAX))
     }
 
-    /// Keys among which all objects of a part of a class are to which the layer gives a row: those of an index, if there
-    /// is one of the part's field, and else those up to the part's bounds, if it is one by keys.
+    /// Keys among which all objects of a part of a class are to which the layer gives a row: those of an index, if
+    /// there is one of the part's field, and else those up to the part's bounds, if it is one by keys.
     pub(crate) fn candidates(&self, class: ClassNo, part: &ClassPart<'_>) -> Candidates<'_>
-        ensures { Covers (is_among (keys_left result)) (mapped.class_part part.now) class (over no_cells (changes self.now)) }
+        ensures { Covers (is_among (keys_left result)) (mapped.class_part part.now) class
+            (over no_cells (changes self.now)) }
     {
         match indexed(&self.indexes, class, part) {
             Some(keys) => keys,
@@ -246,7 +255,8 @@ impl Layer {
 
     // The same without an index.
     fn within(&self, class: ClassNo, part: &ClassPart<'_>) -> Candidates<'_>
-        ensures { Covers (is_among (keys_left result)) (mapped.class_part part.now) class (over no_cells (changes self.now)) }
+        ensures { Covers (is_among (keys_left result)) (mapped.class_part part.now) class
+            (over no_cells (changes self.now)) }
     {
         let (low, high) = key_bounds(part);
         let least = least_from(low);
@@ -264,18 +274,19 @@ impl Layer {
         self.of_class(class).next().is_some()
     }
 
-    /// The objects of a class after the layer's changes, from those before them, by rising keys. None where a change gives
-    /// an object something else than a row, which no operation does.
+    /// The objects of a class after the layer's changes, from those before them, by rising keys. None where a change
+    /// gives an object something else than a row, which no operation does.
     ///
-    /// The time goes with the class's objects and the changes of them, and no cell is looked up; rows are shared. An error
-    /// means that memory ran out.
+    /// The time goes with the class's objects and the changes of them, and no cell is looked up; rows are shared. An
+    /// error means that memory ran out.
     pub fn objects_over(
         &self,
         alloc: Global,
         class: ClassNo,
         objects: &ObjectList,
     ) -> Result<Option<ObjectList>, AllocError>
-        ensures { IfOk result (λ found. IfSome found (λ merged. (base : Cells) → AreObjects base class objects.now → AreObjects (over base (changes self.now)) class merged)) }
+        ensures { IfOk result (λ found. IfSome found (λ merged. (base : Cells) → AreObjects base class objects.now →
+            AreObjects (over base (changes self.now)) class merged)) }
     {
         let mut merged = ObjectList::new(alloc);
         let keys = objects.keys();
@@ -305,7 +316,8 @@ impl Layer {
         keys: Vec<Key>,
     ) -> Result<Vec<Key>, AllocError>
         requires { IsStrictlySortedBy int_cmp keys.items }
-        ensures { IfOk result (λ merged. (base : Cells) → AreKeys base class keys.items → AreKeys (over base (changes self.now)) class merged.items) }
+        ensures { IfOk result (λ merged. (base : Cells) → AreKeys base class keys.items →
+            AreKeys (over base (changes self.now)) class merged.items) }
     {
         if !self.names_objects_of(class) {
             return Ok(keys);
@@ -345,8 +357,10 @@ fn places(keys: &[Key], from: usize, key: Key) -> (usize, usize)
     ensures start { from ≤ result.0 }
     ensures order { result.0 ≤ result.1 }
     ensures bound { result.1 ≤ length keys.now }
-    ensures below { IsStrictlySortedBy int_cmp (drop from keys.now) → take (result.0 - from) (drop from keys.now) ≡ below key (drop from keys.now) }
-    ensures above { IsStrictlySortedBy int_cmp (drop from keys.now) → drop result.1 keys.now ≡ above key (drop from keys.now) }
+    ensures below { IsStrictlySortedBy int_cmp (drop from keys.now) →
+        take (result.0 - from) (drop from keys.now) ≡ below key (drop from keys.now) }
+    ensures above { IsStrictlySortedBy int_cmp (drop from keys.now) →
+        drop result.1 keys.now ≡ above key (drop from keys.now) }
 {
     match keys[from..].binary_search(&key) {
         Ok(at) => (from + at, from + at + 1),
@@ -354,8 +368,8 @@ fn places(keys: &[Key], from: usize, key: Key) -> (usize, usize)
     }
 }
 
-// Adds an object with the row that a change gives it, unless the change deletes it. The answer is no where the change gives
-// it something else.
+// Adds an object with the row that a change gives it, unless the change deletes it. The answer is no where the change
+// gives it something else.
 fn add_changed(
     list: &mut ObjectList,
     key: Key,
@@ -380,7 +394,10 @@ fn renew(
     cell: Cell,
     old: Option<&Option<CellValue>>,
 )
-    ensures { (cells : Cells) → AreComplete cells indexes.old.items → AreComplete (with_value cells (mapped.cell cell) (over no_cells (changes (map entry named.now.entries)) (mapped.cell cell))) indexes.new.items }
+    ensures { (cells : Cells) → AreComplete cells indexes.old.items → AreComplete
+        (with_value cells (mapped.cell cell)
+            (over no_cells (changes (map entry named.now.entries)) (mapped.cell cell)))
+        indexes.new.items }
 {
     if !indexes.is_empty() {
         renew_all(indexes, cell, value_of(old), value_of(named.get(&cell)));
@@ -389,7 +406,8 @@ fn renew(
 
 // The value that a cell has after a change.
 fn value_of(change: Option<&Option<CellValue>>) -> Option<&CellValue>
-    ensures { option_map (λ v. here.cell_value v.now) result ≡ changed None (option_map (λ c. here.change c.now) change.entry) }
+    ensures { option_map (λ v. here.cell_value v.now) result
+        ≡ changed None (option_map (λ c. here.change c.now) change.entry) }
 {
     match change {
         Some(change) => change.as_ref(),

@@ -31,7 +31,8 @@ impl Snapshot {
         class: ClassNo,
         part: &ClassPart<'_>,
     ) -> Result<Option<Vec<KeyedRow>>, AllocError>
-        ensures { IfOk result (λ found. IfSome found (λ objects. ArePart (cells_in self.now) class (mapped.class_part part.now) (map mapped.keyed_row objects.items))) }
+        ensures { IfOk result (λ found. IfSome found (λ objects.
+            ArePart (cells_in self.now) class (mapped.class_part part.now) (map mapped.keyed_row objects.items))) }
     {
         self.part_over(alloc, &Layer::new(alloc), class, part)
     }
@@ -44,7 +45,9 @@ impl Snapshot {
         class: ClassNo,
         part: &ClassPart<'_>,
     ) -> Result<Option<Vec<KeyedRow>>, AllocError>
-        ensures { IfOk result (λ found. IfSome found (λ objects. ArePart (over (cells_in self.now) (changes writes.now)) class (mapped.class_part part.now) (map mapped.keyed_row objects.items))) }
+        ensures { IfOk result (λ found. IfSome found (λ objects.
+            ArePart (over (cells_in self.now) (changes writes.now)) class (mapped.class_part part.now)
+            (map mapped.keyed_row objects.items))) }
     {
         if !self.base.finds(class, part) {
             return Ok(None);
@@ -64,7 +67,8 @@ impl Snapshot {
         part: &ClassPart<'_>,
         objects: &[KeyedRow],
     ) -> bool
-        ensures { IsTrue result ↔ ArePart (over (cells_in self.now) (changes writes.now)) class (mapped.class_part part.now) (map mapped.keyed_row objects.now) }
+        ensures { IsTrue result ↔ ArePart (over (cells_in self.now) (changes writes.now)) class
+            (mapped.class_part part.now) (map mapped.keyed_row objects.now) }
     {
         if !objects_rise(objects) {
             return false;
@@ -83,7 +87,8 @@ impl Snapshot {
         class: ClassNo,
         part: &ClassPart<'_>,
     ) -> Result<Vec<Key>, AllocError>
-        ensures { IfOk result (λ keys. Covers (is_among keys.items) (mapped.class_part part.now) class (over (cells_in self.now) (changes writes.now))) }
+        ensures { IfOk result (λ keys. Covers (is_among keys.items) (mapped.class_part part.now) class
+            (over (cells_in self.now) (changes writes.now))) }
     {
         let mut keys = Vec::new(alloc);
         add(&mut keys, self.base.candidates(class, part))?;
@@ -102,8 +107,11 @@ impl Snapshot {
         keys: &[Key],
     ) -> Result<Option<Vec<KeyedRow>>, AllocError>
         requires rise { IsStrictlySortedBy int_cmp keys.now }
-        requires covers { Covers (is_among keys.now) (mapped.class_part part.now) class (over (cells_in self.now) (changes writes.now)) }
-        ensures { IfOk result (λ found. IfSome found (λ objects. ArePart (over (cells_in self.now) (changes writes.now)) class (mapped.class_part part.now) (map mapped.keyed_row objects.items))) }
+        requires covers { Covers (is_among keys.now) (mapped.class_part part.now) class
+            (over (cells_in self.now) (changes writes.now)) }
+        ensures { IfOk result (λ found. IfSome found (λ objects.
+            ArePart (over (cells_in self.now) (changes writes.now)) class (mapped.class_part part.now)
+            (map mapped.keyed_row objects.items))) }
     {
         let mut objects = Vec::new(alloc);
         for key in keys {
@@ -124,7 +132,9 @@ impl Snapshot {
         part: &ClassPart<'_>,
         key: Key,
     ) -> Result<Result<Option<Row>, Cause>, AllocError>
-        ensures { IfOk result (λ told. IfOk told (λ member. IsMember (mapped.class_part part.now) key (over (cells_in self.now) (changes writes.now) (object_cell class key)) member)) }
+        ensures { IfOk result (λ told. IfOk told (λ member.
+            IsMember (mapped.class_part part.now) key
+            (over (cells_in self.now) (changes writes.now) (object_cell class key)) member)) }
     {
         let Some(CellValue::Row(row)) = self.under(writes, Cell::Object(class, key)) else {
             return Ok(Ok(None));
@@ -138,7 +148,8 @@ impl Snapshot {
 
     // The value of a cell under the writes.
     fn under<'a>(&'a self, writes: &'a Layer, cell: Cell) -> Option<&'a CellValue>
-        ensures { option_map (λ v. here.cell_value v.now) result ≡ over (cells_in self.now) (changes writes.now) (mapped.cell cell) }
+        ensures { option_map (λ v. here.cell_value v.now) result
+            ≡ over (cells_in self.now) (changes writes.now) (mapped.cell cell) }
     {
         match writes.get(cell) {
             Some(change) => change.as_ref(),
@@ -154,7 +165,8 @@ impl Snapshot {
         part: &ClassPart<'_>,
         key: Key,
     ) -> Result<bool, Cause>
-        ensures { outcome (λ b. b) result ≡ belongs_in (mapped.class_part part.now) key (over (cells_in self.now) (changes writes.now) (object_cell class key)) }
+        ensures { outcome (λ b. b) result ≡ belongs_in (mapped.class_part part.now) key
+            (over (cells_in self.now) (changes writes.now) (object_cell class key)) }
     {
         match self.under(writes, Cell::Object(class, key)) {
             Some(CellValue::Row(row)) => part.has(key, row),
@@ -164,7 +176,8 @@ impl Snapshot {
 
     // Whether an object is there with this row and belongs to the part.
     fn shows(&self, writes: &Layer, class: ClassNo, part: &ClassPart<'_>, object: &KeyedRow) -> bool
-        ensures { result ≡ is_shown (over (cells_in self.now) (changes writes.now)) (mapped.class_part part.now) class (mapped.keyed_row object.now) }
+        ensures { result ≡ is_shown (over (cells_in self.now) (changes writes.now)) (mapped.class_part part.now) class
+            (mapped.keyed_row object.now) }
     {
         let Some(CellValue::Row(row)) = self.under(writes, Cell::Object(class, object.key)) else {
             return false;
@@ -180,7 +193,8 @@ impl Snapshot {
         part: &ClassPart<'_>,
         objects: &[KeyedRow],
     ) -> bool
-        ensures { result ≡ list_all (λ object. is_shown (over (cells_in self.now) (changes writes.now)) (mapped.class_part part.now) class (mapped.keyed_row object)) objects.now }
+        ensures { result ≡ list_all (λ object. is_shown (over (cells_in self.now) (changes writes.now))
+            (mapped.class_part part.now) class (mapped.keyed_row object)) objects.now }
     {
         for object in objects {
             if !self.shows(writes, class, part, object) {
@@ -200,7 +214,8 @@ impl Snapshot {
         key: Key,
     ) -> bool
         requires { IsStrictlySortedBy int_cmp (keys_of (map mapped.keyed_row objects.now)) }
-        ensures { result ≡ is_told (over (cells_in self.now) (changes writes.now)) (mapped.class_part part.now) class (keys_of (map mapped.keyed_row objects.now)) key }
+        ensures { result ≡ is_told (over (cells_in self.now) (changes writes.now)) (mapped.class_part part.now) class
+            (keys_of (map mapped.keyed_row objects.now)) key }
     {
         match self.belongs(writes, class, part, key) {
             Ok(belongs) => belongs == lists(objects, key),
@@ -218,7 +233,8 @@ impl Snapshot {
         mut keys: Candidates<'_>,
     ) -> bool
         requires { IsStrictlySortedBy int_cmp (keys_of (map mapped.keyed_row objects.now)) }
-        ensures { result ≡ list_all (is_told (over (cells_in self.now) (changes writes.now)) (mapped.class_part part.now) class (keys_of (map mapped.keyed_row objects.now))) (keys_left keys.entry) }
+        ensures { result ≡ list_all (is_told (over (cells_in self.now) (changes writes.now))
+            (mapped.class_part part.now) class (keys_of (map mapped.keyed_row objects.now))) (keys_left keys.entry) }
     {
         while let Some(key) = keys.next() {
             if !self.is_told(writes, class, part, objects, key) {
@@ -238,8 +254,13 @@ impl Snapshot {
         layers: &[SharedLayer],
     ) -> bool
         requires { IsStrictlySortedBy int_cmp (keys_of (map mapped.keyed_row objects.now)) }
-        ensures covers { IsTrue result → Covers (is_told (over (cells_in self.now) (changes writes.now)) (mapped.class_part part.now) class (keys_of (map mapped.keyed_row objects.now))) (mapped.class_part part.now) class (over no_cells (changes_in layers.now)) }
-        ensures always { ((key : ℤ) → is_told (over (cells_in self.now) (changes writes.now)) (mapped.class_part part.now) class (keys_of (map mapped.keyed_row objects.now)) key ≡ true) → IsTrue result }
+        ensures covers { IsTrue result → Covers
+            (is_told (over (cells_in self.now) (changes writes.now)) (mapped.class_part part.now) class
+                (keys_of (map mapped.keyed_row objects.now)))
+            (mapped.class_part part.now) class (over no_cells (changes_in layers.now)) }
+        ensures always { ((key : ℤ) → is_told (over (cells_in self.now) (changes writes.now))
+            (mapped.class_part part.now) class (keys_of (map mapped.keyed_row objects.now)) key ≡ true) →
+            IsTrue result }
     {
         for shared in layers {
             let keys = shared.candidates(class, part);
@@ -259,8 +280,13 @@ impl Snapshot {
         objects: &[KeyedRow],
     ) -> bool
         requires { IsStrictlySortedBy int_cmp (keys_of (map mapped.keyed_row objects.now)) }
-        ensures covers { IsTrue result → Covers (is_told (over (cells_in self.now) (changes writes.now)) (mapped.class_part part.now) class (keys_of (map mapped.keyed_row objects.now))) (mapped.class_part part.now) class (over (cells_in self.now) (changes writes.now)) }
-        ensures always { ((key : ℤ) → is_told (over (cells_in self.now) (changes writes.now)) (mapped.class_part part.now) class (keys_of (map mapped.keyed_row objects.now)) key ≡ true) → IsTrue result }
+        ensures covers { IsTrue result → Covers
+            (is_told (over (cells_in self.now) (changes writes.now)) (mapped.class_part part.now) class
+                (keys_of (map mapped.keyed_row objects.now)))
+            (mapped.class_part part.now) class (over (cells_in self.now) (changes writes.now)) }
+        ensures always { ((key : ℤ) → is_told (over (cells_in self.now) (changes writes.now))
+            (mapped.class_part part.now) class (keys_of (map mapped.keyed_row objects.now)) key ≡ true) →
+            IsTrue result }
     {
         let keys = self.base.candidates(class, part);
         if !self.tells(writes, class, part, objects, keys) {
@@ -314,7 +340,8 @@ fn add_layers(
     part: &ClassPart<'_>,
 ) -> Result<(), AllocError>
     ensures kept { OnOk result ((key : ℤ) → is_among keys.new.items key ≡ false → is_among keys.old.items key ≡ false) }
-    ensures covers { OnOk result (Covers (is_among keys.new.items) (mapped.class_part part.now) class (over no_cells (changes_in layers.now))) }
+    ensures covers { OnOk result (Covers (is_among keys.new.items) (mapped.class_part part.now) class
+        (over no_cells (changes_in layers.now))) }
 {
     for shared in layers {
         add(keys, shared.candidates(class, part))?;
@@ -333,7 +360,8 @@ fn sort(keys: &mut Vec<Key>)
 
 // Adds an object, if there is a row.
 fn add_member(objects: &mut Vec<KeyedRow>, key: Key, member: Option<Row>) -> Result<(), AllocError>
-    ensures { OnOk result (map mapped.keyed_row objects.new.items ≡ with_member (map mapped.keyed_row objects.old.items) key member) }
+    ensures { OnOk result (map mapped.keyed_row objects.new.items
+        ≡ with_member (map mapped.keyed_row objects.old.items) key member) }
 {
     if let Some(row) = member {
         objects.push(KeyedRow { key, row })?;

@@ -1,6 +1,7 @@
 //! Lists of shared layers.
 
-ghost use Rattle.std.specs.Prelude.{◌≡◌, ◌≤◌, ◌<◌, ◌++◌, ◌∷◌, [], length, IfOk, IfSome, OnOk, None, option_map, MatchOption};
+ghost use Rattle.std.specs.Prelude.{◌≡◌, ◌≤◌, ◌<◌, ◌++◌, ◌∷◌, [], length, IfOk};
+ghost use Rattle.std.specs.Prelude.{IfSome, OnOk, None, option_map, MatchOption};
 ghost use Rattle.std.specs.Option.{option_or};
 ghost use Rattle.hp_model.specs.Cells.{Cell as ModelCell, over};
 ghost use Rattle.hp_value.specs.Mapped as mapped;
@@ -64,7 +65,8 @@ impl SharedLayer {
 
     /// Keys among which all objects of a part of a class are to which the layer gives a row.
     pub(crate) fn candidates(&self, class: ClassNo, part: &ClassPart<'_>) -> Candidates<'_>
-        ensures { Covers (is_among (keys_left result)) (mapped.class_part part.now) class (over no_cells (changes self.now)) }
+        ensures { Covers (is_among (keys_left result)) (mapped.class_part part.now) class
+            (over no_cells (changes self.now)) }
     {
         match self.layer() {
             Some(layer) => layer.candidates(class, part),
@@ -125,7 +127,8 @@ pub(crate) fn piled(
     indexes: &[Index],
 ) -> Result<Layers, AllocError>
     requires { length layers.now ≤ MOST_LAYERS }
-    ensures changes { IfOk result (λ pile. (q : ModelCell) → changes_in pile.items q ≡ option_or (changes layer.value q) (changes_in layers.now q)) }
+    ensures changes { IfOk result (λ pile. (q : ModelCell) →
+        changes_in pile.items q ≡ option_or (changes layer.value q) (changes_in layers.now q)) }
     ensures most { IfOk result (λ pile. length pile.items ≤ MOST_LAYERS) }
 {
     if layer.is_empty() {
@@ -155,8 +158,8 @@ fn pushed(alloc: Global, layers: &[SharedLayer], layer: Arc<Layer>) -> Result<La
 }
 
 // Where the layers begin that are folded with a new one of so many changes: the newest, and below it each that has at
-// most twice the changes of those above it. So where a lower layer is folded it grows by half at least, and commits stay
-// cheap while somebody holds the base for good.
+// most twice the changes of those above it. So where a lower layer is folded it grows by half at least, and commits
+// stay cheap while somebody holds the base for good.
 fn fold_from(layers: &[SharedLayer], added: usize) -> usize
     requires { 0 < length layers.now }
     ensures { result < length layers.now }

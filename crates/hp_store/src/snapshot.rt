@@ -57,11 +57,14 @@ impl Model for Snapshot {
     ghost use Rattle.hp_store.specs.Kept.{AreKept};
     ghost use Rattle.hp_store.specs.Tables.{base_cells};
 
-    ghost invariant = { λ s. (length s.layers.items ≤ 8) × AreKept (over (base_cells s.base.value) (changes_in s.layers.items)) s.lists.items × AreComplete (base_cells s.base.value) s.base.value.indexes.items };
+    ghost invariant = { λ s. (length s.layers.items ≤ 8)
+        × AreKept (over (base_cells s.base.value) (changes_in s.layers.items)) s.lists.items
+        × AreComplete (base_cells s.base.value) s.base.value.indexes.items };
 }
 
 impl Snapshot {
-    ghost use Rattle.std.specs.Prelude.{◌≡◌, ◌≤◌, ◌↔◌, ℤ, ⊤, None, Some, All, IfOk, IfSome, MatchOption, OnOk, OnErr, IsTrue, option_map, length};
+    ghost use Rattle.std.specs.Prelude.{◌≡◌, ◌≤◌, ◌↔◌, ℤ, ⊤, None, Some, All, IfOk, IfSome};
+    ghost use Rattle.std.specs.Prelude.{MatchOption, OnOk, OnErr, IsTrue, option_map, length};
     ghost use Rattle.hp_model.specs.Values as model;
     ghost use Rattle.hp_model.specs.Cells.{Cell as ModelCell, AreKeys, AreObjects, object_cell, row_value, over};
     ghost use Rattle.hp_value.specs.Mapped as mapped;
@@ -104,8 +107,8 @@ impl Snapshot {
 
     /// The keys of a class's objects, in rising order.
     ///
-    /// The time goes with the class's keys and the layers' changes of its objects; other cells aren't looked at. An error
-    /// means that memory ran out.
+    /// The time goes with the class's keys and the layers' changes of its objects; other cells aren't looked at. An
+    /// error means that memory ran out.
     pub fn keys(&self, alloc: Global, class: ClassNo) -> Result<Vec<Key>, AllocError>
         ensures { IfOk result (λ keys. AreKeys (cells_in self.now) class keys.items) }
     {
@@ -113,8 +116,8 @@ impl Snapshot {
         Ok(keys)
     }
 
-    /// All objects of a class with their rows, by rising keys. None where the cell of an object holds something else than a
-    /// row, which no operation writes there.
+    /// All objects of a class with their rows, by rising keys. None where the cell of an object holds something else
+    /// than a row, which no operation writes there.
     ///
     /// The time goes with the class's keys and the layers' changes of its objects, unless the list is kept: then it is
     /// shared. An error means that memory ran out.
@@ -123,8 +126,10 @@ impl Snapshot {
         alloc: Global,
         class: ClassNo,
     ) -> Result<Option<Arc<ObjectList>>, AllocError>
-        ensures objects { IfOk result (λ found. IfSome found (λ objects. AreObjects (cells_in self.now) class objects.value)) }
-        ensures none { IfOk result (λ found. MatchOption found ((key : ℤ) × HoldsOther (cells_in self.now (object_cell class key))) (λ objects. ⊤)) }
+        ensures objects { IfOk result (λ found. IfSome found (λ objects.
+            AreObjects (cells_in self.now) class objects.value)) }
+        ensures none { IfOk result (λ found.
+            MatchOption found ((key : ℤ) × HoldsOther (cells_in self.now (object_cell class key))) (λ objects. ⊤)) }
     {
         if let Some(kept) = self.kept_objects(class) {
             return Ok(Some(Arc::try_clone(kept)?));
@@ -136,10 +141,10 @@ impl Snapshot {
         Ok(Some(Arc::new(alloc, objects)?))
     }
 
-    /// Lists the objects of a class, so that `objects` shares the list from now on: that of this snapshot, and that of a
-    /// snapshot with a layer more over it. If that layer names one of these objects, the other snapshot's list is made of
-    /// this one and the layer; under a further layer that names one, it is kept only if this was called on that snapshot,
-    /// too.
+    /// Lists the objects of a class, so that `objects` shares the list from now on: that of this snapshot, and that of
+    /// a snapshot with a layer more over it. If that layer names one of these objects, the other snapshot's list is
+    /// made of this one and the layer; under a further layer that names one, it is kept only if this was called on that
+    /// snapshot, too.
     ///
     /// An error means that memory ran out.
     pub fn keep_objects(&mut self, alloc: Global, class: ClassNo) -> Result<(), AllocError>
@@ -215,8 +220,10 @@ impl Snapshot {
         keys: &[Key],
     ) -> Result<Option<ObjectList>, AllocError>
         ensures keys { IfOk result (λ found. IfSome found (λ objects. mapped.keys_of objects ≡ keys.now)) }
-        ensures rows { IfOk result (λ found. IfSome found (λ objects. All (λ (o : model.KeyedRow). cells_in self.now (object_cell class o.key) ≡ Some (row_value o.row)) objects)) }
-        ensures none { IfOk result (λ found. MatchOption found (OneLacks (cells_in self.now) class keys.now) (λ objects. ⊤)) }
+        ensures rows { IfOk result (λ found. IfSome found (λ objects. All (λ (o : model.KeyedRow).
+            cells_in self.now (object_cell class o.key) ≡ Some (row_value o.row)) objects)) }
+        ensures none { IfOk result (λ found.
+            MatchOption found (OneLacks (cells_in self.now) class keys.now) (λ objects. ⊤)) }
     {
         let mut objects = ObjectList::new(alloc);
         for key in keys {
@@ -266,8 +273,8 @@ impl Snapshot {
         })
     }
 
-    /// Takes in a layer over the others. Where nobody else holds the base, all layers then go into it in place, as far as
-    /// there is memory.
+    /// Takes in a layer over the others. Where nobody else holds the base, all layers then go into it in place, as far
+    /// as there is memory.
     ///
     /// An error means that memory ran out; the snapshot is then as before. A layer that changes nothing costs nothing.
     pub(crate) fn take_in(&mut self, alloc: Global, layer: Arc<Layer>) -> Result<(), AllocError>
@@ -309,7 +316,8 @@ impl Snapshot {
 
     // Whether each key of the list is one of the class's.
     fn holds_each(&self, writes: &Layer, class: ClassNo, keys: &[Key]) -> bool
-        ensures { result ≡ list_all (λ key. is_some (over (cells_in self.now) (changes writes.now) (object_cell class key))) keys.now }
+        ensures { result ≡ list_all (λ key.
+            is_some (over (cells_in self.now) (changes writes.now) (object_cell class key))) keys.now }
     {
         for key in keys {
             if !self.holds(writes, Cell::Object(class, *key)) {
@@ -342,7 +350,9 @@ impl Snapshot {
         table: &BTreeMap<Key, CellValue>,
     ) -> bool
         requires { IsStrictlySortedBy int_cmp keys.now }
-        ensures { result ≡ list_all (λ e. is_listed (over (cells_in self.now) (changes writes.now)) keys.now (object_cell class e.0)) table.now.entries }
+        ensures { result ≡ list_all
+            (λ e. is_listed (over (cells_in self.now) (changes writes.now)) keys.now (object_cell class e.0))
+            table.now.entries }
     {
         for (key, _) in table {
             if !self.lists(writes, keys, Cell::Object(class, *key)) {
@@ -355,7 +365,9 @@ impl Snapshot {
     // Whether it lists the class's objects of the base.
     fn lists_base(&self, writes: &Layer, keys: &[Key], class: ClassNo) -> bool
         requires { IsStrictlySortedBy int_cmp keys.now }
-        ensures { result ≡ list_all (λ e. is_listed (over (cells_in self.now) (changes writes.now)) keys.now (object_cell class e.0)) (entries_at self.now.base.classes class) }
+        ensures { result ≡ list_all
+            (λ e. is_listed (over (cells_in self.now) (changes writes.now)) keys.now (object_cell class e.0))
+            (entries_at self.now.base.classes class) }
     {
         match self.base.table(class) {
             Some(table) => self.lists_table(writes, keys, class, table),
@@ -366,7 +378,8 @@ impl Snapshot {
     // Whether it lists the class's objects that a layer names.
     fn lists_layer(&self, writes: &Layer, keys: &[Key], class: ClassNo, layer: &Layer) -> bool
         requires { IsStrictlySortedBy int_cmp keys.now }
-        ensures { result ≡ are_listed (over (cells_in self.now) (changes writes.now)) keys.now (class_entries class layer.now) }
+        ensures { result ≡ are_listed (over (cells_in self.now) (changes writes.now)) keys.now
+            (class_entries class layer.now) }
     {
         for (cell, _) in layer.of_class(class) {
             if !self.lists(writes, keys, *cell) {
@@ -385,7 +398,9 @@ impl Snapshot {
         layers: &[SharedLayer],
     ) -> bool
         requires { IsStrictlySortedBy int_cmp keys.now }
-        ensures { result ≡ list_all (λ layer. are_listed (over (cells_in self.now) (changes writes.now)) keys.now (class_entries class layer)) layers.now }
+        ensures { result ≡ list_all
+            (λ layer. are_listed (over (cells_in self.now) (changes writes.now)) keys.now (class_entries class layer))
+            layers.now }
     {
         for shared in layers {
             if let Some(layer) = shared.layer() {
@@ -410,7 +425,8 @@ impl Snapshot {
 
 // The row that a cell holds, if it holds one.
 fn row_in(value: Option<&CellValue>) -> Option<&Row>
-    ensures { MatchOption result (HoldsNoRow (option_map (λ v. here.cell_value v.now) value.entry)) (λ row. option_map (λ v. here.cell_value v.now) value.entry ≡ Some (row_value row.now)) }
+    ensures { MatchOption result (HoldsNoRow (option_map (λ v. here.cell_value v.now) value.entry)) (λ row.
+        option_map (λ v. here.cell_value v.now) value.entry ≡ Some (row_value row.now)) }
 {
     match value {
         Some(CellValue::Row(row)) => Some(row),
@@ -456,7 +472,8 @@ fn keep_index(
     field: &str,
 ) -> Result<(), AllocError>
     ensures same { tables base.new.value ≡ tables base.old.value }
-    ensures complete { AreComplete (base_cells base.old.value) base.old.value.indexes.items → AreComplete (base_cells base.new.value) base.new.value.indexes.items }
+    ensures complete { AreComplete (base_cells base.old.value) base.old.value.indexes.items →
+        AreComplete (base_cells base.new.value) base.new.value.indexes.items }
 {
     match Arc::get_mut(base) {
         Some(base) => base.keep_index(alloc, class, field),
@@ -466,9 +483,11 @@ fn keep_index(
 
 // Lets the layers go into the base, where that can be done in place.
 fn settle(alloc: Global, base: &mut Arc<Base>, layers: &mut Layers)
-    ensures same { (q : ModelCell) → over (base_cells base.new.value) (changes_in layers.new.items) q ≡ over (base_cells base.old.value) (changes_in layers.old.items) q }
+    ensures same { (q : ModelCell) → over (base_cells base.new.value) (changes_in layers.new.items) q
+        ≡ over (base_cells base.old.value) (changes_in layers.old.items) q }
     ensures fewer { length layers.new.items ≤ length layers.old.items }
-    ensures complete { AreComplete (base_cells base.old.value) base.old.value.indexes.items → AreComplete (base_cells base.new.value) base.new.value.indexes.items }
+    ensures complete { AreComplete (base_cells base.old.value) base.old.value.indexes.items →
+        AreComplete (base_cells base.new.value) base.new.value.indexes.items }
 {
     if taken(alloc, base, layers) {
         *layers = SmallVec::new(alloc);
@@ -478,9 +497,12 @@ fn settle(alloc: Global, base: &mut Arc<Base>, layers: &mut Layers)
 // Takes layers into the base, where nobody else holds it; else, and where memory runs out, the answer is false. Under
 // these layers the cells are the same either way.
 fn taken(alloc: Global, base: &mut Arc<Base>, layers: &[SharedLayer]) -> bool
-    ensures same { (q : ModelCell) → over (base_cells base.new.value) (changes_in layers.now) q ≡ over (base_cells base.old.value) (changes_in layers.now) q }
-    ensures all { IsTrue result → (q : ModelCell) → base_cells base.new.value q ≡ over (base_cells base.old.value) (changes_in layers.now) q }
-    ensures complete { AreComplete (base_cells base.old.value) base.old.value.indexes.items → AreComplete (base_cells base.new.value) base.new.value.indexes.items }
+    ensures same { (q : ModelCell) → over (base_cells base.new.value) (changes_in layers.now) q
+        ≡ over (base_cells base.old.value) (changes_in layers.now) q }
+    ensures all { IsTrue result → (q : ModelCell) →
+        base_cells base.new.value q ≡ over (base_cells base.old.value) (changes_in layers.now) q }
+    ensures complete { AreComplete (base_cells base.old.value) base.old.value.indexes.items →
+        AreComplete (base_cells base.new.value) base.new.value.indexes.items }
 {
     match Arc::get_mut(base) {
         Some(base) => taken_in(alloc, base, layers).is_ok(),
@@ -490,9 +512,11 @@ fn taken(alloc: Global, base: &mut Arc<Base>, layers: &[SharedLayer]) -> bool
 
 // Takes layers into a base, the oldest first. An error means that memory ran out; some changes may have been taken in.
 fn taken_in(alloc: Global, base: &mut Base, layers: &[SharedLayer]) -> Result<(), AllocError>
-    ensures ok { OnOk result ((q : ModelCell) → base_cells base.new q ≡ over (base_cells base.old) (changes_in layers.now) q) }
+    ensures ok { OnOk result ((q : ModelCell) → base_cells base.new q
+        ≡ over (base_cells base.old) (changes_in layers.now) q) }
     ensures others { (q : ModelCell) → changes_in layers.now q ≡ None → base_cells base.new q ≡ base_cells base.old q }
-    ensures complete { AreComplete (base_cells base.old) base.old.indexes.items → AreComplete (base_cells base.new) base.new.indexes.items }
+    ensures complete { AreComplete (base_cells base.old) base.old.indexes.items →
+        AreComplete (base_cells base.new) base.new.indexes.items }
 {
     for shared in layers {
         if let Some(layer) = shared.layer() {
@@ -507,8 +531,8 @@ impl Clone for Snapshot {
 
     ghost is_clone = { λ s t. t ≡ s };
 
-    /// The same snapshot once more. It shares the base, the layers and the lists that are kept, and copies no cell. Nobody
-    /// has asked it for a list yet.
+    /// The same snapshot once more. It shares the base, the layers and the lists that are kept, and copies no cell.
+    /// Nobody has asked it for a list yet.
     ///
     /// An error means that memory ran out.
     fn clone(&self) -> Result<Snapshot, AllocError> {

@@ -70,11 +70,11 @@ impl Store {
         self.state.keys(alloc, class)
     }
 
-    /// Keeps a list of all objects of a class, as they are in the store. Snapshots share it from now on. Where the class has
-    /// such a list, it stays.
+    /// Keeps a list of all objects of a class, as they are in the store. Snapshots share it from now on. Where the
+    /// class has such a list, it stays.
     ///
-    /// Under the next layer that names one of these objects the list goes on, made of the list before and the layer. Under a
-    /// second one it goes, unless this is called in between.
+    /// Under the next layer that names one of these objects the list goes on, made of the list before and the layer.
+    /// Under a second one it goes, unless this is called in between.
     ///
     /// An error means that memory ran out.
     pub fn keep_objects(
@@ -88,8 +88,9 @@ impl Store {
         self.state.keep_list(class, objects)
     }
 
-    /// Keeps an index of a field from now on, so that `Snapshot::part` finds parts of the class by it. That takes a look
-    /// at each object of the class once; where there is such an index, or a snapshot shares the cells, nothing is done.
+    /// Keeps an index of a field from now on, so that `Snapshot::part` finds parts of the class by it. That takes a
+    /// look at each object of the class once; where there is such an index, or a snapshot shares the cells, nothing is
+    /// done.
     ///
     /// An error means that memory ran out.
     pub fn keep_index(
@@ -103,8 +104,8 @@ impl Store {
         self.state.keep_index(alloc, class, field)
     }
 
-    /// Overwrites the cells by a layer. Where no snapshot of the store is left, the changes go into the cells in place, and
-    /// cost no more than what they change. A list that goes on under the changes costs one pass over its objects.
+    /// Overwrites the cells by a layer. Where no snapshot of the store is left, the changes go into the cells in place,
+    /// and cost no more than what they change. A list that goes on under the changes costs one pass over its objects.
     ///
     /// An error means that memory ran out; the store is then as before. A layer that changes nothing costs nothing.
     pub fn apply(&mut self, alloc: Global, layer: Arc<Layer>) -> Result<(), AllocError>

@@ -41,7 +41,8 @@ impl ClassPart<'_> {
     /// Whether an object belongs to the part. `Kind` means that the object lacks the field, or that its value is of
     /// another kind than a bound.
     pub fn has(&self, key: Key, row: &Row) -> Result<bool, Cause>
-        ensures { outcome (λ b. b) result ≡ model.belongs (mapped.class_part self.now) (record { key = key; row = row.now }) }
+        ensures { outcome (λ b. b) result ≡ model.belongs (mapped.class_part self.now)
+            (record { key = key; row = row.now }) }
     {
         match self.attribute {
             Attribute::Key => self.bounds.have(&Value::Int(key)),
@@ -53,7 +54,8 @@ impl ClassPart<'_> {
 impl Bounds<'_> {
     /// Whether a value lies within the bounds. `Kind` means that it is of another kind than one of them.
     pub fn have(&self, value: &Value) -> Result<bool, Cause>
-        ensures { outcome (λ b. b) result ≡ model.lies_within (mapped.low self.now) (mapped.high self.now) (mapped.value value.now) }
+        ensures { outcome (λ b. b) result ≡ model.lies_within (mapped.low self.now) (mapped.high self.now)
+            (mapped.value value.now) }
     {
         match self {
             Bounds::Numbers(low, high) => {
@@ -89,7 +91,8 @@ fn stays_below_number(value: &Value, high: Option<i64>) -> Result<bool, Cause>
 }
 
 fn reaches_text(value: &Value, low: Option<&str>) -> Result<bool, Cause>
-    ensures { outcome (λ b. b) result ≡ model.reaches (option_map (λ s. text s.now) low.entry) (mapped.value value.now) }
+    ensures { outcome (λ b. b) result ≡ model.reaches (option_map (λ s. text s.now) low.entry)
+        (mapped.value value.now) }
 {
     match (low, value) {
         (Some(low), Value::Text(written)) => Ok(written.as_str() >= low),
@@ -99,7 +102,8 @@ fn reaches_text(value: &Value, low: Option<&str>) -> Result<bool, Cause>
 }
 
 fn stays_below_text(value: &Value, high: Option<&str>) -> Result<bool, Cause>
-    ensures { outcome (λ b. b) result ≡ model.stays_below (option_map (λ s. text s.now) high.entry) (mapped.value value.now) }
+    ensures { outcome (λ b. b) result ≡ model.stays_below (option_map (λ s. text s.now) high.entry)
+        (mapped.value value.now) }
 {
     match (high, value) {
         (Some(high), Value::Text(written)) => Ok(high >= written.as_str()),

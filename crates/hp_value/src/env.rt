@@ -87,7 +87,8 @@ impl Answer {
 
     /// The first row of the answer, with its key, if the query has this name.
     fn first_under(&self, name: &str) -> Option<(Key, &Row)>
-        ensures { option_map (λ r. record { key = r.0; row = r.1.now }) result ≡ first_under name.now (answer self.now) }
+        ensures { option_map (λ r. record { key = r.0; row = r.1.now }) result
+            ≡ first_under name.now (answer self.now) }
     {
         if name != self.name.as_str() {
             return None;
@@ -106,7 +107,8 @@ impl<'a> Names<'a> {
 
     /// The row that kept answers bind to a name, with its key: the last answer that binds it wins.
     fn answered(kept: &'a [Answer], name: &str) -> Option<(Key, &'a Row)>
-        ensures { option_map (λ r. record { key = r.0; row = r.1.now }) result ≡ lookup (bytes_eq name.now) (answered_rows (answers kept.now)) }
+        ensures { option_map (λ r. record { key = r.0; row = r.1.now }) result
+            ≡ lookup (bytes_eq name.now) (answered_rows (answers kept.now)) }
     {
         let mut found = None;
         for answer in kept {
@@ -130,7 +132,8 @@ impl<'a> Names<'a> {
 
     /// These names, and one more in front of them.
     pub fn bound<'b>(&'b self, name: &'b str, key: Key, row: &'b Row) -> Names<'b>
-        ensures { rows_in result ≡ (name.entry.now, record { key = key; row = row.entry.now }) ∷ rows_in self.entry.now }
+        ensures { rows_in result
+            ≡ (name.entry.now, record { key = key; row = row.entry.now }) ∷ rows_in self.entry.now }
     {
         Names::Bound {
             name,
@@ -142,7 +145,8 @@ impl<'a> Names<'a> {
 
     /// The innermost row of this name, with its key.
     pub fn row(&self, name: &str) -> Option<(Key, &'a Row)>
-        ensures { option_map (λ r. record { key = r.0; row = r.1.now }) result ≡ lookup (bytes_eq name.now) (rows_in self.now) }
+        ensures { option_map (λ r. record { key = r.0; row = r.1.now }) result
+            ≡ lookup (bytes_eq name.now) (rows_in self.now) }
     {
         match self {
             Names::Answers(answers) => Names::answered(answers, name),
@@ -169,7 +173,9 @@ impl<'a> Env<'a> {
 
     /// The environment in which a condition or an action begins.
     pub fn new(occurrence: Option<&'a Occurrence>, answers: &'a [Answer]) -> Env<'a>
-        ensures { mapped.environment result ≡ with_answers (record { occurrence = option_map (λ o. mapped.occurrence o.now) occurrence.entry; rows = [] }) (mapped.answers answers.entry.now) }
+        ensures { mapped.environment result ≡ with_answers
+            (record { occurrence = option_map (λ o. mapped.occurrence o.now) occurrence.entry; rows = [] })
+            (mapped.answers answers.entry.now) }
     {
         Env {
             occurrence,
@@ -185,7 +191,8 @@ impl<'a> Env<'a> {
 
     /// This environment with one more name, which hides outer ones.
     pub fn bound<'b>(&'b self, name: &'b str, key: Key, row: &'b Row) -> Env<'b>
-        ensures { environment result ≡ model.bound name.entry.now (record { key = key; row = row.entry.now }) (environment self.entry.now) }
+        ensures { environment result ≡ model.bound name.entry.now (record { key = key; row = row.entry.now })
+            (environment self.entry.now) }
     {
         Env {
             occurrence: self.occurrence,
@@ -196,7 +203,8 @@ impl<'a> Env<'a> {
     /// The innermost row of this name, with its key. `Kind` means that no row has the name; a checked expression uses
     /// no such name.
     pub fn row(&self, name: &str) -> Result<(Key, &'a Row), Cause>
-        ensures { outcome (λ r. record { key = r.0; row = r.1.now }) result ≡ model.row_named (environment self.now) name.now }
+        ensures { outcome (λ r. record { key = r.0; row = r.1.now }) result
+            ≡ model.row_named (environment self.now) name.now }
     {
         self.rows.row(name).ok_or(Cause::Kind)
     }

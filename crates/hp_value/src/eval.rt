@@ -62,7 +62,8 @@ fn calculation(
     a: &Expr,
     b: &Expr,
 ) -> Result<Value, Halt>
-    ensures { Meets value result (value_of (environment env.now) (model.arithmetic (arithmetic op) (expression a.now) (expression b.now))) }
+    ensures { Meets value result (value_of (environment env.now)
+        (model.arithmetic (arithmetic op) (expression a.now) (expression b.now))) }
 {
     let v = a.eval(alloc, env)?;
     let w = b.eval(alloc, env)?;
@@ -78,7 +79,8 @@ fn comparing(
     a: &Expr,
     b: &Expr,
 ) -> Result<Value, Halt>
-    ensures { Meets value result (value_of (environment env.now) (model.compared (comparison op) (expression a.now) (expression b.now))) }
+    ensures { Meets value result (value_of (environment env.now)
+        (model.compared (comparison op) (expression a.now) (expression b.now))) }
 {
     let v = a.eval(alloc, env)?;
     let w = b.eval(alloc, env)?;

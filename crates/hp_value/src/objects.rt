@@ -1,7 +1,8 @@
 //! Lists of a class's objects.
 
 ghost use lib.Pointwise.{pointwise};
-ghost use Rattle.std.specs.Prelude.{◌≡◌, ◌≤◌, ◌-◌, ◌&&◌, ◌++◌, ◌∷◌, [], List, map, take, drop, length, IsTrue, IfOk, OnOk, OnErr};
+ghost use Rattle.std.specs.Prelude.{◌≡◌, ◌≤◌, ◌-◌, ◌&&◌, ◌++◌, ◌∷◌, [], List, map};
+ghost use Rattle.std.specs.Prelude.{take, drop, length, IsTrue, IfOk, OnOk, OnErr};
 ghost use Rattle.std.specs.Ordering.{int_eq, on};
 ghost use Rattle.hp_model.specs.Values as model;
 ghost use Rattle.hp_value.specs.Mapped.{keyed_row};
@@ -39,7 +40,9 @@ impl Model for ObjectList {
     ghost use Rattle.std.specs.Prelude.{IsTrue};
     ghost use Rattle.hp_value.specs.Rows.{AreAlike, AreValues};
 
-    ghost invariant = { λ l. (l.keys.items ≡ keys_of (map keyed_row l.rows.items)) × (IsTrue l.are_alike → AreAlike (map keyed_row l.rows.items)) × AreValues l.numbers (map keyed_row l.rows.items) };
+    ghost invariant = { λ l. (l.keys.items ≡ keys_of (map keyed_row l.rows.items))
+        × (IsTrue l.are_alike → AreAlike (map keyed_row l.rows.items))
+        × AreValues l.numbers (map keyed_row l.rows.items) };
 }
 
 impl ObjectList {
@@ -84,8 +87,8 @@ impl ObjectList {
         Ok(())
     }
 
-    /// Adds the objects of another list from one place up to another. Their rows are shared, and names aren't compared for
-    /// each of them.
+    /// Adds the objects of another list from one place up to another. Their rows are shared, and names aren't compared
+    /// for each of them.
     ///
     /// An error means that memory ran out; some of them may have been added.
     pub fn extend(&mut self, other: &ObjectList, start: usize, end: usize) -> Result<(), AllocError>
@@ -102,7 +105,8 @@ impl ObjectList {
 
     // Whether all rows of both lists are known to have the names of the other list's first row.
     fn is_like(&self, other: &ObjectList) -> bool
-        ensures { IsTrue result → AreNamed (first_names other.now) other.now × AreNamed (first_names other.now) self.now }
+        ensures { IsTrue result → AreNamed (first_names other.now) other.now
+            × AreNamed (first_names other.now) self.now }
     {
         if self.rows.is_empty() {
             return other.are_alike;
@@ -126,7 +130,8 @@ impl ObjectList {
 
     // Whether all rows of both lists are known to have the same names.
     fn has_names_of(&self, other: &ObjectList) -> bool
-        ensures { IsTrue result → AreAlike self.now × AreAlike other.now × (first_names self.now ≡ first_names other.now) }
+        ensures { IsTrue result → AreAlike self.now × AreAlike other.now
+            × (first_names self.now ≡ first_names other.now) }
     {
         self.are_alike && other.are_alike && have_same_names(&self.rows, &other.rows)
     }
@@ -134,7 +139,8 @@ impl ObjectList {
     // Whether both lists have the same keys and values. Their rows have the same names.
     fn has_values_of(&self, other: &ObjectList) -> bool
         requires { AreAlike self.now × AreAlike other.now × (first_names self.now ≡ first_names other.now) }
-        ensures { result ≡ (pointwise int_eq (keys_of self.now) (keys_of other.now) && pointwise values_same self.now other.now) }
+        ensures { result ≡ (pointwise int_eq (keys_of self.now) (keys_of other.now)
+            && pointwise values_same self.now other.now) }
     {
         if !have_same_numbers(&self.keys, &other.keys) {
             return false;
@@ -177,7 +183,8 @@ impl Eq for ObjectList {
 
 // The integers, followed by a row's values; `None` if there were none, or if a value isn't an integer.
 fn with_numbers(numbers: Option<Vec<i64>>, row: &Row) -> Result<Option<Vec<i64>>, AllocError>
-    ensures { IfOk result (λ more. (objects : List model.KeyedRow) (added : model.KeyedRow) → added.row ≡ row.now → AreValues numbers objects → AreValues more (objects ++ added ∷ [])) }
+    ensures { IfOk result (λ more. (objects : List model.KeyedRow) (added : model.KeyedRow) → added.row ≡ row.now →
+        AreValues numbers objects → AreValues more (objects ++ added ∷ [])) }
 {
     let Some(mut numbers) = numbers else {
         return Ok(None);
@@ -193,7 +200,8 @@ fn with_numbers(numbers: Option<Vec<i64>>, row: &Row) -> Result<Option<Vec<i64>>
 
 // Whether an object's row is known to have the names of the first row, if there is one.
 fn is_like_first(rows: &[KeyedRow], added: &KeyedRow) -> bool
-    ensures { IsTrue result → AreAlike (map keyed_row rows.now) → AreAlike (map keyed_row rows.now ++ keyed_row added.now ∷ []) }
+    ensures { IsTrue result → AreAlike (map keyed_row rows.now) →
+        AreAlike (map keyed_row rows.now ++ keyed_row added.now ∷ []) }
 {
     match rows.first() {
         Some(first) => added.row.has_fields_of(&first.row),

@@ -1,7 +1,7 @@
 //! Views of a state: a snapshot of its cells, what was read of it, and what is written over it.
 //!
-//! The types stand for those of `hp_model`: `specs/Mapped.antt` has a function for each, and `specs/Seeing.antt` says what
-//! a view is to a clause.
+//! The types stand for those of `hp_model`: `specs/Mapped.antt` has a function for each, and `specs/Seeing.antt` says
+//! what a view is to a clause.
 #![tactic(auto)]
 
 mod look;

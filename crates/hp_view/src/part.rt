@@ -91,7 +91,8 @@ fn own_bounds(alloc: Global, bounds: Bounds<'_>) -> Result<FoundBounds, AllocErr
 }
 
 fn own_text(alloc: Global, written: Option<&str>) -> Result<Option<String>, AllocError>
-    ensures { IfOk result (λ own. option_map (λ s. text (string_bytes s)) own ≡ option_map (λ s. text s.now) written.entry) }
+    ensures { IfOk result (λ own. option_map (λ s. text (string_bytes s)) own
+        ≡ option_map (λ s. text s.now) written.entry) }
 {
     match written {
         Some(written) => Ok(Some(String::from_str(alloc, written)?)),
@@ -195,7 +196,8 @@ fn same_attributes(attribute: Attribute<'_>, other: Attribute<'_>) -> bool
 
 // Where neither has a bound on a side, they are the same there, whatever the kind of the other bounds.
 fn same_bounds(bounds: Bounds<'_>, others: Bounds<'_>) -> bool
-    ensures { result ≡ same_bound (mapped.low bounds.entry) (mapped.low others.entry) && same_bound (mapped.high bounds.entry) (mapped.high others.entry) }
+    ensures { result ≡ same_bound (mapped.low bounds.entry) (mapped.low others.entry)
+        && same_bound (mapped.high bounds.entry) (mapped.high others.entry) }
 {
     match (bounds, others) {
         (Bounds::Numbers(low, high), Bounds::Numbers(from, up_to)) => low == from && high == up_to,
@@ -212,7 +214,8 @@ fn same_bounds(bounds: Bounds<'_>, others: Bounds<'_>) -> bool
 }
 
 fn same_texts(written: Option<&str>, other: Option<&str>) -> bool
-    ensures { result ≡ same_bound (option_map (λ s. text s.now) written.entry) (option_map (λ s. text s.now) other.entry) }
+    ensures { result ≡ same_bound (option_map (λ s. text s.now) written.entry)
+        (option_map (λ s. text s.now) other.entry) }
 {
     match (written, other) {
         (Some(written), Some(other)) => written == other,

@@ -115,9 +115,9 @@ pub(crate) enum PartState {
     IsTaken,
 }
 
-/// What was read of a snapshot, in the order of the first reads: each cell with the value or the absence that was found,
-/// each class with its keys, or with all of its objects where it was read as a whole, each part of a class with its
-/// objects.
+/// What was read of a snapshot, in the order of the first reads: each cell with the value or the absence that was
+/// found, each class with its keys, or with all of its objects where it was read as a whole, each part of a class with
+/// its objects.
 #[derive(Debug, Drop)]
 pub struct Reads {
     entries: IndexMap<Seen, Found>,
@@ -142,14 +142,17 @@ impl Model for Reads {
 }
 
 impl Reads {
-    ghost use Rattle.std.specs.Prelude.{◌≡◌, ◌↔◌, true, false, [], Some, IsTrue, IsSome, IfOk, IfSome, OnOk, OnErr, is_some, map, option_map, length, take};
-    ghost use Rattle.hp_model.specs.Cells.{Cells, AreKeys, AreObjects, Holds, cell_read, keys_read, objects_read, part_read};
+    ghost use Rattle.std.specs.Prelude.{◌≡◌, ◌↔◌, true, false, [], Some, IsTrue, IsSome, IfOk, IfSome};
+    ghost use Rattle.std.specs.Prelude.{OnOk, OnErr, is_some, map, option_map, length, take};
+    ghost use Rattle.hp_model.specs.Cells.{Cells, AreKeys, AreObjects, Holds, cell_read};
+    ghost use Rattle.hp_model.specs.Cells.{keys_read, objects_read, part_read};
     ghost use Rattle.hp_value.specs.Mapped as mapped;
     ghost use Rattle.hp_store.specs.Mapped.{cell_value};
     ghost use Rattle.hp_view.specs.Mapped.{read, value_found};
     ghost use Rattle.hp_view.specs.Numbered.{IsStateOf};
     ghost use Rattle.hp_view.specs.Parts.{number_of};
-    ghost use Rattle.hp_view.specs.Seeing.{noted, class_was_read, row_was_read, cell_was_read, keys_were_read, number_was_read};
+    ghost use Rattle.hp_view.specs.Seeing.{noted, class_was_read, row_was_read};
+    ghost use Rattle.hp_view.specs.Seeing.{cell_was_read, keys_were_read, number_was_read};
 
     /// No reads.
     pub fn new(alloc: Global) -> Reads
@@ -211,7 +214,8 @@ impl Reads {
     /// All objects that were found in a class, if it was read as a whole.
     pub(crate) fn objects(&self, class: ClassNo) -> Option<&Arc<ObjectList>>
         ensures known { IsSome result → keys_were_read self.now class ≡ true }
-        ensures held { IfSome result (λ objects. (base : Cells) → Holds base self.now → AreObjects base class objects.now.value) }
+        ensures held { IfSome result (λ objects. (base : Cells) → Holds base self.now →
+            AreObjects base class objects.now.value) }
     {
         match self.entries.get(&Seen::Keys(class)) {
             Some(Found::Objects(objects)) => Some(objects),
@@ -221,7 +225,8 @@ impl Reads {
 
     /// What was found in a cell, if it was read by itself.
     pub(crate) fn in_cell(&self, cell: Cell) -> Option<&Found>
-        ensures { IfSome result (λ found. (base : Cells) → Holds base self.now → value_found found.now ≡ base (mapped.cell cell)) }
+        ensures { IfSome result (λ found. (base : Cells) → Holds base self.now →
+            value_found found.now ≡ base (mapped.cell cell)) }
     {
         self.entries.get(&Seen::Cell(cell))
     }
@@ -272,7 +277,8 @@ impl Reads {
         value: Option<&CellValue>,
     ) -> Result<(), AllocError>
         requires { cell_was_read self.old (mapped.cell cell) ≡ false }
-        ensures ok { OnOk result (self.new ≡ noted self.old (cell_read (mapped.cell cell) (option_map (λ v. cell_value v.now) value.entry))) }
+        ensures ok { OnOk result (self.new ≡ noted self.old
+            (cell_read (mapped.cell cell) (option_map (λ v. cell_value v.now) value.entry))) }
         ensures err { OnErr result (self.new ≡ self.old) }
     {
         let found = shared(value)?;
@@ -323,7 +329,8 @@ impl Reads {
         objects: Vec<KeyedRow>,
     ) -> Result<(), AllocError>
         requires { number_was_read self.old class (number_of (mapped.class_part part.now)) ≡ false }
-        ensures ok { OnOk result (self.new ≡ noted self.old (part_read class (mapped.class_part part.now) (map mapped.keyed_row objects.items))) }
+        ensures ok { OnOk result (self.new ≡ noted self.old
+            (part_read class (mapped.class_part part.now) (map mapped.keyed_row objects.items))) }
         ensures err { OnErr result (self.new ≡ self.old) }
     {
         let found = Arc::new(alloc, FoundPart::new(alloc, part, objects)?)?;
@@ -338,7 +345,8 @@ impl Reads {
 
 // Whether the part that was found under a number is this one.
 fn compared(found: &Found, part: &ClassPart<'_>) -> PartState
-    ensures { result ≡ cond (same_part (part_found found.now) (mapped.class_part part.now)) PartState.WasRead PartState.IsTaken }
+    ensures { result
+        ≡ cond (same_part (part_found found.now) (mapped.class_part part.now)) PartState.WasRead PartState.IsTaken }
 {
     if is_same(&found.part(), part) {
         PartState::WasRead

@@ -1,6 +1,7 @@
 //! Writes that can be taken back.
 
-ghost use Rattle.std.specs.Prelude.{◌≡◌, ◌≤◌, ◌++◌, [], ◌∷◌, length, drop, take, map, Some, IsSome, OnOk, OnErr, option_map};
+ghost use Rattle.std.specs.Prelude.{◌≡◌, ◌≤◌, ◌++◌, [], ◌∷◌, length, drop, take};
+ghost use Rattle.std.specs.Prelude.{map, Some, IsSome, OnOk, OnErr, option_map};
 ghost use Rattle.std.specs.Option.{option_or};
 ghost use Rattle.hp_model.specs.Cells.{Cell as ModelCell, with_change};
 ghost use Rattle.hp_value.specs.Mapped as mapped;
@@ -26,8 +27,10 @@ pub(crate) fn write(
     cell: Cell,
     change: Option<CellValue>,
 ) -> Result<(), AllocError>
-    ensures changes { OnOk result (changes writes.new.value ≡ with_change (changes writes.old.value) (mapped.cell cell) (Some (written_value change))) }
-    ensures undo { OnOk result (map replaced undo.new.items ≡ map replaced undo.old.items ++ (mapped.cell cell, changes writes.old.value (mapped.cell cell)) ∷ []) }
+    ensures changes { OnOk result (changes writes.new.value
+        ≡ with_change (changes writes.old.value) (mapped.cell cell) (Some (written_value change))) }
+    ensures undo { OnOk result (map replaced undo.new.items ≡ map replaced undo.old.items
+        ++ (mapped.cell cell, changes writes.old.value (mapped.cell cell)) ∷ []) }
     ensures err { OnErr result ((writes.new.value ≡ writes.old.value) × (undo.new.items ≡ undo.old.items)) }
 {
     let layer = Arc::make_mut(writes)?;
@@ -42,8 +45,10 @@ fn write_in(
     cell: Cell,
     change: Option<CellValue>,
 ) -> Result<(), AllocError>
-    ensures changes { OnOk result (changes writes.new ≡ with_change (changes writes.old) (mapped.cell cell) (Some (written_value change))) }
-    ensures undo { OnOk result (map replaced undo.new.items ≡ map replaced undo.old.items ++ (mapped.cell cell, changes writes.old (mapped.cell cell)) ∷ []) }
+    ensures changes { OnOk result (changes writes.new
+        ≡ with_change (changes writes.old) (mapped.cell cell) (Some (written_value change))) }
+    ensures undo { OnOk result (map replaced undo.new.items ≡ map replaced undo.old.items
+        ++ (mapped.cell cell, changes writes.old (mapped.cell cell)) ∷ []) }
     ensures err { OnErr result ((writes.new ≡ writes.old) × (undo.new.items ≡ undo.old.items)) }
 {
     undo.reserve(1)?;
@@ -52,8 +57,8 @@ fn write_in(
     Ok(())
 }
 
-/// Writes all changes of another layer, which are shared, and keeps what they replace. The layer is copied first if others
-/// share it.
+/// Writes all changes of another layer, which are shared, and keeps what they replace. The layer is copied first if
+/// others share it.
 ///
 /// An error means that memory ran out; what the layer makes of each cell, and what it replaced, are then as before.
 pub(crate) fn write_all(
@@ -62,9 +67,12 @@ pub(crate) fn write_all(
     upper: &Layer,
 ) -> Result<(), AllocError>
     requires { AreCovered (map replaced undo.old.items) (changes writes.old.value) }
-    ensures ok { OnOk result ((q : ModelCell) → changes writes.new.value q ≡ option_or (changes upper.now q) (changes writes.old.value q)) }
-    ensures back { OnOk result (CanGoBack (map replaced undo.old.items) (changes writes.old.value) (map replaced undo.new.items) (changes writes.new.value)) }
-    ensures err { OnErr result ((changes writes.new.value ≡ changes writes.old.value) × (map replaced undo.new.items ≡ map replaced undo.old.items)) }
+    ensures ok { OnOk result ((q : ModelCell) → changes writes.new.value q
+        ≡ option_or (changes upper.now q) (changes writes.old.value q)) }
+    ensures back { OnOk result (CanGoBack (map replaced undo.old.items) (changes writes.old.value)
+        (map replaced undo.new.items) (changes writes.new.value)) }
+    ensures err { OnErr result ((changes writes.new.value ≡ changes writes.old.value)
+        × (map replaced undo.new.items ≡ map replaced undo.old.items)) }
 {
     let layer = Arc::make_mut(writes)?;
     let start = undo.len();
@@ -75,11 +83,14 @@ pub(crate) fn write_all(
     Ok(())
 }
 
-// The same in a layer that nobody shares. An error means that memory ran out; some of the changes may have been written.
+// The same in a layer that nobody shares. An error means that memory ran out; some of the changes may have been
+// written.
 fn write_each(writes: &mut Layer, undo: &mut Vec<Replaced>, upper: &Layer) -> Result<(), AllocError>
     requires { AreCovered (map replaced undo.old.items) (changes writes.old) }
-    ensures ok { OnOk result ((q : ModelCell) → changes writes.new q ≡ option_or (changes upper.now q) (changes writes.old q)) }
-    ensures back { CanGoBack (map replaced undo.old.items) (changes writes.old) (map replaced undo.new.items) (changes writes.new) }
+    ensures ok { OnOk result ((q : ModelCell) → changes writes.new q
+        ≡ option_or (changes upper.now q) (changes writes.old q)) }
+    ensures back { CanGoBack (map replaced undo.old.items) (changes writes.old) (map replaced undo.new.items)
+        (changes writes.new) }
 {
     for (cell, change) in upper.iter() {
         write_in(writes, undo, *cell, change.clone()?)?;
@@ -97,7 +108,8 @@ pub(crate) fn take_back(
 ) -> Result<(), AllocError>
     requires within { at ≤ length undo.old.items }
     requires covered { AreCovered (map replaced undo.old.items) (changes writes.old.value) }
-    ensures changes { OnOk result (changes writes.new.value ≡ undone (drop at (map replaced undo.old.items)) (changes writes.old.value)) }
+    ensures changes { OnOk result (changes writes.new.value
+        ≡ undone (drop at (map replaced undo.old.items)) (changes writes.old.value)) }
     ensures undo { OnOk result (map replaced undo.new.items ≡ take at (map replaced undo.old.items)) }
     ensures covered { AreCovered (map replaced undo.new.items) (changes writes.new.value) }
     ensures err { OnErr result ((writes.new.value ≡ writes.old.value) × (undo.new.items ≡ undo.old.items)) }
@@ -128,7 +140,8 @@ fn unwind(writes: &mut Layer, undo: &mut Vec<Replaced>, at: usize)
 // Gives a cell back what a write replaced.
 fn restore(writes: &mut Layer, cell: Cell, before: Option<Option<CellValue>>)
     requires { IsSome (changes writes.old (mapped.cell cell)) }
-    ensures { changes writes.new ≡ with_change (changes writes.old) (mapped.cell cell) (option_map written_value before) }
+    ensures { changes writes.new ≡ with_change (changes writes.old) (mapped.cell cell)
+        (option_map written_value before) }
 {
     match before {
         Some(change) => {

@@ -1,6 +1,7 @@
 //! A view: a snapshot, what was read of it, and what is written over it.
 
-ghost use Rattle.std.specs.Prelude.{◌≡◌, ◌↔◌, ℕ, ℤ, List, All, ◌≤◌, [], true, false, length, take, map, None, Some, is_some, IsTrue, IsOk, IsSome, IfOk, IfSome, IfNone, OnOk, OnErr, option_map};
+ghost use Rattle.std.specs.Prelude.{◌≡◌, ◌↔◌, ℕ, ℤ, List, All, ◌≤◌, [], true, false, length, take, map, None, Some};
+ghost use Rattle.std.specs.Prelude.{is_some, IsTrue, IsOk, IsSome, IfOk, IfSome, IfNone, OnOk, OnErr, option_map};
 ghost use Rattle.std.specs.List.{list_all};
 ghost use Rattle.hp_model.specs.Values as model;
 ghost use Rattle.hp_model.specs.Cells.{Cells, AreKeys, AreObjects, ArePart, Holds, object_cell, objects_read, over};
@@ -9,7 +10,10 @@ ghost use Rattle.hp_store.specs.Mapped.{cell_value};
 ghost use Rattle.hp_store.specs.Stack.{cells_in};
 ghost use Rattle.hp_view.specs.Adding.{AddsReads, IsOfClass};
 ghost use Rattle.hp_view.specs.Keeping.{KeepsObject};
-ghost use Rattle.hp_view.specs.Seeing.{Seeing as Seen, beneath, written, now_in, noted, read_cell, row_was_read, cell_was_read, keys_were_read, Writes, TakesIn, IsSame, GoesBack, GoesOn, Restores, OnlyReads, Shows, ShowsKeys, ShowsObjects, ShowsPart, ReadsKeys, ReadsPart};
+ghost use Rattle.hp_view.specs.Seeing.{Seeing as Seen, beneath, written, now_in, noted, read_cell, row_was_read};
+ghost use Rattle.hp_view.specs.Seeing.{cell_was_read, keys_were_read, Writes, TakesIn, IsSame, GoesBack, GoesOn};
+ghost use Rattle.hp_view.specs.Seeing.{Restores, OnlyReads, Shows, ShowsKeys, ShowsObjects, ShowsPart, ReadsKeys};
+ghost use Rattle.hp_view.specs.Seeing.{ReadsPart};
 ghost use Rattle.hp_view.specs.Wholes.{is_row};
 
 use crate::reads::{PartState, Reads};
@@ -22,9 +26,9 @@ use std::sync::Arc;
 
 /// A snapshot of a state's cells, what was read of it, and what is written over it.
 ///
-/// A transaction works on a view. What it reads is recorded with what the snapshot holds beneath the view's own writes, so
-/// that another state where these reads hold would have shown the same. A transaction inside begins at a `Mark` and is
-/// taken back from there; its reads stay.
+/// A transaction works on a view. What it reads is recorded with what the snapshot holds beneath the view's own writes,
+/// so that another state where these reads hold would have shown the same. A transaction inside begins at a `Mark` and
+/// is taken back from there; its reads stay.
 #[derive(Debug, Drop)]
 pub struct View {
     base: Snapshot,
@@ -47,7 +51,8 @@ impl Model for View {
     ghost use Rattle.hp_view.specs.Mapped.{replaced};
     ghost use Rattle.hp_view.specs.Seeing.{IsKept};
 
-    ghost view = { λ v. record { base = v.base; reads = v.reads; writes = v.writes.value; undo = map replaced v.undo.items } };
+    ghost view = { λ v.
+        record { base = v.base; reads = v.reads; writes = v.writes.value; undo = map replaced v.undo.items } };
 
     ghost invariant = { λ v. IsKept v.base v.reads v.writes.value (map replaced v.undo.items) };
 }
@@ -138,11 +143,13 @@ impl View {
     /// A cell that was read before, by itself or with its whole class, or that the view's own writes cover, takes no
     /// memory. An error means that memory ran out; the view is then as before.
     pub fn get(&mut self, cell: Cell) -> Result<Option<&CellValue>, AllocError>
-        ensures value { IfOk result (λ found. option_map (λ v. cell_value v.now) found ≡ now_in self.old (mapped.cell cell)) }
+        ensures value { IfOk result (λ found. option_map (λ v. cell_value v.now) found
+            ≡ now_in self.old (mapped.cell cell)) }
         ensures covered { IsSome (written self.old (mapped.cell cell)) → IsOk result }
         ensures again { IsTrue (cell_was_read self.old.reads (mapped.cell cell)) → IsOk result }
         ensures in_class { IsTrue (row_was_read self.old.reads (mapped.cell cell)) → IsOk result }
-        ensures* after { sem 𝓛 (follows_so the_row the_row self.entry.ghost_name none (λ _ _. ⊤) (λ v. ReadsCell self.old v (mapped.cell cell) (is_ok result))) }
+        ensures* after { sem 𝓛 (follows_so the_row the_row self.entry.ghost_name none (λ _ _. ⊤) (λ v.
+            ReadsCell self.old v (mapped.cell cell) (is_ok result))) }
     {
         self.read(cell)?;
         Ok(self.peek(cell))
@@ -150,7 +157,8 @@ impl View {
 }
 
 impl View {
-    /// How many cells the view has written. So many are copied by its first write after `freeze`, while the snapshot lives.
+    /// How many cells the view has written. So many are copied by its first write after `freeze`, while the snapshot
+    /// lives.
     pub fn written(&self) -> usize
         ensures { result ≡ length self.now.writes }
     {
@@ -212,12 +220,13 @@ impl View {
 
     /// Ends a transaction inside. What it wrote goes, and what it read stays.
     ///
-    /// No memory is taken unless a frozen snapshot still shares the writes. An error means that memory for a copy of them
-    /// ran out; the view is then as before.
+    /// No memory is taken unless a frozen snapshot still shares the writes. An error means that memory for a copy of
+    /// them ran out; the view is then as before.
     pub fn abort(&mut self, mark: Mark) -> Result<(), AllocError>
         requires { mark ≤ length self.old.undo }
         ensures ok { OnOk result (GoesBack self.old self.new mark) }
-        ensures restores { OnOk result ((entered : Seen) → GoesOn entered self.old → length entered.undo ≡ mark → Restores entered self.new) }
+        ensures restores { OnOk result ((entered : Seen) → GoesOn entered self.old → length entered.undo ≡ mark →
+            Restores entered self.new) }
         ensures err { OnErr result (self.new ≡ self.old) }
     {
         let Mark { at } = mark;
@@ -229,13 +238,14 @@ impl View {
 impl View {
     /// Reads the keys of a class's objects, which are then those that `has_keys` takes.
     ///
-    /// They are recorded as they stand beneath the view's own writes, unless they were read before: then it takes no memory.
-    /// An error means that memory ran out; the view is then as before.
+    /// They are recorded as they stand beneath the view's own writes, unless they were read before: then it takes no
+    /// memory. An error means that memory ran out; the view is then as before.
     pub fn read_keys(&mut self, alloc: Global, class: ClassNo) -> Result<(), AllocError>
         ensures reads { OnOk result (ReadsKeys self.old self.new class) }
         ensures err { OnErr result (self.new ≡ self.old) }
         ensures again { IsTrue (keys_were_read self.old.reads class) → IsOk result }
-        ensures shows { OnOk result ((keys : List ℤ) → AreKeys (now_in self.old) class keys → ShowsKeys self.new class keys) }
+        ensures shows { OnOk result ((keys : List ℤ) → AreKeys (now_in self.old) class keys →
+            ShowsKeys self.new class keys) }
         ensures only { OnlyReads self.old self.new }
         ensures goes_on { GoesOn self.old self.new }
     {
@@ -249,8 +259,8 @@ impl View {
 
     /// The keys of a class's objects, in rising order.
     ///
-    /// They are recorded as they stand beneath the view's own writes, unless they were read before. The time goes with the
-    /// class's keys and the writes of its objects. An error means that memory ran out; the view is then as before.
+    /// They are recorded as they stand beneath the view's own writes, unless they were read before. The time goes with
+    /// the class's keys and the writes of its objects. An error means that memory ran out; the view is then as before.
     pub fn keys(&mut self, alloc: Global, class: ClassNo) -> Result<Vec<Key>, AllocError>
         ensures reads { OnOk result (ReadsKeys self.old self.new class) }
         ensures err { OnErr result (self.new ≡ self.old) }
@@ -275,18 +285,19 @@ impl View {
 }
 
 impl View {
-    /// All objects of a class with their rows, by rising keys. None where the view's own writes name one of them, or where
-    /// the class's keys were read alone.
+    /// All objects of a class with their rows, by rising keys. None where the view's own writes name one of them, or
+    /// where the class's keys were read alone.
     ///
-    /// The class is then read as a whole, as it stands in the snapshot: that is one read, and the list is shared. It takes no
-    /// time that goes with the class's objects, where it was read so before or where the snapshot keeps the list. An error
-    /// means that memory ran out; the view is then as before.
+    /// The class is then read as a whole, as it stands in the snapshot: that is one read, and the list is shared. It
+    /// takes no time that goes with the class's objects, where it was read so before or where the snapshot keeps the
+    /// list. An error means that memory ran out; the view is then as before.
     pub fn objects(
         &mut self,
         alloc: Global,
         class: ClassNo,
     ) -> Result<Option<Arc<ObjectList>>, AllocError>
-        ensures reads { IfOk result (λ found. IfSome found (λ objects. self.new ≡ record self.old { reads = noted self.old.reads (objects_read class objects.value) })) }
+        ensures reads { IfOk result (λ found. IfSome found (λ objects.
+            self.new ≡ record self.old { reads = noted self.old.reads (objects_read class objects.value) })) }
         ensures none { IfOk result (λ found. IfNone found (self.new ≡ self.old)) }
         ensures err { OnErr result (self.new ≡ self.old) }
         ensures shows { IfOk result (λ found. IfSome found (λ objects. ShowsObjects self.new class objects.value)) }
@@ -301,12 +312,12 @@ impl View {
         Ok(objects)
     }
 
-    /// All objects of a class with their rows, by rising keys, also where the view's own writes name some of them. None where
-    /// the class's keys were read alone, or where the cell of an object holds something else than a row.
+    /// All objects of a class with their rows, by rising keys, also where the view's own writes name some of them. None
+    /// where the class's keys were read alone, or where the cell of an object holds something else than a row.
     ///
-    /// The class is read as `objects` reads it: as a whole, as it stands beneath the view's own writes. Where these name none
-    /// of its objects, that list is shared; else one is made of it and the writes, which takes time that goes with the class's
-    /// objects, but no look-up of a cell. An error means that memory ran out.
+    /// The class is read as `objects` reads it: as a whole, as it stands beneath the view's own writes. Where these
+    /// name none of its objects, that list is shared; else one is made of it and the writes, which takes time that goes
+    /// with the class's objects, but no look-up of a cell. An error means that memory ran out.
     pub fn all_objects(
         &mut self,
         alloc: Global,
@@ -325,15 +336,16 @@ impl View {
         Ok(objects)
     }
 
-    // The objects of a class after the view's own writes, from those beneath. None where a write gives an object something else
-    // than a row.
+    // The objects of a class after the view's own writes, from those beneath. None where a write gives an object
+    // something else than a row.
     fn written_over(
         &self,
         alloc: Global,
         class: ClassNo,
         under: Arc<ObjectList>,
     ) -> Result<Option<Arc<ObjectList>>, AllocError>
-        ensures { IfOk result (λ found. IfSome found (λ objects. (base : Cells) → AreObjects base class under.value → AreObjects (over base (written self.now)) class objects.value)) }
+        ensures { IfOk result (λ found. IfSome found (λ objects. (base : Cells) → AreObjects base class under.value →
+            AreObjects (over base (written self.now)) class objects.value)) }
     {
         if !self.writes.names_objects_of(class) {
             return Ok(Some(under));
@@ -344,17 +356,19 @@ impl View {
         Ok(Some(Arc::new(alloc, objects)?))
     }
 
-    // Reads a class as a whole, as it stands beneath the view's own writes. None where its keys were read alone, or where the
-    // cell of an object holds something else than a row: then nothing is read.
+    // Reads a class as a whole, as it stands beneath the view's own writes. None where its keys were read alone, or
+    // where the cell of an object holds something else than a row: then nothing is read.
     fn whole_beneath(
         &mut self,
         alloc: Global,
         class: ClassNo,
     ) -> Result<Option<Arc<ObjectList>>, AllocError>
-        ensures reads { IfOk result (λ found. IfSome found (λ objects. self.new ≡ record self.old { reads = noted self.old.reads (objects_read class objects.value) })) }
+        ensures reads { IfOk result (λ found. IfSome found (λ objects.
+            self.new ≡ record self.old { reads = noted self.old.reads (objects_read class objects.value) })) }
         ensures none { IfOk result (λ found. IfNone found (self.new ≡ self.old)) }
         ensures err { OnErr result (self.new ≡ self.old) }
-        ensures held { IfOk result (λ found. IfSome found (λ objects. (base : Cells) → Holds base self.new.reads → AreObjects base class objects.value)) }
+        ensures held { IfOk result (λ found. IfSome found (λ objects. (base : Cells) → Holds base self.new.reads →
+            AreObjects base class objects.value)) }
         ensures only { OnlyReads self.old self.new }
         ensures goes_on { GoesOn self.old self.new }
         ensures so_it_was { OnOk result (Holds (beneath self.new) self.new.reads) }
@@ -373,14 +387,16 @@ impl View {
         Ok(Some(objects))
     }
 
-    /// Reads all objects of a class, which are then those that `has_objects` takes: as a whole, as `all_objects` does, and
-    /// else its keys and the cell of each object.
+    /// Reads all objects of a class, which are then those that `has_objects` takes: as a whole, as `all_objects` does,
+    /// and else its keys and the cell of each object.
     ///
     /// An error means that memory ran out; some of it may have been read.
     pub fn read_objects(&mut self, alloc: Global, class: ClassNo) -> Result<(), AllocError>
         ensures reads { AddsReads (IsOfClass (written self.old) class) self.old.reads self.new.reads }
-        ensures cells { OnOk result ((key : ℤ) → Shows self.new (object_cell class key) (now_in self.old (object_cell class key))) }
-        ensures shows { OnOk result ((objects : List model.KeyedRow) → AreObjects (now_in self.old) class objects → ShowsObjects self.new class objects) }
+        ensures cells { OnOk result ((key : ℤ) →
+            Shows self.new (object_cell class key) (now_in self.old (object_cell class key))) }
+        ensures shows { OnOk result ((objects : List model.KeyedRow) → AreObjects (now_in self.old) class objects →
+            ShowsObjects self.new class objects) }
         ensures only { OnlyReads self.old self.new }
         ensures goes_on { GoesOn self.old self.new }
     {
@@ -395,7 +411,8 @@ impl View {
     // Reads the cells of the objects of a class that have these keys.
     fn read_rows(&mut self, class: ClassNo, keys: &[Key]) -> Result<(), AllocError>
         ensures reads { AddsReads (IsOfClass (written self.old) class) self.old.reads self.new.reads }
-        ensures shows { OnOk result (All (λ key. Shows self.new (object_cell class key) (now_in self.old (object_cell class key))) keys.now) }
+        ensures shows { OnOk result
+            (All (λ key. Shows self.new (object_cell class key) (now_in self.old (object_cell class key))) keys.now) }
         ensures only { OnlyReads self.old self.new }
         ensures goes_on { GoesOn self.old self.new }
     {
@@ -405,29 +422,33 @@ impl View {
         Ok(())
     }
 
-    /// Whether these are the objects of a part of a class, by rising keys and with the rows that they have, and it can be told
-    /// of each other object that it doesn't belong to the part. Nothing is recorded, and no memory is taken.
+    /// Whether these are the objects of a part of a class, by rising keys and with the rows that they have, and it can
+    /// be told of each other object that it doesn't belong to the part. Nothing is recorded, and no memory is taken.
     pub fn has_part(&self, class: ClassNo, part: &ClassPart<'_>, objects: &[KeyedRow]) -> bool
-        ensures { IsTrue result ↔ ArePart (now_in self.now) class (mapped.class_part part.now) (map mapped.keyed_row objects.now) }
+        ensures { IsTrue result ↔ ArePart (now_in self.now) class (mapped.class_part part.now)
+            (map mapped.keyed_row objects.now) }
     {
         self.base.has_part_over(&self.writes, class, part, objects)
     }
 
-    /// Reads a part of a class, whose objects are then those that `has_part` takes. The answer is no where nothing is read:
-    /// the part can't be found without a look at all objects of the class, or it can't be recorded.
+    /// Reads a part of a class, whose objects are then those that `has_part` takes. The answer is no where nothing is
+    /// read: the part can't be found without a look at all objects of the class, or it can't be recorded.
     ///
-    /// It is recorded as it stands beneath the view's own writes, unless it was read before: then it takes no memory. An
-    /// error means that memory ran out; the view is then as before.
+    /// It is recorded as it stands beneath the view's own writes, unless it was read before: then it takes no memory.
+    /// An error means that memory ran out; the view is then as before.
     pub fn read_part(
         &mut self,
         alloc: Global,
         class: ClassNo,
         part: &ClassPart<'_>,
     ) -> Result<bool, AllocError>
-        ensures reads { IfOk result (λ is_read. is_read ≡ true → ReadsPart self.old self.new class (mapped.class_part part.now)) }
+        ensures reads { IfOk result (λ is_read. is_read ≡ true →
+            ReadsPart self.old self.new class (mapped.class_part part.now)) }
         ensures none { IfOk result (λ is_read. is_read ≡ false → self.new ≡ self.old) }
         ensures err { OnErr result (self.new ≡ self.old) }
-        ensures shows { IfOk result (λ is_read. is_read ≡ true → (objects : List model.KeyedRow) → ArePart (now_in self.old) class (mapped.class_part part.now) objects → ShowsPart self.new class (mapped.class_part part.now) objects) }
+        ensures shows { IfOk result (λ is_read. is_read ≡ true → (objects : List model.KeyedRow) →
+            ArePart (now_in self.old) class (mapped.class_part part.now) objects →
+            ShowsPart self.new class (mapped.class_part part.now) objects) }
         ensures only { OnlyReads self.old self.new }
         ensures goes_on { GoesOn self.old self.new }
         ensures so_it_was { OnOk result (Holds (beneath self.new) self.new.reads) }
@@ -444,21 +465,23 @@ impl View {
         Ok(true)
     }
 
-    /// The objects of a part of a class with their rows, by rising keys. None where nothing is read: the part can't be found
-    /// without a look at all objects of the class, or it can't be recorded.
+    /// The objects of a part of a class with their rows, by rising keys. None where nothing is read: the part can't be
+    /// found without a look at all objects of the class, or it can't be recorded.
     ///
-    /// It is recorded as it stands beneath the view's own writes, unless it was read before. An error means that memory ran
-    /// out; the view is then as before.
+    /// It is recorded as it stands beneath the view's own writes, unless it was read before. An error means that memory
+    /// ran out; the view is then as before.
     pub fn part(
         &mut self,
         alloc: Global,
         class: ClassNo,
         part: &ClassPart<'_>,
     ) -> Result<Option<Vec<KeyedRow>>, AllocError>
-        ensures reads { IfOk result (λ found. IsSome found → ReadsPart self.old self.new class (mapped.class_part part.now)) }
+        ensures reads { IfOk result (λ found. IsSome found →
+            ReadsPart self.old self.new class (mapped.class_part part.now)) }
         ensures none { IfOk result (λ found. IfNone found (self.new ≡ self.old)) }
         ensures err { OnErr result (self.new ≡ self.old) }
-        ensures shows { IfOk result (λ found. IfSome found (λ objects. ShowsPart self.new class (mapped.class_part part.now) (map mapped.keyed_row objects.items))) }
+        ensures shows { IfOk result (λ found. IfSome found (λ objects.
+            ShowsPart self.new class (mapped.class_part part.now) (map mapped.keyed_row objects.items))) }
         ensures only { OnlyReads self.old self.new }
         ensures goes_on { GoesOn self.old self.new }
         ensures so_it_was { OnOk result (Holds (beneath self.new) self.new.reads) }
@@ -473,9 +496,9 @@ impl View {
         }
     }
 
-    /// Lists the objects of a class beneath the view's own writes, so that `has_objects` looks at the list, and snapshots which
-    /// are frozen from now on have one, too: this one, or where the writes name some of these objects, one made of this one
-    /// and the writes. Nothing is recorded.
+    /// Lists the objects of a class beneath the view's own writes, so that `has_objects` looks at the list, and
+    /// snapshots which are frozen from now on have one, too: this one, or where the writes name some of these objects,
+    /// one made of this one and the writes. Nothing is recorded.
     ///
     /// An error means that memory ran out.
     pub fn keep_objects(&mut self, alloc: Global, class: ClassNo) -> Result<(), AllocError>
@@ -485,8 +508,8 @@ impl View {
         Ok(())
     }
 
-    /// Keeps an index of the field of a part in the view's own writes from now on, so that they are looked at less where the
-    /// part is asked for. It is not kept where a frozen snapshot shares the writes, or where memory runs out.
+    /// Keeps an index of the field of a part in the view's own writes from now on, so that they are looked at less
+    /// where the part is asked for. It is not kept where a frozen snapshot shares the writes, or where memory runs out.
     pub fn keep_index(&mut self, alloc: Global, class: ClassNo, part: &ClassPart<'_>)
         ensures { self.new ≡ self.old }
     {
@@ -505,8 +528,8 @@ impl View {
         }
     }
 
-    /// Whether these are all objects of a class, by rising keys and with the rows that they have. Nothing is recorded, and no
-    /// memory is taken.
+    /// Whether these are all objects of a class, by rising keys and with the rows that they have. Nothing is recorded,
+    /// and no memory is taken.
     pub fn has_objects(&self, class: ClassNo, objects: &ObjectList) -> bool
         ensures { IsTrue result ↔ AreObjects (now_in self.now) class objects.now }
     {
@@ -521,7 +544,8 @@ impl View {
 
     // Whether the objects of a class with these keys have these rows.
     fn has_rows(&self, class: ClassNo, rows: &[KeyedRow]) -> bool
-        ensures { result ≡ list_all (λ (o : model.KeyedRow). is_row (now_in self.now (object_cell class o.key)) o.row) (map mapped.keyed_row rows.now) }
+        ensures { result ≡ list_all (λ (o : model.KeyedRow).
+            is_row (now_in self.now (object_cell class o.key)) o.row) (map mapped.keyed_row rows.now) }
     {
         for object in rows {
             if !self.has_row(class, object) {
@@ -543,8 +567,8 @@ impl View {
 }
 
 impl View {
-    /// A snapshot of the view's cells, from which others start. It shares the view's writes and copies no cell; while it
-    /// lives, the next write of the view copies them.
+    /// A snapshot of the view's cells, from which others start. It shares the view's writes and copies no cell; while
+    /// it lives, the next write of the view copies them.
     ///
     /// An error means that memory ran out.
     pub fn freeze(&self, alloc: Global) -> Result<Snapshot, AllocError>
@@ -559,8 +583,8 @@ impl View {
     pub fn has_keys(&self, class: ClassNo, keys: &[Key]) -> bool
         ensures { IsTrue result ↔ AreKeys (now_in self.now) class keys.now }
     {
-        // The keys that were read are still the class's, where the view has made and deleted none of its objects. To see that
-        // pays where there are no more writes than keys.
+        // The keys that were read are still the class's, where the view has made and deleted none of its objects. To
+        // see that pays where there are no more writes than keys.
         if let Some(recorded) = self.reads.keys(class) {
             if self.writes.len() <= keys.len() && keeps_objects(&self.base, &self.writes, class) {
                 return recorded == keys;
@@ -622,7 +646,8 @@ fn keeps_objects(base: &Snapshot, layer: &Layer, class: ClassNo) -> bool
 
 // Whether a change of a cell leaves an object of the class where it is.
 fn keeps(base: &Snapshot, cell: Cell, change: &Option<CellValue>, class: ClassNo) -> bool
-    ensures { IsTrue result → (key : ℤ) → mapped.cell cell ≡ object_cell class key → is_some change.now ≡ is_some (cells_in base.now (object_cell class key)) }
+    ensures { IsTrue result → (key : ℤ) → mapped.cell cell ≡ object_cell class key →
+        is_some change.now ≡ is_some (cells_in base.now (object_cell class key)) }
 {
     match cell {
         Cell::Object(of, _) => of != class || change.is_some() == base.get(cell).is_some(),

@@ -1,6 +1,7 @@
 //! Attempts at firings over a small bank, with values worked out by hand.
 //!
-//! A function that owns views or attempts has few `?`, and hands them on by reference: with many its proof takes minutes.
+//! A function that owns views or attempts has few `?`, and hands them on by reference: with many its proof takes
+//! minutes.
 
 use crate::fixtures::{bank, set, shown};
 use hp_attempt::{Attempt, Outcome, Settled, first_failed, holds, settle, settle_front};

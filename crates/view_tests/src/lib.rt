@@ -1,4 +1,5 @@
-//! Tests of stores, views, boards and attempts: what no clause says of them, and their public functions on the happy path.
+//! Tests of stores, views, boards and attempts: what no clause says of them, and their public functions on the happy
+//! path.
 #![tactic(auto)]
 
 #[cfg(test)]

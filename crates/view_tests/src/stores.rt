@@ -1,6 +1,7 @@
 //! The store at work, and what no clause says: each refused allocation leaves it as it was.
 //!
-//! A function that owns stores and snapshots has few `?` and hands them on by reference: with many it takes minutes to prove.
+//! A function that owns stores and snapshots has few `?` and hands them on by reference: with many it takes minutes to
+//! prove.
 
 use hp_store::{CellValue, Layer, Snapshot, Status, Store};
 use hp_value::{Cell, Key, Row};
@@ -278,8 +279,8 @@ fn stack_ten(rt: &impl Abort, alloc: Global, store: &mut Store) -> Result<(), Fa
     Ok(())
 }
 
-/// To be run with each allocation refused in turn, by `rt try --test --fail-alloc N`: a refused layer changes nothing, and
-/// the test ends in `Err` only where its own work is refused.
+/// To be run with each allocation refused in turn, by `rt try --test --fail-alloc N`: a refused layer changes nothing,
+/// and the test ends in `Err` only where its own work is refused.
 #[test]
 fn refused_layers_change_nothing(rt: HostRuntime) -> Result<(), Fail> {
     let mut store = store_of_three(rt.alloc())?;
