@@ -835,12 +835,11 @@ CASES = [
     Case(
         "a field left out of a create", "S4 /items/0/1/0/3",
         body('["create", "acct", 1, «[["bal", 5]]»]'),
-        "`create` names each field of `acct`, and the field `owner` is missing", "the class is here:"),
+        "`create` names each field; `owner` is missing", "the class is here:"),
     Case(
         "all fields left out of a create", "S4 /items/0/1/0/3",
         body('["create", "acct", 1, «[]»]'),
-        "`create` names each field of `acct`, and the fields `bal` and `owner` are missing",
-        "the class is here:"),
+        "`create` names each field; `bal` and `owner` are missing", "the class is here:"),
     Case(
         "a wrong value before a field left out", "S2 /items/0/1/0/3/0/1",
         body('["create", "acct", 1, [["bal", «null»]]]'),

@@ -68,13 +68,8 @@ class Page(unittest.TestCase):
             json.loads(text)
             self.assertLessEqual(max(map(len, text.split("\n"))), LONGEST_LINE, script.name)
 
-    def test_lines_are_short_but_for_outputs(self) -> None:
-        outputs = {block.text for block in self.blocks if block.word == "text"}
-        rest = self.page
-        for output in outputs:
-            rest = rest.replace(output, "")
-        long_lines = [line for line in rest.split("\n") if len(line) > LONGEST_LINE]
-        self.assertEqual(long_lines, [])
+    def test_lines_are_short(self) -> None:
+        self.assertEqual([line for line in self.page.split("\n") if len(line) > LONGEST_LINE], [])
 
     def test_links_lead_to_files_and_headings(self) -> None:
         headings = {heading_anchor(line) for line in self.page.split("\n") if line.startswith("#")}

@@ -64,9 +64,8 @@ def read_create(parts: list[Place], scope: Scope, level: int) -> None:
     missing = [field for field in made.kinds if field not in named]
     if missing:
         fields = listed([f"`{field}`" for field in missing])
-        lacking = f"the field {fields} is missing" if len(missing) == 1 else f"the fields {fields} are missing"
-        message = f"`create` names each field of `{made.name}`, and {lacking}"
-        raise parts[2].bad_name(message, notes=made.declared())
+        lacking = f"{fields} is missing" if len(missing) == 1 else f"{fields} are missing"
+        raise parts[2].bad_name(f"`create` names each field; {lacking}", notes=made.declared())
 
 
 def read_update(parts: list[Place], scope: Scope, level: int) -> None:
