@@ -396,7 +396,7 @@ fn renew(
 )
     ensures { (cells : Cells) → AreComplete cells indexes.old.items → AreComplete
         (with_value cells (mapped.cell cell)
-            (over no_cells (changes (map entry named.now.entries)) (mapped.cell cell)))
+        (over no_cells (changes (map entry named.now.entries)) (mapped.cell cell)))
         indexes.new.items }
 {
     if !indexes.is_empty() {

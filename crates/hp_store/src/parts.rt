@@ -256,7 +256,7 @@ impl Snapshot {
         requires { IsStrictlySortedBy int_cmp (keys_of (map mapped.keyed_row objects.now)) }
         ensures covers { IsTrue result → Covers
             (is_told (over (cells_in self.now) (changes writes.now)) (mapped.class_part part.now) class
-                (keys_of (map mapped.keyed_row objects.now)))
+            (keys_of (map mapped.keyed_row objects.now)))
             (mapped.class_part part.now) class (over no_cells (changes_in layers.now)) }
         ensures always { ((key : ℤ) → is_told (over (cells_in self.now) (changes writes.now))
             (mapped.class_part part.now) class (keys_of (map mapped.keyed_row objects.now)) key ≡ true) →
@@ -282,7 +282,7 @@ impl Snapshot {
         requires { IsStrictlySortedBy int_cmp (keys_of (map mapped.keyed_row objects.now)) }
         ensures covers { IsTrue result → Covers
             (is_told (over (cells_in self.now) (changes writes.now)) (mapped.class_part part.now) class
-                (keys_of (map mapped.keyed_row objects.now)))
+            (keys_of (map mapped.keyed_row objects.now)))
             (mapped.class_part part.now) class (over (cells_in self.now) (changes writes.now)) }
         ensures always { ((key : ℤ) → is_told (over (cells_in self.now) (changes writes.now))
             (mapped.class_part part.now) class (keys_of (map mapped.keyed_row objects.now)) key ≡ true) →
