@@ -5,9 +5,10 @@
     checks/more_edits.py --apply-only [NAME ..]          proves nothing: checks that the edits of both folders apply
 
 The gate tries the edits of must-fail and not these. This script copies the crates to a temporary folder and works
-there, crate by crate, lowest first. It checks a crate without an edit, and then with each edit in turn. It begins with
-what earlier checks of the crate kept, in its out/ or in its room of `./build`, whichever is newer. Each edit begins
-with what the check without an edit kept. So after `./build` an edit takes seconds.
+there, crate by crate, lowest first. It checks a crate without an edit, and then with edits. It begins with what
+earlier checks of the crate kept, in its out/ or in its room of `./build`, whichever is newer. Each check of edits
+begins with what the check without an edit kept. Edits of different functions are tried in one check; those of which
+that doesn't show that they are refused are then tried one by one.
 
 That an edit was refused is kept in the crate's out/, so a later run doesn't try the edit again until it, the crate, a
 crate below it or the toolchain changes. `--anew` tries all again. `--untried` tries only those that have a line
@@ -30,6 +31,10 @@ import tempfile
 import time
 
 TOP = os.path.dirname(os.path.dirname(os.path.abspath(__file__)))
+sys.path.insert(0, os.path.join(TOP, "checks"))
+sys.dont_write_bytecode = True
+
+from edited_functions import body_of, texts_with, together  # noqa: E402 (it lies in checks/)
 
 # The folder of the gate's edits, and that of the others.
 FIRST = "must-fail"
@@ -51,6 +56,9 @@ NOT_TRIED = "not tried"
 
 # A complaint of the prover, with its file, the definition that it is of, if any, and its words.
 COMPLAINT = re.compile(r"(?:\./)?(\S+?):\d+:\d+: error: (?:(`[^`]*`): )?(.*)")
+
+# A line that says that something isn't proved, with its file and its line there.
+UNPROVED = re.compile(r"(?:note: (?=.*: it is not proved that ))?(?:\./)?([^\s:]+):(\d+):\d+: (?:error: |it is not proved )")
 
 # The words of complaints of a text that can't be read, and of a proof that names what is not there.
 UNREAD = re.compile(r"is not in scope|has no field|is no name|operand is missing|expected the end|cannot continue")
@@ -330,6 +338,28 @@ def is_unread(line, changed):
     return not found[2] or bool(UNREAD.search(re.sub(r"`[^`]*`", "", found[3])))
 
 
+def complaints(lines):
+    """The lines that complain, but for those of a proof that names what is not there."""
+    told = [line for line in lines if COMPLAINT.match(line)]
+    return [line for line in told if not (COMPLAINT.match(line)[1].startswith("proofs/") and NO_SUCH_NAME.search(line))]
+
+
+def refused_of(group, status, lines, changed):
+    """Of the edits of a group, those that their check shows to be refused, each with the line that shows it."""
+    is_refused = status == 1 and any(line.startswith("logic=not-proved") for line in lines)
+    if not is_refused or any(is_unread(line, changed) for line in lines):
+        return {}
+    # (that one function isn't proved is no reason to refuse another one)
+    places = [(UNPROVED.match(line), line) for line in lines if not NO_SUCH_NAME.search(line)]
+    found = {}
+    for body in group:
+        of_it = (line for place, line in places if place and body.has(place[1], int(place[2])))
+        shown = next(of_it, None)
+        if shown:
+            found[body.path] = shown
+    return found
+
+
 def came_to(status, lines, changed):
     """What an edit came to, by the status and the lines of its check, and the line that shows it."""
     for line in lines:
@@ -340,9 +370,7 @@ def came_to(status, lines, changed):
     if status != 1 or not any(line.startswith("logic=not-proved") for line in lines):
         return BAD, next((line for line in lines if "error" in line), lines[-1])
     told = [line for line in lines if COMPLAINT.match(line)]
-    of_contracts = [
-        line for line in told if not (COMPLAINT.match(line)[1].startswith("proofs/") and NO_SUCH_NAME.search(line))
-    ]
+    of_contracts = complaints(lines)
     if told and not of_contracts:
         return BY_NAME, told[0]
     notes = [line for line in lines if line.startswith("note: ")]
@@ -372,15 +400,19 @@ class Room:
             shutil.copytree(self.work, self.kept)
         return status, lines
 
-    def try_edit(self, texts):
-        """Checks the crate with other texts of some files, and then puts all back."""
-        own = {path: text_of(os.path.join(self.at, path)) for path in texts}
+    def check_with(self, texts):
+        """Checks the crate with other texts of some files, and then puts all back. The result is the status and the
+        lines of the check."""
+        own = {path: self.text(path) for path in texts}
         self.write(texts)
         try:
-            return came_to(*self.check(), texts)
+            return self.check()
         finally:
             self.write(own)
             restore(self.work, self.kept)
+
+    def text(self, path):
+        return text_of(os.path.join(self.at, path))
 
     def write(self, texts):
         for path, text in texts.items():
@@ -414,21 +446,58 @@ class Count:
         return ", ".join([f"{self.kinds.get(REFUSED, 0)} edits refused", *others, *before, f"{self.left} left"])
 
 
-def try_edits(here, paths, count):
-    """Tries edits of a crate, prints the result of each, and returns the names of those that came to each kind."""
-    crate = os.path.basename(here.at)
-    results, names = Results(crate), {}
-    for number, path in enumerate(paths, 1):
-        begun, name, (texts, why) = time.monotonic(), os.path.basename(path)[: -len(".edit")], edited(crate, path)
-        print(f"{time.strftime('%H:%M:%S')} {crate} {number} of {len(paths)}, {name}: ", end="", flush=True)
-        kind, shown = here.try_edit(texts) if texts else (BAD, why)
-        count.add(kind)
-        names.setdefault(kind, []).append(name)
-        spent = f"{time.monotonic() - begun:.0f} seconds, {count.left} left"
-        print(f"{kind}: {shown.strip()[:200]} ({spent})", flush=True)
+class Tries:
+    """The tries of a crate's edits. Each is printed, counted and kept as it comes."""
+
+    def __init__(self, here, count):
+        self.here, self.count = here, count
+        self.crate = os.path.basename(here.at)
+        self.results = Results(self.crate)
+        # The names of the edits that came to each kind.
+        self.names = {}
+
+    def tell(self, path, kind, shown, seconds):
+        name = os.path.basename(path)[: -len(".edit")]
+        self.count.add(kind)
+        self.names.setdefault(kind, []).append(name)
+        spent = f"{seconds:.0f} seconds, {self.count.left} left"
+        print(f"{time.strftime('%H:%M:%S')} {self.crate}/{name}: {kind}: {shown.strip()[:200]} ({spent})", flush=True)
         if kind in (REFUSED, BY_NAME):
-            results.keep(path)
-    return names
+            self.results.keep(path)
+
+    def one(self, path):
+        """Tries an edit alone."""
+        begun, (texts, why) = time.monotonic(), edited(self.crate, path)
+        kind, shown = came_to(*self.here.check_with(texts), texts) if texts else (BAD, why)
+        self.tell(path, kind, shown, time.monotonic() - begun)
+
+    def group(self, group):
+        """Tries edits of different functions in one check. The result is the paths of those that it doesn't show to be
+        refused."""
+        begun, texts = time.monotonic(), texts_with(group, self.here.text)
+        print(f"{time.strftime('%H:%M:%S')} {self.crate}: {len(group)} edits in one check", flush=True)
+        refused = refused_of(group, *self.here.check_with(texts), texts)
+        spent = (time.monotonic() - begun) / len(group)
+        for path, shown in refused.items():
+            self.tell(path, REFUSED, shown, spent)
+        return [body.path for body in group if body.path not in refused]
+
+    def body(self, path):
+        """The edit as a change of one function, if it is one."""
+        texts, _ = edited(self.crate, path)
+        return body_of(path, {file: self.here.text(file) for file in texts}, texts) if texts else None
+
+
+def try_edits(here, paths, count):
+    """Tries edits of a crate, and returns the names of those that came to each kind."""
+    tries = Tries(here, count)
+    bodies = [body for body in map(tries.body, paths) if body]
+    alone = [path for path in paths if path not in {body.path for body in bodies}]
+    for group in together(bodies):
+        alone += tries.group(group) if len(group) > 1 else [group[0].path]
+    for path in alone:
+        tries.one(path)
+    return tries.names
 
 
 def try_crate(crate, paths, copy, room, count):

@@ -20,16 +20,23 @@ pub struct Siblings {
     pub course: Seen,
 }
 
-pub fn fire_all_on(
+// How siblings are fired: whether a veto stops them, by how many workers at most, and with which gate.
+#[derive(Clone, Copy)]
+pub struct Setup<'g, G> {
+    pub stops: bool,
+    pub width: usize,
+    pub gate: &'g G,
+}
+
+pub fn fire_all_on<G: Gate + Sync>(
     rt: &(impl Threads + Sync),
     alloc: Global,
     lib: &Library,
     view: &mut View,
     tasks: &[Task],
-    stops: bool,
-    width: usize,
-    gate: &(impl Gate + Sync),
+    setup: Setup<'_, G>,
 ) -> Result<Siblings, AllocError> {
+    let Setup { stops, width, gate } = setup;
     let group = run_group(rt, alloc, lib, view, tasks, stops, width, gate)?;
     let fired = group.outcomes.len();
     let end = group.end;
@@ -53,7 +60,12 @@ fn fire_both(
     let lib = lib?;
     let mut view = bank(alloc, &lib)?;
     let tasks = tasks(alloc, 2)?;
-    let siblings = fire_all_on(rt, alloc, &lib, &mut view, &tasks, stops, 1, &NoGate)?;
+    let setup = Setup {
+        stops,
+        width: 1,
+        gate: &NoGate,
+    };
+    let siblings = fire_all_on(rt, alloc, &lib, &mut view, &tasks, setup)?;
     Ok(siblings)
 }
 

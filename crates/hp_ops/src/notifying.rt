@@ -25,6 +25,13 @@ use hp_view::View;
 use std::alloc::{AllocError, Global};
 use std::sync::Arc;
 
+/// What rules are notified of: an occurrence, and the depth of the firings that it causes.
+#[derive(Clone, Copy)]
+struct Notice<'a> {
+    prim: &'a Prim,
+    depth: u8,
+}
+
 /// Notifies all rules that an occurrence concerns. The answer is the tasks, of depth `depth`, of the enabled rules
 /// whose event occurs, in rule order.
 ///
@@ -42,13 +49,14 @@ pub(crate) fn notify_all(
     ensures writes { OnlySteps view.old view.new }
     ensures goes_on { GoesOn view.old view.new }
 {
+    let notice = Notice { prim, depth };
     let mut tasks = Vec::new(alloc);
     let mut shared = None;
     for number in lib.listed(prim) {
         if !lib.is_mentioned(*number, prim) {
             continue;
         }
-        if let Some(task) = notify(alloc, view, lib, *number, prim, depth, &mut shared)? {
+        if let Some(task) = notify(alloc, view, lib, *number, &notice, &mut shared)? {
             add(&mut tasks, task)?;
         }
     }
@@ -66,8 +74,7 @@ fn add(tasks: &mut Vec<Task>, task: Task) -> Result<(), AllocError>
     Ok(())
 }
 
-/// Notifies a rule of an occurrence. The answer is its task, of depth `depth`, if the rule is enabled and its event
-/// occurs.
+/// Notifies a rule. The answer is its task, of the notice's depth, if the rule is enabled and its event occurs.
 ///
 /// Rules whose events don't look back share one occurrence, which is made for the first of them. After an error the
 /// rule's detector is as before.
@@ -76,15 +83,14 @@ fn notify(
     view: &mut View,
     lib: &Library,
     number: RuleNo,
-    prim: &Prim,
-    depth: u8,
+    notice: &Notice<'_>,
     shared: &mut Option<Arc<Occurrence>>,
 ) -> Result<Option<Task>, AllocError>
-    requires shared { Shares (primitive prim.now) (option_map (λ o. occurrence_of o.value) shared.old) }
-    ensures shared { Shares (primitive prim.now) (option_map (λ o. occurrence_of o.value) shared.new) }
+    requires shared { Shares (primitive notice.now.prim.now) (option_map (λ o. occurrence_of o.value) shared.old) }
+    ensures shared { Shares (primitive notice.now.prim.now) (option_map (λ o. occurrence_of o.value) shared.new) }
     ensures notified { IfOk result (λ task.
-        Notified (library lib.now) (primitive prim.now) number view.old view.new (option_map task_of task)) }
-    ensures depth { IfOk result (λ task. (t : AnyTask) → task ≡ Some t → t.depth ≡ depth) }
+        Notified (library lib.now) (primitive notice.now.prim.now) number view.old view.new (option_map task_of task)) }
+    ensures depth { IfOk result (λ task. (t : AnyTask) → task ≡ Some t → t.depth ≡ notice.now.depth) }
     ensures err { OnErr result (OnlyReads view.old view.new) }
     ensures writes { OnlySteps view.old view.new }
     ensures goes_on { GoesOn view.old view.new }
@@ -96,10 +102,10 @@ fn notify(
     let Some(rule) = lib.rule(number) else {
         return Ok(None);
     };
-    let Some(occurrence) = notify_enabled(alloc, view, number, rule, prim, shared)? else {
+    let Some(occurrence) = notify_enabled(alloc, view, number, rule, notice.prim, shared)? else {
         return Ok(None);
     };
-    Ok(Some(new_task(number, rule.ec, depth, occurrence)))
+    Ok(Some(new_task(number, rule.ec, notice.depth, occurrence)))
 }
 
 fn is_enabled(status: Option<Status>) -> bool

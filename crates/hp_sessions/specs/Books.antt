@@ -17,6 +17,7 @@ use Rattle.hp_tree.specs.declared.report.UnitReport.{UnitReport}
 use Rattle.hp_tree.specs.Mapped.{unit_report}
 use Rattle.hp_top.specs.Units.{RanUnit}
 use Rattle.hp_sessions.specs.declared.entry.Entry.{Entry}
+use Rattle.hp_sessions.specs.declared.memory.Memory.{Memory}
 use Rattle.hp_sessions.specs.declared.tokens.View.{View}
 use Rattle.hp_sessions.specs.declared.refusal.Refusal.{Refusal}
 use Rattle.hp_sessions.specs.Units.{Made, IsSound}
@@ -105,10 +106,14 @@ IsNotStale (Refusal.HistoryFull n) = n ≡ 100000
 IsNotStale (Refusal.Stale entries cell) = ⊥
 IsNotStale Refusal.NoMemory = Unit {0}
 
--- what a session with this last number knows of this table
-abbrev pub IsMemory : TableId → ℕ → Option (Seat Entry View) → Type 0
-IsMemory table last None = last ≡ 0
-IsMemory table last (Some t) = (t.table_id ≡ table) × (t.me.1 ≡ []) × (last ≤ length t.me.0.list)
+-- a token of this table that has seen so many entries at least; without one, none were seen
+abbrev pub IsSeen : TableId → ℕ → Option (Seat Entry View) → Type 0
+IsSeen table last None = last ≡ 0
+IsSeen table last (Some t) = (t.table_id ≡ table) × (t.me.1 ≡ []) × (last ≤ length t.me.0.list)
+
+-- what a session knows of the history that this table's tokens see
+abbrev pub IsMemory : TableId → Memory → Type 0
+IsMemory table m = IsSeen table m.last m.token
 
 -- the body ran as a unit on the current store, and was committed: its entry was added to the history, and the receipt
 -- is the entry's

@@ -15,6 +15,7 @@ ghost use Rattle.hp_sessions.specs.Books.{IsCommitted, IsRefused, IsRun, IsUnabl
 use crate::blank::Blank;
 use crate::entry::Entry;
 use crate::history::History;
+use crate::memory::Memory;
 use crate::name::BookName;
 use crate::receipt::Receipt;
 use crate::refusal::Refusal;
@@ -313,12 +314,12 @@ impl<K: BookName> Book<K> {
     }
 
     // The history has at least as many entries as the session knows of.
-    fn remember(&mut self, last: u64, memory: &mut Option<Token>)
-        requires { IsMemory K.table last memory.old }
-        ensures same { (self.new ≡ self.old) × IsMemory K.table last memory.new }
-        ensures seen { last ≤ length self.old.history }
+    fn remember(&mut self, memory: &mut Memory)
+        requires { IsMemory K.table memory.old }
+        ensures same { (self.new ≡ self.old) × (memory.new.last ≡ memory.old.last) × IsMemory K.table memory.new }
+        ensures seen { memory.old.last ≤ length self.old.history }
     {
-        if let Some(token) = memory {
+        if let Some(token) = &mut memory.token {
             self.recall(token);
         }
     }
@@ -330,23 +331,21 @@ impl<K: BookName> Book<K> {
         alloc: Global,
         session: u8,
         unit: Unit,
-        last: u64,
-        mut memory: Option<Token>,
-    ) -> (Result<Receipt<K>, Refusal>, Option<Token>)
-        requires { IsMemory K.table last memory }
-        ensures ok { IfOk result.0 (λ r.
-            IsRun session unit.body self.old self.new r × (last < r.number) × IsMemory K.table r.number result.1) }
-        ensures err { IfErr result.0 (λ e.
-            (self.new ≡ self.old) × IsUnable self.old unit.body e × IsMemory K.table last result.1) }
+        memory: &mut Memory,
+    ) -> Result<Receipt<K>, Refusal>
+        requires { IsMemory K.table memory.old }
+        ensures ok { IfOk result (λ r.
+            IsRun session unit.body self.old self.new r × (memory.old.last < r.number)
+            × (memory.new.last ≡ r.number) × IsMemory K.table memory.new) }
+        ensures err { IfErr result (λ e.
+            (self.new ≡ self.old) × IsUnable self.old unit.body e
+            × (memory.new.last ≡ memory.old.last) × IsMemory K.table memory.new) }
     {
-        self.remember(last, &mut memory);
-        match self.settle(rt, alloc, session, unit) {
-            Ok(receipt) => {
-                let token = self.new_token();
-                (Ok(receipt), Some(token))
-            }
-            Err(refusal) => (Err(refusal), memory),
-        }
+        self.remember(memory);
+        let receipt = self.settle(rt, alloc, session, unit)?;
+        memory.last = receipt.number();
+        memory.token = Some(self.new_token());
+        Ok(receipt)
     }
 
     // The entries by value.

@@ -12,6 +12,7 @@ mod book;
 mod entry;
 mod history;
 pub mod laws;
+mod memory;
 mod name;
 mod receipt;
 mod refusal;

@@ -4,10 +4,10 @@ ghost use Rattle.std.specs.Prelude.{◌≡◌, ◌<◌, ◌≤◌, IfOk, IfErr};
 ghost use Rattle.hp_sessions.specs.Books.{IsOf, IsNotStale};
 
 use crate::book::Book;
+use crate::memory::Memory;
 use crate::name::BookName;
 use crate::receipt::Receipt;
 use crate::refusal::Refusal;
-use crate::tokens::Token;
 use crate::unit::Unit;
 use hp_fire::Gate;
 use hp_rule::Body;
@@ -22,8 +22,7 @@ use std::thread::Threads;
 pub struct Session<'a, K: BookName> {
     number: u8,
     book: &'a Mutex<Book<K>>,
-    last: u64,
-    memory: Option<Token>,
+    memory: Memory,
 }
 
 impl<'a, K: BookName> Model for Session<'a, K> {
@@ -31,9 +30,9 @@ impl<'a, K: BookName> Model for Session<'a, K> {
 
     ghost Value = { Caller };
 
-    ghost view = { λ s. record { number = s.number; last = s.last } };
+    ghost view = { λ s. record { number = s.number; last = s.memory.last } };
 
-    ghost invariant = { λ s. IsMemory K.table s.last s.memory };
+    ghost invariant = { λ s. IsMemory K.table s.memory };
 }
 
 impl<'a, K: BookName> Session<'a, K> {
@@ -45,8 +44,10 @@ impl<'a, K: BookName> Session<'a, K> {
         Session {
             number,
             book,
-            last: 0,
-            memory: None,
+            memory: Memory {
+                last: 0,
+                token: None,
+            },
         }
     }
 
@@ -74,14 +75,12 @@ impl<'a, K: BookName> Session<'a, K> {
         let made = Unit::make(rt, alloc, snapshot, body, 1);
         gate.ended(self.number as usize);
         let unit = made?;
-        let memory = self.memory.take();
-        let (answer, memory) = self
-            .book
-            .lock(rt)
-            .submitted(rt, alloc, self.number, unit, self.last, memory);
-        self.memory = memory;
-        let receipt = answer?;
-        self.last = receipt.number();
-        Ok(receipt)
+        self.book.lock(rt).submitted(
+            rt,
+            alloc,
+            self.number,
+            unit,
+            &mut self.memory,
+        )
     }
 }
