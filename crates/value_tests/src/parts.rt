@@ -6,8 +6,8 @@ use crate::fixtures::{
 };
 use hp_query::{Look, PlainObjects, selected_rows};
 use hp_value::{
-    Arithmetic, Cause, ClassNo, ClassPart, Comparison, Env, Expr, Halt, Key, KeyedRow, ObjectList,
-    Row, Value,
+    Arithmetic, Attribute, Cause, ClassNo, ClassPart, Comparison, Env, Expr, Halt, Key, KeyedRow,
+    ObjectList, Row, Value,
 };
 use std::alloc::{AllocError, Global};
 use std::process::Abort;
@@ -120,6 +120,26 @@ impl Looks {
         Ok(self.parts.found)
     }
 
+    /// Each comparison of x's attribute with a value has its answer, with the attribute on either side.
+    fn assert_cases(
+        &mut self,
+        rt: &impl Abort,
+        alloc: Global,
+        attribute: Attribute<'_>,
+        value: &Value,
+        cases: &[Case],
+    ) -> Result<(), Halt> {
+        let env = Env::new(None, &[]);
+        for case in cases {
+            for right in [false, true] {
+                let asked = case.asked(alloc, attribute, value, right)?;
+                let found = self.assert_rows(rt, alloc, &env, &asked, case.keys)?;
+                assert_eq!(rt; found, case.found);
+            }
+        }
+        Ok(())
+    }
+
     /// The predicate has this fault, and no part is asked for.
     fn assert_faulty(
         &mut self,
@@ -149,13 +169,31 @@ fn changed(how: Comparison) -> Comparison {
     }
 }
 
-// A comparison of an attribute with a number: the keys of its answer, and the number of objects in the part, if one is
+// A comparison of an attribute with a value: the keys of its answer, and the number of objects in the part, if one is
 // asked for.
 #[derive(Clone, Copy)]
 struct Case {
     how: Comparison,
     keys: &'static [Key],
     found: Option<usize>,
+}
+
+impl Case {
+    // The comparison of x's attribute, which may be on the right side, with a value.
+    fn asked(
+        &self,
+        alloc: Global,
+        attribute: Attribute<'_>,
+        value: &Value,
+        right: bool,
+    ) -> Result<Box<Expr>, AllocError> {
+        let own = match attribute {
+            Attribute::Key => key_of(alloc, "x")?,
+            Attribute::Field(_) => balance_of(alloc, "x")?,
+        };
+        let value = Box::new(alloc, Expr::literal(value.clone()?))?;
+        either_way(alloc, own, self.how, value, right)
+    }
 }
 
 fn made(how: Comparison, keys: &'static [Key], found: Option<usize>) -> Case {
@@ -202,33 +240,23 @@ fn either_way(
 
 #[test]
 fn each_comparison_of_a_key(rt: HostRuntime) -> Result<(), Fail> {
-    let alloc = rt.alloc();
-    let mut looks = Looks::new(alloc)?;
-    let env = Env::new(None, &[]);
-    for case in by_key() {
-        for right in [false, true] {
-            let key = key_of(alloc, "x")?;
-            let asked = either_way(alloc, key, case.how, number(alloc, 2)?, right)?;
-            let found = looks.assert_rows(&rt, alloc, &env, &asked, case.keys)?;
-            assert_eq!(rt; found, case.found);
-        }
-    }
+    let mut looks = Looks::new(rt.alloc())?;
+    let two = Value::Int(2);
+    looks.assert_cases(&rt, rt.alloc(), Attribute::Key, &two, &by_key())?;
     Ok(())
 }
 
 #[test]
 fn each_comparison_of_a_field(rt: HostRuntime) -> Result<(), Fail> {
-    let alloc = rt.alloc();
-    let mut looks = Looks::new(alloc)?;
-    let env = Env::new(None, &[]);
-    for case in by_balance() {
-        for right in [false, true] {
-            let balance = balance_of(alloc, "x")?;
-            let asked = either_way(alloc, balance, case.how, number(alloc, 3)?, right)?;
-            let found = looks.assert_rows(&rt, alloc, &env, &asked, case.keys)?;
-            assert_eq!(rt; found, case.found);
-        }
-    }
+    let mut looks = Looks::new(rt.alloc())?;
+    let three = Value::Int(3);
+    looks.assert_cases(
+        &rt,
+        rt.alloc(),
+        Attribute::Field("bal"),
+        &three,
+        &by_balance(),
+    )?;
     Ok(())
 }
 
@@ -334,7 +362,6 @@ fn truth_values(rt: HostRuntime) -> Result<(), Fail> {
 fn texts_by_their_bytes(rt: HostRuntime) -> Result<(), Fail> {
     let alloc = rt.alloc();
     let mut looks = Looks::new(alloc)?;
-    let env = Env::new(None, &[]);
     for (key, name) in [(-20, "b"), (-3, "a"), (2, "ab"), (10, "")] {
         let named = row(alloc, "bal", Value::Text(text(alloc, name)?))?;
         looks.put(alloc, 0, key, &named)?;
@@ -346,14 +373,8 @@ fn texts_by_their_bytes(rt: HostRuntime) -> Result<(), Fail> {
         made(Comparison::Greater, &[-20], Some(2)),
         made(Comparison::AtLeast, &[-20, 2], Some(2)),
     ];
-    for case in cases {
-        for right in [false, true] {
-            let name = Box::new(alloc, Expr::literal(Value::Text(text(alloc, "ab")?)))?;
-            let asked = either_way(alloc, balance_of(alloc, "x")?, case.how, name, right)?;
-            let found = looks.assert_rows(&rt, alloc, &env, &asked, case.keys)?;
-            assert_eq!(rt; found, case.found);
-        }
-    }
+    let name = Value::Text(text(alloc, "ab")?);
+    looks.assert_cases(&rt, alloc, Attribute::Field("bal"), &name, &cases)?;
     Ok(())
 }
 
