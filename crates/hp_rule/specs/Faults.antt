@@ -1,12 +1,8 @@
 -- Faults of checks in the model, and the results of checks.
-use Rattle.std.specs.Prelude.{◌≡◌, ⊤, List, map, codes, Result, Ok, Err}
-use Rattle.hp_model.specs.Values.{Name}
+use Rattle.std.specs.Prelude.{◌≡◌, ⊤, Result, Ok, Err}
 use Rattle.hp_model.specs.Refusals as M
-use Rattle.hp_model.specs.Refusals.{Path, Refusal, wrong_shape, bad_name, over_limit, Decoded}
-use Rattle.hp_rule.specs.declared.fault.Member.{Member}
-use Rattle.hp_rule.specs.declared.fault.Member.TheVariants as members
-use Rattle.hp_rule.specs.declared.fault.PathStep.{PathStep}
-use Rattle.hp_rule.specs.declared.fault.PathStep.TheVariants as steps
+use Rattle.hp_model.specs.Refusals.{Refusal, wrong_shape, bad_name, over_limit, Decoded}
+use Rattle.hp_rule.specs.Places.{path}
 use Rattle.hp_rule.specs.declared.fault.Limit.{Limit}
 use Rattle.hp_rule.specs.declared.fault.Limit.TheVariants as limits
 use Rattle.hp_rule.specs.declared.fault.CheckFault.{CheckFault}
@@ -14,18 +10,8 @@ use Rattle.hp_rule.specs.declared.fault.CheckFault.TheVariants as faults
 use Rattle.hp_rule.specs.declared.fault.CheckError.{CheckError}
 use Rattle.hp_rule.specs.declared.fault.CheckError.TheVariants.{Fault, Memory}
 
-abbrev pub member : Member → Name
-member members.Classes = codes "classes"
-member members.Rules = codes "rules"
-
-abbrev pub path_step : PathStep → M.Step
-path_step (steps.Member m) = M.to_member (member m)
-path_step (steps.Item i) = M.to_item i
-
-abbrev pub path : List PathStep → Path
-path ss = map path_step ss
-
 abbrev pub limit : Limit → M.Limit
+limit limits.Size = M.size_limit
 limit limits.Classes = M.classes_limit
 limit limits.Fields = M.fields_limit
 limit limits.Rules = M.rules_limit
@@ -35,6 +21,7 @@ limit limits.Nesting = M.nesting_limit
 limit limits.Text = M.text_limit
 limit limits.Depth = M.depth_limit_word
 limit limits.Arguments = M.arguments_limit
+limit limits.Moments = M.moments_limit
 
 abbrev pub fault : CheckFault → Refusal
 fault (faults.Shape p) = wrong_shape (path p.items)

@@ -6,8 +6,8 @@ pub mod Libraries
 pub mod Mapped
 pub mod Noted
 pub mod Index
-pub mod Faults
 pub mod Places
+pub mod Faults
 pub mod Named
 pub mod Scopes
 pub mod WellNamed

@@ -6,7 +6,8 @@ use Rattle.hp_model.specs.Cascade as C
 use Rattle.hp_value.specs.Mapped.{coupling, occurrence, answers}
 pub use Rattle.hp_rule.specs.Statements.{rule_operation, assignment, statement, row_body, body_in, rule, library_of}
 pub use Rattle.hp_rule.specs.Libraries.{library}
-pub use Rattle.hp_rule.specs.Faults.{member, path_step, path, limit, fault}
+pub use Rattle.hp_rule.specs.Places.{member, path_step, path}
+pub use Rattle.hp_rule.specs.Faults.{limit, fault}
 use Rattle.hp_rule.specs.declared.body.Body.{Body}
 use Rattle.hp_rule.specs.declared.task.Step.{Step}
 use Rattle.hp_rule.specs.declared.task.Step.TheVariants.{Condition, Action}

@@ -5,13 +5,13 @@ ghost use Rattle.hp_rule.specs.Statements.{body_in};
 ghost use Rattle.hp_rule.specs.Libraries as libraries;
 ghost use Rattle.hp_model.specs.Checked.{script_body_check};
 
-use crate::check::context::Context;
-use crate::check::names::Names;
-use crate::check::place::Place;
 use crate::check::scope::Scope;
 use crate::check::statement::check_whole_body;
+use crate::context::Context;
 use crate::fault::CheckError;
 use crate::library::Library;
+use crate::place::Place;
+use crate::row_names::RowNames;
 use crate::stmt::Stmt;
 use std::alloc::{AllocError, Global};
 use std::sync::Arc;
@@ -56,7 +56,7 @@ impl Library {
             alloc,
             place: Place::Root,
             scope,
-            names: Names::Queries(&[]),
+            names: RowNames::Queries(&[]),
         };
         check_whole_body(&context, &statements)?;
         Ok(Body::of_checked(shared, statements)?)

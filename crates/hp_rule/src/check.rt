@@ -3,13 +3,10 @@
 //! Each check follows its definition in `hp_model`: it passes exactly if that does, and else has the same fault.
 
 pub(crate) mod classes;
-pub(crate) mod context;
 pub(crate) mod event;
 pub(crate) mod expr;
 pub(crate) mod name;
-pub(crate) mod names;
 pub(crate) mod pairs;
-pub(crate) mod place;
 pub(crate) mod rules;
 pub(crate) mod scope;
 pub(crate) mod statement;

@@ -1,29 +1,19 @@
 //! Why a library or a body isn't well formed.
 
-use std::alloc::{AllocError, AllocFailed};
+ghost use Rattle.std.specs.Prelude.{◌≡◌};
+ghost use Rattle.hp_model.specs.Refusals.{wrong_shape, bad_name, over_limit};
+ghost use Rattle.hp_rule.specs.Faults.{limit, IsFault};
+ghost use Rattle.hp_rule.specs.Places.{steps};
+ghost use Rattle.hp_rule.specs.declared.fault.CheckError.TheVariants.{Memory};
 
-/// The member of a script's root in which a library's part stands.
-#[derive(Clone, Copy, Debug, PartialEq, Eq)]
-pub enum Member {
-    /// The classes.
-    Classes,
-    /// The rules.
-    Rules,
-}
-
-/// A step of a path.
-#[derive(Clone, Copy, Debug, PartialEq, Eq)]
-pub enum PathStep {
-    /// To a member of the root.
-    Member(Member),
-    /// To an item of a list by its index, from 0. The indices are those of the script's JSON: the first operand of an
-    /// expression, for example, has index 1.
-    Item(usize),
-}
+use crate::place::{PathStep, Place};
+use std::alloc::{AllocError, AllocFailed, Global};
 
 /// A limit of the script language.
 #[derive(Clone, Copy, Debug, PartialEq, Eq)]
 pub enum Limit {
+    /// 1,048,576 bytes of a script.
+    Size,
     /// 64 classes.
     Classes,
     /// 32 fields of a class.
@@ -42,6 +32,8 @@ pub enum Limit {
     Depth,
     /// 32 arguments of a signal.
     Arguments,
+    /// 1,000 moments of one move of the clock.
+    Moments,
 }
 
 /// Why a library or a body isn't well formed. A path leads to the fault, from the root of the script or from the body.
@@ -66,9 +58,6 @@ pub enum CheckError {
 }
 
 impl From<AllocError> for CheckError {
-    ghost use Rattle.std.specs.Prelude.{◌≡◌};
-    ghost use Rattle.hp_rule.specs.declared.fault.CheckError.TheVariants.{Memory};
-
     ghost from_gives = { λ _ e. e ≡ Memory };
 
     fn from(_e: AllocError) -> CheckError {
@@ -77,12 +66,36 @@ impl From<AllocError> for CheckError {
 }
 
 impl<T: Drop> From<AllocFailed<T>> for CheckError {
-    ghost use Rattle.std.specs.Prelude.{◌≡◌};
-    ghost use Rattle.hp_rule.specs.declared.fault.CheckError.TheVariants.{Memory};
-
     ghost from_gives = { λ _ e. e ≡ Memory };
 
     fn from(_e: AllocFailed<T>) -> CheckError {
         CheckError::Memory
     }
+}
+
+/// The fault of a part that doesn't have the required form.
+pub(crate) fn misshapen(alloc: Global, place: &Place<'_>) -> CheckError
+    ensures { IsFault result (wrong_shape (steps place.now)) }
+{
+    match place.path(alloc) {
+        Ok(path) => CheckError::Fault(CheckFault::Shape(path)),
+        Err(_) => CheckError::Memory,
+    }
+}
+
+/// The fault of a name that isn't allowed here.
+pub(crate) fn misnamed(alloc: Global, place: &Place<'_>) -> CheckError
+    ensures { IsFault result (bad_name (steps place.now)) }
+{
+    match place.path(alloc) {
+        Ok(path) => CheckError::Fault(CheckFault::Name(path)),
+        Err(_) => CheckError::Memory,
+    }
+}
+
+/// The fault of an exceeded limit.
+pub(crate) fn beyond(exceeded: Limit) -> CheckError
+    ensures { IsFault result (over_limit (limit exceeded)) }
+{
+    CheckError::Fault(CheckFault::Limit(exceeded))
 }

@@ -4,21 +4,22 @@ use Rattle.serde_json.specs.Data.{Data}
 use Rattle.hp_model.specs.Rules.{Statement}
 use Rattle.hp_model.specs.Refusals.{Decoded}
 use Rattle.hp_model.specs.StatementGrammar.{StatementForm, statement_from, statement_within, statements_by}
+use Rattle.hp_rule.specs.Named.{names_in}
+use Rattle.hp_rule.specs.Places.{steps}
 use Rattle.hp_script.specs.Forms.{scope_view}
-use Rattle.hp_script.specs.Place.{path_to}
-use Rattle.hp_script.specs.Rows.{names_in}
-use Rattle.hp_script.specs.declared.context.Context.{Context}
+use Rattle.hp_rule.specs.declared.context.Context.{Context}
+use Rattle.hp_script.specs.declared.scope.Scope.{Scope}
 
 -- the statement of a form, with at most so many levels of statements in it
-abbrev pub form_here : Context → (levels : ℕ) → StatementForm → Decoded Statement
+abbrev pub form_here : Context Scope → (levels : ℕ) → StatementForm → Decoded Statement
 form_here c levels form =
-    statement_from (scope_view c.scope) (statement_within (scope_view c.scope) levels) (names_in c.rows) (path_to c.place) form
+    statement_from (scope_view c.scope) (statement_within (scope_view c.scope) levels) (names_in c.names) (steps c.place) form
 
 -- the statement that a value is, of at most so many levels
-abbrev pub statement_here : Context → (levels : ℕ) → Data → Decoded Statement
-statement_here c levels d = statement_within (scope_view c.scope) levels (names_in c.rows) (path_to c.place) d
+abbrev pub statement_here : Context Scope → (levels : ℕ) → Data → Decoded Statement
+statement_here c levels d = statement_within (scope_view c.scope) levels (names_in c.names) (steps c.place) d
 
 -- the statements of a body, each of at most so many levels
-abbrev pub statements_here : Context → (levels : ℕ) → Data → Decoded (List Statement)
+abbrev pub statements_here : Context Scope → (levels : ℕ) → Data → Decoded (List Statement)
 statements_here c levels d =
-    statements_by (statement_within (scope_view c.scope) levels) (names_in c.rows) (path_to c.place) d
+    statements_by (statement_within (scope_view c.scope) levels) (names_in c.names) (steps c.place) d

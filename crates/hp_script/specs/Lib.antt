@@ -1,6 +1,4 @@
 pub mod Mapped
-pub mod Place
-pub mod Rows
 pub mod Moments
 pub mod Heads
 pub mod Names

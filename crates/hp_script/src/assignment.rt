@@ -7,18 +7,16 @@ ghost use Rattle.hp_model.specs.StatementGrammar.{assigned_names, assigned_field
 ghost use Rattle.hp_model.specs.StatementGrammar.{assignment_at, assignments_at, all_assignments_at};
 ghost use Rattle.hp_value.specs.Mapped.{field};
 ghost use Rattle.hp_rule.specs.Mapped.{assignment};
+ghost use Rattle.hp_rule.specs.Named.{names_in};
+ghost use Rattle.hp_rule.specs.Places.{steps};
 ghost use Rattle.hp_script.specs.Mapped.{Gives};
-ghost use Rattle.hp_script.specs.Place.{path_to};
-ghost use Rattle.hp_script.specs.Rows.{names_in};
 
 use crate::expression::boxed_expression_at;
 use crate::list::list_at;
 use crate::names::{Names, new_name_at};
-use crate::place::{Place, misnamed, misshapen};
-use crate::refusal::DecodeError;
-use crate::rows::Rows;
+use crate::refusal::{DecodeError, misnamed, misshapen};
 use crate::shape::pair_of;
-use hp_rule::Assignment;
+use hp_rule::{Assignment, Place, RowNames};
 use hp_value::Field;
 use serde_json::Value;
 use std::alloc::Global;
@@ -34,7 +32,7 @@ fn assigned_field_at<'a>(
 ) -> Result<&'a str, DecodeError>
     ensures { Gives (λ x. x.now) result
         (assigned_field_at (field_names (map field fields.now)) (assigned_names (map assignment before.now))
-        (path_to place.now) (view value.entry.now)) }
+        (steps place.now) (view value.entry.now)) }
 {
     let name = new_name_at(alloc, place, Names::Assignments(before), value)?;
     if Names::Fields(fields).place(name).is_none() {
@@ -48,13 +46,13 @@ fn assignment_at(
     alloc: Global,
     place: &Place<'_>,
     fields: &[Field],
-    rows: &Rows<'_>,
+    rows: &RowNames<'_>,
     before: &[Assignment],
     value: &Value,
 ) -> Result<Assignment, DecodeError>
     ensures { Gives assignment result
         (assignment_at (field_names (map field fields.now)) (names_in rows.now) (map assignment before.now)
-        (path_to place.now) (view value.now)) }
+        (steps place.now) (view value.now)) }
 {
     let Some((name, value)) = pair_of(value) else {
         return Err(misshapen(alloc, place));
@@ -71,12 +69,12 @@ pub(crate) fn assignments_at(
     alloc: Global,
     place: &Place<'_>,
     fields: &[Field],
-    rows: &Rows<'_>,
+    rows: &RowNames<'_>,
     value: &Value,
 ) -> Result<Vec<Assignment>, DecodeError>
     ensures { Gives (λ pairs. map assignment pairs.items) result
         (assignments_at (field_names (map field fields.now)) (names_in rows.now)
-        (path_to place.now) (view value.now)) }
+        (steps place.now) (view value.now)) }
 {
     let values = list_at(alloc, place, value)?;
     let mut pairs = Vec::new(alloc);
@@ -93,12 +91,12 @@ pub(crate) fn all_assignments_at(
     alloc: Global,
     place: &Place<'_>,
     fields: &[Field],
-    rows: &Rows<'_>,
+    rows: &RowNames<'_>,
     value: &Value,
 ) -> Result<Vec<Assignment>, DecodeError>
     ensures { Gives (λ pairs. map assignment pairs.items) result
         (all_assignments_at (field_names (map field fields.now)) (names_in rows.now)
-        (path_to place.now) (view value.now)) }
+        (steps place.now) (view value.now)) }
 {
     let pairs = assignments_at(alloc, place, fields, rows, value)?;
     if pairs.len() < fields.len() {

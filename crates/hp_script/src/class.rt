@@ -4,14 +4,14 @@ ghost use Rattle.std.specs.Prelude.{◌≡◌, ◌≤◌, length, map, option_ma
 ghost use Rattle.serde_json.specs.View.{view};
 ghost use Rattle.hp_model.specs.Decode.{kind_of_word, kind_at, field_at, fields_at, class_at, classes_at};
 ghost use Rattle.hp_value.specs.Mapped.{kind, field, class_def};
+ghost use Rattle.hp_rule.specs.Places.{steps};
 ghost use Rattle.hp_script.specs.Mapped.{Gives};
-ghost use Rattle.hp_script.specs.Place.{path_to};
 
 use crate::list::short_list_at;
 use crate::names::{Names, new_name_at};
-use crate::place::{Place, misshapen};
-use crate::refusal::{DecodeError, Limit};
+use crate::refusal::{DecodeError, misshapen};
 use crate::shape::pair_of;
+use hp_rule::{Limit, Place};
 use hp_value::{ClassDef, Field, Kind};
 use serde_json::Value;
 use std::alloc::Global;
@@ -35,7 +35,7 @@ fn kind_of_word(word: &str) -> Option<Kind>
 }
 
 fn kind_at(alloc: Global, place: &Place<'_>, value: &Value) -> Result<Kind, DecodeError>
-    ensures { Gives kind result (kind_at (path_to place.now) (view value.now)) }
+    ensures { Gives kind result (kind_at (steps place.now) (view value.now)) }
 {
     let Some(word) = value.as_str() else {
         return Err(misshapen(alloc, place));
@@ -53,7 +53,7 @@ fn field_at(
     before: &[Field],
     value: &Value,
 ) -> Result<Field, DecodeError>
-    ensures { Gives field result (field_at (map field before.now) (path_to place.now) (view value.now)) }
+    ensures { Gives field result (field_at (map field before.now) (steps place.now) (view value.now)) }
 {
     let Some((name, kind)) = pair_of(value) else {
         return Err(misshapen(alloc, place));
@@ -66,7 +66,7 @@ fn field_at(
 
 #[tactic(auto, unfolding(hp_model::specs::Decode::fields_at))]
 fn fields_at(alloc: Global, place: &Place<'_>, value: &Value) -> Result<Vec<Field>, DecodeError>
-    ensures { Gives (λ fields. map field fields.items) result (fields_at (path_to place.now) (view value.now)) }
+    ensures { Gives (λ fields. map field fields.items) result (fields_at (steps place.now) (view value.now)) }
 {
     let values = short_list_at(alloc, place, MAX_FIELDS, Limit::Fields, value)?;
     let mut fields = Vec::new(alloc);
@@ -84,7 +84,7 @@ fn class_at(
     before: &[ClassDef],
     value: &Value,
 ) -> Result<ClassDef, DecodeError>
-    ensures { Gives class_def result (class_at (map class_def before.now) (path_to place.now) (view value.now)) }
+    ensures { Gives class_def result (class_at (map class_def before.now) (steps place.now) (view value.now)) }
 {
     let Some((name, fields)) = pair_of(value) else {
         return Err(misshapen(alloc, place));
@@ -104,7 +104,7 @@ pub(crate) fn classes_at(
     value: &Value,
 ) -> Result<Vec<ClassDef>, DecodeError>
     ensures reads { Gives (λ classes. map class_def classes.items) result
-        (classes_at (path_to place.now) (view value.now)) }
+        (classes_at (steps place.now) (view value.now)) }
     ensures few { IfOk result (λ classes. length classes.items ≤ 64) }
 {
     let values = short_list_at(alloc, place, MAX_CLASSES, Limit::Classes, value)?;

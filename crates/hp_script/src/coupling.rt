@@ -4,14 +4,13 @@ ghost use Rattle.std.specs.Prelude.{◌≡◌, option_map};
 ghost use Rattle.serde_json.specs.View.{view};
 ghost use Rattle.hp_model.specs.Decode.{is_second, common_coupling, coupling_of_word, coupling_at};
 ghost use Rattle.hp_value.specs.Mapped.{coupling};
+ghost use Rattle.hp_rule.specs.Places.{steps};
 ghost use Rattle.hp_script.specs.Forms.{version_view};
 ghost use Rattle.hp_script.specs.Mapped.{Gives};
-ghost use Rattle.hp_script.specs.Place.{path_to};
 
-use crate::place::{Place, misshapen};
-use crate::refusal::DecodeError;
+use crate::refusal::{DecodeError, misshapen};
 use crate::version::Version;
-use hp_rule::Coupling;
+use hp_rule::{Coupling, Place};
 use serde_json::Value;
 use std::alloc::Global;
 
@@ -50,7 +49,7 @@ pub(crate) fn coupling_at(
     version: Version,
     value: &Value,
 ) -> Result<Coupling, DecodeError>
-    ensures { Gives coupling result (coupling_at (version_view version) (path_to place.now) (view value.now)) }
+    ensures { Gives coupling result (coupling_at (version_view version) (steps place.now) (view value.now)) }
 {
     let Some(word) = value.as_str() else {
         return Err(misshapen(alloc, place));

@@ -7,20 +7,19 @@ ghost use Rattle.hp_model.specs.EventGrammar.{on_signal_at, at_moment_at, every_
 ghost use Rattle.hp_model.specs.EventGrammar.{parts_at, event_within, event_at};
 ghost use Rattle.hp_model.specs.Scopes.{class_names};
 ghost use Rattle.hp_detect.specs.Mapped.{event};
+ghost use Rattle.hp_rule.specs.Places.{steps};
 ghost use Rattle.hp_script.specs.Events.{on_change_at};
 ghost use Rattle.hp_script.specs.Forms.{event_form_view, scope_view};
 ghost use Rattle.hp_script.specs.Mapped.{Gives};
-ghost use Rattle.hp_script.specs.Place.{path_to};
 
 use crate::name::name_at;
 use crate::number::number_from;
-use crate::place::{Place, misshapen};
 use crate::reference::class_at;
-use crate::refusal::{DecodeError, Limit, Refusal};
+use crate::refusal::{DecodeError, Refusal, misshapen};
 use crate::scope::Scope;
 use crate::shape::form_of;
 use hp_event::Pattern;
-use hp_rule::EventExpr;
+use hp_rule::{EventExpr, Limit, Place};
 use serde_json::Value;
 use std::alloc::Global;
 
@@ -96,7 +95,7 @@ fn event_form_at<'a>(
     place: &Place<'_>,
     value: &'a Value,
 ) -> Result<EventForm<'a>, DecodeError>
-    ensures { Gives event_form_view result (event_form_at (path_to place.now) (view value.entry.now)) }
+    ensures { Gives event_form_view result (event_form_at (steps place.now) (view value.entry.now)) }
 {
     let Some(form) = form_of(value) else {
         return Err(misshapen(alloc, place));
@@ -116,7 +115,7 @@ fn on_change_at(
     class: &Value,
 ) -> Result<EventExpr, DecodeError>
     ensures { Gives event result
-        (on_change_at change (class_names (scope_view scope.entry.now).classes) (path_to place.now) (view class.now)) }
+        (on_change_at change (class_names (scope_view scope.entry.now).classes) (steps place.now) (view class.now)) }
 {
     let class = class_at(alloc, &place.item(1), scope, class)?;
     match change {
@@ -128,7 +127,7 @@ fn on_change_at(
 
 #[tactic(auto, unfolding(hp_model::specs::EventGrammar::on_signal_at))]
 fn on_signal_at(alloc: Global, place: &Place<'_>, name: &Value) -> Result<EventExpr, DecodeError>
-    ensures { Gives event result (on_signal_at (path_to place.now) (view name.now)) }
+    ensures { Gives event result (on_signal_at (steps place.now) (view name.now)) }
 {
     let name = name_at(alloc, &place.item(1), name)?;
     let name = String::from_str(alloc, name)?;
@@ -137,7 +136,7 @@ fn on_signal_at(alloc: Global, place: &Place<'_>, name: &Value) -> Result<EventE
 
 #[tactic(auto, unfolding(hp_model::specs::EventGrammar::at_moment_at))]
 fn at_moment_at(alloc: Global, place: &Place<'_>, time: &Value) -> Result<EventExpr, DecodeError>
-    ensures { Gives event result (at_moment_at (path_to place.now) (view time.now)) }
+    ensures { Gives event result (at_moment_at (steps place.now) (view time.now)) }
 {
     let time = number_from(alloc, &place.item(1), 0, time)?;
     Ok(EventExpr::One(Pattern::At(time)))
@@ -150,7 +149,7 @@ fn every_moment_at(
     first: &Value,
     period: &Value,
 ) -> Result<EventExpr, DecodeError>
-    ensures { Gives event result (every_moment_at (path_to place.now) (view first.now) (view period.now)) }
+    ensures { Gives event result (every_moment_at (steps place.now) (view first.now) (view period.now)) }
 {
     let first = number_from(alloc, &place.item(1), 0, first)?;
     let period = number_from(alloc, &place.item(2), 1, period)?;
@@ -168,7 +167,7 @@ fn event_within(
     value: &Value,
 ) -> Result<EventExpr, DecodeError>
     ensures { Gives event result
-        (event_within (class_names (scope_view scope.entry.now).classes) levels (path_to place.now) (view value.now)) }
+        (event_within (class_names (scope_view scope.entry.now).classes) levels (steps place.now) (view value.now)) }
 {
     let form = event_form_at(alloc, place, value)?;
     if levels == 0 {
@@ -207,7 +206,7 @@ fn part_at(
     value: &Value,
 ) -> Result<Box<EventExpr>, DecodeError>
     ensures { Gives (λ e. event e.value) result
-        (event_within (class_names (scope_view scope.entry.now).classes) levels (path_to place.now) (view value.now)) }
+        (event_within (class_names (scope_view scope.entry.now).classes) levels (steps place.now) (view value.now)) }
 {
     let part = event_within(alloc, place, scope, levels, value)?;
     Ok(Box::new(alloc, part)?)
@@ -225,7 +224,7 @@ fn parts_at(
     right: &Value,
 ) -> Result<(Box<EventExpr>, Box<EventExpr>), DecodeError>
     ensures { Gives (λ p. (event p.0.value, event p.1.value)) result
-        (parts_at (event_within (class_names (scope_view scope.entry.now).classes) levels) (path_to place.now)
+        (parts_at (event_within (class_names (scope_view scope.entry.now).classes) levels) (steps place.now)
         (view left.now) (view right.now)) }
 {
     let left = part_at(alloc, &place.item(1), scope, levels, left)?;
@@ -241,7 +240,7 @@ pub(crate) fn event_at(
     value: &Value,
 ) -> Result<EventExpr, DecodeError>
     ensures { Gives event result
-        (event_at (class_names (scope_view scope.entry.now).classes) (path_to place.now) (view value.now)) }
+        (event_at (class_names (scope_view scope.entry.now).classes) (steps place.now) (view value.now)) }
 {
     event_within(alloc, place, scope, MAX_LEVELS, value)
 }

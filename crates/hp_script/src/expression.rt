@@ -7,18 +7,18 @@ ghost use Rattle.hp_model.specs.ExpressionGrammar.{form_of_two, expression_form,
 ghost use Rattle.hp_model.specs.ExpressionGrammar.{field_of_at, key_of_at, key_in_at, argument_at, time_of_at};
 ghost use Rattle.hp_model.specs.ExpressionGrammar.{operands_at, expression_within, expression_at};
 ghost use Rattle.hp_value.specs.Mapped.{arithmetic, comparison, expression};
+ghost use Rattle.hp_rule.specs.Named.{names_in};
+ghost use Rattle.hp_rule.specs.Places.{steps};
 ghost use Rattle.hp_script.specs.Forms.{expression_form_view};
 ghost use Rattle.hp_script.specs.Mapped.{Gives};
-ghost use Rattle.hp_script.specs.Place.{path_to};
-ghost use Rattle.hp_script.specs.Rows.{names_in};
 ghost use Rattle.hp_script.specs.Sides.{side_field_at};
 
 use crate::name::name_at;
 use crate::number::index_at;
-use crate::place::{Place, misshapen, no_integer};
-use crate::refusal::{DecodeError, Limit, Refusal};
-use crate::rows::{Rows, row_at};
+use crate::refusal::{DecodeError, Refusal, misshapen, no_integer};
+use crate::rows::row_at;
 use crate::shape::form_of;
+use hp_rule::{Limit, Place, RowNames};
 use hp_value::{Arithmetic, Comparison, Expr, Value as Constant};
 use serde_json::Value;
 use std::alloc::Global;
@@ -150,7 +150,7 @@ fn expression_form_at<'a>(
     place: &Place<'_>,
     value: &'a Value,
 ) -> Result<ExpressionForm<'a>, DecodeError>
-    ensures { Gives expression_form_view result (expression_form_at (path_to place.now) (view value.entry.now)) }
+    ensures { Gives expression_form_view result (expression_form_at (steps place.now) (view value.entry.now)) }
 {
     if let Some(number) = value.as_number() {
         return match number.as_i64() {
@@ -188,12 +188,12 @@ fn text_at(alloc: Global, text: &str) -> Result<Expr, DecodeError>
 fn field_of_at(
     alloc: Global,
     place: &Place<'_>,
-    rows: &Rows<'_>,
+    rows: &RowNames<'_>,
     variable: &Value,
     field: &Value,
 ) -> Result<Expr, DecodeError>
     ensures { Gives expression result
-        (field_of_at (names_in rows.now) (path_to place.now) (view variable.now) (view field.now)) }
+        (field_of_at (names_in rows.now) (steps place.now) (view variable.now) (view field.now)) }
 {
     let variable = row_at(alloc, &place.item(1), rows, variable)?;
     let field = name_at(alloc, &place.item(2), field)?;
@@ -206,10 +206,10 @@ fn field_of_at(
 fn key_of_at(
     alloc: Global,
     place: &Place<'_>,
-    rows: &Rows<'_>,
+    rows: &RowNames<'_>,
     variable: &Value,
 ) -> Result<Expr, DecodeError>
-    ensures { Gives expression result (key_of_at (names_in rows.now) (path_to place.now) (view variable.now)) }
+    ensures { Gives expression result (key_of_at (names_in rows.now) (steps place.now) (view variable.now)) }
 {
     let variable = row_at(alloc, &place.item(1), rows, variable)?;
     let variable = String::from_str(alloc, variable)?;
@@ -224,7 +224,7 @@ fn side_field_at(
     part: &Value,
     field: &Value,
 ) -> Result<Expr, DecodeError>
-    ensures { Gives expression result (side_field_at side (path_to place.now) (view part.now) (view field.now)) }
+    ensures { Gives expression result (side_field_at side (steps place.now) (view part.now) (view field.now)) }
 {
     let part = index_at(alloc, &place.item(1), part)?;
     let field = name_at(alloc, &place.item(2), field)?;
@@ -237,7 +237,7 @@ fn side_field_at(
 
 #[tactic(auto, unfolding(hp_model::specs::ExpressionGrammar::key_in_at))]
 fn key_in_at(alloc: Global, place: &Place<'_>, part: &Value) -> Result<Expr, DecodeError>
-    ensures { Gives expression result (key_in_at (path_to place.now) (view part.now)) }
+    ensures { Gives expression result (key_in_at (steps place.now) (view part.now)) }
 {
     let part = index_at(alloc, &place.item(1), part)?;
     Ok(Expr::KeyIn { part })
@@ -250,7 +250,7 @@ fn argument_at(
     part: &Value,
     position: &Value,
 ) -> Result<Expr, DecodeError>
-    ensures { Gives expression result (argument_at (path_to place.now) (view part.now) (view position.now)) }
+    ensures { Gives expression result (argument_at (steps place.now) (view part.now) (view position.now)) }
 {
     let part = index_at(alloc, &place.item(1), part)?;
     let position = index_at(alloc, &place.item(2), position)?;
@@ -262,7 +262,7 @@ fn argument_at(
 
 #[tactic(auto, unfolding(hp_model::specs::ExpressionGrammar::time_of_at))]
 fn time_of_at(alloc: Global, place: &Place<'_>, part: &Value) -> Result<Expr, DecodeError>
-    ensures { Gives expression result (time_of_at (path_to place.now) (view part.now)) }
+    ensures { Gives expression result (time_of_at (steps place.now) (view part.now)) }
 {
     let part = index_at(alloc, &place.item(1), part)?;
     Ok(Expr::TimeOf { part })
@@ -274,12 +274,12 @@ fn time_of_at(alloc: Global, place: &Place<'_>, part: &Value) -> Result<Expr, De
 fn expression_within(
     alloc: Global,
     place: &Place<'_>,
-    rows: &Rows<'_>,
+    rows: &RowNames<'_>,
     levels: usize,
     value: &Value,
 ) -> Result<Expr, DecodeError>
     ensures { Gives expression result
-        (expression_within (names_in rows.now) levels (path_to place.now) (view value.now)) }
+        (expression_within (names_in rows.now) levels (steps place.now) (view value.now)) }
 {
     let form = expression_form_at(alloc, place, value)?;
     if levels == 0 {
@@ -343,12 +343,12 @@ fn expression_within(
 fn operand_at(
     alloc: Global,
     place: &Place<'_>,
-    rows: &Rows<'_>,
+    rows: &RowNames<'_>,
     levels: usize,
     value: &Value,
 ) -> Result<Box<Expr>, DecodeError>
     ensures { Gives (λ e. expression e.value) result
-        (expression_within (names_in rows.now) levels (path_to place.now) (view value.now)) }
+        (expression_within (names_in rows.now) levels (steps place.now) (view value.now)) }
 {
     let operand = expression_within(alloc, place, rows, levels, value)?;
     Ok(Box::new(alloc, operand)?)
@@ -360,13 +360,13 @@ fn operand_at(
 fn operands_at(
     alloc: Global,
     place: &Place<'_>,
-    rows: &Rows<'_>,
+    rows: &RowNames<'_>,
     levels: usize,
     left: &Value,
     right: &Value,
 ) -> Result<(Box<Expr>, Box<Expr>), DecodeError>
     ensures { Gives (λ p. (expression p.0.value, expression p.1.value)) result
-        (operands_at (expression_within (names_in rows.now) levels) (path_to place.now)
+        (operands_at (expression_within (names_in rows.now) levels) (steps place.now)
         (view left.now) (view right.now)) }
 {
     let left = operand_at(alloc, &place.item(1), rows, levels, left)?;
@@ -378,10 +378,10 @@ fn operands_at(
 pub(crate) fn expression_at(
     alloc: Global,
     place: &Place<'_>,
-    rows: &Rows<'_>,
+    rows: &RowNames<'_>,
     value: &Value,
 ) -> Result<Expr, DecodeError>
-    ensures { Gives expression result (expression_at (names_in rows.now) (path_to place.now) (view value.now)) }
+    ensures { Gives expression result (expression_at (names_in rows.now) (steps place.now) (view value.now)) }
 {
     expression_within(alloc, place, rows, MAX_LEVELS, value)
 }
@@ -390,11 +390,11 @@ pub(crate) fn expression_at(
 pub(crate) fn boxed_expression_at(
     alloc: Global,
     place: &Place<'_>,
-    rows: &Rows<'_>,
+    rows: &RowNames<'_>,
     value: &Value,
 ) -> Result<Box<Expr>, DecodeError>
     ensures { Gives (λ e. expression e.value) result
-        (expression_at (names_in rows.now) (path_to place.now) (view value.now)) }
+        (expression_at (names_in rows.now) (steps place.now) (view value.now)) }
 {
     operand_at(alloc, place, rows, MAX_LEVELS, value)
 }

@@ -5,24 +5,23 @@ ghost use Rattle.serde_json.specs.View.{view};
 ghost use Rattle.hp_model.specs.Cascade.{moment};
 ghost use Rattle.hp_model.specs.Decode.{item_form_of_one, item_form, item_form_at, transaction_at, clock_at};
 ghost use Rattle.hp_rule.specs.Mapped.{library as model_library, rule, unit};
+ghost use Rattle.hp_rule.specs.Places.{steps};
 ghost use Rattle.hp_script.specs.Forms.{item_form_view};
 ghost use Rattle.hp_script.specs.Items.{item_over, items_over};
 ghost use Rattle.hp_script.specs.Mapped.{Gives, schedule};
 ghost use Rattle.hp_script.specs.OwnBodies.{AreOf, StayOf};
-ghost use Rattle.hp_script.specs.Place.{path_to};
 ghost use Rattle.hp_script.specs.Scopes.{library_scope};
 
 use crate::list::list_at;
 use crate::moment::due_moments;
 use crate::number::number_from;
-use crate::place::{Place, misshapen};
-use crate::refusal::{DecodeError, Limit, Refusal};
+use crate::refusal::{DecodeError, Refusal, misshapen};
 use crate::rows::no_rows;
 use crate::schedule::Schedule;
 use crate::scope::Scope;
 use crate::shape::form_of;
 use crate::statement::statements_at;
-use hp_rule::{Body, Library, Rule, Unit};
+use hp_rule::{Body, Library, Limit, Place, Rule, Unit};
 use serde_json::Value;
 use std::alloc::{AllocError, Global};
 use std::sync::Arc;
@@ -58,7 +57,7 @@ fn item_form_at<'a>(
     place: &Place<'_>,
     value: &'a Value,
 ) -> Result<ItemForm<'a>, DecodeError>
-    ensures { Gives item_form_view result (item_form_at (path_to place.now) (view value.entry.now)) }
+    ensures { Gives item_form_view result (item_form_at (steps place.now) (view value.entry.now)) }
 {
     let Some(form) = form_of(value) else {
         return Err(misshapen(alloc, place));
@@ -79,7 +78,7 @@ fn transaction_at(
 ) -> Result<Schedule, DecodeError>
     ensures own { IfOk result (StayOf library.now.value before) }
     ensures reads { Gives schedule result
-        (transaction_at (library_scope (model_library library.now.value)) (path_to place.now)
+        (transaction_at (library_scope (model_library library.now.value)) (steps place.now)
         (schedule before) (view body.now)) }
 {
     let rows = no_rows();
@@ -113,7 +112,7 @@ fn clock_at(
 ) -> Result<Schedule, DecodeError>
     ensures own { IfOk result (λ s. (library : Library) → StayOf library before s) }
     ensures reads { Gives schedule result
-        (clock_at (map rule rules.now) (path_to place.now) (schedule before) (view time.now)) }
+        (clock_at (map rule rules.now) (steps place.now) (schedule before) (view time.now)) }
 {
     let clock = number_from(alloc, &place.item(1), before.clock, time)?;
     let Some(moments) = due_moments(alloc, rules, before.clock, clock)? else {
@@ -134,7 +133,7 @@ pub(crate) fn unit_at(
 ) -> Result<Schedule, DecodeError>
     ensures own { IfOk result (StayOf library.now.value before) }
     ensures reads { Gives schedule result
-        (item_over (model_library library.now.value) (path_to place.now) (schedule before) (view value.now)) }
+        (item_over (model_library library.now.value) (steps place.now) (schedule before) (view value.now)) }
 {
     match item_form_at(alloc, place, value)? {
         ItemForm::Transaction(body) => transaction_at(alloc, place, library, before, body),
@@ -152,7 +151,7 @@ pub(crate) fn units_at(
 ) -> Result<Schedule, DecodeError>
     ensures own { IfOk result (λ s. AreOf library.now.value s.units.items) }
     ensures reads { Gives schedule result
-        (items_over (model_library library.now.value) (path_to place.now) (view value.now)) }
+        (items_over (model_library library.now.value) (steps place.now) (view value.now)) }
 {
     let values = list_at(alloc, place, value)?;
     let mut schedule = Schedule {

@@ -5,7 +5,6 @@
 
 mod assignment;
 mod class;
-mod context;
 mod coupling;
 mod decoding;
 mod event;
@@ -18,7 +17,6 @@ mod name;
 mod names;
 mod number;
 mod operation;
-mod place;
 mod query;
 mod reference;
 mod refusal;
@@ -36,7 +34,8 @@ mod statement_form;
 mod version;
 
 pub use decoding::decode;
-pub use refusal::{DecodeError, Limit, Member, Refusal, Step};
+pub use hp_rule::{Limit, Member, PathStep};
+pub use refusal::{DecodeError, Refusal};
 pub use request::{Request, decode_request};
 pub use schedule::Schedule;
 pub use script::Script;

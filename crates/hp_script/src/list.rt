@@ -3,12 +3,13 @@
 ghost use Rattle.std.specs.Prelude.{◌≤◌, length, map, IfOk};
 ghost use Rattle.serde_json.specs.View.{view};
 ghost use Rattle.hp_model.specs.Parts.{list_at, short_list_at};
-ghost use Rattle.hp_script.specs.Mapped.{limit, Gives};
-ghost use Rattle.hp_script.specs.Place.{path_to};
+ghost use Rattle.hp_rule.specs.Faults.{limit};
+ghost use Rattle.hp_rule.specs.Places.{steps};
+ghost use Rattle.hp_script.specs.Mapped.{Gives};
 
-use crate::place::{Place, misshapen};
-use crate::refusal::{DecodeError, Limit, Refusal};
+use crate::refusal::{DecodeError, Refusal, misshapen};
 use crate::shape::list_of;
+use hp_rule::{Limit, Place};
 use serde_json::Value;
 use std::alloc::Global;
 
@@ -18,7 +19,7 @@ pub(crate) fn list_at<'a>(
     place: &Place<'_>,
     value: &'a Value,
 ) -> Result<&'a [Value], DecodeError>
-    ensures { Gives (λ items. map view items.now) result (list_at (path_to place.now) (view value.entry.now)) }
+    ensures { Gives (λ items. map view items.now) result (list_at (steps place.now) (view value.entry.now)) }
 {
     match list_of(value) {
         Some(items) => Ok(items),
@@ -36,7 +37,7 @@ pub(crate) fn short_list_at<'a>(
     value: &'a Value,
 ) -> Result<&'a [Value], DecodeError>
     ensures reads { Gives (λ items. map view items.now) result
-        (short_list_at most (limit exceeded) (path_to place.now) (view value.entry.now)) }
+        (short_list_at most (limit exceeded) (steps place.now) (view value.entry.now)) }
     ensures few { IfOk result (λ items. length items.now ≤ most) }
 {
     let items = list_at(alloc, place, value)?;

@@ -3,12 +3,11 @@
 ghost use Rattle.std.specs.Prelude.{◌≡◌, option_map};
 ghost use Rattle.serde_json.specs.View.{view};
 ghost use Rattle.hp_model.specs.Parts.{name_of, name_at};
+ghost use Rattle.hp_rule.specs.Places.{steps};
 ghost use Rattle.hp_script.specs.Mapped.{Gives};
-ghost use Rattle.hp_script.specs.Place.{path_to};
 
-use crate::place::{Place, misshapen};
-use crate::refusal::DecodeError;
-use hp_rule::is_name;
+use crate::refusal::{DecodeError, misshapen};
+use hp_rule::{Place, is_name};
 use serde_json::Value;
 use std::alloc::Global;
 
@@ -25,7 +24,7 @@ pub(crate) fn name_at<'a>(
     place: &Place<'_>,
     value: &'a Value,
 ) -> Result<&'a str, DecodeError>
-    ensures { Gives (λ x. x.now) result (name_at (path_to place.now) (view value.entry.now)) }
+    ensures { Gives (λ x. x.now) result (name_at (steps place.now) (view value.entry.now)) }
 {
     match name_of(value) {
         Some(name) => Ok(name),

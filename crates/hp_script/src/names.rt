@@ -8,16 +8,15 @@ ghost use Rattle.hp_model.specs.RuleHeads.{rule_names};
 ghost use Rattle.hp_model.specs.StatementGrammar.{assigned_names};
 ghost use Rattle.hp_value.specs.Mapped.{field, class_def};
 ghost use Rattle.hp_rule.specs.Mapped.{assignment, rule};
+ghost use Rattle.hp_rule.specs.Places.{steps};
 ghost use Rattle.hp_script.specs.Heads.{heads_view};
 ghost use Rattle.hp_script.specs.Mapped.{Gives};
 ghost use Rattle.hp_script.specs.Names.{names_in, names_of};
-ghost use Rattle.hp_script.specs.Place.{path_to};
 
 use crate::name::name_at;
-use crate::place::{Place, misnamed};
-use crate::refusal::DecodeError;
+use crate::refusal::{DecodeError, misnamed};
 use crate::rule_head::RuleHead;
-use hp_rule::{Assignment, Rule};
+use hp_rule::{Assignment, Place, Rule};
 use hp_value::{ClassDef, Field};
 use serde_json::Value;
 use std::alloc::Global;
@@ -102,7 +101,7 @@ pub(crate) fn new_name_at<'a>(
     value: &'a Value,
 ) -> Result<&'a str, DecodeError>
     ensures { Gives (λ x. x.now) result
-        (new_name_at (names_of before.entry) (path_to place.now) (view value.entry.now)) }
+        (new_name_at (names_of before.entry) (steps place.now) (view value.entry.now)) }
 {
     let name = name_at(alloc, place, value)?;
     if before.place(name).is_some() {

@@ -3,11 +3,11 @@
 ghost use Rattle.std.specs.Prelude.{◌≤◌, ◌<◌, ◌^◌, IfOk};
 ghost use Rattle.serde_json.specs.View.{view};
 ghost use Rattle.hp_model.specs.Parts.{integer_at, index_at, number_from};
+ghost use Rattle.hp_rule.specs.Places.{steps};
 ghost use Rattle.hp_script.specs.Mapped.{Gives};
-ghost use Rattle.hp_script.specs.Place.{path_to};
 
-use crate::place::{Place, misshapen, no_integer};
-use crate::refusal::DecodeError;
+use crate::refusal::{DecodeError, misshapen, no_integer};
+use hp_rule::Place;
 use serde_json::Value;
 use std::alloc::Global;
 
@@ -18,7 +18,7 @@ pub(crate) fn integer_at(
     place: &Place<'_>,
     value: &Value,
 ) -> Result<i64, DecodeError>
-    ensures { Gives (λ z. z) result (integer_at (path_to place.now) (view value.now)) }
+    ensures { Gives (λ z. z) result (integer_at (steps place.now) (view value.now)) }
 {
     let Some(number) = value.as_number() else {
         return Err(misshapen(alloc, place));
@@ -32,7 +32,7 @@ pub(crate) fn integer_at(
 /// The number of a part at a place: 0 to 65,535.
 #[tactic(auto, unfolding(hp_model::specs::Parts::index_at))]
 pub(crate) fn index_at(alloc: Global, place: &Place<'_>, value: &Value) -> Result<u16, DecodeError>
-    ensures { Gives (λ n. n) result (index_at (path_to place.now) (view value.now)) }
+    ensures { Gives (λ n. n) result (index_at (steps place.now) (view value.now)) }
 {
     let integer = integer_at(alloc, place, value)?;
     if integer < 0 || 65_535 < integer {
@@ -49,7 +49,7 @@ pub(crate) fn number_from(
     least: u64,
     value: &Value,
 ) -> Result<u64, DecodeError>
-    ensures reads { Gives (λ n. n) result (number_from least (path_to place.now) (view value.now)) }
+    ensures reads { Gives (λ n. n) result (number_from least (steps place.now) (view value.now)) }
     ensures least { IfOk result (λ n. least ≤ n) }
     ensures fits { IfOk result (λ n. n < 2 ^ 63) }
 {

@@ -6,22 +6,20 @@ ghost use Rattle.hp_model.specs.StatementGrammar.{delete_form, signal_form, emit
 ghost use Rattle.hp_model.specs.StatementGrammar.{arguments_at};
 ghost use Rattle.hp_value.specs.Mapped.{expression};
 ghost use Rattle.hp_rule.specs.Mapped.{rule_operation, statement};
+ghost use Rattle.hp_rule.specs.Named.{names_in};
+ghost use Rattle.hp_rule.specs.Places.{steps};
 ghost use Rattle.hp_script.specs.Contexts.{form_here};
 ghost use Rattle.hp_script.specs.Writes.{write_form};
 ghost use Rattle.hp_script.specs.Mapped.{Gives};
-ghost use Rattle.hp_script.specs.Place.{path_to};
-ghost use Rattle.hp_script.specs.Rows.{names_in};
 
 use crate::assignment::{all_assignments_at, assignments_at};
-use crate::context::Context;
 use crate::expression::{boxed_expression_at, expression_at};
 use crate::list::short_list_at;
 use crate::name::name_at;
-use crate::place::Place;
 use crate::reference::{class_at, fields_of, rule_at};
-use crate::refusal::{DecodeError, Limit};
-use crate::rows::Rows;
-use hp_rule::{RuleOperation, Stmt};
+use crate::refusal::DecodeError;
+use crate::scope::Scope;
+use hp_rule::{Context, Limit, Place, RowNames, RuleOperation, Stmt};
 use hp_value::Expr;
 use serde_json::Value;
 use std::alloc::Global;
@@ -38,7 +36,7 @@ pub(crate) enum Write {
 
 #[tactic(auto, unfolding(hp_model::specs::StatementGrammar::create_at, hp_model::specs::StatementGrammar::update_at))]
 pub(crate) fn write_at(
-    context: &Context<'_>,
+    context: &Context<'_, Scope<'_>>,
     write: Write,
     class: &Value,
     key: &Value,
@@ -49,16 +47,16 @@ pub(crate) fn write_at(
 {
     let alloc = context.alloc;
     let class = class_at(alloc, &context.place.item(1), &context.scope, class)?;
-    let key = boxed_expression_at(alloc, &context.place.item(2), &context.rows, key)?;
+    let key = boxed_expression_at(alloc, &context.place.item(2), &context.names, key)?;
     let place = context.place.item(3);
     let fields = fields_of(&context.scope, class);
     match write {
         Write::Create => {
-            let pairs = all_assignments_at(alloc, &place, fields, &context.rows, pairs)?;
+            let pairs = all_assignments_at(alloc, &place, fields, &context.names, pairs)?;
             Ok(Stmt::Create { class, key, pairs })
         }
         Write::Update => {
-            let pairs = assignments_at(alloc, &place, fields, &context.rows, pairs)?;
+            let pairs = assignments_at(alloc, &place, fields, &context.names, pairs)?;
             Ok(Stmt::Update { class, key, pairs })
         }
     }
@@ -66,7 +64,7 @@ pub(crate) fn write_at(
 
 #[tactic(auto, unfolding(hp_model::specs::StatementGrammar::delete_at))]
 pub(crate) fn delete_at(
-    context: &Context<'_>,
+    context: &Context<'_, Scope<'_>>,
     class: &Value,
     key: &Value,
 ) -> Result<Stmt, DecodeError>
@@ -74,7 +72,7 @@ pub(crate) fn delete_at(
 {
     let alloc = context.alloc;
     let class = class_at(alloc, &context.place.item(1), &context.scope, class)?;
-    let key = boxed_expression_at(alloc, &context.place.item(2), &context.rows, key)?;
+    let key = boxed_expression_at(alloc, &context.place.item(2), &context.names, key)?;
     Ok(Stmt::Delete { class, key })
 }
 
@@ -82,11 +80,11 @@ pub(crate) fn delete_at(
 fn arguments_at(
     alloc: Global,
     place: &Place<'_>,
-    rows: &Rows<'_>,
+    rows: &RowNames<'_>,
     value: &Value,
 ) -> Result<Vec<Expr>, DecodeError>
     ensures { Gives (λ es. map expression es.items) result
-        (arguments_at (names_in rows.now) (path_to place.now) (view value.now)) }
+        (arguments_at (names_in rows.now) (steps place.now) (view value.now)) }
 {
     let values = short_list_at(alloc, place, MAX_ARGUMENTS, Limit::Arguments, value)?;
     let mut arguments = Vec::new(alloc);
@@ -99,7 +97,7 @@ fn arguments_at(
 
 #[tactic(auto, unfolding(hp_model::specs::StatementGrammar::signal_at))]
 pub(crate) fn signal_at(
-    context: &Context<'_>,
+    context: &Context<'_, Scope<'_>>,
     name: &Value,
     arguments: &Value,
 ) -> Result<Stmt, DecodeError>
@@ -108,22 +106,22 @@ pub(crate) fn signal_at(
 {
     let alloc = context.alloc;
     let name = name_at(alloc, &context.place.item(1), name)?;
-    let arguments = arguments_at(alloc, &context.place.item(2), &context.rows, arguments)?;
+    let arguments = arguments_at(alloc, &context.place.item(2), &context.names, arguments)?;
     let name = String::from_str(alloc, name)?;
     Ok(Stmt::Signal { name, arguments })
 }
 
 #[tactic(auto, unfolding(hp_model::specs::StatementGrammar::emit_at))]
-pub(crate) fn emit_at(context: &Context<'_>, value: &Value) -> Result<Stmt, DecodeError>
+pub(crate) fn emit_at(context: &Context<'_, Scope<'_>>, value: &Value) -> Result<Stmt, DecodeError>
     ensures { Gives statement result (form_here context.entry.now 0 (emit_form (view value.now))) }
 {
-    let value = boxed_expression_at(context.alloc, &context.place.item(1), &context.rows, value)?;
+    let value = boxed_expression_at(context.alloc, &context.place.item(1), &context.names, value)?;
     Ok(Stmt::Emit(value))
 }
 
 #[tactic(auto, unfolding(hp_model::specs::StatementGrammar::on_rule_at))]
 pub(crate) fn on_rule_at(
-    context: &Context<'_>,
+    context: &Context<'_, Scope<'_>>,
     operation: RuleOperation,
     rule: &Value,
 ) -> Result<Stmt, DecodeError>
@@ -135,7 +133,7 @@ pub(crate) fn on_rule_at(
 }
 
 #[tactic(auto, unfolding(hp_model::specs::StatementGrammar::fire_at))]
-pub(crate) fn fire_at(context: &Context<'_>, rule: &Value) -> Result<Stmt, DecodeError>
+pub(crate) fn fire_at(context: &Context<'_, Scope<'_>>, rule: &Value) -> Result<Stmt, DecodeError>
     ensures { Gives statement result (form_here context.entry.now 0 (fire_form (view rule.now))) }
 {
     let rule = rule_at(context.alloc, &context.place.item(1), &context.scope, rule)?;

@@ -5,19 +5,18 @@ ghost use Rattle.serde_json.specs.View.{view};
 ghost use Rattle.hp_model.specs.Scopes.{class_names};
 ghost use Rattle.hp_model.specs.Decode.{triple_of, query_at, condition_at};
 ghost use Rattle.hp_query.specs.Mapped.{query};
+ghost use Rattle.hp_rule.specs.Places.{steps};
 ghost use Rattle.hp_script.specs.Forms.{scope_view};
 ghost use Rattle.hp_script.specs.Mapped.{Gives};
-ghost use Rattle.hp_script.specs.Place.{path_to};
 
 use crate::expression::boxed_expression_at;
 use crate::list::list_at;
-use crate::place::{Place, misshapen};
 use crate::reference::class_at;
-use crate::refusal::DecodeError;
-use crate::rows::{Rows, new_row_at};
+use crate::refusal::{DecodeError, misshapen};
+use crate::rows::new_row_at;
 use crate::scope::Scope;
 use crate::shape::list_of;
-use hp_rule::Query;
+use hp_rule::{Place, Query, RowNames};
 use serde_json::Value;
 use std::alloc::Global;
 
@@ -42,15 +41,15 @@ fn query_at(
 ) -> Result<Query, DecodeError>
     ensures { Gives query result
         (query_at (class_names (scope_view scope.entry.now).classes) (map query before.now)
-        (path_to place.now) (view value.now)) }
+        (steps place.now) (view value.now)) }
 {
     let Some((name, class, predicate)) = triple_of(value) else {
         return Err(misshapen(alloc, place));
     };
-    let earlier = Rows::Queries(before);
+    let earlier = RowNames::Queries(before);
     let name = new_row_at(alloc, &place.item(0), &earlier, name)?;
     let class = class_at(alloc, &place.item(1), scope, class)?;
-    let rows = earlier.named(name);
+    let rows = earlier.bound(name);
     let predicate = boxed_expression_at(alloc, &place.item(2), &rows, predicate)?;
     let name = String::from_str(alloc, name)?;
     Ok(Query {
@@ -69,7 +68,7 @@ pub(crate) fn condition_at(
     value: &Value,
 ) -> Result<Vec<Query>, DecodeError>
     ensures { Gives (λ queries. map query queries.items) result
-        (condition_at (class_names (scope_view scope.entry.now).classes) (path_to place.now) (view value.now)) }
+        (condition_at (class_names (scope_view scope.entry.now).classes) (steps place.now) (view value.now)) }
 {
     let values = list_at(alloc, place, value)?;
     let mut queries = Vec::new(alloc);

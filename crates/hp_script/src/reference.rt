@@ -3,19 +3,18 @@
 ghost use Rattle.std.specs.Prelude.{◌≡◌, map};
 ghost use Rattle.serde_json.specs.View.{view};
 ghost use Rattle.hp_model.specs.Parts.{place_of, place_at};
-ghost use Rattle.hp_model.specs.Scopes.{class_names, field_names, fields_of};
+ghost use Rattle.hp_model.specs.Scopes.{class_names, field_names, fields_of, is_known};
 ghost use Rattle.hp_model.specs.StatementGrammar.{query_at};
 ghost use Rattle.hp_value.specs.Mapped.{field};
+ghost use Rattle.hp_rule.specs.Places.{steps};
 ghost use Rattle.hp_script.specs.Forms.{scope_view};
 ghost use Rattle.hp_script.specs.Mapped.{Gives};
-ghost use Rattle.hp_script.specs.Place.{path_to};
 
 use crate::name::name_at;
 use crate::names::class_place;
-use crate::place::{Place, misnamed};
-use crate::refusal::DecodeError;
-use crate::rows::has_query;
+use crate::refusal::{DecodeError, misnamed};
 use crate::scope::Scope;
+use hp_rule::{Place, RowNames};
 use hp_value::{ClassNo, Field, RuleNo};
 use serde_json::Value;
 use std::alloc::Global;
@@ -45,7 +44,7 @@ pub(crate) fn class_at(
     value: &Value,
 ) -> Result<ClassNo, DecodeError>
     ensures { Gives (λ n. n) result
-        (place_at (class_names (scope_view scope.entry.now).classes) (path_to place.now) (view value.now)) }
+        (place_at (class_names (scope_view scope.entry.now).classes) (steps place.now) (view value.now)) }
 {
     let name = name_at(alloc, place, value)?;
     match class_number(scope, name) {
@@ -63,13 +62,20 @@ pub(crate) fn rule_at(
     value: &Value,
 ) -> Result<RuleNo, DecodeError>
     ensures { Gives (λ n. n) result
-        (place_at (scope_view scope.entry.now).rules (path_to place.now) (view value.now)) }
+        (place_at (scope_view scope.entry.now).rules (steps place.now) (view value.now)) }
 {
     let name = name_at(alloc, place, value)?;
     match rule_number(scope, name) {
         Some(number) => Ok(number),
         None => Err(misnamed(alloc, place)),
     }
+}
+
+/// Whether a query of the rule has this name.
+fn is_query(scope: &Scope<'_>, name: &str) -> bool
+    ensures { result ≡ is_known (scope_view scope.entry.now).queries name.now }
+{
+    RowNames::Queries(scope.queries).knows(name)
 }
 
 /// The name of a query of the rule, at a place.
@@ -81,10 +87,10 @@ pub(crate) fn query_at<'a>(
     value: &'a Value,
 ) -> Result<&'a str, DecodeError>
     ensures { Gives (λ x. x.now) result
-        (query_at (scope_view scope.entry.now) (path_to place.now) (view value.entry.now)) }
+        (query_at (scope_view scope.entry.now) (steps place.now) (view value.entry.now)) }
 {
     let name = name_at(alloc, place, value)?;
-    if has_query(scope.queries, name) {
+    if is_query(scope, name) {
         Ok(name)
     } else {
         Err(misnamed(alloc, place))

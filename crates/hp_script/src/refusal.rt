@@ -1,61 +1,14 @@
 //! Why a script is refused, and where.
 
 ghost use Rattle.std.specs.Prelude.{◌≡◌};
+ghost use Rattle.hp_model.specs.Refusals.{wrong_shape, bad_number, bad_name};
+ghost use Rattle.hp_rule.specs.Places.{steps};
+ghost use Rattle.hp_script.specs.Mapped.{IsRefusal};
 ghost use Rattle.hp_script.specs.declared.refusal.DecodeError.TheVariants.{Memory};
 
-use std::alloc::{AllocError, AllocFailed};
+use hp_rule::{Limit, PathStep, Place};
+use std::alloc::{AllocError, AllocFailed, Global};
 use std::error::Error;
-
-/// A member of a script's root.
-#[derive(Clone, Copy, Debug, PartialEq, Eq)]
-pub enum Member {
-    /// The version of the grammar.
-    Version,
-    /// The depth limit of firings.
-    Depth,
-    /// The classes of objects.
-    Classes,
-    /// The rules.
-    Rules,
-    /// What runs, in order.
-    Items,
-}
-
-/// One step of a path from the root to a value.
-#[derive(Clone, Copy, Debug, PartialEq, Eq)]
-pub enum Step {
-    /// To a member of the root.
-    Member(Member),
-    /// To an item of a list, by its position from 0 on.
-    Position(usize),
-}
-
-/// What a limit is on.
-#[derive(Clone, Copy, Debug, PartialEq, Eq)]
-pub enum Limit {
-    /// The bytes of a script: 1,048,576.
-    Size,
-    /// The classes: 64.
-    Classes,
-    /// The fields of a class: 32.
-    Fields,
-    /// The rules: 256.
-    Rules,
-    /// The levels of an expression: 16.
-    Expression,
-    /// The levels of an event: 16.
-    Event,
-    /// The levels of statements in statements: 16.
-    Nesting,
-    /// The bytes of a text: 1,024.
-    Text,
-    /// The depth of firings: 1 to 16.
-    Depth,
-    /// The arguments of a signal: 32.
-    Arguments,
-    /// The moments in one move of the clock: 1,000.
-    Moments,
-}
 
 /// Why a script is refused. A path leads from the root to the refused value.
 ///
@@ -66,11 +19,11 @@ pub enum Refusal {
     /// The bytes are not a JSON text in UTF-8.
     S1,
     /// A value has not the form that the grammar wants.
-    S2(Vec<Step>),
+    S2(Vec<PathStep>),
     /// A number is not a signed 64-bit integer.
-    S3(Vec<Step>),
+    S3(Vec<PathStep>),
     /// A name is unknown or taken, or fields are missing.
-    S4(Vec<Step>),
+    S4(Vec<PathStep>),
     /// A limit is exceeded.
     S5(Limit),
     /// The version is unknown.
@@ -103,5 +56,35 @@ impl<T: Drop> From<AllocFailed<T>> for DecodeError {
 
     fn from(_e: AllocFailed<T>) -> DecodeError {
         DecodeError::Memory
+    }
+}
+
+/// The refusal of a value that has not the form that the grammar wants here.
+pub(crate) fn misshapen(alloc: Global, place: &Place<'_>) -> DecodeError
+    ensures { IsRefusal result (wrong_shape (steps place.now)) }
+{
+    match place.path(alloc) {
+        Ok(path) => DecodeError::Refused(Refusal::S2(path)),
+        Err(_) => DecodeError::Memory,
+    }
+}
+
+/// The refusal of a number that is not a signed 64-bit integer.
+pub(crate) fn no_integer(alloc: Global, place: &Place<'_>) -> DecodeError
+    ensures { IsRefusal result (bad_number (steps place.now)) }
+{
+    match place.path(alloc) {
+        Ok(path) => DecodeError::Refused(Refusal::S3(path)),
+        Err(_) => DecodeError::Memory,
+    }
+}
+
+/// The refusal of a name that is unknown or taken, or of a list that lacks one.
+pub(crate) fn misnamed(alloc: Global, place: &Place<'_>) -> DecodeError
+    ensures { IsRefusal result (bad_name (steps place.now)) }
+{
+    match place.path(alloc) {
+        Ok(path) => DecodeError::Refused(Refusal::S4(path)),
+        Err(_) => DecodeError::Memory,
     }
 }

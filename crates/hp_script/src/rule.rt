@@ -7,21 +7,19 @@ ghost use Rattle.hp_model.specs.StatementGrammar.{statements_at};
 ghost use Rattle.hp_model.specs.Decode.{acting, rule_at, rules_at};
 ghost use Rattle.hp_query.specs.Mapped.{query};
 ghost use Rattle.hp_rule.specs.Mapped.{rule, statement};
+ghost use Rattle.hp_rule.specs.Places.{steps};
 ghost use Rattle.hp_script.specs.Forms.{head_view, heads_view, scope_view, version_view};
 ghost use Rattle.hp_script.specs.Mapped.{Gives};
-ghost use Rattle.hp_script.specs.Place.{path_to};
 
 use crate::coupling::coupling_at;
 use crate::event::event_at;
-use crate::place::Place;
 use crate::query::condition_at;
 use crate::refusal::DecodeError;
-use crate::rows::Rows;
 use crate::rule_head::RuleHead;
 use crate::scope::Scope;
 use crate::statement::statements_at;
 use crate::version::Version;
-use hp_rule::{Query, Rule, Stmt};
+use hp_rule::{Place, Query, RowNames, Rule, Stmt};
 use serde_json::Value;
 use std::alloc::Global;
 use std::sync::Arc;
@@ -36,7 +34,7 @@ fn action_at(
 ) -> Result<Vec<Stmt>, DecodeError>
     ensures { Gives (λ body. map statement body.items) result
         (statements_at (acting (scope_view scope.entry.now) (map query condition.now))
-        (query_names (map query condition.now)) (path_to place.now) (view value.now)) }
+        (query_names (map query condition.now)) (steps place.now) (view value.now)) }
 {
     let acting = Scope {
         classes: scope.classes,
@@ -44,7 +42,7 @@ fn action_at(
         queries: condition,
         in_action: true,
     };
-    let rows = Rows::Queries(condition);
+    let rows = RowNames::Queries(condition);
     statements_at(alloc, place, &acting, &rows, value)
 }
 
@@ -59,7 +57,7 @@ fn rule_at(
 ) -> Result<Rule, DecodeError>
     ensures { Gives rule result
         (rule_at (version_view version) (scope_view scope.entry.now)
-        (path_to place.now) (head_view head.entry.now)) }
+        (steps place.now) (head_view head.entry.now)) }
 {
     let parts = head.parts;
     let event = event_at(alloc, &place.item(1), scope, parts.event)?;
@@ -95,7 +93,7 @@ pub(crate) fn rules_at(
 ) -> Result<Vec<Rule>, DecodeError>
     ensures { Gives (λ rules. map rule rules.items) result
         (rules_at (version_view version) (scope_view scope.entry.now)
-        (path_to place.now) (heads_view heads.entry.now)) }
+        (steps place.now) (heads_view heads.entry.now)) }
 {
     let mut rules = Vec::new(alloc);
     for (i, head) in heads.iter().enumerate() {

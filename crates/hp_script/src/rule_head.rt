@@ -3,15 +3,15 @@
 ghost use Rattle.std.specs.Prelude.{◌≡◌, ◌≤◌, length, option_map, IfOk};
 ghost use Rattle.serde_json.specs.View.{view};
 ghost use Rattle.hp_model.specs.RuleHeads.{rule_parts_of, rule_head_at, rule_heads_at};
+ghost use Rattle.hp_rule.specs.Places.{steps};
 ghost use Rattle.hp_script.specs.Forms.{parts_view, head_view, heads_view};
 ghost use Rattle.hp_script.specs.Mapped.{Gives};
-ghost use Rattle.hp_script.specs.Place.{path_to};
 
 use crate::list::short_list_at;
 use crate::names::{Names, new_name_at};
-use crate::place::{Place, misshapen};
-use crate::refusal::{DecodeError, Limit};
+use crate::refusal::{DecodeError, misshapen};
 use crate::shape::list_of;
+use hp_rule::{Limit, Place};
 use serde_json::Value;
 use std::alloc::Global;
 
@@ -68,7 +68,7 @@ fn rule_head_at<'a>(
     value: &'a Value,
 ) -> Result<RuleHead<'a>, DecodeError>
     ensures { Gives head_view result
-        (rule_head_at (heads_view before.entry.now) (path_to place.now) (view value.entry.now)) }
+        (rule_head_at (heads_view before.entry.now) (steps place.now) (view value.entry.now)) }
 {
     let Some(parts) = rule_parts_of(value) else {
         return Err(misshapen(alloc, place));
@@ -85,7 +85,7 @@ pub(crate) fn rule_heads_at<'a>(
     value: &'a Value,
 ) -> Result<Vec<RuleHead<'a>>, DecodeError>
     ensures reads { Gives (λ heads. heads_view heads.items) result
-        (rule_heads_at (path_to place.now) (view value.entry.now)) }
+        (rule_heads_at (steps place.now) (view value.entry.now)) }
     ensures few { IfOk result (λ heads. length heads.items ≤ 256) }
 {
     let values = short_list_at(alloc, place, MAX_RULES, Limit::Rules, value)?;

@@ -1,65 +1,22 @@
 //! Refusals as text.
 
 ghost use Rattle.std.specs.Prelude.{◌≡◌, Some, IfOk, string_bytes};
-ghost use Rattle.hp_model.specs.Output.{limit_word, step_text, path_text, refusal_words, refusal_text as line_of};
+ghost use Rattle.hp_model.specs.Output.{path_text, refusal_words, refusal_text as line_of};
 ghost use Rattle.hp_model.specs.Report.{words};
-ghost use Rattle.hp_script.specs.Mapped.{member_name, step, limit, path_in, refusal as mapped};
+ghost use Rattle.hp_rule.specs.Places.{path};
+ghost use Rattle.hp_script.specs.Mapped.{refusal as mapped};
 
-use crate::refusal::{Limit, Member, Refusal, Step};
+use crate::refusal::Refusal;
+use hp_rule::PathStep;
 use std::alloc::{AllocError, Global};
 use std::fmt;
 
-impl fmt::Display for Member {
-    ghost output = { λ m. Some (member_name m) };
-
-    fn fmt<W: fmt::Write>(&self, f: &mut fmt::Formatter<W>) -> fmt::Result {
-        match self {
-            Member::Version => write!(f, "version"),
-            Member::Depth => write!(f, "depth"),
-            Member::Classes => write!(f, "classes"),
-            Member::Rules => write!(f, "rules"),
-            Member::Items => write!(f, "items"),
-        }
-    }
-}
-
-impl fmt::Display for Step {
-    ghost output = { λ s. Some (step_text (step s)) };
-
-    fn fmt<W: fmt::Write>(&self, f: &mut fmt::Formatter<W>) -> fmt::Result {
-        match self {
-            Step::Member(member) => write!(f, "{member}"),
-            Step::Position(position) => write!(f, "{position}"),
-        }
-    }
-}
-
-impl fmt::Display for Limit {
-    ghost output = { λ l. Some (limit_word (limit l)) };
-
-    fn fmt<W: fmt::Write>(&self, f: &mut fmt::Formatter<W>) -> fmt::Result {
-        match self {
-            Limit::Size => write!(f, "size"),
-            Limit::Classes => write!(f, "classes"),
-            Limit::Fields => write!(f, "fields"),
-            Limit::Rules => write!(f, "rules"),
-            Limit::Expression => write!(f, "expr"),
-            Limit::Event => write!(f, "event"),
-            Limit::Nesting => write!(f, "nesting"),
-            Limit::Text => write!(f, "text"),
-            Limit::Depth => write!(f, "depth"),
-            Limit::Arguments => write!(f, "args"),
-            Limit::Moments => write!(f, "moments"),
-        }
-    }
-}
-
 /// A path from the root.
 #[derive(Clone, Copy)]
-struct Path<'a>(&'a [Step]);
+struct Path<'a>(&'a [PathStep]);
 
 impl fmt::Display for Path<'_> {
-    ghost output = { λ p. Some (path_text (path_in p.0.now)) };
+    ghost output = { λ p. Some (path_text (path p.0.now)) };
 
     fn fmt<W: fmt::Write>(&self, f: &mut fmt::Formatter<W>) -> fmt::Result {
         if self.0.is_empty() {

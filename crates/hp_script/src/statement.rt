@@ -4,23 +4,21 @@ ghost use Rattle.std.specs.Prelude.{map};
 ghost use Rattle.serde_json.specs.View.{view};
 ghost use Rattle.hp_model.specs.StatementGrammar.{if_form, each_form, for_form, with_form, sub_form, statements_at};
 ghost use Rattle.hp_rule.specs.Mapped.{statement};
+ghost use Rattle.hp_rule.specs.Named.{names_in};
+ghost use Rattle.hp_rule.specs.Places.{steps};
 ghost use Rattle.hp_script.specs.Contexts.{form_here, statement_here, statements_here};
 ghost use Rattle.hp_script.specs.Forms.{scope_view};
 ghost use Rattle.hp_script.specs.Mapped.{Gives};
-ghost use Rattle.hp_script.specs.Place.{path_to};
-ghost use Rattle.hp_script.specs.Rows.{names_in};
 
-use crate::context::Context;
 use crate::expression::boxed_expression_at;
 use crate::list::list_at;
 use crate::operation::{Write, delete_at, emit_at, fire_at, on_rule_at, signal_at, write_at};
-use crate::place::Place;
 use crate::reference::{class_at, query_at};
-use crate::refusal::{DecodeError, Limit, Refusal};
-use crate::rows::{Rows, new_row_at};
+use crate::refusal::{DecodeError, Refusal};
+use crate::rows::new_row_at;
 use crate::scope::Scope;
 use crate::statement_form::{StatementForm, statement_form_at};
-use hp_rule::Stmt;
+use hp_rule::{Context, Limit, Place, RowNames, Stmt};
 use serde_json::Value;
 use std::alloc::Global;
 
@@ -30,7 +28,7 @@ const MAX_LEVELS: usize = 16;
 #[cycle(statement)]
 #[tactic(auto, using(crate::proofs::Bodies::if_statement), unfolding(hp_model::specs::StatementGrammar::if_at))]
 fn if_at(
-    context: &Context<'_>,
+    context: &Context<'_, Scope<'_>>,
     levels: usize,
     test: &Value,
     then_body: &Value,
@@ -42,7 +40,7 @@ fn if_at(
     let condition = boxed_expression_at(
         context.alloc,
         &context.place.item(1),
-        &context.rows,
+        &context.names,
         test,
     )?;
     let then_body = statements_within(&context.item(2), levels, then_body)?;
@@ -57,7 +55,7 @@ fn if_at(
 #[cycle(statement)]
 #[tactic(auto, unfolding(hp_model::specs::StatementGrammar::each_at))]
 fn each_at(
-    context: &Context<'_>,
+    context: &Context<'_, Scope<'_>>,
     levels: usize,
     variable: &Value,
     class: &Value,
@@ -69,10 +67,10 @@ fn each_at(
         (each_form (view variable.now) (view class.now) (view predicate.now) (view body.now))) }
 {
     let alloc = context.alloc;
-    let variable = new_row_at(alloc, &context.place.item(1), &context.rows, variable)?;
+    let variable = new_row_at(alloc, &context.place.item(1), &context.names, variable)?;
     let class = class_at(alloc, &context.place.item(2), &context.scope, class)?;
-    let inner = (&*context).named(variable);
-    let predicate = boxed_expression_at(alloc, &inner.place.item(3), &inner.rows, predicate)?;
+    let inner = (&*context).bound(variable);
+    let predicate = boxed_expression_at(alloc, &inner.place.item(3), &inner.names, predicate)?;
     let body = statements_within(&inner.item(4), levels, body)?;
     let variable = String::from_str(alloc, variable)?;
     Ok(Stmt::Each {
@@ -86,7 +84,7 @@ fn each_at(
 #[cycle(statement)]
 #[tactic(auto, unfolding(hp_model::specs::StatementGrammar::for_at))]
 fn for_at(
-    context: &Context<'_>,
+    context: &Context<'_, Scope<'_>>,
     levels: usize,
     query: &Value,
     body: &Value,
@@ -103,7 +101,7 @@ fn for_at(
 #[cycle(statement)]
 #[tactic(auto, unfolding(hp_model::specs::StatementGrammar::with_at))]
 fn with_at(
-    context: &Context<'_>,
+    context: &Context<'_, Scope<'_>>,
     levels: usize,
     variable: &Value,
     class: &Value,
@@ -115,10 +113,10 @@ fn with_at(
         (with_form (view variable.now) (view class.now) (view key.now) (view body.now))) }
 {
     let alloc = context.alloc;
-    let variable = new_row_at(alloc, &context.place.item(1), &context.rows, variable)?;
+    let variable = new_row_at(alloc, &context.place.item(1), &context.names, variable)?;
     let class = class_at(alloc, &context.place.item(2), &context.scope, class)?;
-    let key = boxed_expression_at(alloc, &context.place.item(3), &context.rows, key)?;
-    let inner = (&*context).named(variable);
+    let key = boxed_expression_at(alloc, &context.place.item(3), &context.names, key)?;
+    let inner = (&*context).bound(variable);
     let body = statements_within(&inner.item(4), levels, body)?;
     let variable = String::from_str(alloc, variable)?;
     Ok(Stmt::With {
@@ -132,7 +130,7 @@ fn with_at(
 #[cycle(statement)]
 #[tactic(auto, using(crate::proofs::Bodies::sub_statement), unfolding(hp_model::specs::StatementGrammar::sub_at))]
 fn sub_at(
-    context: &Context<'_>,
+    context: &Context<'_, Scope<'_>>,
     levels: usize,
     body: &Value,
     otherwise: &Value,
@@ -149,7 +147,7 @@ fn sub_at(
 #[cycle(statement)]
 #[tactic(auto, unfolding(hp_model::specs::StatementGrammar::statement_within))]
 fn statement_within(
-    context: &Context<'_>,
+    context: &Context<'_, Scope<'_>>,
     levels: usize,
     value: &Value,
 ) -> Result<Stmt, DecodeError>
@@ -192,7 +190,7 @@ fn statement_within(
 #[cycle(statement)]
 #[tactic(auto, unfolding(hp_model::specs::StatementGrammar::statements_by))]
 fn statements_within(
-    context: &Context<'_>,
+    context: &Context<'_, Scope<'_>>,
     levels: usize,
     value: &Value,
 ) -> Result<Vec<Stmt>, DecodeError>
@@ -213,17 +211,17 @@ pub(crate) fn statements_at(
     alloc: Global,
     place: &Place<'_>,
     scope: &Scope<'_>,
-    rows: &Rows<'_>,
+    rows: &RowNames<'_>,
     value: &Value,
 ) -> Result<Vec<Stmt>, DecodeError>
     ensures { Gives (λ body. map statement body.items) result
-        (statements_at (scope_view scope.entry.now) (names_in rows.now) (path_to place.now) (view value.now)) }
+        (statements_at (scope_view scope.entry.now) (names_in rows.now) (steps place.now) (view value.now)) }
 {
     let context = Context {
         alloc,
         place: *place,
         scope: *scope,
-        rows: *rows,
+        names: *rows,
     };
     statements_within(&context, MAX_LEVELS, value)
 }

@@ -5,15 +5,14 @@ ghost use Rattle.serde_json.specs.View.{view};
 ghost use Rattle.hp_model.specs.StatementGrammar.{statement_form_of_none, statement_form_of_one};
 ghost use Rattle.hp_model.specs.StatementGrammar.{statement_form_of_two, statement_form_of_three};
 ghost use Rattle.hp_model.specs.StatementGrammar.{statement_form_of_four, statement_form, is_veto, statement_form_at};
+ghost use Rattle.hp_rule.specs.Places.{steps};
 ghost use Rattle.hp_script.specs.Forms.{scope_view, statement_form_view};
 ghost use Rattle.hp_script.specs.Mapped.{Gives};
-ghost use Rattle.hp_script.specs.Place.{path_to};
 
-use crate::place::{Place, misshapen};
-use crate::refusal::DecodeError;
+use crate::refusal::{DecodeError, misshapen};
 use crate::scope::Scope;
 use crate::shape::form_of;
-use hp_rule::RuleOperation;
+use hp_rule::{Place, RuleOperation};
 use serde_json::Value;
 use std::alloc::Global;
 
@@ -142,7 +141,7 @@ pub(crate) fn statement_form_at<'a>(
     value: &'a Value,
 ) -> Result<StatementForm<'a>, DecodeError>
     ensures { Gives statement_form_view result
-        (statement_form_at (scope_view scope.entry.now) (path_to place.now) (view value.entry.now)) }
+        (statement_form_at (scope_view scope.entry.now) (steps place.now) (view value.entry.now)) }
 {
     let Some(form) = form_of(value) else {
         return Err(misshapen(alloc, place));

@@ -3,13 +3,13 @@
 ghost use Rattle.std.specs.Prelude.{option_map};
 ghost use Rattle.serde_json.specs.View.{view};
 ghost use Rattle.hp_model.specs.Decode.{version_at, depth_at, depth_if_any};
+ghost use Rattle.hp_rule.specs.Places.{steps};
 ghost use Rattle.hp_script.specs.Forms.{version_view};
 ghost use Rattle.hp_script.specs.Mapped.{Gives};
-ghost use Rattle.hp_script.specs.Place.{path_to};
 
 use crate::number::integer_at;
-use crate::place::Place;
-use crate::refusal::{DecodeError, Limit, Refusal};
+use crate::refusal::{DecodeError, Refusal};
+use hp_rule::{Limit, Place};
 use serde_json::Value;
 use std::alloc::Global;
 
@@ -30,7 +30,7 @@ pub(crate) fn version_at(
     place: &Place<'_>,
     value: &Value,
 ) -> Result<Version, DecodeError>
-    ensures { Gives version_view result (version_at (path_to place.now) (view value.now)) }
+    ensures { Gives version_view result (version_at (steps place.now) (view value.now)) }
 {
     match integer_at(alloc, place, value)? {
         1 => Ok(Version::First),
@@ -41,7 +41,7 @@ pub(crate) fn version_at(
 
 #[tactic(auto, unfolding(hp_model::specs::Decode::depth_at))]
 fn depth_at(alloc: Global, place: &Place<'_>, value: &Value) -> Result<u8, DecodeError>
-    ensures { Gives (λ n. n) result (depth_at (path_to place.now) (view value.now)) }
+    ensures { Gives (λ n. n) result (depth_at (steps place.now) (view value.now)) }
 {
     let depth = integer_at(alloc, place, value)?;
     if depth < 1 || 16 < depth {
@@ -56,7 +56,7 @@ pub(crate) fn depth_if_any(
     place: &Place<'_>,
     value: Option<&Value>,
 ) -> Result<u8, DecodeError>
-    ensures { Gives (λ n. n) result (depth_if_any (path_to place.now) (option_map (λ v. view v.now) value.entry)) }
+    ensures { Gives (λ n. n) result (depth_if_any (steps place.now) (option_map (λ v. view v.now) value.entry)) }
 {
     match value {
         None => Ok(USUAL_DEPTH),

@@ -7,8 +7,8 @@ ghost use Rattle.hp_rule.specs.Faults.{Passes};
 ghost use Rattle.hp_rule.specs.Places.{steps};
 
 use crate::check::name::{check_limit, check_unless};
-use crate::check::place::Place;
 use crate::fault::{CheckError, Limit};
+use crate::place::Place;
 use hp_value::{ClassDef, Field};
 use std::alloc::Global;
 

@@ -7,8 +7,8 @@ ghost use Rattle.hp_rule.specs.Faults.{Passes};
 ghost use Rattle.hp_rule.specs.Places.{steps};
 
 use crate::check::name::{check_name, check_number};
-use crate::check::place::{Place, beyond, misshapen};
-use crate::fault::{CheckError, Limit};
+use crate::fault::{CheckError, Limit, beyond, misshapen};
+use crate::place::Place;
 use hp_detect::EventExpr;
 use hp_event::Pattern;
 use std::alloc::Global;

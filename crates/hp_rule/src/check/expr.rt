@@ -7,9 +7,9 @@ ghost use Rattle.hp_rule.specs.Named.{names_in};
 ghost use Rattle.hp_rule.specs.Places.{steps};
 
 use crate::check::name::{check_limit, check_name, check_unless};
-use crate::check::names::Names;
-use crate::check::place::{Place, beyond};
-use crate::fault::{CheckError, Limit};
+use crate::fault::{CheckError, Limit, beyond};
+use crate::place::Place;
+use crate::row_names::RowNames;
 use hp_value::{Expr, Value};
 use std::alloc::Global;
 
@@ -30,7 +30,7 @@ fn check_constant(constant: &Value) -> Result<(), CheckError>
 fn check_row(
     alloc: Global,
     place: &Place<'_>,
-    names: &Names<'_>,
+    names: &RowNames<'_>,
     variable: &str,
 ) -> Result<(), CheckError>
     ensures { Passes result (known_name_check (names_in names.now) (steps place.now) variable.now) }
@@ -42,7 +42,7 @@ fn check_row(
 fn check_field(
     alloc: Global,
     place: &Place<'_>,
-    names: &Names<'_>,
+    names: &RowNames<'_>,
     variable: &str,
     field: &str,
 ) -> Result<(), CheckError>
@@ -58,7 +58,7 @@ fn check_field(
 fn check_levels(
     alloc: Global,
     place: &Place<'_>,
-    names: &Names<'_>,
+    names: &RowNames<'_>,
     levels: usize,
     expr: &Expr,
 ) -> Result<(), CheckError>
@@ -95,7 +95,7 @@ fn check_levels(
 fn check_operands(
     alloc: Global,
     place: &Place<'_>,
-    names: &Names<'_>,
+    names: &RowNames<'_>,
     levels: usize,
     left: &Expr,
     right: &Expr,
@@ -112,7 +112,7 @@ fn check_operands(
 pub(crate) fn check_expr(
     alloc: Global,
     place: &Place<'_>,
-    names: &Names<'_>,
+    names: &RowNames<'_>,
     expr: &Expr,
 ) -> Result<(), CheckError>
     ensures { Passes result (whole_expression_check (names_in names.now) (steps place.now) (expression expr.now)) }

@@ -7,8 +7,8 @@ ghost use Rattle.hp_model.specs.Checked.{name_check, name_unless, number_check, 
 ghost use Rattle.hp_rule.specs.Faults.{limit, Passes};
 ghost use Rattle.hp_rule.specs.Places.{steps};
 
-use crate::check::place::{Place, beyond, misnamed, misshapen};
-use crate::fault::{CheckError, Limit};
+use crate::fault::{CheckError, Limit, beyond, misnamed, misshapen};
+use crate::place::Place;
 use std::alloc::Global;
 
 fn are_name_bytes(bytes: &[u8]) -> bool

@@ -11,9 +11,9 @@ ghost use Rattle.hp_rule.specs.Places.{steps};
 use crate::check::classes::has_field;
 use crate::check::expr::check_expr;
 use crate::check::name::check_unless;
-use crate::check::names::Names;
-use crate::check::place::{Place, misnamed};
-use crate::fault::CheckError;
+use crate::fault::{CheckError, misnamed};
+use crate::place::Place;
+use crate::row_names::RowNames;
 use crate::stmt::Assignment;
 use hp_value::Field;
 use std::alloc::Global;
@@ -55,7 +55,7 @@ fn check_pair(
     alloc: Global,
     place: &Place<'_>,
     fields: &[Field],
-    names: &Names<'_>,
+    names: &RowNames<'_>,
     before: &[Assignment],
     pair: &Assignment,
 ) -> Result<(), CheckError>
@@ -72,7 +72,7 @@ pub(crate) fn check_pairs(
     alloc: Global,
     place: &Place<'_>,
     fields: &[Field],
-    names: &Names<'_>,
+    names: &RowNames<'_>,
     pairs: &[Assignment],
 ) -> Result<(), CheckError>
     ensures { Passes result

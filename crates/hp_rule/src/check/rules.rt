@@ -9,15 +9,15 @@ ghost use Rattle.hp_rule.specs.Faults.{Passes};
 ghost use Rattle.hp_rule.specs.Places.{steps};
 
 use crate::check::classes::check_classes;
-use crate::check::context::Context;
 use crate::check::event::check_event;
 use crate::check::expr::check_expr;
 use crate::check::name::{check_limit, check_number, check_unless};
-use crate::check::names::{Names, is_query};
-use crate::check::place::{Place, beyond};
 use crate::check::scope::Scope;
 use crate::check::statement::check_whole_body;
-use crate::fault::{CheckError, Limit, Member};
+use crate::context::Context;
+use crate::fault::{CheckError, Limit, beyond};
+use crate::place::{Member, Place};
+use crate::row_names::{RowNames, is_query};
 use crate::rule::Rule;
 use hp_query::Query;
 use hp_value::ClassDef;
@@ -79,7 +79,7 @@ fn check_query(
     let name = asked.name.as_str();
     check_unless(alloc, &place.item(0), name, is_query(before, name))?;
     check_number(alloc, &place.item(1), classes, asked.class)?;
-    let earlier = Names::Queries(before);
+    let earlier = RowNames::Queries(before);
     check_expr(
         alloc,
         &place.item(2),
@@ -131,7 +131,7 @@ fn check_rule(
         alloc,
         place: place.item(5),
         scope,
-        names: Names::Queries(&whole.condition),
+        names: RowNames::Queries(&whole.condition),
     };
     check_whole_body(&context, &whole.action)
 }

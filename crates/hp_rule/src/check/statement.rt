@@ -12,13 +12,13 @@ ghost use Rattle.hp_rule.specs.Named.{names_in};
 ghost use Rattle.hp_rule.specs.Places.{steps};
 ghost use Rattle.hp_rule.specs.Scopes.{scope_of};
 
-use crate::check::context::Context;
 use crate::check::expr::check_expr;
 use crate::check::name::{check_limit, check_name, check_number, check_unless};
-use crate::check::names::is_query;
 use crate::check::pairs::check_pairs;
-use crate::check::place::{beyond, misnamed, misshapen};
-use crate::fault::{CheckError, Limit};
+use crate::check::scope::Scope;
+use crate::context::Context;
+use crate::fault::{CheckError, Limit, beyond, misnamed, misshapen};
+use crate::row_names::is_query;
 use crate::stmt::{Assignment, Stmt};
 use hp_value::{ClassNo, Expr, Field, RuleNo};
 
@@ -27,7 +27,11 @@ const MAX_ARGUMENTS: usize = 32;
 const MAX_LEVELS: usize = 16;
 
 /// Checks the number of a class, which is the statement's part at an index.
-fn check_class(context: &Context<'_>, position: usize, class: ClassNo) -> Result<(), CheckError>
+fn check_class(
+    context: &Context<'_, Scope<'_>>,
+    position: usize,
+    class: ClassNo,
+) -> Result<(), CheckError>
     ensures { Passes result (class_check (scope_of context.now.scope) (item_at (steps context.now.place) position) class) }
 {
     let classes = context.scope.classes.len();
@@ -35,7 +39,7 @@ fn check_class(context: &Context<'_>, position: usize, class: ClassNo) -> Result
 }
 
 /// Checks the number of a rule, which is the statement's first part.
-fn check_rule(context: &Context<'_>, rule: RuleNo) -> Result<(), CheckError>
+fn check_rule(context: &Context<'_, Scope<'_>>, rule: RuleNo) -> Result<(), CheckError>
     ensures { Passes result (number_check (scope_of context.now.scope).rules (item_at (steps context.now.place) 1) rule) }
 {
     let rules = context.scope.rules;
@@ -43,7 +47,11 @@ fn check_rule(context: &Context<'_>, rule: RuleNo) -> Result<(), CheckError>
 }
 
 /// Checks an expression, which is the statement's part at an index.
-fn check_value(context: &Context<'_>, position: usize, expr: &Expr) -> Result<(), CheckError>
+fn check_value(
+    context: &Context<'_, Scope<'_>>,
+    position: usize,
+    expr: &Expr,
+) -> Result<(), CheckError>
     ensures { Passes result (whole_expression_check (names_in context.now.names) (item_at (steps context.now.place) position) (expression expr.now)) }
 {
     check_expr(
@@ -55,7 +63,7 @@ fn check_value(context: &Context<'_>, position: usize, expr: &Expr) -> Result<()
 }
 
 /// Checks that a name isn't in scope yet. It is the statement's first part.
-fn check_variable(context: &Context<'_>, variable: &str) -> Result<(), CheckError>
+fn check_variable(context: &Context<'_, Scope<'_>>, variable: &str) -> Result<(), CheckError>
     ensures { Passes result (new_name_check (names_in context.now.names) (item_at (steps context.now.place) 1) variable.now) }
 {
     let is_known = context.names.knows(variable);
@@ -64,7 +72,7 @@ fn check_variable(context: &Context<'_>, variable: &str) -> Result<(), CheckErro
 
 /// Checks the assignments, which are the statement's third part.
 fn check_assignments(
-    context: &Context<'_>,
+    context: &Context<'_, Scope<'_>>,
     fields: &[Field],
     pairs: &[Assignment],
 ) -> Result<(), CheckError>
@@ -81,7 +89,7 @@ fn check_assignments(
 
 #[tactic(auto, unfolding(hp_model::specs::Checked::create_check))]
 fn check_create(
-    context: &Context<'_>,
+    context: &Context<'_, Scope<'_>>,
     class: ClassNo,
     key: &Expr,
     pairs: &[Assignment],
@@ -100,7 +108,7 @@ fn check_create(
 
 #[tactic(auto, unfolding(hp_model::specs::Checked::update_check))]
 fn check_update(
-    context: &Context<'_>,
+    context: &Context<'_, Scope<'_>>,
     class: ClassNo,
     key: &Expr,
     pairs: &[Assignment],
@@ -113,7 +121,11 @@ fn check_update(
 }
 
 #[tactic(auto, unfolding(hp_model::specs::Checked::delete_check))]
-fn check_delete(context: &Context<'_>, class: ClassNo, key: &Expr) -> Result<(), CheckError>
+fn check_delete(
+    context: &Context<'_, Scope<'_>>,
+    class: ClassNo,
+    key: &Expr,
+) -> Result<(), CheckError>
     ensures { Passes result (delete_check (scope_of context.now.scope) (names_in context.now.names) (steps context.now.place) class (expression key.now)) }
 {
     check_class(context, 1, class)?;
@@ -121,7 +133,7 @@ fn check_delete(context: &Context<'_>, class: ClassNo, key: &Expr) -> Result<(),
 }
 
 #[tactic(auto, unfolding(hp_model::specs::Checked::arguments_check))]
-fn check_arguments(context: &Context<'_>, arguments: &[Expr]) -> Result<(), CheckError>
+fn check_arguments(context: &Context<'_, Scope<'_>>, arguments: &[Expr]) -> Result<(), CheckError>
     ensures { Passes result (arguments_check (names_in context.now.names) (steps context.now.place) (map expression arguments.now)) }
 {
     check_limit(MAX_ARGUMENTS, Limit::Arguments, arguments.len())?;
@@ -132,7 +144,11 @@ fn check_arguments(context: &Context<'_>, arguments: &[Expr]) -> Result<(), Chec
 }
 
 #[tactic(auto, unfolding(hp_model::specs::Checked::signal_check))]
-fn check_signal(context: &Context<'_>, signal: &str, arguments: &[Expr]) -> Result<(), CheckError>
+fn check_signal(
+    context: &Context<'_, Scope<'_>>,
+    signal: &str,
+    arguments: &[Expr],
+) -> Result<(), CheckError>
     ensures { Passes result (signal_check (names_in context.now.names) (steps context.now.place) signal.now (map expression arguments.now)) }
 {
     check_name(context.alloc, &context.place.item(1), signal)?;
@@ -149,7 +165,7 @@ fn is_veto(s: &Stmt) -> bool
 }
 
 /// Checks that a veto stands in an action.
-fn check_veto(context: &Context<'_>, s: &Stmt) -> Result<(), CheckError>
+fn check_veto(context: &Context<'_, Scope<'_>>, s: &Stmt) -> Result<(), CheckError>
     ensures { Passes result (veto_check (scope_of context.now.scope) (steps context.now.place) (statement s.now)) }
 {
     if is_veto(s) && !context.scope.in_action {
@@ -161,7 +177,7 @@ fn check_veto(context: &Context<'_>, s: &Stmt) -> Result<(), CheckError>
 #[cycle(statement)]
 #[tactic(auto, unfolding(hp_model::specs::Checked::when_check))]
 fn check_if(
-    context: &Context<'_>,
+    context: &Context<'_, Scope<'_>>,
     levels: usize,
     condition: &Expr,
     then_body: &[Stmt],
@@ -177,7 +193,7 @@ fn check_if(
 #[cycle(statement)]
 #[tactic(auto, unfolding(hp_model::specs::Checked::each_row_check))]
 fn check_each(
-    context: &Context<'_>,
+    context: &Context<'_, Scope<'_>>,
     levels: usize,
     variable: &str,
     class: ClassNo,
@@ -196,7 +212,7 @@ fn check_each(
 #[cycle(statement)]
 #[tactic(auto, unfolding(hp_model::specs::Checked::for_answer_check))]
 fn check_for(
-    context: &Context<'_>,
+    context: &Context<'_, Scope<'_>>,
     levels: usize,
     query: &str,
     body: &[Stmt],
@@ -211,7 +227,7 @@ fn check_for(
 #[cycle(statement)]
 #[tactic(auto, unfolding(hp_model::specs::Checked::with_object_check))]
 fn check_with(
-    context: &Context<'_>,
+    context: &Context<'_, Scope<'_>>,
     levels: usize,
     variable: &str,
     class: ClassNo,
@@ -230,7 +246,7 @@ fn check_with(
 #[cycle(statement)]
 #[tactic(auto, unfolding(hp_model::specs::Checked::subtransaction_check))]
 fn check_sub(
-    context: &Context<'_>,
+    context: &Context<'_, Scope<'_>>,
     levels: usize,
     body: &[Stmt],
     otherwise: &[Stmt],
@@ -243,7 +259,7 @@ fn check_sub(
 
 /// Checks the parts of a statement. The statements in it have at most `levels` levels.
 #[cycle(statement)]
-fn check_parts(context: &Context<'_>, levels: usize, s: &Stmt) -> Result<(), CheckError>
+fn check_parts(context: &Context<'_, Scope<'_>>, levels: usize, s: &Stmt) -> Result<(), CheckError>
     ensures { Passes result (statement_parts_check (scope_of context.now.scope) (statement_check (scope_of context.now.scope) levels) (names_in context.now.names) (steps context.now.place) (statement s.now)) }
 {
     match s {
@@ -279,7 +295,11 @@ fn check_parts(context: &Context<'_>, levels: usize, s: &Stmt) -> Result<(), Che
 /// Checks a statement of at most `levels` levels.
 #[cycle(statement)]
 #[tactic(auto, unfolding(hp_model::specs::Checked::statement_check))]
-fn check_statement(context: &Context<'_>, levels: usize, s: &Stmt) -> Result<(), CheckError>
+fn check_statement(
+    context: &Context<'_, Scope<'_>>,
+    levels: usize,
+    s: &Stmt,
+) -> Result<(), CheckError>
     ensures { Passes result (statement_check (scope_of context.now.scope) levels (names_in context.now.names) (steps context.now.place) (statement s.now)) }
 {
     check_veto(context, s)?;
@@ -290,7 +310,11 @@ fn check_statement(context: &Context<'_>, levels: usize, s: &Stmt) -> Result<(),
 }
 
 #[cycle(statement)]
-fn check_body(context: &Context<'_>, levels: usize, body: &[Stmt]) -> Result<(), CheckError>
+fn check_body(
+    context: &Context<'_, Scope<'_>>,
+    levels: usize,
+    body: &[Stmt],
+) -> Result<(), CheckError>
     ensures { Passes result (body_check (statement_check (scope_of context.now.scope) levels) (names_in context.now.names) (steps context.now.place) (body_in body.now)) }
 {
     for (i, s) in body.iter().enumerate() {
@@ -300,7 +324,10 @@ fn check_body(context: &Context<'_>, levels: usize, body: &[Stmt]) -> Result<(),
 }
 
 /// Checks a body.
-pub(crate) fn check_whole_body(context: &Context<'_>, body: &[Stmt]) -> Result<(), CheckError>
+pub(crate) fn check_whole_body(
+    context: &Context<'_, Scope<'_>>,
+    body: &[Stmt],
+) -> Result<(), CheckError>
     ensures { Passes result (whole_body_check (scope_of context.now.scope) (names_in context.now.names) (steps context.now.place) (body_in body.now)) }
 {
     check_body(context, MAX_LEVELS, body)

@@ -4,22 +4,22 @@ use Rattle.hp_script.proofs.statement.+statement.Goals as goal
 
 pub each_at-returns : goal.each_at-returns
 each_at-returns t c =
-    let inner = c.named-inner.ensures in
+    let inner = c.bound-inner.ensures in
     let body = c.item-4.ensures in
     each_read _ _ _ _ _ _ _ _ _ _ _ _ _ (rw c.item.ensures at c.in_ok-variable.ensures) (rw c.item-2.ensures at c.in_ok-class.ensures)
-    (rw (inner.rows, c.item-3.ensures, inner.place) at c.in_ok-predicate.ensures) (rw (body.scope, body.rows, body.place, inner.scope, inner.rows, inner.place) at c.in_ok-body.ensures)
+    (rw (inner.names, c.item-3.ensures, inner.place) at c.in_ok-predicate.ensures) (rw (body.scope, body.names, body.place, inner.scope, inner.names, inner.place) at c.in_ok-body.ensures)
     (each_statement c.in_ok-variable-2.variable _ _ c.in_ok-predicate.predicate c.in_ok-body.body c.in_ok-variable-2.ensures.ok)
 
 pub for_at-returns : goal.for_at-returns
 for_at-returns t c =
     let body = c.item-2.ensures in
-    for_read _ _ _ _ _ _ _ _ _ (rw c.item.ensures at c.in_ok-query.ensures) (rw (body.scope, body.rows, body.place) at c.in_ok-body.ensures)
+    for_read _ _ _ _ _ _ _ _ _ (rw c.item.ensures at c.in_ok-query.ensures) (rw (body.scope, body.names, body.place) at c.in_ok-body.ensures)
     (for_statement c.in_ok-query-2.query _ c.in_ok-body.body c.in_ok-query-2.ensures.ok)
 
 pub with_at-returns : goal.with_at-returns
 with_at-returns t c =
-    let inner = c.named-inner.ensures in
+    let inner = c.bound-inner.ensures in
     let body = c.item-4.ensures in
     with_read _ _ _ _ _ _ _ _ _ _ _ _ _ (rw c.item.ensures at c.in_ok-variable.ensures) (rw c.item-2.ensures at c.in_ok-class.ensures)
-    (rw c.item-3.ensures at c.in_ok-key.ensures) (rw (body.scope, body.rows, body.place, inner.scope, inner.rows, inner.place) at c.in_ok-body.ensures)
+    (rw c.item-3.ensures at c.in_ok-key.ensures) (rw (body.scope, body.names, body.place, inner.scope, inner.names, inner.place) at c.in_ok-body.ensures)
     (with_statement c.in_ok-variable-2.variable _ _ c.in_ok-key.key c.in_ok-body.body c.in_ok-variable-2.ensures.ok)

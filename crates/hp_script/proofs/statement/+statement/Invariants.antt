@@ -4,9 +4,9 @@ use Rattle.hp_model.specs.Parts.{read_from}
 use Rattle.hp_model.specs.Rules.{Statement}
 use Rattle.hp_model.specs.StatementGrammar.{statement_within}
 use Rattle.hp_rule.specs.Mapped.{statement}
+use Rattle.hp_rule.specs.Named.{names_in}
+use Rattle.hp_rule.specs.Places.{steps}
 use Rattle.hp_script.specs.Forms.{scope_view}
-use Rattle.hp_script.specs.Place.{path_to}
-use Rattle.hp_script.specs.Rows.{names_in}
 use Rattle.hp_script.proofs.statement.+statement.Given as goal
 
 abbrev pub decreases-statement_within : goal.decreases-statement_within
@@ -32,6 +32,6 @@ decreases-sub_at l = 3 * l.levels + 2
 
 abbrev pub invariant-statements_within-loop-i : goal.invariant-statements_within-loop-i
 invariant-statements_within-loop-i l =
-    let read = λ (before : List Statement). statement_within (scope_view l.context.scope) l.levels (names_in l.context.rows) in
-    read_from read (path_to l.context.place) (map statement l.body.items) l.i (map view (drop l.i l.values))
-    ≡ read_from read (path_to l.context.place) [] 0 (map view l.values)
+    let read = λ (before : List Statement). statement_within (scope_view l.context.scope) l.levels (names_in l.context.names) in
+    read_from read (steps l.context.place) (map statement l.body.items) l.i (map view (drop l.i l.values))
+    ≡ read_from read (steps l.context.place) [] 0 (map view l.values)

@@ -1,16 +1,19 @@
 //! The names of rows in scope.
 
-ghost use Rattle.std.specs.Prelude.{◌≡◌, map};
+ghost use Rattle.std.specs.Prelude.{◌≡◌, ◌∷◌, map};
 ghost use Rattle.hp_query.specs.Mapped.{query};
 ghost use Rattle.hp_model.specs.Checked.{is_known, query_names};
+ghost use Rattle.hp_rule.specs.Named.{names_in};
 
 use hp_query::Query;
 
-/// The names in scope, the innermost first.
+/// The names of rows in scope, the innermost first.
 #[derive(Clone, Copy)]
-pub(crate) enum Names<'a> {
+pub enum RowNames<'a> {
+    /// The names of these queries.
     Queries(&'a [Query]),
-    Bound(&'a str, &'a Names<'a>),
+    /// One more name, inside others.
+    Bound(&'a str, &'a RowNames<'a>),
 }
 
 /// Whether a query has this name.
@@ -25,24 +28,21 @@ pub(crate) fn is_query(queries: &[Query], name: &str) -> bool
     false
 }
 
-impl Names<'_> {
-    ghost use Rattle.std.specs.Prelude.{◌∷◌};
-    ghost use Rattle.hp_rule.specs.Named.{names_in};
-
+impl RowNames<'_> {
     /// These names and one more.
-    pub(crate) fn bound<'b>(&'b self, newest: &'b str) -> Names<'b>
+    pub fn bound<'b>(&'b self, newest: &'b str) -> RowNames<'b>
         ensures { names_in result ≡ newest.entry.now ∷ names_in self.entry.now }
     {
-        Names::Bound(newest, self)
+        RowNames::Bound(newest, self)
     }
 
     /// Whether the name is in scope.
-    pub(crate) fn knows(&self, name: &str) -> bool
+    pub fn knows(&self, name: &str) -> bool
         ensures { result ≡ is_known (names_in self.now) name.now }
     {
         match self {
-            Names::Queries(queries) => is_query(queries, name),
-            Names::Bound(newest, outer) => *newest == name || outer.knows(name),
+            RowNames::Queries(queries) => is_query(queries, name),
+            RowNames::Bound(newest, outer) => *newest == name || outer.knows(name),
         }
     }
 }
