@@ -2,7 +2,8 @@
 
 ghost use Rattle.std.specs.Prelude.{◌≡◌, map};
 ghost use Rattle.hp_value.specs.Mapped.{class_def, field};
-ghost use Rattle.hp_model.specs.Checked.{is_known, class_names, field_names, field_definition_check, fields_check, class_definition_check, classes_check};
+ghost use Rattle.hp_model.specs.Checked.{is_known, class_names, field_names, field_definition_check, fields_check};
+ghost use Rattle.hp_model.specs.Checked.{class_definition_check, classes_check};
 ghost use Rattle.hp_rule.specs.Faults.{Passes};
 ghost use Rattle.hp_rule.specs.Places.{steps};
 

@@ -1,7 +1,8 @@
 //! Expressions.
 
 ghost use Rattle.hp_value.specs.Mapped.{value, expression};
-ghost use Rattle.hp_model.specs.Checked.{constant_check, field_check, operands_check, known_name_check, expression_check, whole_expression_check};
+ghost use Rattle.hp_model.specs.Checked.{constant_check, field_check, operands_check, known_name_check};
+ghost use Rattle.hp_model.specs.Checked.{expression_check, whole_expression_check};
 ghost use Rattle.hp_rule.specs.Faults.{Passes};
 ghost use Rattle.hp_rule.specs.Named.{names_in};
 ghost use Rattle.hp_rule.specs.Places.{steps};

@@ -3,7 +3,8 @@
 ghost use Rattle.std.specs.Prelude.{◌≡◌, map};
 ghost use Rattle.hp_value.specs.Mapped.{field};
 ghost use Rattle.hp_rule.specs.Statements.{assignment};
-ghost use Rattle.hp_model.specs.Checked.{is_known, field_names, assigned_names, assigned_check, assignment_check, assignments_check};
+ghost use Rattle.hp_model.specs.Checked.{is_known, field_names, assigned_names, assigned_check, assignment_check};
+ghost use Rattle.hp_model.specs.Checked.{assignments_check};
 ghost use Rattle.hp_rule.specs.Faults.{Passes};
 ghost use Rattle.hp_rule.specs.Named.{names_in};
 ghost use Rattle.hp_rule.specs.Places.{steps};

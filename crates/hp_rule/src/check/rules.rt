@@ -4,7 +4,8 @@ ghost use Rattle.std.specs.Prelude.{◌≡◌, length, map};
 ghost use Rattle.hp_value.specs.Mapped.{class_def};
 ghost use Rattle.hp_query.specs.Mapped.{query};
 ghost use Rattle.hp_rule.specs.Statements.{rule, library_of};
-ghost use Rattle.hp_model.specs.Checked.{is_known, rule_names, query_names, head_check, heads_check, query_check, queries_check, rule_check, rules_check, depth_check, library_check};
+ghost use Rattle.hp_model.specs.Checked.{is_known, rule_names, query_names, head_check, heads_check, query_check};
+ghost use Rattle.hp_model.specs.Checked.{queries_check, rule_check, rules_check, depth_check, library_check};
 ghost use Rattle.hp_rule.specs.Faults.{Passes};
 ghost use Rattle.hp_rule.specs.Places.{steps};
 

@@ -4,9 +4,13 @@ ghost use Rattle.std.specs.Prelude.{◌≡◌, map};
 ghost use Rattle.hp_value.specs.Mapped.{expression, field};
 ghost use Rattle.hp_rule.specs.Statements.{assignment, statement, body_in};
 ghost use Rattle.hp_model.specs.Refusals.{item_at};
-ghost use Rattle.hp_model.specs.Checked.{number_check, class_check, new_name_check, whole_expression_check, assignments_check};
-ghost use Rattle.hp_model.specs.Checked.{create_check, update_check, delete_check, arguments_check, signal_check, when_check, each_row_check, for_answer_check, with_object_check, subtransaction_check};
-ghost use Rattle.hp_model.specs.Checked.{is_veto, veto_check, statement_parts_check, statement_check, body_check, whole_body_check};
+ghost use Rattle.hp_model.specs.Checked.{number_check, class_check, new_name_check, whole_expression_check};
+ghost use Rattle.hp_model.specs.Checked.{assignments_check};
+ghost use Rattle.hp_model.specs.Checked.{create_check, update_check, delete_check, arguments_check, signal_check};
+ghost use Rattle.hp_model.specs.Checked.{when_check, each_row_check, for_answer_check, with_object_check};
+ghost use Rattle.hp_model.specs.Checked.{subtransaction_check};
+ghost use Rattle.hp_model.specs.Checked.{is_veto, veto_check, statement_parts_check, statement_check, body_check};
+ghost use Rattle.hp_model.specs.Checked.{whole_body_check};
 ghost use Rattle.hp_rule.specs.Faults.{Passes};
 ghost use Rattle.hp_rule.specs.Named.{names_in};
 ghost use Rattle.hp_rule.specs.Places.{steps};
@@ -32,7 +36,8 @@ fn check_class(
     position: usize,
     class: ClassNo,
 ) -> Result<(), CheckError>
-    ensures { Passes result (class_check (scope_of context.now.scope) (item_at (steps context.now.place) position) class) }
+    ensures { Passes result
+        (class_check (scope_of context.now.scope) (item_at (steps context.now.place) position) class) }
 {
     let classes = context.scope.classes.len();
     check_number(context.alloc, &context.place.item(position), classes, class)
@@ -40,7 +45,8 @@ fn check_class(
 
 /// Checks the number of a rule, which is the statement's first part.
 fn check_rule(context: &Context<'_, Scope<'_>>, rule: RuleNo) -> Result<(), CheckError>
-    ensures { Passes result (number_check (scope_of context.now.scope).rules (item_at (steps context.now.place) 1) rule) }
+    ensures { Passes result
+        (number_check (scope_of context.now.scope).rules (item_at (steps context.now.place) 1) rule) }
 {
     let rules = context.scope.rules;
     check_number(context.alloc, &context.place.item(1), rules, rule)
@@ -52,7 +58,9 @@ fn check_value(
     position: usize,
     expr: &Expr,
 ) -> Result<(), CheckError>
-    ensures { Passes result (whole_expression_check (names_in context.now.names) (item_at (steps context.now.place) position) (expression expr.now)) }
+    ensures { Passes result
+        (whole_expression_check (names_in context.now.names) (item_at (steps context.now.place) position)
+        (expression expr.now)) }
 {
     check_expr(
         context.alloc,
@@ -64,7 +72,8 @@ fn check_value(
 
 /// Checks that a name isn't in scope yet. It is the statement's first part.
 fn check_variable(context: &Context<'_, Scope<'_>>, variable: &str) -> Result<(), CheckError>
-    ensures { Passes result (new_name_check (names_in context.now.names) (item_at (steps context.now.place) 1) variable.now) }
+    ensures { Passes result
+        (new_name_check (names_in context.now.names) (item_at (steps context.now.place) 1) variable.now) }
 {
     let is_known = context.names.knows(variable);
     check_unless(context.alloc, &context.place.item(1), variable, is_known)
@@ -76,7 +85,9 @@ fn check_assignments(
     fields: &[Field],
     pairs: &[Assignment],
 ) -> Result<(), CheckError>
-    ensures { Passes result (assignments_check (map field fields.now) (names_in context.now.names) (item_at (steps context.now.place) 3) (map assignment pairs.now)) }
+    ensures { Passes result
+        (assignments_check (map field fields.now) (names_in context.now.names) (item_at (steps context.now.place) 3)
+        (map assignment pairs.now)) }
 {
     check_pairs(
         context.alloc,
@@ -94,7 +105,9 @@ fn check_create(
     key: &Expr,
     pairs: &[Assignment],
 ) -> Result<(), CheckError>
-    ensures { Passes result (create_check (scope_of context.now.scope) (names_in context.now.names) (steps context.now.place) class (expression key.now) (map assignment pairs.now)) }
+    ensures { Passes result
+        (create_check (scope_of context.now.scope) (names_in context.now.names) (steps context.now.place) class
+        (expression key.now) (map assignment pairs.now)) }
 {
     check_class(context, 1, class)?;
     check_value(context, 2, key)?;
@@ -113,7 +126,9 @@ fn check_update(
     key: &Expr,
     pairs: &[Assignment],
 ) -> Result<(), CheckError>
-    ensures { Passes result (update_check (scope_of context.now.scope) (names_in context.now.names) (steps context.now.place) class (expression key.now) (map assignment pairs.now)) }
+    ensures { Passes result
+        (update_check (scope_of context.now.scope) (names_in context.now.names) (steps context.now.place) class
+        (expression key.now) (map assignment pairs.now)) }
 {
     check_class(context, 1, class)?;
     check_value(context, 2, key)?;
@@ -126,7 +141,9 @@ fn check_delete(
     class: ClassNo,
     key: &Expr,
 ) -> Result<(), CheckError>
-    ensures { Passes result (delete_check (scope_of context.now.scope) (names_in context.now.names) (steps context.now.place) class (expression key.now)) }
+    ensures { Passes result
+        (delete_check (scope_of context.now.scope) (names_in context.now.names) (steps context.now.place) class
+        (expression key.now)) }
 {
     check_class(context, 1, class)?;
     check_value(context, 2, key)
@@ -134,7 +151,8 @@ fn check_delete(
 
 #[tactic(auto, unfolding(hp_model::specs::Checked::arguments_check))]
 fn check_arguments(context: &Context<'_, Scope<'_>>, arguments: &[Expr]) -> Result<(), CheckError>
-    ensures { Passes result (arguments_check (names_in context.now.names) (steps context.now.place) (map expression arguments.now)) }
+    ensures { Passes result
+        (arguments_check (names_in context.now.names) (steps context.now.place) (map expression arguments.now)) }
 {
     check_limit(MAX_ARGUMENTS, Limit::Arguments, arguments.len())?;
     for (i, argument) in arguments.iter().enumerate() {
@@ -149,7 +167,9 @@ fn check_signal(
     signal: &str,
     arguments: &[Expr],
 ) -> Result<(), CheckError>
-    ensures { Passes result (signal_check (names_in context.now.names) (steps context.now.place) signal.now (map expression arguments.now)) }
+    ensures { Passes result
+        (signal_check (names_in context.now.names) (steps context.now.place) signal.now
+        (map expression arguments.now)) }
 {
     check_name(context.alloc, &context.place.item(1), signal)?;
     check_arguments(&context.item(2), arguments)
@@ -183,7 +203,9 @@ fn check_if(
     then_body: &[Stmt],
     else_body: &[Stmt],
 ) -> Result<(), CheckError>
-    ensures { Passes result (when_check (statement_check (scope_of context.now.scope) levels) (names_in context.now.names) (steps context.now.place) (expression condition.now) (body_in then_body.now) (body_in else_body.now)) }
+    ensures { Passes result
+        (when_check (statement_check (scope_of context.now.scope) levels) (names_in context.now.names)
+        (steps context.now.place) (expression condition.now) (body_in then_body.now) (body_in else_body.now)) }
 {
     check_value(context, 1, condition)?;
     check_body(&context.item(2), levels, then_body)?;
@@ -200,7 +222,10 @@ fn check_each(
     predicate: &Expr,
     body: &[Stmt],
 ) -> Result<(), CheckError>
-    ensures { Passes result (each_row_check (scope_of context.now.scope) (statement_check (scope_of context.now.scope) levels) (names_in context.now.names) (steps context.now.place) variable.now class (expression predicate.now) (body_in body.now)) }
+    ensures { Passes result
+        (each_row_check (scope_of context.now.scope) (statement_check (scope_of context.now.scope) levels)
+        (names_in context.now.names) (steps context.now.place) variable.now class (expression predicate.now)
+        (body_in body.now)) }
 {
     check_variable(context, variable)?;
     check_class(context, 2, class)?;
@@ -217,7 +242,9 @@ fn check_for(
     query: &str,
     body: &[Stmt],
 ) -> Result<(), CheckError>
-    ensures { Passes result (for_answer_check (scope_of context.now.scope) (statement_check (scope_of context.now.scope) levels) (names_in context.now.names) (steps context.now.place) query.now (body_in body.now)) }
+    ensures { Passes result
+        (for_answer_check (scope_of context.now.scope) (statement_check (scope_of context.now.scope) levels)
+        (names_in context.now.names) (steps context.now.place) query.now (body_in body.now)) }
 {
     let is_unknown = !is_query(context.scope.queries, query);
     check_unless(context.alloc, &context.place.item(1), query, is_unknown)?;
@@ -234,7 +261,10 @@ fn check_with(
     key: &Expr,
     body: &[Stmt],
 ) -> Result<(), CheckError>
-    ensures { Passes result (with_object_check (scope_of context.now.scope) (statement_check (scope_of context.now.scope) levels) (names_in context.now.names) (steps context.now.place) variable.now class (expression key.now) (body_in body.now)) }
+    ensures { Passes result
+        (with_object_check (scope_of context.now.scope) (statement_check (scope_of context.now.scope) levels)
+        (names_in context.now.names) (steps context.now.place) variable.now class (expression key.now)
+        (body_in body.now)) }
 {
     check_variable(context, variable)?;
     check_class(context, 2, class)?;
@@ -251,7 +281,9 @@ fn check_sub(
     body: &[Stmt],
     otherwise: &[Stmt],
 ) -> Result<(), CheckError>
-    ensures { Passes result (subtransaction_check (statement_check (scope_of context.now.scope) levels) (names_in context.now.names) (steps context.now.place) (body_in body.now) (body_in otherwise.now)) }
+    ensures { Passes result
+        (subtransaction_check (statement_check (scope_of context.now.scope) levels) (names_in context.now.names)
+        (steps context.now.place) (body_in body.now) (body_in otherwise.now)) }
 {
     check_body(&context.item(1), levels, body)?;
     check_body(&context.item(2), levels, otherwise)
@@ -260,7 +292,9 @@ fn check_sub(
 /// Checks the parts of a statement. The statements in it have at most `levels` levels.
 #[cycle(statement)]
 fn check_parts(context: &Context<'_, Scope<'_>>, levels: usize, s: &Stmt) -> Result<(), CheckError>
-    ensures { Passes result (statement_parts_check (scope_of context.now.scope) (statement_check (scope_of context.now.scope) levels) (names_in context.now.names) (steps context.now.place) (statement s.now)) }
+    ensures { Passes result
+        (statement_parts_check (scope_of context.now.scope) (statement_check (scope_of context.now.scope) levels)
+        (names_in context.now.names) (steps context.now.place) (statement s.now)) }
 {
     match s {
         Stmt::Create { class, key, pairs } => check_create(context, *class, key, pairs),
@@ -300,7 +334,9 @@ fn check_statement(
     levels: usize,
     s: &Stmt,
 ) -> Result<(), CheckError>
-    ensures { Passes result (statement_check (scope_of context.now.scope) levels (names_in context.now.names) (steps context.now.place) (statement s.now)) }
+    ensures { Passes result
+        (statement_check (scope_of context.now.scope) levels (names_in context.now.names) (steps context.now.place)
+        (statement s.now)) }
 {
     check_veto(context, s)?;
     if levels == 0 {
@@ -315,7 +351,9 @@ fn check_body(
     levels: usize,
     body: &[Stmt],
 ) -> Result<(), CheckError>
-    ensures { Passes result (body_check (statement_check (scope_of context.now.scope) levels) (names_in context.now.names) (steps context.now.place) (body_in body.now)) }
+    ensures { Passes result
+        (body_check (statement_check (scope_of context.now.scope) levels) (names_in context.now.names)
+        (steps context.now.place) (body_in body.now)) }
 {
     for (i, s) in body.iter().enumerate() {
         check_statement(&context.item(i), levels, s)?;
@@ -328,7 +366,9 @@ pub(crate) fn check_whole_body(
     context: &Context<'_, Scope<'_>>,
     body: &[Stmt],
 ) -> Result<(), CheckError>
-    ensures { Passes result (whole_body_check (scope_of context.now.scope) (names_in context.now.names) (steps context.now.place) (body_in body.now)) }
+    ensures { Passes result
+        (whole_body_check (scope_of context.now.scope) (names_in context.now.names) (steps context.now.place)
+        (body_in body.now)) }
 {
     check_body(context, MAX_LEVELS, body)
 }
