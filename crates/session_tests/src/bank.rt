@@ -98,18 +98,6 @@ pub fn library(alloc: Global, name: &str) -> Result<Arc<Library>, CheckError> {
     Ok(Arc::new(alloc, library)?)
 }
 
-// The body that adds 1 to an account's balance.
-pub fn adding(alloc: Global, library: &Arc<Library>, key: Key) -> Result<Body, CheckError> {
-    let statements = vec![in alloc; plus(alloc, key)?]?;
-    Library::body(library, alloc, statements)
-}
-
-// The body that adds 1 to the balance of account 1, and aborts.
-pub fn aborting(alloc: Global, library: &Arc<Library>) -> Result<Body, CheckError> {
-    let statements = vec![in alloc; plus(alloc, 1)?, Stmt::Abort]?;
-    Library::body(library, alloc, statements)
-}
-
 // Statements that create the accounts 1 to n, with the balance 0.
 fn making(alloc: Global, n: u8) -> Result<Vec<Stmt>, AllocError> {
     let mut statements = Vec::new(alloc);
@@ -137,30 +125,50 @@ pub fn ending(report: &UnitReport) -> Option<Ending> {
     }
 }
 
-// A store in which a unit has created the accounts 1 to n. A fit state of the library has its cells.
-pub fn accounts<R: Threads + Sync>(
-    rt: &R,
-    alloc: Global,
-    library: &Arc<Library>,
-    n: u8,
-) -> Result<Store, Fail>
-    ensures { IfOk result (λ s. HasFitState (rules.library library.now.value) (cells_in s)) }
-{
-    let mut store = opening(alloc)?;
-    let unit = Item::Transaction(Library::body(library, alloc, making(alloc, n)?)?);
-    run_unit(rt, alloc, library, &mut store, &unit, 1)?;
-    Ok(store)
+/// A bank, and what its callers run on.
+#[derive_where(Clone, Copy)]
+pub struct Bank<'a, R> {
+    pub rt: &'a R,
+    pub alloc: Global,
+    pub library: &'a Arc<Library>,
 }
 
-// A book over this store, without an entry or a name.
-pub fn begun<R: Threads + Sync>(
-    rt: &R,
-    alloc: Global,
-    library: &Arc<Library>,
-    n: u8,
-) -> Result<Blank, Fail> {
-    let store = accounts(rt, alloc, library, n)?;
-    Ok(Book::begin(alloc, Arc::try_clone(library)?, store)?)
+impl<'a, R> Bank<'a, R> {
+    pub fn new(rt: &'a R, alloc: Global, library: &'a Arc<Library>) -> Bank<'a, R> {
+        Bank { rt, alloc, library }
+    }
+
+    // The body that adds 1 to an account's balance.
+    pub fn adding(&self, key: Key) -> Result<Body, CheckError> {
+        let statements = vec![in self.alloc; plus(self.alloc, key)?]?;
+        Library::body(self.library, self.alloc, statements)
+    }
+
+    // The body that adds 1 to the balance of account 1, and aborts.
+    pub fn aborting(&self) -> Result<Body, CheckError> {
+        let statements = vec![in self.alloc; plus(self.alloc, 1)?, Stmt::Abort]?;
+        Library::body(self.library, self.alloc, statements)
+    }
+}
+
+impl<R: Threads + Sync> Bank<'_, R> {
+    // A store in which a unit has created the accounts 1 to n. A fit state of the library has its cells.
+    pub fn accounts(&self, n: u8) -> Result<Store, Fail>
+        ensures { IfOk result (λ s. HasFitState (rules.library self.now.library.now.value) (cells_in s)) }
+    {
+        let mut store = opening(self.alloc)?;
+        let body = Library::body(self.library, self.alloc, making(self.alloc, n)?)?;
+        let unit = Item::Transaction(body);
+        run_unit(self.rt, self.alloc, self.library, &mut store, &unit, 1)?;
+        Ok(store)
+    }
+
+    // A book over these accounts, without an entry or a name.
+    pub fn begun(&self, n: u8) -> Result<Blank, Fail> {
+        let store = self.accounts(n)?;
+        let library = Arc::try_clone(self.library)?;
+        Ok(Book::begin(self.alloc, library, store)?)
+    }
 }
 
 // The balance of account 1 and the number of entries when a book is closed.

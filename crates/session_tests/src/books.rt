@@ -3,8 +3,8 @@
 ghost use Rattle.std.specs.Prelude.{◌≡◌, Some, IfOk};
 ghost use Rattle.hp_sessions.specs.Books.{session_of};
 
-use crate::bank::{aborting, adding, balance, begun, ended, ending, library};
-use hp_rule::{Body, Library};
+use crate::bank::{Bank, balance, ended, ending, library};
+use hp_rule::Body;
 use hp_sessions::laws::apart;
 use hp_sessions::{Blank, Book, BookName, History, NoGate, Receipt, Refusal, Session, Unit};
 use hp_tree::Ending;
@@ -13,20 +13,18 @@ use hp_view::Seen;
 use std::alloc::Global;
 use std::marker::Brand;
 use std::process::Abort;
-use std::sync::{Arc, Mutex, Wait};
+use std::sync::{Mutex, Wait};
 use std::test::Fail;
 use std::thread::Threads;
 
 // A unit that adds 1 to the current balance of an account.
 fn unit<K: BookName, R: Threads + Sync>(
-    rt: &R,
-    alloc: Global,
-    library: &Arc<Library>,
+    bank: &Bank<'_, R>,
     book: &Book<K>,
     key: Key,
 ) -> Result<Unit, Fail> {
-    let body = adding(alloc, library, key)?;
-    Ok(Unit::make(rt, alloc, book.snapshot()?, body, 1)?)
+    let body = bank.adding(key)?;
+    Ok(Unit::make(bank.rt, bank.alloc, book.snapshot()?, body, 1)?)
 }
 
 fn committed<K: BookName>(
@@ -57,115 +55,107 @@ fn refused<K: BookName>(
 
 // Of two units on the same cells, the second is committed first.
 fn second_and_first<K: BookName, R: Threads + Abort + Sync>(
-    rt: &R,
-    alloc: Global,
-    library: &Arc<Library>,
+    bank: &Bank<'_, R>,
     book: &mut Book<K>,
 ) -> Result<(), Fail> {
-    let first = unit(rt, alloc, library, book, 1)?;
-    let second = unit(rt, alloc, library, book, 1)?;
-    let number = committed(alloc, book, 1, second)?.number();
-    let refused = refused(alloc, book, first);
-    assert_eq!(rt; number, 1);
+    let first = unit(bank, book, 1)?;
+    let second = unit(bank, book, 1)?;
+    let number = committed(bank.alloc, book, 1, second)?.number();
+    let refused = refused(bank.alloc, book, first);
+    assert_eq!(bank.rt; number, 1);
     let (refusal, end) = refused.ok_or("a stale unit")?;
     let cell = Seen::Cell(Cell::Object(0, 1));
-    assert!(rt; matches!(&refusal, Refusal::Stale { entries: 1, cell: found } if *found == cell));
-    assert_eq!(rt; end, Some(Ending::Committed));
+    assert!(bank.rt;
+        matches!(&refusal, Refusal::Stale { entries: 1, cell: found } if *found == cell)
+    );
+    assert_eq!(bank.rt; end, Some(Ending::Committed));
     Ok(())
 }
 
 fn stale<K: BookName, R: Threads + Abort + Sync>(
-    rt: &R,
-    alloc: Global,
-    library: &Arc<Library>,
+    bank: &Bank<'_, R>,
     blank: Blank,
 ) -> Result<(), Fail>
     requires { blank.table ≡ K.table }
 {
-    let mut book = blank.open::<K>(alloc);
-    second_and_first(rt, alloc, library, &mut book)?;
+    let mut book = blank.open::<K>(bank.alloc);
+    second_and_first(bank, &mut book)?;
     let (sum, units) = ended(book);
-    assert_eq!(rt; sum, 1);
-    assert_eq!(rt; units, 1);
+    assert_eq!(bank.rt; sum, 1);
+    assert_eq!(bank.rt; units, 1);
     Ok(())
 }
 
 #[test]
 fn a_unit_is_stale(rt: HostRuntime) -> Result<(), Fail> {
     let library = library(rt.alloc(), "acct")?;
-    let blank = begun(&rt, rt.alloc(), &library, 1)?;
-    stale::<Brand, _>(&rt, rt.alloc(), &library, blank)
+    let bank = Bank::new(&rt, rt.alloc(), &library);
+    stale::<Brand, _>(&bank, bank.begun(1)?)
 }
 
 // The number of a body's receipt, and how the body ended.
 fn submitted<K: BookName, R: Threads + Wait + Sync>(
-    rt: &R,
-    alloc: Global,
+    bank: &Bank<'_, R>,
     session: &mut Session<K>,
     body: Body,
 ) -> Result<(u64, Option<Ending>), Refusal> {
-    let receipt = session.submit(rt, alloc, body, &NoGate)?;
+    let receipt = session.submit(bank.rt, bank.alloc, body, &NoGate)?;
     Ok((receipt.number(), ending(receipt.reply())))
 }
 
-// One body that aborts, one that commits, and one of another library.
+// One body that aborts, one that commits, and one of another bank's library.
 fn thrice<K: BookName, R: Threads + Wait + Abort + Sync>(
-    rt: &R,
-    alloc: Global,
-    library: &Arc<Library>,
-    other: &Arc<Library>,
+    bank: &Bank<'_, R>,
+    other: &Bank<'_, R>,
     session: &mut Session<K>,
 ) -> Result<(), Fail> {
-    let one = submitted(rt, alloc, session, aborting(alloc, library)?);
+    let one = submitted(bank, session, bank.aborting()?);
     let (number, end) = one.ok().ok_or("a receipt")?;
-    assert_eq!(rt; number, 1);
-    assert_eq!(rt; end, Some(Ending::Aborted(Cause::Asked)));
-    let two = submitted(rt, alloc, session, adding(alloc, library, 1)?);
+    assert_eq!(bank.rt; number, 1);
+    assert_eq!(bank.rt; end, Some(Ending::Aborted(Cause::Asked)));
+    let two = submitted(bank, session, bank.adding(1)?);
     let (number, _) = two.ok().ok_or("a receipt")?;
-    assert_eq!(rt; number, 2);
-    let none = submitted(rt, alloc, session, adding(alloc, other, 1)?);
-    assert!(rt; matches!(none.err(), Some(Refusal::OtherLibrary)));
+    assert_eq!(bank.rt; number, 2);
+    let none = submitted(bank, session, other.adding(1)?);
+    assert!(bank.rt; matches!(none.err(), Some(Refusal::OtherLibrary)));
     Ok(())
 }
 
 fn aborted<K: BookName, R: Threads + Wait + Abort + Sync>(
-    rt: &R,
-    alloc: Global,
-    library: &Arc<Library>,
-    other: &Arc<Library>,
+    bank: &Bank<'_, R>,
+    other: &Bank<'_, R>,
     blank: Blank,
 ) -> Result<(), Fail>
     requires { blank.table ≡ K.table }
 {
-    let book = Mutex::new(blank.open::<K>(alloc));
-    thrice(rt, alloc, library, other, &mut Session::new(1, &book))?;
+    let book = Mutex::new(blank.open::<K>(bank.alloc));
+    thrice(bank, other, &mut Session::new(1, &book))?;
     let (sum, units) = ended(book.into_inner());
-    assert_eq!(rt; sum, 1);
-    assert_eq!(rt; units, 2);
+    assert_eq!(bank.rt; sum, 1);
+    assert_eq!(bank.rt; units, 2);
     Ok(())
 }
 
 #[test]
 fn an_aborted_body_has_a_receipt(rt: HostRuntime) -> Result<(), Fail> {
     let here = library(rt.alloc(), "acct")?;
-    let other = library(rt.alloc(), "other")?;
-    let blank = begun(&rt, rt.alloc(), &here, 1)?;
-    aborted::<Brand, _>(&rt, rt.alloc(), &here, &other, blank)
+    let there = library(rt.alloc(), "other")?;
+    let bank = Bank::new(&rt, rt.alloc(), &here);
+    let other = Bank::new(&rt, rt.alloc(), &there);
+    aborted::<Brand, _>(&bank, &other, bank.begun(1)?)
 }
 
 // Two units on the same cells add to accounts 1 and 2, and both are committed.
 fn both<K: BookName, R: Threads + Sync>(
-    rt: &R,
-    alloc: Global,
-    library: &Arc<Library>,
+    bank: &Bank<'_, R>,
     book: &mut Book<K>,
 ) -> Result<(Receipt<K>, Receipt<K>), Fail>
     ensures { IfOk result (λ r. (session_of r.0 ≡ Some 1) × (session_of r.1 ≡ Some 2)) }
 {
-    let one = unit(rt, alloc, library, book, 1)?;
-    let two = unit(rt, alloc, library, book, 2)?;
-    let one = committed(alloc, book, 1, one)?;
-    let two = committed(alloc, book, 2, two)?;
+    let one = unit(bank, book, 1)?;
+    let two = unit(bank, book, 2)?;
+    let one = committed(bank.alloc, book, 1, one)?;
+    let two = committed(bank.alloc, book, 2, two)?;
     Ok((one, two))
 }
 
@@ -183,25 +173,23 @@ fn check_apart<K: BookName>(
 }
 
 fn disjoint<K: BookName, R: Threads + Abort + Sync>(
-    rt: &R,
-    alloc: Global,
-    library: &Arc<Library>,
+    bank: &Bank<'_, R>,
     blank: Blank,
 ) -> Result<(), Fail>
     requires { blank.table ≡ K.table }
 {
-    let mut book = blank.open::<K>(alloc);
-    let (one, two) = both(rt, alloc, library, &mut book)?;
+    let mut book = blank.open::<K>(bank.alloc);
+    let (one, two) = both(bank, &mut book)?;
     let mut history = book.end();
-    check_apart(rt, &mut history, one, two);
-    assert_eq!(rt; balance(history.store(), 1), 1);
-    assert_eq!(rt; balance(history.store(), 2), 1);
+    check_apart(bank.rt, &mut history, one, two);
+    assert_eq!(bank.rt; balance(history.store(), 1), 1);
+    assert_eq!(bank.rt; balance(history.store(), 2), 1);
     Ok(())
 }
 
 #[test]
 fn units_of_disjoint_objects_both_commit(rt: HostRuntime) -> Result<(), Fail> {
     let library = library(rt.alloc(), "acct")?;
-    let blank = begun(&rt, rt.alloc(), &library, 2)?;
-    disjoint::<Brand, _>(&rt, rt.alloc(), &library, blank)
+    let bank = Bank::new(&rt, rt.alloc(), &library);
+    disjoint::<Brand, _>(&bank, bank.begun(2)?)
 }

@@ -2,8 +2,8 @@
 
 ghost use Rattle.std.specs.Prelude.{◌≡◌, ◌<◌};
 
-use crate::bank::{accounts, adding, balance, begun, library};
-use hp_rule::{Body, Library, Unit as Item};
+use crate::bank::{Bank, balance, library};
+use hp_rule::{Body, Unit as Item};
 use hp_sessions::laws::{kept, legal};
 use hp_sessions::{Blank, Book, BookName, History, NoGate, Receipt, Session};
 use hp_store::Store;
@@ -12,35 +12,31 @@ use hp_value::Key;
 use std::alloc::Global;
 use std::marker::Brand;
 use std::process::Abort;
-use std::sync::{Arc, Mutex, Wait};
+use std::sync::{Mutex, Wait};
 use std::test::Fail;
 use std::thread;
 use std::thread::Threads;
 
 // Adds 1 to the balance of an account, and appends the receipt.
 fn add_one<K: BookName, R: Threads + Wait + Sync>(
-    rt: &R,
-    alloc: Global,
-    library: &Arc<Library>,
+    bank: &Bank<'_, R>,
     session: &mut Session<K>,
     receipts: &mut Vec<Receipt<K>>,
     key: Key,
 ) -> Option<()> {
-    let body = adding(alloc, library, key).ok()?;
-    let receipt = session.submit(rt, alloc, body, &NoGate).ok()?;
+    let body = bank.adding(key).ok()?;
+    let receipt = session.submit(bank.rt, bank.alloc, body, &NoGate).ok()?;
     receipts.push(receipt).ok()
 }
 
 // The receipts of fifty bodies that add 1 to the balance of account 1.
 fn fifty<K: BookName, R: Threads + Wait + Sync>(
-    rt: &R,
-    alloc: Global,
-    library: &Arc<Library>,
+    bank: &Bank<'_, R>,
     mut session: Session<K>,
 ) -> Option<Vec<Receipt<K>>> {
-    let mut receipts = Vec::with_capacity(alloc, 50).ok()?;
+    let mut receipts = Vec::with_capacity(bank.alloc, 50).ok()?;
     for _ in 0..50 {
-        add_one(rt, alloc, library, &mut session, &mut receipts, 1)?;
+        add_one(bank, &mut session, &mut receipts, 1)?;
     }
     Some(receipts)
 }
@@ -90,24 +86,23 @@ fn check_hundred<K: BookName>(rt: &impl Abort, history: &History<K>) {
 }
 
 fn two_threads<K: BookName + Send + Sync, R: Threads + Wait + Abort + Sync>(
-    rt: &R,
-    alloc: Global,
-    library: &Arc<Library>,
+    bank: &Bank<'_, R>,
     blank: Blank,
 ) -> Result<(), Fail>
     requires { blank.table ≡ K.table }
 {
-    let book = Mutex::new(blank.open::<K>(alloc));
+    let book = Mutex::new(blank.open::<K>(bank.alloc));
     let lock = &book;
+    let (rt, alloc, library) = (bank.rt, bank.alloc, bank.library);
     let (one, two) = thread::join(
         rt,
-        move || fifty(rt, alloc, library, Session::new(1, lock)),
-        move || fifty(rt, alloc, library, Session::new(2, lock)),
+        move || fifty(&Bank::new(rt, alloc, library), Session::new(1, lock)),
+        move || fifty(&Bank::new(rt, alloc, library), Session::new(2, lock)),
     );
     let mut history = book.into_inner().end();
-    check_hundred(rt, &history);
-    check_rising(rt, &mut history, one)?;
-    check_rising(rt, &mut history, two)
+    check_hundred(bank.rt, &history);
+    check_rising(bank.rt, &mut history, one)?;
+    check_rising(bank.rt, &mut history, two)
 }
 
 // Catches a session that commits twice for one call (`commits_twice`), one that commits and then refuses
@@ -115,59 +110,47 @@ fn two_threads<K: BookName + Send + Sync, R: Threads + Wait + Abort + Sync>(
 #[test]
 fn two_sessions_of_fifty(rt: HostRuntime) -> Result<(), Fail> {
     let library = library(rt.alloc(), "acct")?;
-    let blank = begun(&rt, rt.alloc(), &library, 1)?;
-    two_threads::<Brand, _>(&rt, rt.alloc(), &library, blank)
+    let bank = Bank::new(&rt, rt.alloc(), &library);
+    two_threads::<Brand, _>(&bank, bank.begun(1)?)
 }
 
 // Two hundred bodies of a session, alternately on account 1, which all sessions share, and on an account of its own.
 // Returns the number of receipts, or `None` if a body is refused.
 fn two_hundred<K: BookName, R: Threads + Wait + Sync>(
-    rt: &R,
-    alloc: Global,
-    library: &Arc<Library>,
+    bank: &Bank<'_, R>,
     lock: &Mutex<Book<K>>,
     number: u8,
 ) -> Option<usize>
     requires { number < 16 }
 {
     let mut session = Session::new(number + 1, lock);
-    let mut receipts = Vec::new(alloc);
+    let mut receipts = Vec::new(bank.alloc);
     for _ in 0..100 {
-        add_one(rt, alloc, library, &mut session, &mut receipts, 1)?;
-        add_one(
-            rt,
-            alloc,
-            library,
-            &mut session,
-            &mut receipts,
-            number as Key + 2,
-        )?;
+        add_one(bank, &mut session, &mut receipts, 1)?;
+        add_one(bank, &mut session, &mut receipts, number as Key + 2)?;
     }
     Some(receipts.len())
 }
 
 // One thread runs the bodies of a history, one after another, on a store as it was before them.
 fn replayed<K: BookName, R: Threads + Sync>(
-    rt: &R,
-    alloc: Global,
-    library: &Arc<Library>,
+    bank: &Bank<'_, R>,
     history: History<K>,
 ) -> Result<Store, Fail> {
-    let mut store = accounts(rt, alloc, library, 17)?;
+    let mut store = bank.accounts(17)?;
     for entry in history.into_entries() {
-        replay(rt, alloc, library, &mut store, entry.body)?;
+        replay(bank, &mut store, entry.body)?;
     }
     Ok(store)
 }
 
 fn replay<R: Threads + Sync>(
-    rt: &R,
-    alloc: Global,
-    library: &Library,
+    bank: &Bank<'_, R>,
     store: &mut Store,
     body: Body,
 ) -> Result<(), Fail> {
-    run_unit(rt, alloc, library, store, &Item::Transaction(body), 1)?;
+    let unit = Item::Transaction(body);
+    run_unit(bank.rt, bank.alloc, bank.library, store, &unit, 1)?;
     Ok(())
 }
 
@@ -189,43 +172,40 @@ fn check_balances(rt: &impl Abort, balances: &[i64], store: &Store) {
 
 // The history leaves the balances that its bodies leave one after another.
 fn check_replayed<K: BookName, R: Threads + Abort + Sync>(
-    rt: &R,
-    alloc: Global,
-    library: &Arc<Library>,
+    bank: &Bank<'_, R>,
     history: History<K>,
 ) -> Result<(), Fail> {
-    assert_eq!(rt; history.entries().len(), 3_200);
-    let balances = balances(alloc, history.store())?;
-    let store = replayed(rt, alloc, library, history)?;
-    check_balances(rt, balances.as_slice(), &store);
+    assert_eq!(bank.rt; history.entries().len(), 3_200);
+    let balances = balances(bank.alloc, history.store())?;
+    let store = replayed(bank, history)?;
+    check_balances(bank.rt, balances.as_slice(), &store);
     Ok(())
 }
 
 fn sixteen<K: BookName + Send + Sync, R: Threads + Wait + Abort + Sync>(
-    rt: &R,
-    alloc: Global,
-    library: &Arc<Library>,
+    bank: &Bank<'_, R>,
     blank: Blank,
 ) -> Result<(), Fail>
     requires { blank.table ≡ K.table }
 {
-    let book = Mutex::new(blank.open::<K>(alloc));
+    let book = Mutex::new(blank.open::<K>(bank.alloc));
     let lock = &book;
+    let (rt, alloc, library) = (bank.rt, bank.alloc, bank.library);
     let done = thread::map_indices(
         rt,
         alloc,
         16,
-        &|i| { two_hundred(rt, alloc, library, lock, (i % 16) as u8) },
+        &|i| { two_hundred(&Bank::new(rt, alloc, library), lock, (i % 16) as u8) },
     )?;
     for sum in done {
-        assert_eq!(rt; sum, Some(200));
+        assert_eq!(bank.rt; sum, Some(200));
     }
-    check_replayed(rt, alloc, library, book.into_inner().end())
+    check_replayed(bank, book.into_inner().end())
 }
 
 #[test]
 fn sixteen_sessions_of_two_hundred(rt: HostRuntime) -> Result<(), Fail> {
     let library = library(rt.alloc(), "acct")?;
-    let blank = begun(&rt, rt.alloc(), &library, 17)?;
-    sixteen::<Brand, _>(&rt, rt.alloc(), &library, blank)
+    let bank = Bank::new(&rt, rt.alloc(), &library);
+    sixteen::<Brand, _>(&bank, bank.begun(17)?)
 }

@@ -2,15 +2,13 @@
 
 ghost use Rattle.std.specs.Prelude.{◌≡◌};
 
-use crate::bank::{adding, begun, ended, library};
-use hp_rule::Library;
+use crate::bank::{Bank, ended, library};
 use hp_sessions::{Blank, Book, BookName, Gate, Receipt, Session};
-use std::alloc::Global;
 use std::marker::Brand;
 use std::process::Abort;
 use std::sync::atomic::AtomicU64;
 use std::sync::atomic::Ordering::SeqCst;
-use std::sync::{Arc, Mutex, Wait};
+use std::sync::{Mutex, Wait};
 use std::test::Fail;
 use std::thread;
 use std::thread::Threads;
@@ -52,43 +50,38 @@ impl Gate for Turns {
 type Answer<K> = Option<Receipt<K>>;
 
 fn first<K: BookName, R: Threads + Wait + Sync>(
-    rt: &R,
-    alloc: Global,
-    library: &Arc<Library>,
+    bank: &Bank<'_, R>,
     lock: &Mutex<Book<K>>,
     turns: &Turns,
 ) -> Answer<K> {
-    let body = adding(alloc, library, 1).ok()?;
+    let body = bank.adding(1).ok()?;
     let mut session = Session::new(1, lock);
-    session.submit(rt, alloc, body, turns).ok()
+    session.submit(bank.rt, bank.alloc, body, turns).ok()
 }
 
 fn second<K: BookName, R: Threads + Wait + Sync>(
-    rt: &R,
-    alloc: Global,
-    library: &Arc<Library>,
+    bank: &Bank<'_, R>,
     lock: &Mutex<Book<K>>,
     turns: &Turns,
 ) -> Answer<K> {
     turns.wait_for(&turns.begun);
-    let body = adding(alloc, library, 1).ok()?;
+    let body = bank.adding(1).ok()?;
     let mut session = Session::new(2, lock);
-    let answer = session.submit(rt, alloc, body, turns).ok();
+    let answer = session.submit(bank.rt, bank.alloc, body, turns).ok();
     turns.answered.store(1, SeqCst);
     answer
 }
 
 fn first_and_second<K: BookName + Send + Sync, R: Threads + Wait + Sync>(
-    rt: &R,
-    alloc: Global,
-    library: &Arc<Library>,
+    bank: &Bank<'_, R>,
     lock: &Mutex<Book<K>>,
     turns: &Turns,
 ) -> (Answer<K>, Answer<K>) {
+    let (rt, alloc, library) = (bank.rt, bank.alloc, bank.library);
     thread::join(
         rt,
-        move || first(rt, alloc, library, lock, turns),
-        move || second(rt, alloc, library, lock, turns),
+        move || first(&Bank::new(rt, alloc, library), lock, turns),
+        move || second(&Bank::new(rt, alloc, library), lock, turns),
     )
 }
 
@@ -97,9 +90,7 @@ fn number_of<K: BookName>(answer: Answer<K>) -> Option<u64> {
 }
 
 fn check_turns<K: BookName + Send + Sync, R: Threads + Wait + Abort + Sync>(
-    rt: &R,
-    alloc: Global,
-    library: &Arc<Library>,
+    bank: &Bank<'_, R>,
     lock: &Mutex<Book<K>>,
 ) -> Result<(), Fail> {
     let turns = Turns {
@@ -107,27 +98,25 @@ fn check_turns<K: BookName + Send + Sync, R: Threads + Wait + Abort + Sync>(
         answered: AtomicU64::new(0),
         late: AtomicU64::new(0),
     };
-    let (one, two) = first_and_second(rt, alloc, library, lock, &turns);
+    let (one, two) = first_and_second(bank, lock, &turns);
     let (one, two) = (number_of(one), number_of(two));
-    assert_eq!(rt; turns.late.load(SeqCst), 0);
+    assert_eq!(bank.rt; turns.late.load(SeqCst), 0);
     let one = one.ok_or("a receipt")?;
     let two = two.ok_or("a receipt")?;
-    assert!(rt; two == 1 && one == 2);
+    assert!(bank.rt; two == 1 && one == 2);
     Ok(())
 }
 
 fn outside<K: BookName + Send + Sync, R: Threads + Wait + Abort + Sync>(
-    rt: &R,
-    alloc: Global,
-    library: &Arc<Library>,
+    bank: &Bank<'_, R>,
     blank: Blank,
 ) -> Result<(), Fail>
     requires { blank.table ≡ K.table }
 {
-    let book = Mutex::new(blank.open::<K>(alloc));
-    check_turns(rt, alloc, library, &book)?;
+    let book = Mutex::new(blank.open::<K>(bank.alloc));
+    check_turns(bank, &book)?;
     let (sum, _) = ended(book.into_inner());
-    assert_eq!(rt; sum, 2);
+    assert_eq!(bank.rt; sum, 2);
     Ok(())
 }
 
@@ -135,6 +124,6 @@ fn outside<K: BookName + Send + Sync, R: Threads + Wait + Abort + Sync>(
 #[test]
 fn a_unit_is_made_outside_the_lock(rt: HostRuntime) -> Result<(), Fail> {
     let library = library(rt.alloc(), "acct")?;
-    let blank = begun(&rt, rt.alloc(), &library, 1)?;
-    outside::<Brand, _>(&rt, rt.alloc(), &library, blank)
+    let bank = Bank::new(&rt, rt.alloc(), &library);
+    outside::<Brand, _>(&bank, bank.begun(1)?)
 }
