@@ -7,7 +7,9 @@ use Rattle.hp_model.specs.Tree.{Task}
 use Rattle.hp_view.specs.Seeing.{Seeing}
 use Rattle.hp_attempt.specs.Fronts.{AreSound}
 use Rattle.hp_fire.specs.declared.speculate.progress.Progress.{Progress}
-use Rattle.hp_fire.specs.Groups.{IsSoFar, IsRetried, IsAhead, Comes}
+use Rattle.hp_fire.specs.declared.speculate.counts.Counts.{Counts}
+use Rattle.hp_fire.specs.declared.speculate.settled.Settled.{Settled}
+use Rattle.hp_fire.specs.Groups.{IsSoFar, IsRetried, IsAcceptedWithin, IsCounted, OwesOne, IsAhead, Comes, ComesByWave}
 
 -- only attempts change
 ahead_put : (p q : Progress) → q ≡ record p { pending = q.pending } → IsAhead p q
@@ -44,6 +46,37 @@ ahead_then p q r a b = record {
         let one = b.reran (omega (arith, first, less)) still in
         omega (arith, one, a.accepted)
 
+-- nothing changes
+pub ahead_same : (p : Progress) → IsAhead p p
+ahead_same p = ahead_put p p refl
+
+-- the front of the attempts, of this length, is accepted
+pub ahead_settled : (p q : Progress) (n : ℕ) → length q.settled.outcomes.items ≡ length p.settled.outcomes.items + n → (n ≡ 0 → q.settled.end ≡ None) → (q.counts.waves ≡ p.counts.waves) × (q.counts.retried ≡ p.counts.retried)
+    → q.counts.accepted ≤ p.counts.accepted + n → (0 < n → IsRetried p.counts (length p.settled.outcomes.items) → q.counts.accepted < p.counts.accepted + n) → IsAhead p q
+ahead_settled p q n longer none same accepted reran = record {
+  longer = omega (arith, longer);
+  waves = same.0;
+  retried = same.1;
+  accepted = omega (arith, longer, accepted);
+  reran = λ less is. let one = reran (omega (arith, longer, less)) is in omega (arith, longer, one);
+  none = λ e was. none (omega (arith, longer, e));
+}
+
+-- ---- counts
+
+pub within_ahead : (p q : Progress) → IsAcceptedWithin p → IsAhead p q → IsAcceptedWithin q
+within_ahead p q within a = omega (arith, within, a.accepted)
+
+pub counted_ahead : (p q : Progress) → IsCounted p → IsAhead p q → IsCounted q
+counted_ahead p q counted a = (omega (arith, counted.0, a.accepted), omega (arith, counted.1, a.waves, a.accepted))
+
+-- the owner has run the task that the last wave owes
+pub counted_run : (p q : Progress) → OwesOne p → q.counts ≡ p.counts → length q.settled.outcomes.items ≡ length p.settled.outcomes.items + 1 → IsCounted q
+counted_run p q owes same longer =
+    let accepted : q.counts.accepted ≡ p.counts.accepted = ap (λ (x : Counts). x.accepted) same in
+    let waves : q.counts.waves ≡ p.counts.waves = ap (λ (x : Counts). x.waves) same in
+    (omega (arith, owes.0, accepted, longer), omega (arith, owes.1, accepted, waves, longer))
+
 module _ {library : Library} {stops : Bool} {tasks : List Task} where
   pub comes_then : {v w x : Seeing} (p q r : Progress) → Comes library stops tasks v p w q → Comes library stops tasks w q x r → Comes library stops tasks v p x r
   comes_then p q r a b = record { ahead = ahead_then p q r a.ahead b.ahead; sound = b.sound; so_far = λ first s. b.so_far first (a.so_far first s) }
@@ -60,19 +93,44 @@ module _ {library : Library} {stops : Bool} {tasks : List Task} where
   pub comes_same : (v : Seeing) (p : Progress) → AreSound library p.pending.attempts.items → Comes library stops tasks v p v p
   comes_same v p sound = comes_put v p p refl sound
 
-  -- the front of the attempts is accepted
-  pub comes_settled : {v w : Seeing} (p q : Progress) (n : ℕ) → length q.settled.outcomes.items ≡ length p.settled.outcomes.items + n → (n ≡ 0 → p.settled.end ≡ None → q.settled.end ≡ None) → (q.counts.waves ≡ p.counts.waves) × (q.counts.retried ≡ p.counts.retried)
-      → q.counts.accepted ≤ p.counts.accepted + n → (0 < n → IsRetried p.counts (length p.settled.outcomes.items) → q.counts.accepted < p.counts.accepted + n) → AreSound library q.pending.attempts.items
-      → ((first : Seeing) → IsSoFar library stops tasks first v p.settled.outcomes.items p.settled.end → IsSoFar library stops tasks first w q.settled.outcomes.items q.settled.end) → Comes library stops tasks v p w q
-  comes_settled p q n longer none same accepted reran sound so_far = record {
-    ahead = record {
-      longer = omega (arith, longer);
-      waves = same.0;
-      retried = same.1;
-      accepted = omega (arith, longer, accepted);
-      reran = λ less is. let one = reran (omega (arith, longer, less)) is in omega (arith, longer, one);
-      none = λ e was. none (omega (arith, longer, e)) was;
-    };
-    sound = sound;
-    so_far = so_far;
+  -- no wave has begun
+  pub wave_none : {v w : Seeing} (p q : Progress) → w ≡ v → q ≡ record p { pending = q.pending } → p.settled.end ≡ None → IsCounted p → AreSound library q.pending.attempts.items → ComesByWave library stops tasks v p w q
+  wave_none {v} {w} p q same e none counted sound =
+      let long : length q.settled.outcomes.items ≡ length p.settled.outcomes.items = ap (λ (x : Progress). length x.settled.outcomes.items) e in
+      let accepted : q.counts.accepted ≡ p.counts.accepted = ap (λ (x : Progress). x.counts.accepted) e in
+      let waves : q.counts.waves ≡ p.counts.waves = ap (λ (x : Progress). x.counts.waves) e in record {
+        longer = omega (arith, long);
+        none = λ _. ap (λ (x : Progress). x.settled.end) e ∙ none;
+        counted = λ less. absurd (omega (arith, long, less));
+        owes = (omega (arith, long, accepted, counted.0), omega (arith, long, accepted, waves, counted.1));
+        sound = sound;
+        so_far = λ first s.
+            subst (λ (x : Seeing). IsSoFar library stops tasks first x q.settled.outcomes.items q.settled.end) (sym same)
+            (subst (λ (x : Progress). IsSoFar library stops tasks first v x.settled.outcomes.items x.settled.end) (sym e) s);
+      }
+
+  -- a wave has run
+  pub wave_ran : {v u w : Seeing} (p b q : Progress) → u ≡ v → b.settled ≡ p.settled → (b.counts.accepted ≡ p.counts.accepted) × (b.counts.waves ≡ p.counts.waves + 1) → (0 < p.counts.waves → IsRetried b.counts (length p.settled.outcomes.items))
+      → p.settled.end ≡ None → IsCounted p → Comes library stops tasks u b w q → ComesByWave library stops tasks v p w q
+  wave_ran {v} {u} {w} p b q same settled counts retried none counted came = record {
+    longer = omega (arith, long, came.ahead.longer);
+    none = λ e. came.ahead.none (omega (arith, long, e)) (ap (λ (s : Settled). s.end) settled ∙ none);
+    counted = λ less. by less (cases_lt 0 p.counts.waves);
+    owes = (within, omega (arith, counted.1, long, counts.0, counts.1, came.ahead.waves, came.ahead.accepted));
+    sound = came.sound;
+    so_far = λ first s. came.so_far first
+        (subst (λ (x : Seeing). IsSoFar library stops tasks first x b.settled.outcomes.items b.settled.end) (sym same)
+        (subst (λ (x : Settled). IsSoFar library stops tasks first v x.outcomes.items x.end) (sym settled) s));
   }
+    where
+      long : length b.settled.outcomes.items ≡ length p.settled.outcomes.items
+      long = ap (λ (s : Settled). length s.outcomes.items) settled
+
+      within : IsAcceptedWithin q
+      within = omega (arith, counted.0, long, counts.0, came.ahead.accepted)
+
+      by : length p.settled.outcomes.items < length q.settled.outcomes.items → (0 < p.counts.waves) ⊎ (p.counts.waves ≤ 0) → IsCounted q
+      by less (inl more) =
+          let one = came.ahead.reran (omega (arith, long, less)) (subst (IsRetried b.counts) (sym long) (retried more)) in
+          (within, omega (arith, counted.1, long, counts.0, counts.1, came.ahead.waves, one))
+      by less (inr first) = (within, omega (arith, within, counts.1, came.ahead.waves, first))

@@ -17,7 +17,7 @@ use Rattle.hp_view.specs.Seeing.{Seeing, written, OnlyReads}
 use Rattle.hp_view.proofs.Views.{GoesOn-same, GoesOn-then}
 use Rattle.hp_view.proofs.Reading.{GoesOn-only}
 use Rattle.hp_fire.specs.declared.deciding.Decision.{Decision}
-use Rattle.hp_fire.specs.declared.deciding.Decision.TheVariants.{Over, Acts, ActsLater}
+use Rattle.hp_fire.specs.declared.deciding.Decision.TheVariants.{Over, Acts}
 use Rattle.hp_attempt.specs.Mapped.{firing}
 use Rattle.hp_fire.specs.Runs.{RunsFiring}
 use Rattle.hp_fire.specs.Decides.{ThenActs, DecidesFor, Decides}
@@ -83,7 +83,6 @@ condition_decides library t v old new (Over o) step only finds p = record {
       (faithful_condition (level_at library t.depth) t v finds p.faithful));
 }
 condition_decides library t v old new (Acts node found) step only finds p = condition_acts library t v step only finds p
-condition_decides library t v old new (ActsLater node found) step only finds p = condition_acts library t v step only finds p
 
 -- ---- actions
 

@@ -1,4 +1,4 @@
-mod Attempting
+mod Attempts
 mod Coming
 mod Decisions
 mod Helping

@@ -10,12 +10,15 @@ use Rattle.hp_model.specs.Soundness.{FiringAnswer}
 use Rattle.hp_model.specs.Answers.{FaithfulFiring, Finds}
 use Rattle.hp_model.specs.Rules.{rule_at}
 use Rattle.hp_model.proofs.Faithful.{Grows}
+use Rattle.hp_value.specs.declared.env.Answer.{Answer}
 use Rattle.hp_value.specs.Mapped.{answers}
 use Rattle.hp_tree.specs.Mapped.{what}
 use Rattle.hp_attempt.specs.Mapped.{firing}
 use Rattle.hp_view.specs.Seeing.{Seeing, written, GoesOn, OnlyReads}
 use Rattle.hp_fire.specs.declared.deciding.Decision.{Decision}
-use Rattle.hp_fire.specs.declared.deciding.Decision.TheVariants.{Over, Acts, ActsLater}
+use Rattle.hp_fire.specs.declared.deciding.Decision.TheVariants.{Over, Acts}
+use Rattle.hp_fire.specs.declared.deciding.Found.{Found}
+use Rattle.hp_fire.specs.declared.deciding.Found.TheVariants.{Own, Shared}
 use Rattle.hp_fire.specs.Runs.{RunsFiring}
 
 -- the firing is the action's result, once that has run
@@ -24,11 +27,15 @@ pub record ThenActs (library : Library) (fire : State → Firing) (t : Task) (ol
   pub then_action : {more : List Read} {after : Changes} {f : FiringAnswer} → Grows new.reads more → FaithfulFiring library (run_action node (level_at library t.depth) t found) more (written new) after f
       → FaithfulFiring library fire more (written old) after f
 
+-- the kept answers
+abbrev pub found_in : Found → List Answer
+found_in (Own as') = as'.items
+found_in (Shared as') = as'.value.items
+
 -- the firing is over, or its action remains to run
 abbrev pub DecidesFor : Library → (State → Firing) → Task → Seeing → Seeing → Decision → Type 0
 DecidesFor library fire t old new (Over o) = RunsFiring library fire old new (firing o)
-DecidesFor library fire t old new (Acts node found) = ThenActs library fire t old new (what node) (answers found.items)
-DecidesFor library fire t old new (ActsLater node found) = ThenActs library fire t old new (what node) (answers found.value.items)
+DecidesFor library fire t old new (Acts node found) = ThenActs library fire t old new (what node) (answers (found_in found))
 
 -- the same for a task's own firing
 abbrev pub Decides : Library → Task → Seeing → Seeing → Decision → Type 0

@@ -1,38 +1,24 @@
--- The functions that a group of firings is passed: one fires a task on its owner's view, one tries a task on a
--- snapshot.
+-- The function that a group of firings is passed: it fires a task on a view, and counts the work.
 use Rattle.std.specs.Prelude.{◌≡◌, ℕ, ◌<◌, ◌^◌, List, Result, IfOk, All}
 use Rattle.std.specs.declared.alloc.AllocError.{AllocError}
 use denote.Ref.{Bor, MutBor}
 use denote.Param.Members.{Shared}
 use Rattle.hp_model.specs.Rules.{Library}
 use Rattle.hp_model.specs.Firing.{fire_task}
-use Rattle.hp_model.specs.Soundness.{IsSound}
 use Rattle.hp_rule.specs.declared.task.Task.{Task}
 use Rattle.hp_rule.specs.Mapped.{task}
-use Rattle.hp_store.specs.Stack.{Stack}
 use Rattle.hp_view.specs.Seeing.{Seeing}
 use Rattle.hp_attempt.specs.declared.outcome.Outcome.{Outcome}
-use Rattle.hp_attempt.specs.declared.outcome.Attempt.{Attempt}
-use Rattle.hp_attempt.specs.Mapped.{firing, attempt}
+use Rattle.hp_attempt.specs.Mapped.{firing}
 use Rattle.hp_fire.specs.declared.speculate.past.Effort.{Effort}
 use Rattle.hp_fire.specs.Runs.{RunsFiring}
 
-module _ {F : Type 0} (g : Shared F (MutBor Seeing × (Bor Task × Unit {0})) (Result Outcome AllocError × (MutBor Seeing × Unit {0}))) (f : F) where
+module _ {F : Type 0} (g : Shared F (MutBor Seeing × (Bor Task × (Bor Effort × (ℕ × Unit {0})))) (Result Outcome AllocError × (MutBor Seeing × Unit {0}))) (f : F) where
   -- f may be called with this task, on each view
   abbrev pub MayFire : Task → Type 0
-  MayFire t = (v : MutBor Seeing) (p : Bor Task) → p.now ≡ t → g.pre f (v, (p, tt))
+  MayFire t = (v : MutBor Seeing) (p : Bor Task) (e : Bor Effort) (width : ℕ) → p.now ≡ t → g.pre f (v, (p, (e, (width, tt))))
 
   -- what f does with a task is the task's firing
   abbrev pub Fires : Library → Type 0
-  Fires library = (v : MutBor Seeing) (p : Bor Task) (r : Result Outcome AllocError) (v' : MutBor Seeing) → g.post f (v, (p, tt)) (r, (v', tt))
+  Fires library = (v : MutBor Seeing) (p : Bor Task) (e : Bor Effort) (width : ℕ) (r : Result Outcome AllocError) (v' : MutBor Seeing) → width < 2 ^ 64 → g.post f (v, (p, (e, (width, tt)))) (r, (v', tt))
       → IfOk r (λ o. RunsFiring library (λ S. fire_task library S (task p.now)) v.now v'.now (firing o))
-
-module _ {T : Type 0} (g : Shared T (Stack × (Bor Task × (Bor Effort × (ℕ × Unit {0})))) (Result Attempt AllocError)) (f : T) where
-  -- f may be called with this task, on each snapshot
-  abbrev pub MayTry : Task → Type 0
-  MayTry t = (s : Stack) (p : Bor Task) (e : Bor Effort) (width : ℕ) → p.now ≡ t → g.pre f (s, (p, (e, (width, tt))))
-
-  -- the attempts that f gives are sound
-  abbrev pub TriesSoundly : Library → Type 0
-  TriesSoundly library = (s : Stack) (p : Bor Task) (e : Bor Effort) (width : ℕ) (r : Result Attempt AllocError) → width < 2 ^ 64 → g.post f (s, (p, (e, (width, tt)))) r
-      → IfOk r (λ a. IsSound library (attempt a))

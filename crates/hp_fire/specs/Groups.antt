@@ -93,6 +93,23 @@ pub record Comes (library : Library) (stops : Bool) (tasks : List Task) (view : 
 abbrev pub ComesInWave : Library → Wave → Seeing → Progress → Seeing → Progress → Type 0
 ComesInWave library w view p view' p' = Comes library w.stop_at_veto (map task w.tasks.now) view p view' p'
 
+-- A wave has run, if one was due: the group and its view have come further. No veto stops the group where no task was
+-- settled. Then the last wave may lead to one more rerun.
+pub record ComesByWave (library : Library) (stops : Bool) (tasks : List Task) (view : Seeing) (p : Progress) (view' : Seeing) (p' : Progress) : Type 0 where
+  pub longer : length p.settled.outcomes.items ≤ length p'.settled.outcomes.items
+  pub none : length p'.settled.outcomes.items ≡ length p.settled.outcomes.items → p'.settled.end ≡ None
+  pub counted : length p.settled.outcomes.items < length p'.settled.outcomes.items → IsCounted p'
+  pub owes : OwesOne p'
+  pub sound : AreSound library p'.pending.attempts.items
+  pub so_far : ComesFurther library stops tasks view p.settled view' p'.settled
+
+-- at least one task was settled, and the counts are right
+pub record Advances (library : Library) (stops : Bool) (tasks : List Task) (view : Seeing) (p : Progress) (view' : Seeing) (p' : Progress) : Type 0 where
+  pub more : length p.settled.outcomes.items < length p'.settled.outcomes.items
+  pub counted : IsCounted p'
+  pub sound : AreSound library p'.pending.attempts.items
+  pub so_far : ComesFurther library stops tasks view p.settled view' p'.settled
+
 -- the board has a number for each task that isn't settled
 abbrev pub IsWave : Wave → Type 0
 IsWave w = w.done + length w.board.cells ≡ length w.tasks.now

@@ -15,6 +15,7 @@ ghost use Rattle.hp_fire.specs.Mapped.{course, group as group_of};
 ghost use Rattle.hp_fire.specs.Runs.{Runs, RunsFiring, RunsGroup};
 ghost use Rattle.hp_fire.specs.Statements.{SiblingsFire, TaskFires};
 
+use crate::attempting::attempt_on;
 use crate::context::Context;
 use crate::course::{Course, GroupOutcome};
 use crate::engine::Engine;
@@ -39,8 +40,7 @@ impl<R: Threads + Sync> Engine<'_, R> {
             view.old view.new (course c)) }
     {
         let context = Context::of_script(depth);
-        let course = self.statements(view, body, &context)?;
-        Ok(course)
+        self.statements(view, body, &context)
     }
 
     /// Signals an occurrence in a transaction of depth `depth`: the rules that it triggers are placed, and the
@@ -52,8 +52,7 @@ impl<R: Threads + Sync> Engine<'_, R> {
             (signal_in (level_at (library self.now.lib.now) depth) (primitive prim.now)) view.old view.new (course c)) }
     {
         let result = self.signal(view, prim, depth);
-        let course = settled(self.alloc, result)?;
-        Ok(course)
+        settled(self.alloc, result)
     }
 
     /// Fires a task on the view, as a subtransaction.
@@ -63,8 +62,7 @@ impl<R: Threads + Sync> Engine<'_, R> {
         ensures { IfOk result (λ o. RunsFiring (library self.now.lib.now)
             (λ S. fire_task (library self.now.lib.now) S (task_of task.now)) view.old view.new (firing_of o)) }
     {
-        let outcome = self.firing(view, task)?;
-        Ok(outcome)
+        self.firing(view, task)
     }
 
     /// Fires the tasks of a group on the view, as siblings. If `stop_at_veto` is set, nothing fires after a vetoed
@@ -81,8 +79,7 @@ impl<R: Threads + Sync> Engine<'_, R> {
             (siblings (fire_task (library self.now.lib.now)) stop_at_veto (map task_of tasks.now))
             view.old view.new (group_of g)) }
     {
-        let outcome = self.run_with(view, tasks, stop_at_veto, &NoGate, false)?;
-        Ok(outcome)
+        self.run_with(view, tasks, stop_at_veto, &NoGate, false)
     }
 
     /// The same with a gate, which is notified of the tasks that workers try. If `eager` is set, workers are started
@@ -100,16 +97,13 @@ impl<R: Threads + Sync> Engine<'_, R> {
         ensures waves { IfOk result (λ g. g.waves ≤ g.reran + 1) }
         ensures alone { self.now.width < 2 → IfOk result (λ g. g.waves ≡ 0) }
     {
-        let fire = |view: &mut View, task: &Task| -> Result<Outcome, AllocError>
-            ensures { IfOk result (TaskFires self.entry.now.lib.now task.now view.old view.new) }
-        { self.firing(view, task) };
-        let attempt = |snapshot: Snapshot, task: &Task, effort: &Effort, width: usize| -> Result<
-            Attempt,
+        let fire = |view: &mut View, task: &Task, effort: &Effort, width: usize| -> Result<
+            Outcome,
             AllocError,
         >
             requires { IsSync R.row }
-            ensures { IfOk result (λ a. IsSound (library self.entry.now.lib.now) (attempt_of a)) }
-        { self.inside(effort, width).attempted(snapshot, task) };
+            ensures { IfOk result (TaskFires self.entry.now.lib.now task.now view.old view.new) }
+        { self.inside(effort, width).firing(view, task) };
         let group = Group {
             rt: self.rt,
             alloc: self.alloc,
@@ -120,12 +114,10 @@ impl<R: Threads + Sync> Engine<'_, R> {
             eager,
             gate,
             fire: &fire,
-            attempt: &attempt,
             effort: self.effort,
             past: self.past,
         };
-        let outcome = group.run(view)?;
-        Ok(outcome)
+        group.run(view)
     }
 }
 
@@ -156,8 +148,7 @@ pub fn run_group<R: Threads + Sync, G: Gate + Sync>(
 {
     let past = Past::new(alloc, lib, width);
     let engine = Engine::new(rt, alloc, lib, width, &past);
-    let outcome = engine.run_with(view, tasks, stop_at_veto, gate, true)?;
-    Ok(outcome)
+    engine.run_with(view, tasks, stop_at_veto, gate, true)
 }
 
 /// Tries a task on a snapshot. The attempt stands for the task's firing on each state in which its reads hold.
@@ -175,6 +166,8 @@ pub fn run_task<R: Threads + Sync>(
     ensures so_it_was { IfOk result (λ a. Holds (cells_in snapshot) a.reads) }
 {
     let past = Past::new(alloc, lib, width);
-    let attempt = Engine::new(rt, alloc, lib, width, &past).attempted(snapshot, task)?;
-    Ok(attempt)
+    let engine = Engine::new(rt, alloc, lib, width, &past);
+    let mut view = View::new(alloc, snapshot)?;
+    let outcome = engine.firing(&mut view, task)?;
+    attempt_on(view, task, outcome)
 }

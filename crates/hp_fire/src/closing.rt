@@ -121,11 +121,11 @@ fn as_part(alloc: Global, what: What, course: Course, after: End) -> Result<Cour
         items,
     } = course;
     let mut around = Vec::with_capacity(alloc, 1)?;
-    around.push(Item::Node(Node {
+    around.push_reserved(Item::Node(Node {
         what,
         end: ending(end),
         items,
-    }))?;
+    }));
     Ok(Course {
         end: after,
         queued: queued_after(alloc, end, queued),
@@ -177,8 +177,7 @@ pub(crate) fn close_action(
         → RunsFiring library (run_action (what_of what) level t found) first view.new (firing o)) }
 {
     end_transaction(view, mark, course.end)?;
-    let outcome = as_firing(alloc, what, course)?;
-    Ok(outcome)
+    as_firing(alloc, what, course)
 }
 
 /// Ends the body of a statement `sub`, which began at a mark and took this course. The answer also says whether it

@@ -75,8 +75,7 @@ impl Look for Counting<'_> {
 
     fn row(&mut self, alloc: Global, class: ClassNo, key: Key) -> Result<Option<Row>, AllocError> {
         self.count(1);
-        let row = Look::row(self.view, alloc, class, key)?;
-        Ok(row)
+        Look::row(self.view, alloc, class, key)
     }
 
     fn keys(&mut self, alloc: Global, class: ClassNo) -> Result<Vec<Key>, AllocError> {

@@ -145,6 +145,5 @@ pub(crate) fn append<T: Drop>(all: &mut Vec<T>, mut more: Vec<T>) -> Result<(), 
         *all = more;
         return Ok(());
     }
-    all.append(&mut more)?;
-    Ok(())
+    all.append(&mut more)
 }

@@ -13,13 +13,13 @@ ghost use Rattle.hp_rule.specs.declared.stmt.Stmt.{size-Stmt};
 ghost use Rattle.hp_rule.specs.Mapped.{body_in, library, task as task_of};
 ghost use Rattle.hp_tree.specs.Mapped.{what as what_of, condition as condition_end};
 ghost use Rattle.hp_attempt.specs.Mapped.{firing};
-ghost use Rattle.hp_fire.specs.Decides.{Decides, FindsVerdict, Follows};
+ghost use Rattle.hp_fire.specs.Decides.{Decides, FindsVerdict, Follows, found_in};
 ghost use Rattle.hp_fire.specs.Weights.{deepest};
 ghost use denote.Param.Weighed.{most};
 
 use crate::counting::Counting;
 use crate::engine::Engine;
-use crate::placing::place_tasks;
+use crate::placing::{one_task, place_tasks};
 use hp_attempt::Outcome;
 use hp_query::{Query, Verdict, evaluate_condition};
 use hp_rule::{Library, Step, Stmt, Task};
@@ -34,10 +34,29 @@ use std::sync::Arc;
 pub(crate) enum Decision {
     /// Nothing: the firing is over.
     Over(Outcome),
-    /// The action runs, as this node, with these answers, which belong to the firing alone.
-    Acts(What, Vec<Answer>),
-    /// The action runs, as this node, with the answers that its task shares.
-    ActsLater(What, Arc<Vec<Answer>>),
+    /// The action runs, as this node, with these answers of the condition's queries.
+    Acts(What, Found),
+}
+
+/// The kept answers of a satisfied condition.
+#[derive(Drop)]
+pub(crate) enum Found {
+    /// They belong to the firing alone.
+    Own(Vec<Answer>),
+    /// The task of a later action shares them.
+    Shared(Arc<Vec<Answer>>),
+}
+
+impl Found {
+    /// The answers.
+    pub(crate) fn answers(&self) -> &[Answer]
+        ensures { result.now ≡ found_in self.now }
+    {
+        match self {
+            Found::Own(answers) => answers,
+            Found::Shared(answers) => answers,
+        }
+    }
 }
 
 impl<R> Engine<'_, R> {
@@ -47,17 +66,14 @@ impl<R> Engine<'_, R> {
         ensures { IfOk result (λ d. Decides (library self.now.lib.now) (task_of task.now) view.old view.new d) }
     {
         match &task.step {
-            Step::Condition => {
-                let decision = self.decide_condition(view, task)?;
-                Ok(decision)
-            }
+            Step::Condition => self.decide_condition(view, task),
             Step::Action(answers) => {
                 let what = What::Act {
                     rule: task.rule,
                     place: task.place,
                 };
                 let answers = Arc::try_clone(answers)?;
-                Ok(Decision::ActsLater(what, answers))
+                Ok(Decision::Acts(what, Found::Shared(answers)))
             }
         }
     }
@@ -68,8 +84,7 @@ impl<R> Engine<'_, R> {
         ensures { IfOk result (λ d. Decides (library self.now.lib.now) (task_of task.now) view.old view.new d) }
     {
         let verdict = self.condition_verdict(view, task)?;
-        let decision = self.follow(task, verdict)?;
-        Ok(decision)
+        self.follow(task, verdict)
     }
 
     /// The verdict on the condition of a task's rule.
@@ -89,10 +104,7 @@ impl<R> Engine<'_, R> {
         ensures { IfOk result (Follows (library self.now.lib.now) (task_of task.now) (verdict_of verdict)) }
     {
         match verdict {
-            Verdict::Satisfied(answers) => {
-                let decision = self.follow_satisfied(task, answers)?;
-                Ok(decision)
-            }
+            Verdict::Satisfied(answers) => self.follow_satisfied(task, answers),
             Verdict::Unsatisfied => {
                 let what = fired(task, ConditionEnd::WithoutAction);
                 let outcome = without_effects(self.alloc, what)?;
@@ -114,7 +126,7 @@ impl<R> Engine<'_, R> {
         match action_coupling(self.lib, task.rule) {
             Coupling::Immediate => {
                 let what = fired(task, ConditionEnd::WithAction);
-                Ok(Decision::Acts(what, answers))
+                Ok(Decision::Acts(what, Found::Own(answers)))
             }
             place => {
                 let outcome = later(self.alloc, task, place, answers)?;
@@ -140,11 +152,11 @@ fn without_effects(alloc: Global, what: What) -> Result<Outcome, AllocError>
     ensures { IfOk result (λ o. firing o ≡ handing_on (what_of what) []) }
 {
     let mut tree = Vec::with_capacity(alloc, 1)?;
-    tree.push(Item::Node(Node {
+    tree.push_reserved(Item::Node(Node {
         what,
         end: Ending::Committed,
         items: Vec::new(alloc),
-    }))?;
+    }));
     Ok(Outcome {
         end: None,
         queued: Vec::new(alloc),
@@ -165,15 +177,15 @@ fn later(
         IfOk result (λ o. firing o ≡ handing_on node (action ∷ [])) }
 {
     let answers = Arc::new(alloc, answers)?;
-    let mut tasks = Vec::with_capacity(alloc, 1)?;
-    tasks.push(Task {
+    let occurrence = Arc::try_clone(&task.occurrence)?;
+    let action = Task {
         rule: task.rule,
         step: Step::Action(answers),
         place,
         depth: task.depth,
-        occurrence: Arc::try_clone(&task.occurrence)?,
-    })?;
-    let placed = place_tasks(alloc, tasks)?;
+        occurrence,
+    };
+    let placed = place_tasks(alloc, one_task(alloc, action)?)?;
     let mut outcome = without_effects(alloc, fired(task, ConditionEnd::WithLaterAction))?;
     outcome.queued = placed.queued;
     outcome.detached = placed.detached;

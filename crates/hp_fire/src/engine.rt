@@ -4,10 +4,9 @@ ghost use Rattle.std.specs.Prelude.{◌≡◌};
 
 use crate::speculate::{Effort, Past};
 use hp_rule::Library;
-use std::alloc::Global;
+use std::alloc::{AllocError, Global};
 
 /// Runs statements, signals and firings on a view, by the rules of a library.
-#[derive_where(Clone, Copy)]
 pub struct Engine<'a, R> {
     /// Starts threads.
     pub(crate) rt: &'a R,
@@ -22,6 +21,15 @@ pub struct Engine<'a, R> {
     /// The work done, of a unit or of a worker's attempt.
     pub(crate) effort: &'a Effort,
 }
+
+// By hand, since a derived `clone` copies field by field, and its proof takes as long as that of a long function.
+impl<'a, R> Clone for Engine<'a, R> {
+    fn clone(&self) -> Result<Engine<'a, R>, AllocError> {
+        Ok(*self)
+    }
+}
+
+impl<'a, R> Copy for Engine<'a, R> {}
 
 impl<'a, R> Engine<'a, R> {
     /// An engine for a library, with at most `width` threads for a group. The costs of firings are noted in `past`,

@@ -7,6 +7,7 @@
 //! the effects, and is only to be dropped, unless a function says otherwise.
 #![tactic(auto)]
 
+mod attempting;
 mod calls;
 mod closing;
 mod context;

@@ -257,6 +257,5 @@ fn operation_course(alloc: Global, prim: &Prim) -> Result<Course, AllocError>
         }
     };
     // Mostly at most one firing follows an operation.
-    let course = Course::of_item(alloc, Item::Operation(operation), 1)?;
-    Ok(course)
+    Course::of_item(alloc, Item::Operation(operation), 1)
 }

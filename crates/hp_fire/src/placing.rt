@@ -110,7 +110,7 @@ pub(crate) fn one_task(alloc: Global, task: Task) -> Result<Vec<Task>, AllocErro
     ensures { IfOk result (λ ts. ts.items ≡ task ∷ []) }
 {
     let mut tasks = Vec::with_capacity(alloc, 1)?;
-    tasks.push(task)?;
+    tasks.push_reserved(task);
     Ok(tasks)
 }
 

@@ -1,7 +1,7 @@
 //! Groups of sibling firings, which workers try ahead of their turn.
 //!
-//! All speculation is in this module, and it knows nothing of statements: a group is passed one function that fires a
-//! task, and one that tries a task on a snapshot. `docs/SPECULATION.md` has the terms, and the life of a group.
+//! All speculation is in this module, and it knows nothing of statements: a group is passed one function, which fires a
+//! task on a view. `docs/SPECULATION.md` has the terms, and the life of a group.
 
 mod channel;
 mod counts;

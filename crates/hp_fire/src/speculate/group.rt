@@ -4,12 +4,13 @@ ghost use Rattle.std.specs.Prelude.{◌≡◌, ◌+◌, ◌<◌, ◌≤◌, None
 ghost use Rattle.hp_rule.specs.Mapped.{library, task as task_of};
 ghost use Rattle.hp_board.specs.Deal.{IsSeatOf};
 ghost use Rattle.hp_attempt.specs.Fronts.{AreSound};
-ghost use Rattle.hp_fire.specs.Given.{MayFire, Fires, MayTry, TriesSoundly};
-ghost use Rattle.hp_fire.specs.Groups.{IsSoFar, ComesFurther, GoesOnBelow, IsAcceptedWithin, IsCounted, OwesOne};
+ghost use Rattle.hp_fire.specs.Given.{MayFire, Fires};
+ghost use Rattle.hp_fire.specs.Groups.{IsSoFar, GoesOnBelow, IsAcceptedWithin, IsCounted, Advances, ComesByWave};
 ghost use Rattle.hp_fire.specs.Groups.{IsWave, IsJob, AreOf, ComesInWave};
 ghost use Rattle.hp_fire.specs.Statements.{SiblingsFire, TaskFires};
 
 use crate::course::GroupOutcome;
+use crate::speculate::channel::Receiver;
 use crate::speculate::extents::share_beneath;
 use crate::speculate::gate::Gate;
 use crate::speculate::past::{Effort, Past};
@@ -18,17 +19,18 @@ use crate::speculate::progress::Progress;
 use crate::speculate::settled::Settled;
 use crate::speculate::start::{Plan, Start, prepare};
 use crate::speculate::trial::Trial;
-use hp_attempt::{Attempt, Outcome};
+use crate::speculate::wave::{Job, Wave};
+use hp_attempt::Outcome;
+use hp_board::Seat;
 use hp_rule::{Library, Task};
-use hp_store::Snapshot;
 use hp_view::View;
 use std::alloc::{AllocError, Global};
 use std::thread::Threads;
 
 /// A group of sibling firings, and what its owner is given.
 ///
-/// All that it knows of a firing is `fire` and `attempt`.
-pub(crate) struct Group<'a, R, G, F, T> {
+/// All that it knows of a firing is `fire`.
+pub(crate) struct Group<'a, R, G, F> {
     /// Starts threads.
     pub(crate) rt: &'a R,
     /// The allocator.
@@ -45,10 +47,8 @@ pub(crate) struct Group<'a, R, G, F, T> {
     pub(crate) eager: bool,
     /// The gate that is notified of the tasks that workers try.
     pub(crate) gate: &'a G,
-    /// Fires a task on the owner's view.
+    /// Fires a task on a view. It counts the work, and uses at most the given number of threads.
     pub(crate) fire: &'a F,
-    /// Tries a task on a snapshot. It counts the work, and uses at most the given number of threads.
-    pub(crate) attempt: &'a T,
     /// The work of the owner.
     pub(crate) effort: &'a Effort,
     /// The costs of the rules' last firings.
@@ -56,27 +56,24 @@ pub(crate) struct Group<'a, R, G, F, T> {
 }
 
 // By hand, since a derived `clone` copies field by field, and its proof takes as long as that of a long function.
-impl<'a, R, G, F, T> Clone for Group<'a, R, G, F, T> {
-    fn clone(&self) -> Result<Group<'a, R, G, F, T>, AllocError> {
+impl<'a, R, G, F> Clone for Group<'a, R, G, F> {
+    fn clone(&self) -> Result<Group<'a, R, G, F>, AllocError> {
         Ok(*self)
     }
 }
 
-impl<'a, R, G, F, T> Copy for Group<'a, R, G, F, T> {}
+impl<'a, R, G, F> Copy for Group<'a, R, G, F> {}
 
 impl<
     R: Threads + Sync,
     G: Gate + Sync,
-    F: Fn(&mut View, &Task) -> Result<Outcome, AllocError>,
-    T: Fn(Snapshot, &Task, &Effort, usize) -> Result<Attempt, AllocError> + Sync,
-> Group<'_, R, G, F, T> {
+    F: Fn(&mut View, &Task, &Effort, usize) -> Result<Outcome, AllocError> + Sync,
+> Group<'_, R, G, F> {
     /// Fires the tasks as siblings, in their order. The owner begins alone. With several tasks and threads, and enough
     /// work left, workers try the other tasks ahead of their turn.
     pub(crate) fn run(&self, view: &mut View) -> Result<GroupOutcome, AllocError>
         requires fires { All (MayFire F.Fn self.now.fire.now) self.now.tasks.now }
-        requires tries { All (MayTry T.Fn self.now.attempt.now) self.now.tasks.now }
         requires firings { Fires F.Fn self.now.fire.now (library self.now.lib.now) }
-        requires faithful { TriesSoundly T.Fn self.now.attempt.now (library self.now.lib.now) }
         ensures runs { let stops = self.now.stop_at_veto in
             IfOk result (SiblingsFire self.now.lib.now stops self.now.tasks.now view.old view.new) }
         ensures counted { IfOk result (λ g. g.accepted + g.reran ≡ length g.outcomes.items) }
@@ -147,7 +144,7 @@ impl<
         ensures { IfOk result (TaskFires self.now.lib.now task.now view.old view.new) }
     {
         let before = self.effort.so_far();
-        let outcome = (self.fire)(view, task)?;
+        let outcome = (self.fire)(view, task, self.effort, self.width)?;
         self.past.note(task.rule, self.effort.since(before));
         Ok(outcome)
     }
@@ -156,50 +153,39 @@ impl<
     /// front of the attempts.
     fn advance(&self, view: &mut View, progress: &mut Progress) -> Result<(), AllocError>
         requires fires { All (MayFire F.Fn self.now.fire.now) self.now.tasks.now }
-        requires tries { All (MayTry T.Fn self.now.attempt.now) self.now.tasks.now }
         requires firings { Fires F.Fn self.now.fire.now (library self.now.lib.now) }
-        requires faithful { TriesSoundly T.Fn self.now.attempt.now (library self.now.lib.now) }
         requires going { GoesOnBelow progress.old.settled (length self.now.tasks.now) }
         requires counted { IsCounted progress.old }
         requires sound { AreSound (library self.now.lib.now) progress.old.pending.attempts.items }
-        ensures more { let before = length progress.old.settled.outcomes.items in
-            OnOk result (before < length progress.new.settled.outcomes.items) }
-        ensures counted { OnOk result (IsCounted progress.new) }
-        ensures sound { OnOk result (AreSound (library self.now.lib.now) progress.new.pending.attempts.items) }
-        ensures so_far { let tasks = map task_of self.now.tasks.now in
-            OnOk result (ComesFurther (library self.now.lib.now) self.now.stop_at_veto tasks
-            view.old progress.old.settled view.new progress.new.settled) }
+        ensures { let tasks = map task_of self.now.tasks.now in
+            OnOk result (Advances (library self.now.lib.now) self.now.stop_at_veto tasks
+            view.old progress.old view.new progress.new) }
     {
-        let settled = self.settle_by_wave(view, progress)?;
-        if settled > 0 {
+        let done = progress.settled.outcomes.len();
+        self.settle_by_wave(view, progress)?;
+        if progress.settled.outcomes.len() > done {
             return Ok(());
         }
-        let first = &self.tasks[progress.settled.outcomes.len()];
+        let first = &self.tasks[done];
         let outcome = self.fire_counted(view, first)?;
         progress.add(outcome, self.stop_at_veto)?;
         progress.settle(self.alloc, view, self.tasks, self.stop_at_veto)?;
         Ok(())
     }
 
-    /// Runs a wave if one is due, which settles tasks from their attempts. The answer is how many.
-    fn settle_by_wave(&self, view: &mut View, progress: &mut Progress) -> Result<usize, AllocError>
-        requires tries { All (MayTry T.Fn self.now.attempt.now) self.now.tasks.now }
-        requires faithful { TriesSoundly T.Fn self.now.attempt.now (library self.now.lib.now) }
+    /// Runs a wave if one is due, which settles tasks from their attempts.
+    fn settle_by_wave(&self, view: &mut View, progress: &mut Progress) -> Result<(), AllocError>
+        requires fires { All (MayFire F.Fn self.now.fire.now) self.now.tasks.now }
+        requires firings { Fires F.Fn self.now.fire.now (library self.now.lib.now) }
         requires going { GoesOnBelow progress.old.settled (length self.now.tasks.now) }
         requires counted { IsCounted progress.old }
         requires sound { AreSound (library self.now.lib.now) progress.old.pending.attempts.items }
-        ensures settled { let before = length progress.old.settled.outcomes.items in
-            IfOk result (λ n. length progress.new.settled.outcomes.items ≡ before + n) }
-        ensures none { IfOk result (λ n. n ≡ 0 → progress.new.settled.end ≡ None) }
-        ensures counted { IfOk result (λ n. 0 < n → IsCounted progress.new) }
-        ensures owes { OnOk result (OwesOne progress.new) }
-        ensures sound { OnOk result (AreSound (library self.now.lib.now) progress.new.pending.attempts.items) }
-        ensures so_far { let tasks = map task_of self.now.tasks.now in
-            OnOk result (ComesFurther (library self.now.lib.now) self.now.stop_at_veto tasks
-            view.old progress.old.settled view.new progress.new.settled) }
+        ensures { let tasks = map task_of self.now.tasks.now in
+            OnOk result (ComesByWave (library self.now.lib.now) self.now.stop_at_veto tasks
+            view.old progress.old view.new progress.new) }
     {
         if !progress.is_wave_due(view, self.width) {
-            return Ok(0);
+            return Ok(());
         }
         let done = progress.settled.outcomes.len();
         share_beneath(self.alloc, self.lib, &self.tasks[done..], view)?;
@@ -213,11 +199,16 @@ impl<
         progress.pending.drop_stale(view);
         let Ok(start) = prepare(plan, self.alloc, view, &progress.pending) else {
             // Memory ran out: the owner runs the next task.
-            return Ok(0);
+            return Ok(());
         };
         progress.begin_wave();
-        self.wave(start, view, progress)?;
-        Ok(progress.settled.outcomes.len() - done)
+        let Start {
+            wave,
+            seat,
+            jobs,
+            mut receivers,
+        } = start;
+        self.wave(&wave, (seat, jobs), &mut receivers, view, progress)
     }
 
     /// Workers and the owner try the tasks that aren't settled, while the owner accepts the front of the attempts.
@@ -225,39 +216,34 @@ impl<
     /// An error means that memory ran out while the owner accepted attempts.
     fn wave(
         &self,
-        start: Start<'_>,
+        wave: &Wave<'_>,
+        seats: (Seat, Vec<Job<'_>>),
+        receivers: &mut Vec<Receiver<'_>>,
         view: &mut View,
         progress: &mut Progress,
     ) -> Result<(), AllocError>
-        requires tries { All (MayTry T.Fn self.now.attempt.now) start.wave.tasks.now }
-        requires faithful { TriesSoundly T.Fn self.now.attempt.now (library self.now.lib.now) }
-        requires wave { IsWave start.wave }
-        requires seat { IsSeatOf start.wave.board.deal start.seat }
-        requires jobs { All (IsJob (library self.now.lib.now) start.wave.board.deal) start.jobs.items }
-        requires channels { AreOf (library self.now.lib.now) start.receivers.items }
+        requires fires { All (MayFire F.Fn self.now.fire.now) wave.now.tasks.now }
+        requires firings { Fires F.Fn self.now.fire.now (library self.now.lib.now) }
+        requires wave { IsWave wave.now }
+        requires seat { IsSeatOf wave.now.board.deal seats.0 }
+        requires jobs { All (IsJob (library self.now.lib.now) wave.now.board.deal) seats.1.items }
+        requires channels { AreOf (library self.now.lib.now) receivers.old.items }
         requires accepted { IsAcceptedWithin progress.old }
         requires sound { AreSound (library self.now.lib.now) progress.old.pending.attempts.items }
-        ensures { let wave = start.entry.wave in
-            OnOk result (ComesInWave (library self.now.lib.now) wave view.old progress.old view.new progress.new) }
+        ensures { OnOk result (ComesInWave (library self.now.lib.now) wave.now
+            view.old progress.old view.new progress.new) }
     {
-        let Start {
-            wave,
-            seat,
-            jobs,
-            mut receivers,
-        } = start;
         let trial = Trial {
             rt: self.rt,
             alloc: self.alloc,
             lib: self.lib,
             gate: self.gate,
-            attempt: self.attempt,
-            width: (self.width / (jobs.len() + 1)).max(1),
+            fire: self.fire,
+            width: (self.width / (seats.1.len() + 1)).max(1),
         };
-        let (found, accepted) = trial.try_all(&wave, (seat, jobs), view, progress, &mut receivers);
-        accepted?;
+        let (found, accepted) = trial.try_all(wave, seats, view, progress, receivers);
         progress.pending.put_returned(found);
-        progress.accept_sent(self.alloc, &wave, view, &mut receivers, 1)?;
-        Ok(())
+        accepted?;
+        progress.accept_sent(self.alloc, wave, view, receivers, 1)
     }
 }

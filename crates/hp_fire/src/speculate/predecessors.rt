@@ -113,8 +113,7 @@ impl Predecessors {
     // Merges a layer over the others. They aren't shared between two tasks, so nothing is copied.
     fn take_in(&mut self, layer: &Layer) -> Result<(), AllocError> {
         let all = Arc::make_mut(&mut self.layer)?;
-        all.take_in(layer)?;
-        Ok(())
+        all.take_in(layer)
     }
 
     // A snapshot under the merged layers, under those that were found later.

@@ -1,10 +1,10 @@
 //! The progress of a group with workers.
 
-ghost use Rattle.std.specs.Prelude.{◌≡◌, ◌+◌, ◌-◌, ◌^◌, ◌<◌, ◌≤◌, [], ◌∷◌, ◌++◌, None, IfOk, OnOk, length, drop, map};
+ghost use Rattle.std.specs.Prelude.{◌≡◌, ◌+◌, ◌-◌, ◌^◌, ◌<◌, [], ◌∷◌, ◌++◌, IfOk, OnOk, length, drop, map};
 ghost use Rattle.hp_model.specs.Rules.{Library as ModelLibrary};
 ghost use Rattle.hp_rule.specs.Mapped.{task as task_of};
 ghost use Rattle.hp_attempt.specs.Fronts.{AreSound, stopped_by};
-ghost use Rattle.hp_fire.specs.Groups.{ComesFurther, IsAcceptedWithin, IsRetried};
+ghost use Rattle.hp_fire.specs.Groups.{Comes, IsAcceptedWithin, IsAhead, IsRetried};
 
 use crate::course::GroupOutcome;
 use crate::speculate::channel::Receiver;
@@ -70,32 +70,21 @@ impl Progress {
         self.counts.begin_wave(done, &self.pending.attempts);
     }
 
-    /// Accepts the front of the attempts. The answer is its length.
+    /// Accepts the front of the attempts.
     pub(crate) fn settle(
         &mut self,
         alloc: Global,
         view: &mut View,
         tasks: &[Task],
         stop_at_veto: bool,
-    ) -> Result<usize, AllocError>
+    ) -> Result<(), AllocError>
         requires { IsAcceptedWithin self.old }
-        ensures settled { let before = length self.old.settled.outcomes.items in
-            IfOk result (λ n. length self.new.settled.outcomes.items ≡ before + n) }
-        ensures none { IfOk result (λ n. n ≡ 0 → self.old.settled.end ≡ None → self.new.settled.end ≡ None) }
-        ensures waves { OnOk result (self.new.counts.waves ≡ self.old.counts.waves) }
-        ensures marks { OnOk result (self.new.counts.retried ≡ self.old.counts.retried) }
-        ensures accepted { IfOk result (λ n. self.new.counts.accepted ≤ self.old.counts.accepted + n) }
-        ensures retried { IfOk result (λ n. 0 < n
-            → IsRetried self.old.counts (length self.old.settled.outcomes.items)
-            → self.new.counts.accepted < self.old.counts.accepted + n) }
-        ensures sound { OnOk result ((library : ModelLibrary) → AreSound library self.old.pending.attempts.items
-            → AreSound library self.new.pending.attempts.items) }
-        ensures so_far { OnOk result ((library : ModelLibrary) → AreSound library self.old.pending.attempts.items
-            → ComesFurther library stop_at_veto (map task_of tasks.now)
-            view.old self.old.settled view.new self.new.settled) }
+        ensures ahead { OnOk result (IsAhead self.old self.new) }
+        ensures comes { OnOk result ((library : ModelLibrary) → AreSound library self.old.pending.attempts.items
+            → Comes library stop_at_veto (map task_of tasks.now) view.old self.old view.new self.new) }
     {
         if self.settled.end.is_some() {
-            return Ok(0);
+            return Ok(());
         }
         let done = self.settled.outcomes.len();
         let attempts = mem::replace(&mut self.pending.attempts, VecDeque::new(alloc));
@@ -105,7 +94,7 @@ impl Progress {
         self.pending.attempts = rest;
         self.settled.add_front(front, stop_at_veto)?;
         self.counts.add_kept(done, count);
-        Ok(count)
+        Ok(())
     }
 
     /// Adds the firing of the next task, which the owner ran.

@@ -54,8 +54,7 @@ impl Settled {
         ensures end { OnOk result (self.new.end ≡ stopped_by stop_at_veto front.items) }
     {
         self.end = veto_of(&front, stop_at_veto);
-        self.outcomes.append(&mut front)?;
-        Ok(())
+        self.outcomes.append(&mut front)
     }
 }
 

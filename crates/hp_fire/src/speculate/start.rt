@@ -12,6 +12,7 @@ use crate::speculate::policy::COPIES;
 use crate::speculate::wave::{Job, Wave, jobs_for, kept_layers};
 use hp_board::{Board, Seat};
 use hp_rule::{Library, Task};
+use hp_store::Snapshot;
 use hp_view::View;
 use std::alloc::{AllocError, Global};
 
@@ -59,9 +60,9 @@ pub(crate) fn prepare<'a>(
     ensures channels { IfOk result (λ s. AreOf (library plan.entry.lib.now) s.receivers.items) }
 {
     let left = plan.tasks.len() - plan.done;
-    let mut snapshot = view.freeze(alloc)?;
-    share_in(alloc, plan.lib, &plan.tasks[plan.done..], &mut snapshot)?;
     let workers = plan.width.clamp(1, 64).min(left);
+    let snapshot = frozen(plan, alloc, view)?;
+    let kept = kept_layers(alloc, &pending.attempts)?;
     let (board, mut seats) = Board::new(alloc, left, workers)?;
     let Some(seat) = seats.pop() else {
         unreachable!();
@@ -70,7 +71,7 @@ pub(crate) fn prepare<'a>(
         tasks: plan.tasks,
         done: plan.done,
         stop_at_veto: plan.stop_at_veto,
-        kept: kept_layers(alloc, &pending.attempts)?,
+        kept,
         snapshot,
         board,
         early: view.written() <= left.saturating_mul(COPIES),
@@ -82,4 +83,13 @@ pub(crate) fn prepare<'a>(
         jobs,
         receivers,
     })
+}
+
+// The snapshot from which tasks start, with the lists of classes that all workers share.
+fn frozen(plan: Plan<'_>, alloc: Global, view: &View) -> Result<Snapshot, AllocError>
+    requires { plan.done < length plan.tasks.now }
+{
+    let mut snapshot = view.freeze(alloc)?;
+    share_in(alloc, plan.lib, &plan.tasks[plan.done..], &mut snapshot)?;
+    Ok(snapshot)
 }

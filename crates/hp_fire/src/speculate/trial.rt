@@ -7,9 +7,10 @@ ghost use Rattle.hp_rule.specs.Mapped.{library};
 ghost use Rattle.hp_board.specs.Deal.{IsSeatOf};
 ghost use Rattle.hp_attempt.specs.Fronts.{AreSound};
 ghost use Rattle.hp_attempt.specs.Mapped.{attempt as attempt_of};
-ghost use Rattle.hp_fire.specs.Given.{MayTry, TriesSoundly};
+ghost use Rattle.hp_fire.specs.Given.{MayFire, Fires};
 ghost use Rattle.hp_fire.specs.Groups.{AreSoundTries, IsAcceptedWithin, IsWave, IsWorker, IsJob, AreOf, ComesInWave};
 
+use crate::attempting::attempt_on;
 use crate::speculate::channel::Receiver;
 use crate::speculate::fork_join::on_threads;
 use crate::speculate::gate::Gate;
@@ -19,7 +20,7 @@ use crate::speculate::policy::POLLS;
 use crate::speculate::progress::Progress;
 use crate::speculate::wave::{Job, Wave, hand_over, kept_layer};
 use crate::speculate::worker::Worker;
-use hp_attempt::Attempt;
+use hp_attempt::{Attempt, Outcome};
 use hp_board::Seat;
 use hp_rule::{Library, Task};
 use hp_store::Snapshot;
@@ -28,7 +29,7 @@ use std::alloc::{AllocError, Global};
 use std::thread::Threads;
 
 /// What is needed to try the tasks of a wave.
-pub(crate) struct Trial<'a, R, G, T> {
+pub(crate) struct Trial<'a, R, G, F> {
     /// Starts threads.
     pub(crate) rt: &'a R,
     /// The allocator.
@@ -37,26 +38,26 @@ pub(crate) struct Trial<'a, R, G, T> {
     pub(crate) lib: &'a Library,
     /// The gate that is notified of tasks.
     pub(crate) gate: &'a G,
-    /// Tries a task on a snapshot. It counts the work, and uses at most the given number of threads.
-    pub(crate) attempt: &'a T,
+    /// Fires a task on a view. It counts the work, and uses at most the given number of threads.
+    pub(crate) fire: &'a F,
     /// The most threads that a group inside a task may use.
     pub(crate) width: usize,
 }
 
 // By hand, as with a group.
-impl<'a, R, G, T> Clone for Trial<'a, R, G, T> {
-    fn clone(&self) -> Result<Trial<'a, R, G, T>, AllocError> {
+impl<'a, R, G, F> Clone for Trial<'a, R, G, F> {
+    fn clone(&self) -> Result<Trial<'a, R, G, F>, AllocError> {
         Ok(*self)
     }
 }
 
-impl<'a, R, G, T> Copy for Trial<'a, R, G, T> {}
+impl<'a, R, G, F> Copy for Trial<'a, R, G, F> {}
 
 impl<
     R: Threads + Sync,
     G: Gate + Sync,
-    T: Fn(Snapshot, &Task, &Effort, usize) -> Result<Attempt, AllocError> + Sync,
-> Trial<'_, R, G, T> {
+    F: Fn(&mut View, &Task, &Effort, usize) -> Result<Outcome, AllocError> + Sync,
+> Trial<'_, R, G, F> {
     /// Tries the tasks of a wave: each worker on a thread of its own, and the owner's part on one more, while this
     /// thread sleeps. The answer is what the workers return, and whether memory sufficed to accept attempts.
     pub(crate) fn try_all(
@@ -67,8 +68,8 @@ impl<
         progress: &mut Progress,
         receivers: &mut Vec<Receiver<'_>>,
     ) -> (Result<Vec<Vec<Tried>>, AllocError>, Result<(), AllocError>)
-        requires tries { All (MayTry T.Fn self.now.attempt.now) wave.now.tasks.now }
-        requires faithful { TriesSoundly T.Fn self.now.attempt.now (library self.now.lib.now) }
+        requires fires { All (MayFire F.Fn self.now.fire.now) wave.now.tasks.now }
+        requires firings { Fires F.Fn self.now.fire.now (library self.now.lib.now) }
         requires wave { IsWave wave.now }
         requires seat { IsSeatOf wave.now.board.deal seats.0 }
         requires jobs { All (IsJob (library self.now.lib.now) wave.now.board.deal) seats.1.items }
@@ -84,13 +85,13 @@ impl<
         let (seat, jobs) = seats;
         let mut seat = Some(seat);
         let mut owner = || -> Result<(), AllocError>
-            requires { IsSync R.row × IsSync G.row × IsSync T.row × IsWave wave.now
+            requires { IsSync R.row × IsSync G.row × IsSync F.row × IsWave wave.now
                 × IsSome seat × IfSome seat (IsSeatOf wave.now.board.deal)
                 × AreOf (library self.now.lib.now) receivers.now.items
                 × AreSound (library self.now.lib.now) progress.now.pending.attempts.items
                 × IsAcceptedWithin progress.now
-                × All (MayTry T.Fn self.now.attempt.now) wave.now.tasks.now
-                × TriesSoundly T.Fn self.now.attempt.now (library self.now.lib.now) }
+                × All (MayFire F.Fn self.now.fire.now) wave.now.tasks.now
+                × Fires F.Fn self.now.fire.now (library self.now.lib.now) }
             ensures comes { OnOk result (ComesInWave (library self.entry.now.lib.now) wave.entry.now
                 view.entry.now progress.entry.now view.exit.now progress.exit.now) }
             ensures channels { AreOf (library self.entry.now.lib.now) receivers.exit.now.items }
@@ -101,10 +102,10 @@ impl<
             self.try_as_owner(wave, seat, view, progress, receivers)
         };
         let worker = |job| -> Vec<Tried>
-            requires { IsSync R.row × IsSync G.row × IsSync T.row × IsWave wave.now
+            requires { IsSync R.row × IsSync G.row × IsSync F.row × IsWave wave.now
                 × IsJob (library self.now.lib.now) wave.now.board.deal job
-                × All (MayTry T.Fn self.now.attempt.now) wave.now.tasks.now
-                × TriesSoundly T.Fn self.now.attempt.now (library self.now.lib.now) }
+                × All (MayFire F.Fn self.now.fire.now) wave.now.tasks.now
+                × Fires F.Fn self.now.fire.now (library self.now.lib.now) }
             ensures { AreSoundTries (library self.entry.now.lib.now) result.items }
         { self.try_as_worker(wave, job) };
         on_threads(self.rt, self.alloc, &worker, jobs, &mut owner)
@@ -122,8 +123,8 @@ impl<
         progress: &mut Progress,
         receivers: &mut Vec<Receiver<'_>>,
     ) -> Result<(), AllocError>
-        requires tries { All (MayTry T.Fn self.now.attempt.now) wave.now.tasks.now }
-        requires faithful { TriesSoundly T.Fn self.now.attempt.now (library self.now.lib.now) }
+        requires fires { All (MayFire F.Fn self.now.fire.now) wave.now.tasks.now }
+        requires firings { Fires F.Fn self.now.fire.now (library self.now.lib.now) }
         requires wave { IsWave wave.now }
         requires seat { IsSeatOf wave.now.board.deal seat }
         requires channels { AreOf (library self.now.lib.now) receivers.old.items }
@@ -136,23 +137,45 @@ impl<
         let Ok(mut worker) = Worker::new(self.alloc, wave, seat) else {
             return Ok(());
         };
+        self.accept_each(&mut worker, view, progress, receivers)
+    }
+
+    /// The same, once the owner's part has a worker.
+    fn accept_each(
+        &self,
+        worker: &mut Worker<'_>,
+        view: &mut View,
+        progress: &mut Progress,
+        receivers: &mut Vec<Receiver<'_>>,
+    ) -> Result<(), AllocError>
+        requires fires { All (MayFire F.Fn self.now.fire.now) worker.old.wave.now.tasks.now }
+        requires firings { Fires F.Fn self.now.fire.now (library self.now.lib.now) }
+        requires wave { IsWave worker.old.wave.now }
+        requires worker { IsWorker worker.old }
+        requires channels { AreOf (library self.now.lib.now) receivers.old.items }
+        requires sound { AreSound (library self.now.lib.now) progress.old.pending.attempts.items }
+        requires accepted { IsAcceptedWithin progress.old }
+        ensures comes { OnOk result (ComesInWave (library self.now.lib.now) worker.old.wave.now
+            view.old progress.old view.new progress.new) }
+        ensures channels { AreOf (library self.now.lib.now) receivers.new.items }
+    {
+        let wave = worker.wave;
         for _ in 0..wave.tasks.len() {
-            let Some(tried) = self.next_attempt(&mut worker) else {
+            let Some(tried) = self.next_attempt(worker) else {
                 break;
             };
             progress.pending.put(tried);
             progress.accept_sent(self.alloc, wave, view, receivers, wave.polls(1))?;
             worker.note_veto(progress.settled.end);
         }
-        progress.accept_sent(self.alloc, wave, view, receivers, wave.polls(POLLS))?;
-        Ok(())
+        progress.accept_sent(self.alloc, wave, view, receivers, wave.polls(POLLS))
     }
 
     /// A worker's part of a wave: it tries tasks until none is left, and sends the attempts. It returns those for which
     /// the channel had no room.
     fn try_as_worker(&self, wave: &Wave<'_>, job: Job<'_>) -> Vec<Tried>
-        requires tries { All (MayTry T.Fn self.now.attempt.now) wave.now.tasks.now }
-        requires faithful { TriesSoundly T.Fn self.now.attempt.now (library self.now.lib.now) }
+        requires fires { All (MayFire F.Fn self.now.fire.now) wave.now.tasks.now }
+        requires firings { Fires F.Fn self.now.fire.now (library self.now.lib.now) }
         requires wave { IsWave wave.now }
         requires job { IsJob (library self.now.lib.now) wave.now.board.deal job }
         ensures { AreSoundTries (library self.now.lib.now) result.items }
@@ -174,8 +197,8 @@ impl<
     /// Draws numbers and tries their tasks, up to the first that gives an attempt. `None` means that all numbers are
     /// drawn.
     fn next_attempt(&self, worker: &mut Worker<'_>) -> Option<Tried>
-        requires tries { All (MayTry T.Fn self.now.attempt.now) worker.old.wave.now.tasks.now }
-        requires faithful { TriesSoundly T.Fn self.now.attempt.now (library self.now.lib.now) }
+        requires fires { All (MayFire F.Fn self.now.fire.now) worker.old.wave.now.tasks.now }
+        requires firings { Fires F.Fn self.now.fire.now (library self.now.lib.now) }
         requires wave { IsWave worker.old.wave.now }
         requires worker { IsWorker worker.old }
         ensures worker { IsWorker worker.new }
@@ -194,8 +217,8 @@ impl<
     /// Tries the task of a number, and posts what it wrote. If an attempt at the task is kept, its layer is posted
     /// instead. A worker that has given up still draws numbers, so that no other worker tries in vain what is left.
     fn try_number(&self, worker: &mut Worker<'_>, number: usize) -> Option<Tried>
-        requires tries { All (MayTry T.Fn self.now.attempt.now) worker.old.wave.now.tasks.now }
-        requires faithful { TriesSoundly T.Fn self.now.attempt.now (library self.now.lib.now) }
+        requires fires { All (MayFire F.Fn self.now.fire.now) worker.old.wave.now.tasks.now }
+        requires firings { Fires F.Fn self.now.fire.now (library self.now.lib.now) }
         requires worker { IsWorker worker.old }
         requires number { number < length worker.old.wave.now.board.cells }
         ensures worker { IsWorker worker.new }
@@ -219,8 +242,8 @@ impl<
 
     /// Tries the task of a number, at this index in its group. `None` means that memory ran out.
     fn try_place(&self, worker: &mut Worker<'_>, number: usize, place: usize) -> Option<Tried>
-        requires tries { All (MayTry T.Fn self.now.attempt.now) worker.old.wave.now.tasks.now }
-        requires faithful { TriesSoundly T.Fn self.now.attempt.now (library self.now.lib.now) }
+        requires fires { All (MayFire F.Fn self.now.fire.now) worker.old.wave.now.tasks.now }
+        requires firings { Fires F.Fn self.now.fire.now (library self.now.lib.now) }
         requires worker { IsWorker worker.old }
         requires number { number < length worker.old.wave.now.board.cells }
         ensures worker { IsWorker worker.new }
@@ -233,7 +256,7 @@ impl<
         }
         let start = worker.start_of(number).ok()?;
         let effort = Effort::new();
-        let attempt = (self.attempt)(start, &tasks[place], &effort, self.width).ok()?;
+        let attempt = self.attempted(start, &tasks[place], &effort).ok()?;
         if !worker.post(number, &attempt.layer) {
             return None;
         }
@@ -243,5 +266,21 @@ impl<
             attempt,
             cost: effort.so_far(),
         })
+    }
+
+    /// The attempt at a task: it fires on a view of its start.
+    fn attempted(
+        &self,
+        start: Snapshot,
+        task: &Task,
+        effort: &Effort,
+    ) -> Result<Attempt, AllocError>
+        requires fires { MayFire F.Fn self.now.fire.now task.now }
+        requires firings { Fires F.Fn self.now.fire.now (library self.now.lib.now) }
+        ensures { IfOk result (λ a. IsSound (library self.now.lib.now) (attempt_of a)) }
+    {
+        let mut view = View::new(self.alloc, start)?;
+        let outcome = (self.fire)(&mut view, task, effort, self.width)?;
+        attempt_on(view, task, outcome)
     }
 }

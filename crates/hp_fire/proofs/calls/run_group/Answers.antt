@@ -1,4 +1,4 @@
-use Rattle.std.proofs.Common.{ap, subst, map}
+use Rattle.std.proofs.Common.{ap, subst, map, IfOk}
 use Rattle.hp_model.specs.Firing.{siblings, fire_task}
 use Rattle.hp_rule.specs.Mapped.{library, task}
 use Rattle.hp_fire.specs.Mapped.{group}
@@ -7,4 +7,5 @@ use Rattle.hp_fire.proofs.calls.run_group.Goals as goal
 
 pub returns-clause-runs : goal.returns-clause-runs
 returns-clause-runs g c =
-    subst (λ l. RunsGroup (library l) (siblings (fire_task (library l)) c.args.stop_at_veto (map task c.args.tasks.now)) c.args.view.now c.run_with.new.view (group c.in_ok-outcome.outcome)) (ap (λ r. r.now) c.new-engine.ensures.lib) c.in_ok-outcome.ensures.runs
+    subst (λ l. IfOk c.run_with.result (λ o. RunsGroup (library l) (siblings (fire_task (library l)) c.args.stop_at_veto (map task c.args.tasks.now)) c.args.view.now c.run_with.new.view (group o)))
+    (ap (λ r. r.now) c.new-engine.ensures.lib) c.run_with.ensures.runs

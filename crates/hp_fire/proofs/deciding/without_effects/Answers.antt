@@ -8,5 +8,5 @@ use Rattle.hp_fire.proofs.deciding.without_effects.Goals as goal
 
 pub returns : goal.returns
 returns c =
-    let items : items_in c.push.new.self.items ≡ T.node (what c.args.what) T.committed T.no_items T.no_items = search (rules, the_lemmas, row_items_lem) in
+    let items : items_in c.push_reserved.new.self.items ≡ T.node (what c.args.what) T.committed T.no_items T.no_items = search (rules, the_lemmas, row_items_lem) in
     λ i. record { vetoed_by = None; queued = ap (map task) c.new-2.ensures.items i; detached = ap (map detached) c.new-3.ensures.items i; items = items i }

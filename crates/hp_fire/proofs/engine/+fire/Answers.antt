@@ -1,15 +1,14 @@
-use Rattle.std.proofs.Common.{rules, arith, ◌≡◌, refl, ap, sym, ◌∙◌, subst, ◌≤◌, [], ◌∷◌, None, drop, map, length, true, false}
+use Rattle.std.proofs.Common.{rules, arith, List, ◌≡◌, refl, ap, sym, ◌∙◌, subst, ◌≤◌, [], ◌∷◌, None, drop, map, length, true, false}
 use Rattle.std.proofs.Common.{SFits, w64, of_z, to_z, Ok}
 use Rattle.std.proofs.lemmas.Int.{to_z-of_z}
-use Rattle.std.proofs.lemmas.Result.{err_from_is_err_and}
+use Rattle.std.proofs.lemmas.Result.{err_from_is_err_and, IfOk-weaker}
 use Rattle.std.proofs.Math.ListN.{drop_of_length-le}
 use Rattle.std.proofs.lemmas.List.{map-append}
 use Rattle.hp_model.specs.Values.{requested}
 use Rattle.hp_model.specs.Conditions.{answer}
-use Rattle.std.specs.Prelude.{filter}
+use Rattle.std.specs.Prelude.{filter, IfOk}
 use Rattle.hp_model.specs.Tree.{Task, no_items}
 use Rattle.hp_model.specs.Transactions.{abort_by, deferred_of, detached_of, done, for_each, unreleased}
-use Rattle.hp_model.specs.Soundness.{Answer}
 use Rattle.hp_model.specs.Answers.{is_done, followed, group_answer}
 use Rattle.hp_model.specs.Rules as R
 use Rattle.hp_model.specs.Rules.{Body, is_immediate, rule_at}
@@ -22,13 +21,17 @@ use Rattle.hp_rule.proofs.Bodies.{row_body_lem}
 use Rattle.hp_attempt.specs.Mapped.{firing}
 use Rattle.hp_ops.proofs.Worlds.{split_at}
 use Rattle.hp_fire.specs.Mapped.{context, course, group}
+use Rattle.hp_tree.specs.Mapped.{what}
+use Rattle.hp_value.specs.declared.env.Answer.{Answer as KeptAnswer}
+use Rattle.hp_fire.specs.declared.deciding.Decision.{Decision}
+use Rattle.hp_fire.specs.declared.deciding.Decision.TheVariants.{Acts}
+use Rattle.hp_fire.specs.Decides.{ThenActs, Decides}
 use Rattle.hp_fire.specs.Runs.{Runs, RunsGroup, Made, Makes, SubRuns}
+use Rattle.hp_fire.proofs.Decisions.{acts_runs}
 use Rattle.hp_fire.proofs.Making.{steps_halt}
 use Rattle.hp_fire.proofs.Stating.{with_is, steps_at, runs_at, signal_makes, found_halt, fire_halt, fire_runs}
 use Rattle.hp_fire.proofs.Steps.{runs_answer, runs_ends, runs_value, found_value, sub_over, sub_then, body_each, loop_starts, loop_next, loop_stops, loop_ends}
 use Rattle.hp_fire.proofs.Starting.{signal_runs, start_none, start_single, single_measure, start_runs, group_measure, none_long, map_none, tasks_at}
-use Rattle.hp_model.specs.Cells.{Holds}
-use Rattle.hp_store.specs.Stack.{Stack, cells_in}
 use denote.Param.{param}
 use denote.Param.Send.{IsSync, param_sync, sendable}
 use denote.Ref.{NamedLft}
@@ -87,15 +90,6 @@ Engine::each_row-returns-then-not-is_done g t c =
 pub Engine::each_row-returns : goal.Engine::each_row-returns
 Engine::each_row-returns g t c = loop_ends (ap (map keyed_row) (drop_of_length-le c.args.rows.now c.loop-row-test.false)) c.loop-row.invariant
 
--- ---- attempts
-
-pub Engine::attempted-returns-clause-sound : goal.Engine::attempted-returns-clause-sound
-Engine::attempted-returns-clause-sound g t c = c.in_ok-attempt.ensures.sound (library c.args.self.now.lib.now) c.in_ok-view.view c.in_ok-view.ensures.writes c.in_ok-outcome.ensures
-
-pub Engine::attempted-returns-clause-so_it_was : goal.Engine::attempted-returns-clause-so_it_was
-Engine::attempted-returns-clause-so_it_was g t c =
-    subst (λ (s : Stack). Holds (cells_in s) c.in_ok-attempt.attempt.reads) (c.in_ok-outcome.ensures.goes_on.base ∙ c.in_ok-view.ensures.base) c.in_ok-attempt.ensures.so_it_was
-
 -- ---- operations and actions
 
 pub Engine::operated-returns : goal.Engine::operated-returns
@@ -105,15 +99,21 @@ Engine::operated-returns g t c = λ work before made.
     let is_made : Made lib (level_at lib c.args.depth) work before c.args.view.now (primitive c.in_ok-prim.prim) = subst (Makes primitive lib (level_at lib c.args.depth) work before c.args.view.now) is made in
     c.in_ok-course.ensures lib (level_at lib c.args.depth) work before c.args.view.now c.signal-result.new.view is_made c.signal-result.ensures
 
-pub Engine::action-returns : goal.Engine::action-returns
-Engine::action-returns g t c =
+pub Engine::firing-returns-in_ok-course-in-Acts : goal.Engine::firing-returns-in_ok-course-in-Acts
+Engine::firing-returns-in_ok-course-in-Acts g t c =
     let lib = library c.args.self.now.lib.now in
-    let here : Runs (library c.args.self.now.lib.now) (action_course (level_at (library c.args.self.now.lib.now) c.args.task.now.depth) (task c.args.task.now) (answers c.args.answers.now)) c.args.view.now c.statements.new.view (course c.in_ok-course.course) =
-    subst (λ (x : Context). Runs (library c.args.self.now.lib.now) (run_body (rule_at (library c.args.self.now.lib.now) c.args.task.now.rule).action (level_at (library c.args.self.now.lib.now) c.args.task.now.depth) x) c.args.view.now c.statements.new.view (course c.in_ok-course.course)) c.of_action-context.ensures.context
-    (subst (λ d. Runs (library c.args.self.now.lib.now) (run_body (rule_at (library c.args.self.now.lib.now) c.args.task.now.rule).action (level_at (library c.args.self.now.lib.now) d) (context c.of_action-context.result)) c.args.view.now c.statements.new.view (course c.in_ok-course.course)) c.of_action-context.ensures.depth
-    (subst (λ (b : Body). Runs (library c.args.self.now.lib.now) (run_body b (level_at (library c.args.self.now.lib.now) c.of_action-context.result.depth) (context c.of_action-context.result)) c.args.view.now c.statements.new.view (course c.in_ok-course.course)) c.action_of.ensures.action
-    c.in_ok-course.ensures)) in
-    c.in_ok-outcome.ensures lib (level_at lib c.args.task.now.depth) (task c.args.task.now) (answers c.args.answers.now) c.args.view.now here (sym c.enter-mark.ensures)
+    let fired = c.args.task.now in
+    let found = c.answers.result.now in
+    let decided : Decides (library c.args.self.now.lib.now) (task c.args.task.now) c.args.view.now c.decide.new.view (Acts c.in-Acts.what c.in-Acts.found) =
+    subst (λ (d : Decision). Decides (library c.args.self.now.lib.now) (task c.args.task.now) c.args.view.now c.decide.new.view d) c.in-Acts.is c.in_ok-outcome.ensures in
+    let acts : ThenActs (library c.args.self.now.lib.now) (λ S. fire_task (library c.args.self.now.lib.now) S (task c.args.task.now)) (task c.args.task.now) c.args.view.now c.decide.new.view (what c.in-Acts.what) (answers c.answers.result.now) =
+    subst (λ (found : List KeptAnswer). ThenActs (library c.args.self.now.lib.now) (λ S. fire_task (library c.args.self.now.lib.now) S (task c.args.task.now)) (task c.args.task.now) c.args.view.now c.decide.new.view (what c.in-Acts.what) (answers found)) (sym c.answers.ensures) decided in
+    let here : Runs (library c.args.self.now.lib.now) (action_course (level_at (library c.args.self.now.lib.now) c.args.task.now.depth) (task c.args.task.now) (answers c.answers.result.now)) c.decide.new.view c.statements.new.view (course c.in_ok-course-in-Acts.course) =
+    subst (λ (x : Context). Runs (library c.args.self.now.lib.now) (run_body (rule_at (library c.args.self.now.lib.now) c.args.task.now.rule).action (level_at (library c.args.self.now.lib.now) c.args.task.now.depth) x) c.decide.new.view c.statements.new.view (course c.in_ok-course-in-Acts.course)) c.of_action-context.ensures.context
+    (subst (λ d. Runs (library c.args.self.now.lib.now) (run_body (rule_at (library c.args.self.now.lib.now) c.args.task.now.rule).action (level_at (library c.args.self.now.lib.now) d) (context c.of_action-context.result)) c.decide.new.view c.statements.new.view (course c.in_ok-course-in-Acts.course)) c.of_action-context.ensures.depth
+    (subst (λ (b : Body). Runs (library c.args.self.now.lib.now) (run_body b (level_at (library c.args.self.now.lib.now) c.of_action-context.result.depth) (context c.of_action-context.result)) c.decide.new.view c.statements.new.view (course c.in_ok-course-in-Acts.course)) c.action_of.ensures.action
+    c.in_ok-course-in-Acts.ensures)) in
+    IfOk-weaker c.close_action.result _ _ (λ o closes. acts_runs acts (closes lib (level_at lib fired.depth) (task fired) (answers found) c.decide.new.view here (sym c.enter-mark.ensures))) c.close_action.ensures
 
 -- ---- signals
 
@@ -153,13 +153,14 @@ Engine::start-returns g t c =
     let now : map task c.deref.result.now ≡ filter (λ (u : Task). is_immediate u.place) (map task c.args.tasks.items) = ap (map task) c.deref.ensures.value ∙ c.in_ok-placed.ensures.immediate ∙ ap (λ ts. filter (λ (u : Task). is_immediate u.place) (map task ts)) same in
     let queued = c.in_ok-placed.ensures.queued ∙ ap (λ ts. deferred_of (map task ts)) same in
     let apart = c.in_ok-placed.ensures.detached ∙ ap (λ ts. map unreleased (detached_of (map task ts))) same in
-    runs_answer
-    (c.in_ok-course.ensures ∙ (λ i. followed (record { end = done; queued = queued i; detached = apart i; items = no_items }) (group_answer (group c.in_ok-group.group))))
+    IfOk-weaker c.placed_course.result _ _ (λ placed is.
+    runs_answer (is ∙ (λ i. followed (record { end = done; queued = queued i; detached = apart i; items = no_items }) (group_answer (group c.in_ok-group.group))))
     (start_runs (map task c.args.tasks.items) c.requires (λ e. some (map_none task c.args.tasks.items e))
-    (subst (λ ts. RunsGroup (library c.args.self.now.lib.now) (siblings (fire_task (library c.args.self.now.lib.now)) true ts) c.args.view.now c.group.new.view (group c.in_ok-group.group)) now c.in_ok-group.ensures))
+    (subst (λ ts. RunsGroup (library c.args.self.now.lib.now) (siblings (fire_task (library c.args.self.now.lib.now)) true ts) c.args.view.now c.group.new.view (group c.in_ok-group.group)) now c.in_ok-group.ensures)))
+    c.placed_course.ensures
 
-pub Engine::group-run-requires-sync-T : goal.Engine::group-run-requires-sync-T
-Engine::group-run-requires-sync-T g t c = λ κs lives.
+pub Engine::group-run-requires-sync-F : goal.Engine::group-run-requires-sync-F
+Engine::group-run-requires-sync-F g t c = λ κs lives.
     let r : IsSync g.row.R = search rules in
     let engine : (κ : NamedLft) → IsSync (EngineRow.the_row κ (param 0 g.row.R)) = λ κ. engine_sync κ (param 0 g.row.R) (param_sync 0 g.row.R r) in
     search (engine, heap.crosses, sendable) depth 30 fits 20000

@@ -54,17 +54,8 @@ decreases-Engine::group g l = 16 * left l.self.now.lib.now (levels l.self.now.li
 abbrev pub decreases-Engine::group-fire : goal.decreases-Engine::group-fire
 decreases-Engine::group-fire g l = 16 * left l.self.now.lib.now (levels l.self.now.lib.now (l.depth + 1)) (deepest l.self.now.lib.now) + 12
 
-abbrev pub decreases-Engine::group-attempt : goal.decreases-Engine::group-attempt
-decreases-Engine::group-attempt g l = 16 * left l.self.now.lib.now (levels l.self.now.lib.now (l.depth + 1)) (deepest l.self.now.lib.now) + 12
-
-abbrev pub decreases-Engine::attempted : goal.decreases-Engine::attempted
-decreases-Engine::attempted g l = 16 * left l.self.now.lib.now (levels l.self.now.lib.now l.task.now.depth) (deepest l.self.now.lib.now) + 4
-
 abbrev pub decreases-Engine::firing : goal.decreases-Engine::firing
 decreases-Engine::firing g l = 16 * left l.self.now.lib.now (levels l.self.now.lib.now l.task.now.depth) (deepest l.self.now.lib.now) + 3
-
-abbrev pub decreases-Engine::action : goal.decreases-Engine::action
-decreases-Engine::action g l = 16 * left l.self.now.lib.now (levels l.self.now.lib.now l.task.now.depth) (deepest l.self.now.lib.now) + 2
 
 -- ---- loops
 

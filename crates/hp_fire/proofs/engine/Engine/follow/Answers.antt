@@ -1,4 +1,4 @@
-use Rattle.std.proofs.Common.{ap, sym, subst, ◌∙◌, []}
+use Rattle.std.proofs.Common.{ap, sym, subst, ◌∙◌, [], IfOk}
 use Rattle.hp_model.specs.Conditions.{Verdict}
 use Rattle.hp_model.specs.Tree.{Node}
 use Rattle.hp_model.specs.Answers.{handing_on}
@@ -11,10 +11,10 @@ use Rattle.hp_fire.specs.Decides.{Follows}
 use Rattle.hp_fire.proofs.Decisions.{unsatisfied_over, faulty_over}
 use Rattle.hp_fire.proofs.engine.Engine.follow.Goals as goal
 
-pub returns-in_ok-decision-in-Satisfied : goal.returns-in_ok-decision-in-Satisfied
-returns-in_ok-decision-in-Satisfied g c =
-    subst (λ (v : Verdict). Follows (library c.args.self.now.lib.now) (task c.args.task.now) v c.in_ok-decision-in-Satisfied.decision) (ap verdict (sym c.in-Satisfied.is))
-    c.in_ok-decision-in-Satisfied.ensures
+pub returns-in-Satisfied : goal.returns-in-Satisfied
+returns-in-Satisfied g c =
+    subst (λ (v : Verdict). IfOk c.follow_satisfied.result (λ d. Follows (library c.args.self.now.lib.now) (task c.args.task.now) v d)) (ap verdict (sym c.in-Satisfied.is))
+    c.follow_satisfied.ensures
 
 pub returns-in_ok-outcome-in-Unsatisfied : goal.returns-in_ok-outcome-in-Unsatisfied
 returns-in_ok-outcome-in-Unsatisfied g c =

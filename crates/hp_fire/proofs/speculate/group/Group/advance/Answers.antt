@@ -1,31 +1,41 @@
-use Rattle.std.proofs.Common.{rules, arith, ◌≡◌, sym, ap, ◌∙◌, subst, None, drop, length, map}
+use Rattle.std.proofs.Common.{rules, arith, ◌≡◌, sym, ap, ◌∙◌, subst, ◌+◌, ◌<◌, ◌≤◌, None, [], ◌∷◌, drop, length, length-append, map}
 use Rattle.std.proofs.lemmas.List.{drop-map}
 use Rattle.hp_rule.specs.Mapped.{library, task}
 use Rattle.hp_model.specs.Firing.{fire_task}
 use Rattle.hp_attempt.specs.Mapped.{firing}
 use Rattle.hp_ops.proofs.Worlds.{split_at}
 use Rattle.hp_fire.specs.Runs.{RunsFiring}
-use Rattle.hp_fire.specs.Groups.{IsSoFar}
+use Rattle.hp_fire.specs.Groups.{IsSoFar, Comes}
+use Rattle.hp_fire.proofs.Coming.{counted_ahead, counted_run}
 use Rattle.hp_fire.proofs.Helping.{so_far_ran}
 use Rattle.hp_fire.proofs.speculate.group.Group.advance.Goals as goal
 
-pub returns-then-settled-gt0-clause-sound : goal.returns-then-settled-gt0-clause-sound
-returns-then-settled-gt0-clause-sound g c = c.in_ok-settled.ensures.sound
+pub returns-then-len-done : goal.returns-then-len-done
+returns-then-len-done g c =
+    let by_wave = c.in_ok-settle_by_wave.ensures in
+    let more : length c.args.progress.now.settled.outcomes.items < length c.settle_by_wave.new.progress.settled.outcomes.items = search rules in
+    record { more = more; counted = by_wave.counted more; sound = by_wave.sound; so_far = by_wave.so_far }
 
-pub returns-clause-sound : goal.returns-clause-sound
-returns-clause-sound g c = let lib = library c.args.self.now.lib.now in c.in_ok-settle.ensures.sound lib (c.in_ok-add.ensures.sound lib c.in_ok-settled.ensures.sound)
-
-pub returns-clause-so_far : goal.returns-clause-so_far
-returns-clause-so_far g c = λ first so_far.
+pub returns : goal.returns
+returns g c =
     let lib = library c.args.self.now.lib.now in
     let tasks = c.args.self.now.tasks.now in
-    let zero : c.in_ok-settled.settled ≡ 0 = omega (arith, c.if-settled-gt0.false) in
-    let none : c.settle_by_wave.new.progress.settled.end ≡ None = c.in_ok-settled.ensures.none zero in
-    let at : c.len.result ≡ length c.settle_by_wave.new.progress.settled.outcomes.items = search rules in
-    let here = ap (λ n. drop n (map task tasks)) (sym at) ∙ drop-map task c.len.result tasks ∙ ap (map task) (split_at tasks c.len.result c.index-self-len.result (omega (arith, at, zero, c.in_ok-settled.ensures.settled, c.requires.going.1)) c.index-self-len.is) in
-    let before : IsSoFar lib c.args.self.now.stop_at_veto (map task tasks) first c.settle_by_wave.new.view c.settle_by_wave.new.progress.settled.outcomes.items c.settle_by_wave.new.progress.settled.end = c.in_ok-settled.ensures.so_far first so_far in
-    let ran : RunsFiring lib (λ S. fire_task lib S (task c.index-self-len.result)) c.settle_by_wave.new.view c.fire_counted.new.view (firing c.in_ok-outcome.outcome) =
-    subst (λ t. RunsFiring lib (λ S. fire_task lib S (task t)) c.settle_by_wave.new.view c.fire_counted.new.view (firing c.in_ok-outcome.outcome)) (sym c.index-self-len.is) c.in_ok-outcome.ensures in
-    c.in_ok-settle.ensures.so_far lib (c.in_ok-add.ensures.sound lib c.in_ok-settled.ensures.sound) first
-    (so_far_ran c.settle_by_wave.new.progress.settled.outcomes.items c.add.new.self.settled.outcomes.items c.settle_by_wave.new.progress.settled.end c.add.new.self.settled.end (task c.index-self-len.result) _ c.in_ok-outcome.outcome none here
-    c.in_ok-add.ensures.outcomes c.in_ok-add.ensures.end before ran)
+    let by_wave = c.in_ok-settle_by_wave.ensures in
+    let begun = c.args.progress.now in
+    let waved = c.settle_by_wave.new.progress in
+    let added = c.add.new.self in
+    let at : c.len-done.result ≡ length c.args.progress.now.settled.outcomes.items = search rules in
+    let same : length c.settle_by_wave.new.progress.settled.outcomes.items ≡ length c.args.progress.now.settled.outcomes.items = search rules in
+    let here = ap (λ n. drop n (map task tasks)) (same ∙ sym at) ∙ drop-map task c.len-done.result tasks ∙ ap (map task) (split_at tasks c.len-done.result c.index-self-done.result (omega (arith, at, c.requires.going.1)) c.index-self-done.is) in
+    let longer = ap length c.in_ok-add.ensures.outcomes ∙ length-append waved.settled.outcomes.items (c.in_ok-outcome.outcome ∷ []) in
+    let sound = c.in_ok-add.ensures.sound lib by_wave.sound in
+    let came = c.in_ok-settle.ensures.comes lib sound in
+    let ran : RunsFiring lib (λ S. fire_task lib S (task c.index-self-done.result)) c.settle_by_wave.new.view c.fire_counted.new.view (firing c.in_ok-outcome.outcome) =
+    subst (λ t. RunsFiring lib (λ S. fire_task lib S (task t)) c.settle_by_wave.new.view c.fire_counted.new.view (firing c.in_ok-outcome.outcome)) (sym c.index-self-done.is) c.in_ok-outcome.ensures in record {
+      more = omega (arith, same, longer, came.ahead.longer);
+      counted = counted_ahead added _ (counted_run waved added by_wave.owes c.in_ok-add.ensures.counts longer) came.ahead;
+      sound = came.sound;
+      so_far = λ first so_far. came.so_far first
+          (so_far_ran waved.settled.outcomes.items added.settled.outcomes.items waved.settled.end added.settled.end (task c.index-self-done.result) _ c.in_ok-outcome.outcome (by_wave.none same) here
+          c.in_ok-add.ensures.outcomes c.in_ok-add.ensures.end (by_wave.so_far first so_far) ran);
+    }

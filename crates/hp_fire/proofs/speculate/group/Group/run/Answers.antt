@@ -23,6 +23,9 @@ loop-view-init g c =
     let counted : IsCounted c.in_ok-progress.progress = (omega (arith, b.1), omega (arith, b.1, b.2)) in
     (counted, c.in_ok-progress.ensures.sound (library c.args.self.now.lib.now), subst (λ (s : Settled). IsSoFar (library c.args.self.now.lib.now) c.args.self.now.stop_at_veto (map task c.args.self.now.tasks.now) c.args.view.now c.fire_before_workers.new.view s.outcomes.items s.end) (sym b.0) c.in_ok-settled.ensures.so_far)
 
+pub loop-view-preserved : goal.loop-view-preserved
+loop-view-preserved g c = (c.in_ok-advance.ensures.counted, c.in_ok-advance.ensures.sound, c.in_ok-advance.ensures.so_far c.args.view.now c.loop-view.invariant.2)
+
 pub returns-then-not-goes_on-clause-runs : goal.returns-then-not-goes_on-clause-runs
 returns-then-not-goes_on-clause-runs g c =
     let tasks = c.args.self.now.tasks.now in

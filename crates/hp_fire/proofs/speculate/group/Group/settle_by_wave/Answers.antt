@@ -1,13 +1,35 @@
-use Rattle.std.proofs.Common.{sym, subst}
+use Rattle.std.proofs.Common.{refl, sym, ap, subst, Bool, List, map}
+use Rattle.std.proofs.lemmas.Result.{IfOk-weaker}
+use Rattle.hp_rule.specs.declared.task.Task.{Task as RustTask}
 use Rattle.hp_attempt.specs.Fronts.{AreSound}
+use Rattle.hp_fire.specs.declared.speculate.counts.Counts.{Counts}
 use Rattle.hp_fire.specs.declared.speculate.progress.Progress.{Progress}
-use Rattle.hp_rule.specs.Mapped.{library}
+use Rattle.hp_rule.specs.Mapped.{library, task}
+use Rattle.hp_fire.specs.Groups.{Comes}
+use Rattle.hp_fire.proofs.Coming.{wave_none, wave_ran}
 use Rattle.hp_fire.proofs.speculate.group.Group.settle_by_wave.Goals as goal
 
-pub returns-in_default-clause-sound : goal.returns-in_default-clause-sound
-returns-in_default-clause-sound g c = c.drop_stale.ensures (library c.args.self.now.lib.now) c.requires.sound
+pub returns-then-not-is_wave_due : goal.returns-then-not-is_wave_due
+returns-then-not-is_wave_due g c = wave_none c.args.progress.now c.args.progress.now refl refl c.requires.going.0 c.requires.counted c.requires.sound
+
+pub returns-in_default : goal.returns-in_default
+returns-in_default g c =
+    wave_none c.args.progress.now _ c.in_ok-share_beneath.ensures refl c.requires.going.0 c.requires.counted (c.drop_stale.ensures (library c.args.self.now.lib.now) c.requires.sound)
 
 pub wave-requires-clause-sound : goal.wave-requires-clause-sound
 wave-requires-clause-sound g c κs within =
     let lib = library c.args.self.now.lib.now in
     subst (λ (p : Progress). AreSound lib p.pending.attempts.items) (sym c.begin_wave.ensures.same) (c.drop_stale.ensures lib c.requires.sound)
+
+pub returns : goal.returns
+returns g c =
+    let lib = library c.args.self.now.lib.now in
+    let begun = c.begin_wave.new.self in
+    let same = c.begin_wave.ensures.same in
+    let counts = c.begin_wave.ensures.counts in
+    IfOk-weaker c.wave.result _ _ (λ _ ran.
+    let came : Comes lib c.args.self.now.stop_at_veto (map task c.args.self.now.tasks.now) c.share_beneath.new.view c.begin_wave.new.self c.wave.new.view c.wave.new.progress =
+    subst (λ (b : Bool). Comes lib b (map task c.args.self.now.tasks.now) c.share_beneath.new.view c.begin_wave.new.self c.wave.new.view c.wave.new.progress) c.in-Ok.ensures.wave.2
+    (subst (λ (ts : List RustTask). Comes lib c.in-Ok.start.wave.stop_at_veto (map task ts) c.share_beneath.new.view c.begin_wave.new.self c.wave.new.view c.wave.new.progress) c.in-Ok.ensures.wave.1 ran) in
+    wave_ran c.args.progress.now begun c.wave.new.progress c.in_ok-share_beneath.ensures (ap (λ (p : Progress). p.settled) same)
+    (ap (λ (x : Counts). x.accepted) counts, ap (λ (x : Counts). x.waves) counts) c.begin_wave.ensures.retried c.requires.going.0 c.requires.counted came) c.wave.ensures

@@ -1,6 +1,6 @@
-use Rattle.std.proofs.Common.{arith, refl}
+use Rattle.std.proofs.Common.{refl}
 use Rattle.hp_fire.specs.declared.speculate.progress.Progress.{Progress}
-use Rattle.hp_fire.proofs.Coming.{comes_same, comes_then, comes_put, comes_settled}
+use Rattle.hp_fire.proofs.Coming.{within_ahead, comes_same, comes_then, comes_put}
 use Rattle.hp_fire.proofs.speculate.progress.Progress.accept_sent.Goals as goal
 
 pub loop-init : goal.loop-init
@@ -14,16 +14,14 @@ returns-in_err-settle-clause-channels c = λ library all. c.receive_all.ensures.
 
 pub loop-preserved : goal.loop-preserved
 loop-preserved c = record {
-  accepted = omega (arith, c.loop.invariant.accepted, c.in_ok-settle.ensures.settled, c.in_ok-settle.ensures.accepted);
+  accepted = within_ahead _ c.settle.new.self c.loop.invariant.accepted c.in_ok-settle.ensures.ahead;
   channels = λ library all. c.receive_all.ensures.channels library (c.loop.invariant.channels library all);
   comes = λ library all sound.
       let before = c.loop.invariant.comes library all sound in
       let here = c.receive_all.ensures.sound library (c.loop.invariant.channels library all) before.sound in
       let put : Progress = record c.loop.self { pending = c.receive_all.new.self } in
-      let said = c.in_ok-settle.ensures in
       comes_then c.args.self.now c.loop.self c.settle.new.self before
-      (comes_then c.loop.self put c.settle.new.self (comes_put c.loop.view c.loop.self put refl here)
-      (comes_settled put c.settle.new.self c.in_ok-settle.field-0 said.settled said.none (said.waves, said.marks) said.accepted said.retried (said.sound library here) (said.so_far library here)));
+      (comes_then c.loop.self put c.settle.new.self (comes_put c.loop.view c.loop.self put refl here) (c.in_ok-settle.ensures.comes library here));
 }
 
 pub returns-after-loop-clause-channels : goal.returns-after-loop-clause-channels
@@ -40,7 +38,5 @@ returns-then-not-lacks_next-clause-comes c = λ library all sound.
     let before = c.loop.invariant.comes library all sound in
     let here = c.receive_all.ensures.sound library (c.loop.invariant.channels library all) before.sound in
     let put : Progress = record c.loop.self { pending = c.receive_all.new.self } in
-    let said = c.in_ok-settle.ensures in
     comes_then c.args.self.now c.loop.self c.settle.new.self before
-    (comes_then c.loop.self put c.settle.new.self (comes_put c.loop.view c.loop.self put refl here)
-    (comes_settled put c.settle.new.self c.in_ok-settle.field-0 said.settled said.none (said.waves, said.marks) said.accepted said.retried (said.sound library here) (said.so_far library here)))
+    (comes_then c.loop.self put c.settle.new.self (comes_put c.loop.view c.loop.self put refl here) (c.in_ok-settle.ensures.comes library here))

@@ -1,5 +1,4 @@
-use Rattle.std.proofs.Common.{rules, ◌≡◌, ◌<◌, ◌^◌, subst, Ok, IfOk, Result}
-use Rattle.std.specs.Global.{Global}
+use Rattle.std.proofs.Common.{rules, ◌≡◌, subst, Ok, IfOk}
 use Rattle.hp_model.specs.Soundness.{IsSound}
 use Rattle.hp_rule.specs.Mapped.{library}
 use Rattle.hp_attempt.specs.Mapped.{attempt}
@@ -7,6 +6,5 @@ use Rattle.hp_fire.proofs.speculate.trial.Trial.try_place.Goals as goal
 
 pub returns-clause-sound : goal.returns-clause-sound
 returns-clause-sound g c =
-    let fits : c.args.self.now.width < 2 ^ 64 = search rules in
-    let is : c.attempt.result ≡ Ok c.in_ok-attempt.attempt = search rules in
-    subst (λ r. IfOk r (λ a. IsSound (library c.args.self.now.lib.now) (attempt a))) is (c.requires.faithful _ _ _ _ _ fits c.attempt.ensures)
+    let is : c.attempted.result ≡ Ok c.in_ok-attempt.attempt = search rules in
+    subst (λ r. IfOk r (λ a. IsSound (library c.args.self.now.lib.now) (attempt a))) is c.attempted.ensures

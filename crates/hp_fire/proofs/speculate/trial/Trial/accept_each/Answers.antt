@@ -1,14 +1,12 @@
-use Rattle.std.proofs.Common.{refl, ap, ◌∙◌}
+use Rattle.std.proofs.Common.{refl, ◌∙◌}
+use Rattle.std.proofs.lemmas.Result.{IfOk-weaker}
 use Rattle.hp_rule.specs.Mapped.{library}
 use Rattle.hp_fire.specs.declared.speculate.progress.Progress.{Progress}
 use Rattle.hp_fire.proofs.Coming.{comes_then, comes_put}
-use Rattle.hp_fire.proofs.speculate.trial.Trial.try_as_owner.Goals as goal
+use Rattle.hp_fire.proofs.speculate.trial.Trial.accept_each.Goals as goal
 
 pub returns-in_err-accept_sent-clause-channels : goal.returns-in_err-accept_sent-clause-channels
 returns-in_err-accept_sent-clause-channels g c = c.accept_sent.ensures.channels (library c.args.self.now.lib.now) c.loop.invariant.1
-
-pub returns-in_err-accept_sent-2-clause-channels : goal.returns-in_err-accept_sent-2-clause-channels
-returns-in_err-accept_sent-2-clause-channels g c = c.accept_sent-2.ensures.channels (library c.args.self.now.lib.now) c.loop.invariant.1
 
 pub returns-clause-channels : goal.returns-clause-channels
 returns-clause-channels g c = c.accept_sent-2.ensures.channels (library c.args.self.now.lib.now) c.loop.invariant.1
@@ -16,7 +14,7 @@ returns-clause-channels g c = c.accept_sent-2.ensures.channels (library c.args.s
 pub returns-clause-comes : goal.returns-clause-comes
 returns-clause-comes g c =
     let so_far = c.loop.invariant in
-    comes_then c.args.progress.now c.loop.progress c.accept_sent-2.new.self so_far.0 (c.in_ok-accept_sent-2.ensures.comes (library c.args.self.now.lib.now) so_far.1 so_far.0.sound)
+    IfOk-weaker c.accept_sent-2.result _ _ (λ _ comes. comes_then c.args.progress.now c.loop.progress c.accept_sent-2.new.self so_far.0 (comes (library c.args.self.now.lib.now) so_far.1 so_far.0.sound)) c.accept_sent-2.ensures.comes
 
 pub loop-preserved : goal.loop-preserved
 loop-preserved g c =
@@ -28,5 +26,5 @@ loop-preserved g c =
       comes_then c.args.progress.now c.loop.progress c.accept_sent.new.self so_far.0 (comes_then c.loop.progress put c.accept_sent.new.self (comes_put c.loop.view c.loop.progress put refl sound) accepted),
       c.accept_sent.ensures.channels lib so_far.1,
       c.note_veto.ensures.worker,
-      ap (λ w. w.now) (c.note_veto.ensures.wave ∙ c.next_attempt.ensures.wave) ∙ so_far.3,
+      c.note_veto.ensures.wave ∙ c.next_attempt.ensures.wave ∙ so_far.3,
     )

@@ -2,8 +2,8 @@ use Rattle.std.proofs.Common.{ap}
 use Rattle.hp_rule.specs.Mapped.{task}
 use Rattle.hp_store.specs.Changes.{changes}
 use Rattle.hp_attempt.specs.Mapped.{firing}
-use Rattle.hp_fire.proofs.Attempting.{attempt_sound}
-use Rattle.hp_fire.proofs.running.attempt_on.Goals as goal
+use Rattle.hp_fire.proofs.Attempts.{attempt_sound}
+use Rattle.hp_fire.proofs.attempting.attempt_on.Goals as goal
 
 pub returns-clause-sound : goal.returns-clause-sound
 returns-clause-sound c = λ library first none fires.
