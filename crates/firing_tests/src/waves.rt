@@ -183,8 +183,8 @@ fn bank(alloc: Global, accounts: &[(Key, i64)]) -> Result<View, Halt> {
 // and the number of waves; and the balances after it.
 type Gave = ((usize, usize, usize), Balances);
 
-// At most so many workers, with a gate.
-fn workers<G>(width: usize, gate: &G) -> Setup<'_, G> {
+// By at most so many workers, with a gate.
+fn by<G>(width: usize, gate: &G) -> Setup<'_, G> {
     Setup {
         stops: true,
         width,
@@ -225,7 +225,7 @@ fn two_siblings_are_in_flight(rt: HostRuntime) -> Result<(), Fail> {
     let gate = Hold::of(0, Awaited::Start(1));
     let lib = of_deeds(alloc, &[plus(1), plus(2), plus(3), plus(4)]);
     let accounts = [(1, 0), (2, 0), (3, 0), (4, 0)];
-    let (counts, balances) = fire(&rt, alloc, lib, &accounts, tasks(alloc, 4), workers(2, &gate))?;
+    let (counts, balances) = fire(&rt, alloc, lib, &accounts, tasks(alloc, 4), by(2, &gate))?;
     assert!(rt; !gate.was_late());
     assert_eq!(rt; counts, (4, 0, 1));
     assert_eq!(rt; balances, (Some(1), Some(1), Some(1), Some(1), None));
@@ -242,7 +242,7 @@ fn fired(
     let gate = Hold::of(held, Awaited::End(1 - held % 2));
     let lib = of_deeds(alloc, deeds);
     let accounts = [(1, 10), (2, 20)];
-    let (counts, balances) = fire(rt, alloc, lib, &accounts, tasks(alloc, 2), workers(2, &gate))?;
+    let (counts, balances) = fire(rt, alloc, lib, &accounts, tasks(alloc, 2), by(2, &gate))?;
     assert!(rt; !gate.was_late());
     Ok((balances.0.unwrap_or(0), counts))
 }
@@ -264,7 +264,7 @@ fn disjoint_siblings_are_accepted(rt: HostRuntime) -> Result<(), Fail> {
     let alloc = rt.alloc();
     let lib = of_deeds(alloc, &[plus(1), plus(2)]);
     let accounts = [(1, 10), (2, 20)];
-    let (counts, balances) = fire(&rt, alloc, lib, &accounts, tasks(alloc, 2), workers(8, &NoGate))?;
+    let (counts, balances) = fire(&rt, alloc, lib, &accounts, tasks(alloc, 2), by(8, &NoGate))?;
     assert_eq!(rt; counts, (2, 0, 1));
     assert_eq!(rt; balances, (Some(11), Some(21), None, None, None));
     Ok(())
@@ -289,7 +289,7 @@ fn creations_do_not_collide(rt: HostRuntime) -> Result<(), Fail> {
         creating(alloc),
         &[],
         tasks(alloc, 2),
-        workers(2, &NoGate),
+        by(2, &NoGate),
     )?;
     assert_eq!(rt; counts, (2, 0, 1));
     assert_eq!(rt; balances, (Some(5), Some(5), None, None, None));
@@ -344,7 +344,7 @@ fn two_reruns_are_in_flight(rt: HostRuntime) -> Result<(), Fail> {
     };
     let lib = of_deeds(alloc, &[plus(1), copies_to(2), copies_to(3)]);
     let accounts = [(1, 10), (2, 0), (3, 0)];
-    let (counts, balances) = fire(&rt, alloc, lib, &accounts, tasks(alloc, 3), workers(3, &gate))?;
+    let (counts, balances) = fire(&rt, alloc, lib, &accounts, tasks(alloc, 3), by(3, &gate))?;
     assert_eq!(rt; gate.late.load(SeqCst), 0);
     assert_eq!(rt; counts, (1, 2, 2));
     assert_eq!(rt; balances, (Some(11), Some(11), Some(11), None, None));
@@ -380,7 +380,7 @@ fn a_wave_that_does_not_pay_is_the_last(rt: HostRuntime) -> Result<(), Fail> {
         count: AtomicU64::new(0),
     };
     let lib = of_deeds(alloc, &[plus(1), plus(1), plus(1), plus(1), plus(1)]);
-    let (counts, balances) = fire(&rt, alloc, lib, &[(1, 10)], tasks(alloc, 5), workers(2, &gate))?;
+    let (counts, balances) = fire(&rt, alloc, lib, &[(1, 10)], tasks(alloc, 5), by(2, &gate))?;
     assert!(rt; !gate.hold.was_late());
     assert_eq!(rt; gate.count.load(SeqCst), 4);
     assert_eq!(rt; counts, (1, 4, 1));
@@ -396,7 +396,7 @@ fn siblings_in_conflict_give_the_same_at_any_width(rt: HostRuntime) -> Result<()
     for width in [1, 2, 3, 4, 64] {
         let lib = of_deeds(alloc, &[plus(1), DOUBLES, plus(1), DOUBLES]);
         let tasks = tasks(alloc, 4);
-        let (counts, balances) = fire(&rt, alloc, lib, &[(1, 10)], tasks, workers(width, &NoGate))?;
+        let (counts, balances) = fire(&rt, alloc, lib, &[(1, 10)], tasks, by(width, &NoGate))?;
         let (accepted, reran, waves) = counts;
         assert_eq!(rt; balances.0, Some(46));
         assert_eq!(rt; accepted.saturating_add(reran), 4);
@@ -427,12 +427,12 @@ fn asking(alloc: Global) -> Result<Library, CheckError> {
 fn short_siblings_have_workers_too(rt: HostRuntime) -> Result<(), Fail> {
     let alloc = rt.alloc();
     let (short, nine) = (of_deeds(alloc, &[plus(1)]), of_the_first(alloc, 9));
-    let (counts, balances) = fire(&rt, alloc, short, &[(1, 10)], nine, workers(4, &NoGate))?;
+    let (counts, balances) = fire(&rt, alloc, short, &[(1, 10)], nine, by(4, &NoGate))?;
     assert!(rt; counts.2 > 0);
     assert_eq!(rt; counts.0.checked_add(counts.1), Some(9));
     assert_eq!(rt; balances.0, Some(19));
     let nine = of_the_first(alloc, 9);
-    let (counts, _) = fire(&rt, alloc, asking(alloc), &[(1, 19)], nine, workers(4, &NoGate))?;
+    let (counts, _) = fire(&rt, alloc, asking(alloc), &[(1, 19)], nine, by(4, &NoGate))?;
     assert_eq!(rt; counts, (9, 0, 1));
     Ok(())
 }
@@ -444,7 +444,7 @@ fn a_line_without_room_loses_no_attempt(rt: HostRuntime) -> Result<(), Fail> {
     let alloc = rt.alloc();
     let gate = Hold::of(0, Awaited::End(39));
     let forty = of_the_first(alloc, 40);
-    let (counts, _) = fire(&rt, alloc, asking(alloc), &[(1, 19)], forty, workers(2, &gate))?;
+    let (counts, _) = fire(&rt, alloc, asking(alloc), &[(1, 19)], forty, by(2, &gate))?;
     assert!(rt; !gate.was_late());
     assert_eq!(rt; counts, (40, 0, 1));
     Ok(())
@@ -508,7 +508,7 @@ fn find_both(
     let lib = finders(alloc, by_key)?;
     let mut view = stored(alloc, &lib)?;
     let gate = Hold::of(0, Awaited::End(1));
-    let gave = fire_in(rt, alloc, &lib, &mut view, tasks(alloc, 2), workers(2, &gate))?;
+    let gave = fire_in(rt, alloc, &lib, &mut view, tasks(alloc, 2), by(2, &gate))?;
     assert!(rt; !gate.was_late());
     Ok(gave)
 }

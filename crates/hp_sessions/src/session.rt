@@ -75,12 +75,8 @@ impl<'a, K: BookName> Session<'a, K> {
         let made = Unit::make(rt, alloc, snapshot, body, 1);
         gate.ended(self.number as usize);
         let unit = made?;
-        self.book.lock(rt).submitted(
-            rt,
-            alloc,
-            self.number,
-            unit,
-            &mut self.memory,
-        )
+        self.book
+            .lock(rt)
+            .submitted(rt, alloc, self.number, unit, &mut self.memory)
     }
 }
