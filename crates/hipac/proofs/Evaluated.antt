@@ -11,7 +11,7 @@ use Rattle.hp_model.specs.Report.{Bytes, line, units_text, objects_text, report_
 use Rattle.hp_model.specs.Refusals.{Refusal}
 use Rattle.hp_model.specs.Decode.{script_of}
 use Rattle.hp_model.specs.Output.{refusal_text, text_of, output}
-use Rattle.hp_report.specs.declared.report.Status.{Status}
+use Rattle.hp_report.specs.declared.report.RuleStatus.{RuleStatus}
 use Rattle.hp_report.specs.Mapped.{status, rule_state}
 use Rattle.hp_report.specs.Ending.{AreFinal, statuses}
 use Rattle.hp_report.specs.Text.{final_text}
@@ -19,12 +19,12 @@ use Rattle.hp_report.proofs.Ends.{same_rules}
 use Rattle.hp_top.specs.Units.{RanUnits, AreReplayed, IsOpening}
 
 -- the statuses of rules without a past
-shown : (ss : List Status) → statuses (map rule_state ss) ≡ map status ss
+shown : (ss : List RuleStatus) → statuses (map rule_state ss) ≡ map status ss
 shown [] = refl
 shown (s ∷ ss) = ap (λ (l : List S.Status). status s ∷ l) (shown ss)
 
 -- all units ran, so the reports and the final state give the script's text
-pub whole_text : (script : Script) (before after : Cells) (reports : List UnitReport) (objects : Objects) (ss : List Status) (with_tree : Bool)
+pub whole_text : (script : Script) (before after : Cells) (reports : List UnitReport) (objects : Objects) (ss : List RuleStatus) (with_tree : Bool)
     → IsOpening before → RanUnits script.library script.units before after reports → AreReplayed script.library script.units before reports
     → length reports ≡ length script.units → AreFinal script.library after reports objects (map status ss)
     → text_of with_tree (Ok script) ≡ report_text script.library with_tree (record { units = reports; state = record { objects = objects; rules = map rule_state ss } })

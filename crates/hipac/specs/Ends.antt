@@ -3,9 +3,8 @@ use Rattle.std.specs.Prelude.{ℕ, List, Result, Ok, Err}
 use Rattle.hp_model.specs.Cascade.{Script}
 use Rattle.hp_model.specs.Decode.{script_of}
 use Rattle.hp_model.specs.Refusals.{Refusal}
-use Rattle.hp_report.specs.declared.fault.Fault.{Fault}
-use Rattle.hipac.specs.declared.status.Status.{Status}
-use Rattle.hipac.specs.declared.status.Status.TheVariants.{Reported, Refused}
+use Rattle.hp_report.specs.declared.status.Status.{Status}
+use Rattle.hp_report.specs.declared.status.Status.TheVariants.{Reported, Refused}
 
 abbrev pub status_for : Result Script Refusal → Status
 status_for (Ok script) = Reported
@@ -14,9 +13,3 @@ status_for (Err refusal) = Refused
 -- a script that is read is reported, anything else is refused
 abbrev pub status_of : List ℕ → Status
 status_of input = status_for (script_of input)
-
--- the program's exit status
-abbrev pub code_of : Result Status Fault → ℕ
-code_of (Ok Reported) = 0
-code_of (Ok Refused) = 2
-code_of (Err f) = 4

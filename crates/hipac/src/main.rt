@@ -2,14 +2,12 @@
 #![tactic(auto)]
 
 mod running;
-mod status;
 #[cfg(test)]
 mod tests;
 
-use hp_report::Watched;
+use hp_report::{Watched, exit_code};
 use hp_words::{options_of, word_code};
 use running::run;
-use status::exit_code;
 use std::process::ExitCode;
 
 fn main(rt: HostRuntime) -> ExitCode {

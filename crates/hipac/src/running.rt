@@ -1,6 +1,6 @@
 //! A run, from the script's bytes to the report's bytes.
 
-ghost use Rattle.std.specs.Prelude.{◌≡◌, ◌≢◌, ◌↔◌, OnOk, IfOk, IfSome, None, Bool, true, false};
+ghost use Rattle.std.specs.Prelude.{◌≡◌, ◌≢◌, ◌↔◌, OnOk, IfOk, IfSome, Bool, true, false};
 ghost use Rattle.std.specs.Io.KnownBytes.{Appends};
 ghost use Rattle.hp_model.specs.Output.{text_of, output};
 ghost use Rattle.hp_model.specs.Report.{report_text};
@@ -9,11 +9,11 @@ ghost use Rattle.hp_report.specs.Mapped.{library, evaluation};
 ghost use Rattle.hp_script.specs.Mapped.{script as script_of_model};
 ghost use Rattle.hipac.specs.Ends.{status_of};
 
-use crate::status::Status;
-use hp_report::{Fault, Report, Sink, Source, final_state, read_up_to, write_report, write_text};
+use hp_report::{
+    Fault, Report, Sink, Source, Status, final_state, read_up_to, write_report, write_text,
+};
 use hp_script::{DecodeError, Script, decode, refusal_text};
-use hp_top::{Items, opening, run_items};
-use hp_tree::UnitReport;
+use hp_top::{opening, run_items};
 use hp_words::Options;
 use std::alloc::{AllocError, Global};
 use std::mem;
@@ -108,7 +108,7 @@ fn evaluated<T: Threads + Sync>(
     let Script { library, items, .. } = script;
     let mut store = opening(alloc)?;
     let ran = run_items(rt, alloc, &library, &mut store, &items, workers);
-    let units = whole(ran)?;
+    let units = ran.whole()?;
     let (objects, statuses) = final_state(alloc, &library, &store, &units)?;
     Ok(Report {
         library,
@@ -116,15 +116,4 @@ fn evaluated<T: Threads + Sync>(
         objects,
         statuses,
     })
-}
-
-/// The reports of all units; an error if some didn't run.
-fn whole(ran: Items) -> Result<Vec<UnitReport>, AllocError>
-    ensures all { IfOk result (λ units. units ≡ ran.reports) }
-    ensures unstopped { OnOk result (ran.stopped ≡ None) }
-{
-    match ran.stopped {
-        Some(error) => Err(error),
-        None => Ok(ran.reports),
-    }
 }

@@ -1,6 +1,5 @@
 use crate::running::run;
-use crate::status::{Status, exit_code};
-use hp_report::{Fault, Watched};
+use hp_report::{Fault, Status, Watched, exit_code};
 use hp_words::{Options, WordFault, parse_words, word_code};
 use std::io;
 use std::io::{Read, Write};

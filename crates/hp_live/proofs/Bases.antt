@@ -9,7 +9,7 @@ use Rattle.hp_model.specs.Cells.{Cells, cells}
 use Rattle.hp_model.specs.Laws.{replay_units}
 use Rattle.hp_model.specs.Report.{Bytes, objects_text, rules_text}
 use Rattle.hp_model.specs.Soundness.{LeadsTo}
-use Rattle.hp_report.specs.declared.report.Status.{Status}
+use Rattle.hp_report.specs.declared.report.RuleStatus.{RuleStatus}
 use Rattle.hp_report.specs.Mapped.{status, rule_state}
 use Rattle.hp_report.specs.Ending.{AreStatuses, statuses}
 use Rattle.hp_report.specs.Text.{state_text}
@@ -45,12 +45,12 @@ ran_from l us before after rs base ran replayed all same ordered is = record {
 }
 
 -- the statuses of rules without a past
-shown : (ss : List Status) → statuses (map rule_state ss) ≡ map status ss
+shown : (ss : List RuleStatus) → statuses (map rule_state ss) ≡ map status ss
 shown [] = refl
 shown (s ∷ ss) = ap (λ (l : List S.Status). status s ∷ l) (shown ss)
 
 -- the text of a state with these cells and objects
-pub state_shown : (library : Library) (base : Cells) (objects : Objects) (ss : List Status) (S : State) → AreStatuses library base (map status ss) → IsOrdered library S → cells library S ≡ base → objects ≡ S.objects
+pub state_shown : (library : Library) (base : Cells) (objects : Objects) (ss : List RuleStatus) (S : State) → AreStatuses library base (map status ss) → IsOrdered library S → cells library S ≡ base → objects ≡ S.objects
     → state_text library objects (map rule_state ss) ≡ state_text library S.objects S.rules
 state_shown library base objects ss S are ordered same objects_are =
     ap (λ (os : Objects). state_text library os (map rule_state ss)) objects_are

@@ -13,8 +13,8 @@ use Rattle.hp_lines.proofs.Kept.{begins_whole, begins_more, begins_on}
 use Rattle.hp_live.specs.Kept.{IsDesk, StopsAtRefusal}
 use Rattle.hp_live.specs.Ends.{status_at, status_of}
 use Rattle.hp_live.specs.declared.desk.Desk.{Desk}
-use Rattle.hp_live.specs.declared.status.Status.{Status}
-use Rattle.hp_live.specs.declared.status.Status.TheVariants.{Refused}
+use Rattle.hp_report.specs.declared.status.Status.{Status}
+use Rattle.hp_report.specs.declared.status.Status.TheVariants.{Refused}
 
 -- ---- a piece
 

@@ -1,6 +1,6 @@
 //! Rule bases.
 
-ghost use Rattle.std.specs.Prelude.{◌≡◌, ◌++◌, List, IfOk, OnOk, None, map, string_bytes};
+ghost use Rattle.std.specs.Prelude.{◌≡◌, ◌++◌, List, IfOk, OnOk, map, string_bytes};
 ghost use Rattle.hp_model.specs.Cascade.{run_units};
 ghost use Rattle.hp_model.specs.Decode as D;
 ghost use Rattle.hp_report.specs.Text.{Gains, state_text};
@@ -17,7 +17,7 @@ use hp_report::{final_statuses, replay_units, state_text, units_text};
 use hp_rule::{Library, Unit};
 use hp_script::Schedule;
 use hp_store::Store;
-use hp_top::{Items, Runner, opening};
+use hp_top::{Runner, opening};
 use hp_tree::{Objects, UnitReport};
 use std::alloc::{AllocError, Global};
 use std::fmt::Write;
@@ -74,7 +74,7 @@ impl RuleBase {
     {
         let runner = Runner::new(rt, alloc, &self.library, workers, &self.past);
         let ran = runner.run_items(&mut self.store, units);
-        let reports = whole(ran)?;
+        let reports = ran.whole()?;
         let objects = mem::replace(&mut self.objects, Objects::new(alloc));
         self.objects = replay_units(objects, &reports)?;
         Ok(reports)
@@ -116,17 +116,6 @@ impl RuleBase {
         let mut text = state_text(alloc, &self.library, &self.objects, &statuses)?;
         put_ok(&mut text, self.units)?;
         Ok(text)
-    }
-}
-
-/// The reports of all units; an error if some didn't run.
-fn whole(ran: Items) -> Result<Vec<UnitReport>, AllocError>
-    ensures all { IfOk result (λ units. units ≡ ran.reports) }
-    ensures unstopped { OnOk result (ran.stopped ≡ None) }
-{
-    match ran.stopped {
-        Some(error) => Err(error),
-        None => Ok(ran.reports),
     }
 }
 

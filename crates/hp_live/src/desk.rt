@@ -12,8 +12,7 @@ ghost use Rattle.hp_live.specs.Kept.{StandsFor, IsStage, IsDesk, Answers};
 
 use crate::base::RuleBase;
 use crate::options::Options;
-use crate::status::Status;
-use hp_report::{Fault, Sink, write_text};
+use hp_report::{Fault, Sink, Status, write_text};
 use hp_script::{DecodeError, Request, Schedule, Script, decode, decode_request, refusal_text};
 use std::alloc::{AllocError, Global};
 use std::thread::Threads;
@@ -134,7 +133,7 @@ impl Desk {
         ensures { (s : L.Stage) → IsStage self.now.stage s → result ≡ status_at s }
     {
         match self.stage {
-            Stage::Unopened | Stage::Up(_) => Status::Ended,
+            Stage::Unopened | Stage::Up(_) => Status::Reported,
             Stage::Closed => Status::Refused,
         }
     }

@@ -8,10 +8,8 @@ mod base;
 mod desk;
 mod options;
 mod serving;
-mod status;
 
 pub use desk::Desk;
-pub use hp_report::Fault;
+pub use hp_report::{Fault, Status, exit_code};
 pub use options::Options;
 pub use serving::serve;
-pub use status::{Status, exit_code};

@@ -9,8 +9,7 @@ ghost use Rattle.hp_live.specs.Ends.{status_of};
 
 use crate::desk::Desk;
 use crate::options::Options;
-use crate::status::Status;
-use hp_report::{Fault, Sink, Source};
+use hp_report::{Fault, Sink, Source, Status};
 use std::alloc::Global;
 use std::thread::Threads;
 

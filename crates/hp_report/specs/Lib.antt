@@ -1,5 +1,6 @@
 pub mod Device
 pub mod Ending
+pub mod Exits
 pub mod Faults
 pub mod Mapped
 pub mod Named

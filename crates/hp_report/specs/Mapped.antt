@@ -6,8 +6,8 @@ use Rattle.hp_model.specs.State as S
 use Rattle.hp_model.specs.Tree.{if_committed, emits}
 use Rattle.hp_model.specs.Cascade as C
 use Rattle.hp_value.specs.declared.occurrence.Coupling.{Coupling}
-use Rattle.hp_report.specs.declared.report.Status.{Status}
-use Rattle.hp_report.specs.declared.report.Status.TheVariants.{Absent, Enabled, Disabled}
+use Rattle.hp_report.specs.declared.report.RuleStatus.{RuleStatus}
+use Rattle.hp_report.specs.declared.report.RuleStatus.TheVariants.{Absent, Enabled, Disabled}
 use Rattle.hp_report.specs.declared.report.Report.{Report}
 pub use Rattle.hp_value.specs.Mapped.{value, cause, coupling, rule_operation}
 pub use Rattle.hp_tree.specs.Mapped.{objects_of, operation, condition, what, ending, before, row_items, items_in, values_behind, top_report, unit_report}
@@ -18,13 +18,13 @@ pub use Rattle.hp_report.specs.Named.{library_of}
 abbrev pub task : ℕ × Coupling → ℕ × R.Coupling
 task t = (t.0, coupling t.1)
 
-abbrev pub status : Status → S.Status
+abbrev pub status : RuleStatus → S.Status
 status Absent = S.absent
 status Enabled = S.enabled
 status Disabled = S.disabled
 
 -- the state of a rule without a past
-abbrev pub rule_state : Status → S.RuleState
+abbrev pub rule_state : RuleStatus → S.RuleState
 rule_state s = S.with_status (status s)
 
 -- what a top-level transaction emitted, if it committed

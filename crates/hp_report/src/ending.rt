@@ -7,7 +7,7 @@ ghost use Rattle.hp_store.specs.Stack.{cells_in};
 ghost use Rattle.hp_report.specs.Ending.{status_from, AreStatuses, AreFinal};
 ghost use Rattle.hp_report.specs.Mapped as model;
 
-use crate::report::Status;
+use crate::report::RuleStatus;
 use hp_rule::Library;
 use hp_store::{CellValue, Store};
 use hp_tree::{Ending, Objects, TopReport, UnitReport, replay};
@@ -23,7 +23,7 @@ pub fn final_state(
     lib: &Library,
     store: &Store,
     units: &[UnitReport],
-) -> Result<(Objects, Vec<Status>), AllocError>
+) -> Result<(Objects, Vec<RuleStatus>), AllocError>
     ensures { IfOk result (λ ends.
         AreFinal (model.library lib.now) (cells_in store.now) (map model.unit_report units.now)
         ends.0 (map model.status ends.1.items)) }
@@ -86,7 +86,7 @@ pub fn final_statuses(
     alloc: Global,
     lib: &Library,
     store: &Store,
-) -> Result<Vec<Status>, AllocError>
+) -> Result<Vec<RuleStatus>, AllocError>
     ensures { IfOk result (λ statuses.
         AreStatuses (model.library lib.now) (cells_in store.now) (map model.status statuses.items)) }
 {
@@ -105,12 +105,12 @@ fn rule_number(place: usize) -> Result<RuleNo, AllocError>
 }
 
 /// The status of a rule in a store.
-fn status_of(store: &Store, rule: RuleNo) -> Status
+fn status_of(store: &Store, rule: RuleNo) -> RuleStatus
     ensures { model.status result ≡ status_from (cells_in store.now (rule_cell rule)) }
 {
     match store.get(Cell::Rule(rule)) {
-        Some(CellValue::Status(hp_store::Status::Enabled)) => Status::Enabled,
-        Some(CellValue::Status(hp_store::Status::Disabled)) => Status::Disabled,
-        Some(CellValue::Row(_) | CellValue::Detector(_)) | None => Status::Absent,
+        Some(CellValue::Status(hp_store::Status::Enabled)) => RuleStatus::Enabled,
+        Some(CellValue::Status(hp_store::Status::Disabled)) => RuleStatus::Disabled,
+        Some(CellValue::Row(_) | CellValue::Detector(_)) | None => RuleStatus::Absent,
     }
 }

@@ -11,6 +11,7 @@ mod names;
 mod output;
 mod parts;
 mod report;
+mod status;
 mod text;
 mod watched;
 
@@ -20,5 +21,6 @@ pub use fault::Fault;
 pub use input::{ReadFault, read_up_to};
 pub use output::{WriteFault, write_text};
 pub use parts::{state_text, units_text};
-pub use report::{Report, Status, write_report};
+pub use report::{Report, RuleStatus, write_report};
+pub use status::{Status, exit_code};
 pub use watched::Watched;

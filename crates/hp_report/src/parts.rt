@@ -6,7 +6,7 @@ ghost use Rattle.hp_report.specs.Mapped as model;
 ghost use Rattle.hp_report.specs.Text.{state_text};
 
 use crate::names::Names;
-use crate::report::Status;
+use crate::report::RuleStatus;
 use crate::text::{put_state, put_units};
 use hp_rule::Library;
 use hp_tree::{Objects, UnitReport};
@@ -42,7 +42,7 @@ pub fn state_text(
     alloc: Global,
     library: &Library,
     objects: &Objects,
-    statuses: &[Status],
+    statuses: &[RuleStatus],
 ) -> Result<String, AllocError>
     ensures { IfOk result (λ text. string_bytes text
         ≡ state_text (model.library library.now) objects.now (map model.rule_state statuses.now)) }

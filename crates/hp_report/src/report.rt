@@ -17,7 +17,7 @@ use std::sync::Arc;
 
 /// Whether a rule fires when its event occurs. That a report shows it is this project's own choice.
 #[derive(Clone, Copy, Debug, PartialEq, Eq)]
-pub enum Status {
+pub enum RuleStatus {
     /// The rule is not installed.
     Absent,
     /// The rule is installed and fires.
@@ -36,7 +36,7 @@ pub struct Report {
     /// The final objects.
     pub objects: Objects,
     /// The final status of each rule, by its number.
-    pub statuses: Vec<Status>,
+    pub statuses: Vec<RuleStatus>,
 }
 
 /// The whole text of a report.

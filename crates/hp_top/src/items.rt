@@ -77,6 +77,19 @@ pub struct Items {
     pub stopped: Option<AllocError>,
 }
 
+impl Items {
+    /// The reports of all units; an error if some didn't run.
+    pub fn whole(self) -> Result<Vec<UnitReport>, AllocError>
+        ensures all { IfOk result (λ units. units ≡ self.reports) }
+        ensures unstopped { OnOk result (self.stopped ≡ None) }
+    {
+        match self.stopped {
+            Some(error) => Err(error),
+            None => Ok(self.reports),
+        }
+    }
+}
+
 /// The store before a script's first unit: it has no object and no rule.
 pub fn opening(alloc: Global) -> Result<Store, AllocError>
     ensures { IfOk result (λ s. IsOpening (cells_in s)) }

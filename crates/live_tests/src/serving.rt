@@ -29,7 +29,7 @@ fn served<R: AllocGlobal + Threads + Sync>(
 fn expect_answers<R: Abort + AllocGlobal + Threads + Sync>(rt: &R, input: &[u8], reads: Steps) {
     let (output, ended) = served(rt, input, reads, EASY);
     assert_eq!(*rt; output.as_slice(), ANSWERS.as_bytes());
-    assert_eq!(*rt; ended, Ok(Status::Ended));
+    assert_eq!(*rt; ended, Ok(Status::Reported));
 }
 
 /// A write fails, and what was written is the beginning of the answers.

@@ -1,7 +1,7 @@
 //! The final state: statuses from the store, and objects from the trees.
 
 use crate::fixtures::library;
-use hp_report::{Status, final_state};
+use hp_report::{RuleStatus, final_state};
 use hp_rule::Library;
 use hp_store::{CellValue, Layer, Store};
 use hp_tree::{Ending, Item, Operation, TopReport, UnitReport};
@@ -59,7 +59,11 @@ fn check_final(
     let (objects, statuses) = final_state(alloc, library, store, units)?;
     assert_eq!(rt; objects.len(), 1);
     assert!(rt; objects.get(0, 7).is_some());
-    let wanted = [Status::Disabled, Status::Absent, Status::Enabled];
+    let wanted = [
+        RuleStatus::Disabled,
+        RuleStatus::Absent,
+        RuleStatus::Enabled,
+    ];
     assert_eq!(rt; statuses.as_slice(), wanted.as_slice());
     Ok(())
 }

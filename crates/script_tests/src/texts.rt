@@ -1,7 +1,7 @@
 //! The text of reports, worked out by hand.
 
 use crate::fixtures::library;
-use hp_report::{Report, Status, Watched, write_report};
+use hp_report::{Report, RuleStatus, Watched, write_report};
 use hp_tree::{ConditionEnd, Ending, Item, Node, Objects, Operation, TopReport, UnitReport, What};
 use hp_value::{Cause, ClassDef, Coupling, Field, Key, Kind, Row, RuleNo, RuleOperation, Value};
 use std::alloc::Global;
@@ -171,7 +171,7 @@ fn report(
     rules: &[&str],
     unit: UnitReport,
     objects: &[(Key, i64)],
-    statuses: &[Status],
+    statuses: &[RuleStatus],
 ) -> Result<Report, Fail> {
     let classes = classes(alloc)?;
     let objects = self::objects(alloc, &classes, objects)?;
@@ -195,7 +195,7 @@ fn written(alloc: Global, report: &Report, with_tree: bool) -> Result<String, Fa
 fn shows_the_depth_limit(rt: HostRuntime) -> Result<(), Fail> {
     let alloc = rt.alloc();
     let unit = depth_limit(alloc, &classes(alloc)?)?;
-    let report = report(alloc, &["up"], unit, &[(1, 3)], &[Status::Enabled])?;
+    let report = report(alloc, &["up"], unit, &[(1, 3)], &[RuleStatus::Enabled])?;
     assert_eq!(rt; written(alloc, &report, true)?.as_str(), DEPTH_LIMIT);
     Ok(())
 }
@@ -224,7 +224,7 @@ end
 fn shows_a_cascade(rt: HostRuntime) -> Result<(), Fail> {
     let alloc = rt.alloc();
     let unit = kept_answers(alloc, &classes(alloc)?)?;
-    let statuses = [Status::Enabled, Status::Enabled];
+    let statuses = [RuleStatus::Enabled, RuleStatus::Enabled];
     let report = report(alloc, &["m", "z"], unit, &[(1, 7)], &statuses)?;
     assert_eq!(rt; written(alloc, &report, true)?.as_str(), KEPT_ANSWERS);
     Ok(())
@@ -299,7 +299,7 @@ fn others(alloc: Global) -> Result<UnitReport, Fail> {
 fn shows_other_lines(rt: HostRuntime) -> Result<(), Fail> {
     let alloc = rt.alloc();
     let objects = [(10, 4), (2, 3), (-3, i64::MIN), (-20, 1)];
-    let statuses = [Status::Disabled, Status::Absent];
+    let statuses = [RuleStatus::Disabled, RuleStatus::Absent];
     let report = report(alloc, &["up", "down"], others(alloc)?, &objects, &statuses)?;
     assert_eq!(rt; written(alloc, &report, true)?.as_str(), OTHER_LINES);
     assert_eq!(rt; written(alloc, &report, false)?.as_str(), WITHOUT_TREE);

@@ -5,24 +5,28 @@ ghost use Rattle.hp_model.specs.Report.{status_word, rules_text};
 ghost use Rattle.hp_report.specs.Mapped as model;
 ghost use Rattle.hp_report.specs.Text.{Gains};
 
-use crate::report::Status;
+use crate::report::RuleStatus;
 use hp_rule::Rule;
 use std::alloc::AllocError;
 use std::fmt::Write;
 
 /// The word for a status.
-fn status_word(status: Status) -> &'static str
+fn status_word(status: RuleStatus) -> &'static str
     ensures { result.now ≡ status_word (model.status status) }
 {
     match status {
-        Status::Absent => "absent",
-        Status::Enabled => "enabled",
-        Status::Disabled => "disabled",
+        RuleStatus::Absent => "absent",
+        RuleStatus::Enabled => "enabled",
+        RuleStatus::Disabled => "disabled",
     }
 }
 
 /// The lines of rules, in their order.
-pub fn put_rules(out: &mut String, rules: &[Rule], statuses: &[Status]) -> Result<(), AllocError>
+pub fn put_rules(
+    out: &mut String,
+    rules: &[Rule],
+    statuses: &[RuleStatus],
+) -> Result<(), AllocError>
     ensures { OnOk result (Gains out.old out.new
         (rules_text (map model.rule rules.now) (map model.rule_state statuses.now))) }
 {

@@ -5,7 +5,7 @@ ghost use Rattle.hp_report.specs.Mapped as model;
 ghost use Rattle.hp_report.specs.Text.{Gains, final_text, state_text};
 
 use crate::names::Names;
-use crate::report::Status;
+use crate::report::RuleStatus;
 use crate::text::objects::put_objects;
 use crate::text::rules::put_rules;
 use hp_tree::Objects;
@@ -18,7 +18,7 @@ pub fn put_final(
     out: &mut String,
     names: &Names<'_>,
     objects: &Objects,
-    statuses: &[Status],
+    statuses: &[RuleStatus],
 ) -> Result<(), AllocError>
     ensures { OnOk result (Gains out.old out.new
         (final_text (model.library_of names.now) objects.now (map model.rule_state statuses.now))) }
@@ -34,7 +34,7 @@ pub fn put_state(
     out: &mut String,
     names: &Names<'_>,
     objects: &Objects,
-    statuses: &[Status],
+    statuses: &[RuleStatus],
 ) -> Result<(), AllocError>
     ensures { OnOk result (Gains out.old out.new
         (state_text (model.library_of names.now) objects.now (map model.rule_state statuses.now))) }

@@ -1,20 +1,20 @@
 //! How a run ends.
 
 ghost use Rattle.std.specs.Prelude.{◌≡◌};
-ghost use Rattle.hipac.specs.Ends.{code_of};
+ghost use Rattle.hp_report.specs.Exits.{code_of};
 
-use hp_report::Fault;
+use crate::fault::Fault;
 
-/// What was written.
+/// How a run without a fault ended.
 #[derive(Clone, Copy, Debug, PartialEq, Eq)]
 pub enum Status {
-    /// The script's report.
+    /// With the script's report, or with an answer to each line.
     Reported,
-    /// The line that says why the script was refused.
+    /// With the line that says why the script was refused.
     Refused,
 }
 
-/// The exit status of the program: 0 if the report was written, 2 if the script was refused, 4 after a fault.
+/// The exit status of a program: 0 if all was reported, 2 if the script was refused, 4 after a fault.
 pub fn exit_code(ended: &Result<Status, Fault>) -> u8
     ensures { result ≡ code_of ended.now }
 {
