@@ -125,7 +125,7 @@ pub fn ending(report: &UnitReport) -> Option<Ending> {
     }
 }
 
-/// A bank, and what its callers run on.
+/// A bank, and what its callers run on. Threads are sent its parts, each of which is proved to cross.
 #[derive_where(Clone, Copy)]
 pub struct Bank<'a, R> {
     pub rt: &'a R,
