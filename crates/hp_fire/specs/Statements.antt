@@ -3,8 +3,7 @@ use Rattle.std.specs.Prelude.{ℕ, Bool, List, Result, map}
 use Rattle.hp_model.specs.Values.{Name}
 use Rattle.hp_model.specs.Rules.{Statement, Body}
 use Rattle.hp_model.specs.Transactions.{Work, for_each}
-use Rattle.hp_model.specs.Firing.{Level, level_at, run_statement, run_body, with_row, signal_in, start, siblings, fire_task}
-use Rattle.hp_model.specs.Tree.{Task as ModelTask}
+use Rattle.hp_model.specs.Firing.{level_at, run_statement, run_body, with_row, signal_in, start, siblings, fire_task}
 use Rattle.hp_value.specs.declared.halt.Halt.{Halt}
 use Rattle.hp_value.specs.declared.occurrence.Primitive.{Primitive}
 use Rattle.hp_value.specs.declared.row.KeyedRow.{KeyedRow}

@@ -1,9 +1,8 @@
 -- How much is left to run, which decreases with each nested call.
-use Rattle.std.specs.Prelude.{ℕ, ◌+◌, ◌*◌, ◌-◌, List}
+use Rattle.std.specs.Prelude.{ℕ, ◌+◌, ◌*◌, ◌-◌}
 use denote.Param.Weighed.{most}
 use Rattle.hp_rule.specs.declared.stmt.Stmt.{size-Stmt}
 use Rattle.hp_rule.specs.declared.library.Library.{Library}
-use Rattle.hp_rule.specs.declared.task.Task.{Task}
 
 -- how deep statements nest in the library's actions
 abbrev pub deepest : Library → ℕ

@@ -1,6 +1,6 @@
 //! The context of a statement.
 
-ghost use Rattle.std.specs.Prelude.{◌≡◌, IfSome, map, [], None, option_map};
+ghost use Rattle.std.specs.Prelude.{◌≡◌, map, [], None};
 ghost use Rattle.hp_model.specs.Firing.{with_row, action_context, answer_named};
 ghost use Rattle.hp_model.specs.Cascade.{no_context};
 ghost use Rattle.hp_value.specs.Mapped.{keyed_row, answers};

@@ -1,7 +1,6 @@
 //! A view that counts the rows that queries look at.
 
 ghost use Rattle.std.specs.Prelude.{◌≡◌};
-ghost use Rattle.hp_view.specs.Seeing.{OnlyReads};
 
 use crate::speculate::{Effort, ROW};
 use hp_query::{Look, Query};

@@ -1,6 +1,6 @@
 //! Statements that end without effects.
 
-ghost use Rattle.std.specs.Prelude.{◌≡◌, IfOk};
+ghost use Rattle.std.specs.Prelude.{IfOk};
 ghost use Rattle.hp_model.specs.Rules.{Library};
 ghost use Rattle.hp_model.specs.Transactions.{Work};
 ghost use Rattle.hp_model.specs.Firing.{vetoes};

@@ -1,6 +1,6 @@
 //! The attempts at the tasks of a group that aren't settled.
 
-ghost use Rattle.std.specs.Prelude.{◌≡◌, IfOk, OnOk, All};
+ghost use Rattle.std.specs.Prelude.{◌≡◌, IfOk, All};
 ghost use Rattle.rtrb.specs.Ring.{received};
 ghost use Rattle.hp_model.specs.Rules.{Library as ModelLibrary};
 ghost use Rattle.hp_model.specs.Soundness.{IsSound};

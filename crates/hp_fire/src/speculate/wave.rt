@@ -1,6 +1,6 @@
 //! Waves: workers and the owner of a group try the tasks that aren't settled, all at once.
 
-ghost use Rattle.std.specs.Prelude.{◌≡◌, ◌<◌, Ok, All, IfOk, IfSome, length};
+ghost use Rattle.std.specs.Prelude.{◌<◌, Ok, All, IfOk, length};
 ghost use Rattle.rtrb.specs.Ring.{sent};
 ghost use Rattle.hp_model.specs.Rules.{Library as ModelLibrary};
 ghost use Rattle.hp_model.specs.Soundness.{IsSound};

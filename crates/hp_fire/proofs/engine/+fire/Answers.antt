@@ -1,12 +1,11 @@
-use Rattle.std.proofs.Common.{rules, arith, List, ◌≡◌, refl, ap, sym, ◌∙◌, subst, ◌≤◌, [], ◌∷◌, None, drop, map, length, true, false}
+use Rattle.std.proofs.Common.{rules, arith, List, ◌≡◌, refl, ap, sym, ◌∙◌, subst, [], map, length, true, false}
 use Rattle.std.proofs.Common.{SFits, w64, of_z, to_z, Ok}
 use Rattle.std.proofs.lemmas.Int.{to_z-of_z}
 use Rattle.std.proofs.lemmas.Result.{err_from_is_err_and, IfOk-weaker}
 use Rattle.std.proofs.Math.ListN.{drop_of_length-le}
-use Rattle.std.proofs.lemmas.List.{map-append}
 use Rattle.hp_model.specs.Values.{requested}
 use Rattle.hp_model.specs.Conditions.{answer}
-use Rattle.std.specs.Prelude.{filter, IfOk}
+use Rattle.std.specs.Prelude.{filter}
 use Rattle.hp_model.specs.Tree.{Task, no_items}
 use Rattle.hp_model.specs.Transactions.{abort_by, deferred_of, detached_of, done, for_each, unreleased}
 use Rattle.hp_model.specs.Answers.{is_done, followed, group_answer}
@@ -18,7 +17,6 @@ use Rattle.hp_query.specs.Mapped.{keyed_rows}
 use Rattle.hp_rule.specs.declared.stmt.Stmt.TheViews.{the_lemmas}
 use Rattle.hp_rule.specs.Mapped.{library, statement, body_in, task, assignment}
 use Rattle.hp_rule.proofs.Bodies.{row_body_lem}
-use Rattle.hp_attempt.specs.Mapped.{firing}
 use Rattle.hp_ops.proofs.Worlds.{split_at}
 use Rattle.hp_fire.specs.Mapped.{context, course, group}
 use Rattle.hp_tree.specs.Mapped.{what}

@@ -1,11 +1,10 @@
-use Rattle.std.proofs.Common.{rules, arith, ◌≡◌, sym, ap, ◌∙◌, subst, ◌+◌, ◌<◌, ◌≤◌, None, [], ◌∷◌, drop, length, length-append, map}
+use Rattle.std.proofs.Common.{rules, arith, ◌≡◌, sym, ap, ◌∙◌, subst, ◌<◌, [], ◌∷◌, drop, length, length-append, map}
 use Rattle.std.proofs.lemmas.List.{drop-map}
 use Rattle.hp_rule.specs.Mapped.{library, task}
 use Rattle.hp_model.specs.Firing.{fire_task}
 use Rattle.hp_attempt.specs.Mapped.{firing}
 use Rattle.hp_ops.proofs.Worlds.{split_at}
 use Rattle.hp_fire.specs.Runs.{RunsFiring}
-use Rattle.hp_fire.specs.Groups.{IsSoFar, Comes}
 use Rattle.hp_fire.proofs.Coming.{counted_ahead, counted_run}
 use Rattle.hp_fire.proofs.Helping.{so_far_ran}
 use Rattle.hp_fire.proofs.speculate.group.Group.advance.Goals as goal

@@ -1,6 +1,6 @@
-use Rattle.std.proofs.Common.{rules, arith, ◌≡◌, sym, ap, ◌∙◌, ◌+◌, [], ◌∷◌, ◌++◌, None, drop, length, length-append, map}
+use Rattle.std.proofs.Common.{rules, arith, ◌≡◌, ap, ◌∙◌, ◌+◌, [], ◌∷◌, None, drop, length, length-append, map}
 use Rattle.std.proofs.lemmas.List.{drop-map}
-use Rattle.hp_rule.specs.Mapped.{library, task}
+use Rattle.hp_rule.specs.Mapped.{task}
 use Rattle.hp_ops.proofs.Worlds.{split_at}
 use Rattle.hp_fire.proofs.Helping.{so_far_starts, so_far_ran}
 use Rattle.hp_fire.proofs.speculate.group.Group.fire_before_workers.Goals as goal

@@ -1,4 +1,4 @@
-use Rattle.std.proofs.Common.{rules, arith, ◌≡◌, sym, ap, ◌∙◌, subst, ◌<◌, ◌≤◌, length, map}
+use Rattle.std.proofs.Common.{arith, sym, ◌∙◌, subst, ◌≤◌, length, map}
 use Rattle.std.proofs.lemmas.List.{length-map}
 use Rattle.hp_model.specs.Firing.{siblings, fire_task}
 use Rattle.hp_rule.specs.Mapped.{library, task}
