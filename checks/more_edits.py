@@ -6,9 +6,9 @@
 
 The gate tries the edits of must-fail and not these. This script copies the crates to a temporary folder and works
 there, crate by crate, lowest first. It checks a crate without an edit, and then with edits. It begins with what
-earlier checks of the crate kept, in its out/ or in its room of `./build`, whichever is newer. Each check of edits
-begins with what the check without an edit kept. Edits of different functions are tried in one check; those of which
-that doesn't show that they are refused are then tried one by one.
+`./build` kept of the crate in .built/rooms, or else with what `rt check` kept in the crate's out/. Each check of edits
+begins with what the check without an edit kept. Edits of different functions are tried in one check. What that doesn't
+show to be refused is then tried alone.
 
 That an edit was refused is kept in the crate's out/, so a later run doesn't try the edit again until it, the crate, a
 crate below it or the toolchain changes. `--anew` tries all again. `--untried` tries only those that have a line
@@ -20,6 +20,7 @@ each edit applies and was refused, 1 if one wasn't, and 130 if the run was inter
 
 import contextlib
 import fcntl
+import functools
 import hashlib
 import os
 import re
@@ -179,19 +180,24 @@ def apply_all(crates):
 # ---- results of earlier runs
 
 
-def sum_of(crate):
-    """A sum of all that the result of an edit depends on but the edit itself."""
-    version = subprocess.run(["rt", "version"], stdin=subprocess.DEVNULL, stdout=subprocess.PIPE, check=True).stdout
-    whole = hashlib.sha256(version)
+@functools.lru_cache(maxsize=None)
+def toolchain():
+    return subprocess.run(["rt", "version"], stdin=subprocess.DEVNULL, stdout=subprocess.PIPE, check=True).stdout
+
+
+@functools.lru_cache(maxsize=None)
+def sum_of(crate, top=TOP):
+    """A sum of all that the result of an edit depends on but the edit itself, as the files stand below a folder."""
+    whole = hashlib.sha256(toolchain())
     for name in in_order([crate]):
         whole.update(repr((name, uses()[name])).encode())
         for part in PARTS:
-            for at, folders, files in os.walk(os.path.join(TOP, "crates", name, part)):
+            for at, folders, files in os.walk(os.path.join(top, "crates", name, part)):
                 folders.sort()
                 for file in sorted(files):
                     path = os.path.join(at, file)
                     with open(path, "rb") as read:
-                        whole.update(repr((os.path.relpath(path, TOP), read.read())).encode())
+                        whole.update(repr((os.path.relpath(path, top), read.read())).encode())
     return whole.hexdigest()
 
 
@@ -219,9 +225,14 @@ class Results:
 # ---- the copy
 
 
-def changed_at(folder):
-    """When something was last written in a folder or in one that stands in it."""
-    return max(os.stat(path).st_mtime for path in (folder, *(entry.path for entry in os.scandir(folder))))
+def homes(crate):
+    """Where checks of a crate keep their work, the best first: its room of `./build`, where that has the files as they
+    stand, and its own folder."""
+    room, own = os.path.join(TOP, ".built", "rooms", crate), os.path.join(TOP, "crates", crate)
+    there = os.path.join(room, "crates", crate)
+    if not os.path.isdir(there):
+        return [own]
+    return [there, own] if sum_of(crate, room) == sum_of(crate) else [own, there]
 
 
 @contextlib.contextmanager
@@ -248,11 +259,10 @@ def link(there, here):
 
 
 def take(crate, part, to, by=shutil.copy2):
-    """Copies the newest of what checks of a crate kept: from the crate's folder, or from its room of `./build`. The
-    result is the folder that it was taken from, if there is one."""
-    homes = [os.path.join(top, "crates", crate) for top in (TOP, os.path.join(TOP, ".built", "rooms", crate))]
-    homes = [home for home in homes if os.path.isdir(os.path.join(home, "out", part))]
-    for home in sorted(homes, key=lambda it: changed_at(os.path.join(it, "out", part)), reverse=True):
+    """Copies a part of what checks of a crate kept. The result is the folder that it was taken from, if any."""
+    for home in homes(crate):
+        if not os.path.isdir(os.path.join(home, "out", part)):
+            continue
         with at_rest(home) as is_free:
             if is_free:
                 shutil.copytree(os.path.join(home, "out", part), os.path.join(to, "out", part), copy_function=by)
@@ -537,7 +547,7 @@ def try_all(crates, anew, untried_alone):
     wanted = {crate: paths for crate, (paths, _) in asked.items() if paths}
     whole = sum(map(len, wanted.values()))
     count = Count(whole, sum(before for _, before in asked.values()))
-    print(f"to try: {whole} edits of {len(wanted)} crates", flush=True)
+    print(f"edits to try: {whole}; crates: {' '.join(wanted) or 'none'}", flush=True)
     folder = tempfile.mkdtemp(prefix="more-edits-")
     try:
         copy, room = os.path.join(folder, "copy"), os.path.join(folder, "room")
