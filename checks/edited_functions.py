@@ -1,7 +1,7 @@
 """Which edits of a crate can be tried in one check, and which of them the prover refuses then.
 
-Each function is proved against the contracts of those that it calls, whatever their bodies are. So edits of the bodies of
-different functions can be tried together: an edit is refused if the prover complains of its own function.
+Each function is proved against the contracts of those that it calls, whatever their bodies are. So edits of the bodies
+of different functions can be tried together: an edit is refused if the prover complains of its own function.
 """
 
 import os
@@ -47,8 +47,8 @@ def functions(text):
 
 
 def body_of(path, before, after):
-    """The edit at a path as a change of one function, if it is one. `before` and `after` are the texts of the files that
-    it changes."""
+    """The edit at a path as a change of one function, if it is one. `before` and `after` are the texts of the files
+    that it changes."""
     if len(after) != 1:
         return None
     file = next(iter(after))

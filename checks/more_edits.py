@@ -59,7 +59,9 @@ NOT_TRIED = "not tried"
 COMPLAINT = re.compile(r"(?:\./)?(\S+?):\d+:\d+: error: (?:(`[^`]*`): )?(.*)")
 
 # A line that says that something isn't proved, with its file and its line there.
-UNPROVED = re.compile(r"(?:note: (?=.*: it is not proved that ))?(?:\./)?([^\s:]+):(\d+):\d+: (?:error: |it is not proved )")
+UNPROVED = re.compile(
+    r"(?:note: (?=.*: it is not proved that ))?(?:\./)?([^\s:]+):(\d+):\d+: (?:error: |it is not proved )"
+)
 
 # The words of complaints of a text that can't be read, and of a proof that names what is not there.
 UNREAD = re.compile(r"is not in scope|has no field|is no name|operand is missing|expected the end|cannot continue")
