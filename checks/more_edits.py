@@ -357,10 +357,11 @@ def complaints(lines):
 
 
 def refused_of(group, status, lines, changed):
-    """Of the edits of a group, those that their check shows to be refused, each with the line that shows it."""
-    is_refused = status == 1 and any(line.startswith("logic=not-proved") for line in lines)
-    if not is_refused or any(is_unread(line, changed) for line in lines):
-        return {}
+    """Of the edits of a group, those that their check shows to be refused, each with the line that shows it. `None` if
+    the prover couldn't read one of them or couldn't tell, so that the check says nothing of the others."""
+    is_judged = status == 0 or any(line.startswith("logic=not-proved") for line in lines)
+    if not is_judged or any(is_unread(line, changed) for line in lines):
+        return None
     # (that one function isn't proved is no reason to refuse another one)
     places = [(UNPROVED.match(line), line) for line in lines if not NO_SUCH_NAME.search(line)]
     found = {}
@@ -484,11 +485,16 @@ class Tries:
         self.tell(path, kind, shown, time.monotonic() - begun)
 
     def group(self, group):
-        """Tries edits of different functions in one check. The result is the paths of those that it doesn't show to be
-        refused."""
+        """Tries edits of different functions in one check, or in two halves if the check says nothing. The result is
+        the paths of those that aren't shown to be refused."""
+        if len(group) < 2:
+            return [body.path for body in group]
         begun, texts = time.monotonic(), texts_with(group, self.here.text)
         print(f"{time.strftime('%H:%M:%S')} {self.crate}: {len(group)} edits in one check", flush=True)
         refused = refused_of(group, *self.here.check_with(texts), texts)
+        if refused is None:
+            middle = len(group) // 2
+            return self.group(group[:middle]) + self.group(group[middle:])
         spent = (time.monotonic() - begun) / len(group)
         for path, shown in refused.items():
             self.tell(path, REFUSED, shown, spent)
@@ -506,7 +512,7 @@ def try_edits(here, paths, count):
     bodies = [body for body in map(tries.body, paths) if body]
     alone = [path for path in paths if path not in {body.path for body in bodies}]
     for group in together(bodies):
-        alone += tries.group(group) if len(group) > 1 else [group[0].path]
+        alone += tries.group(group)
     for path in alone:
         tries.one(path)
     return tries.names
