@@ -1,7 +1,7 @@
 #!/usr/bin/env python3
 """Measures what firings cost, and prints the tables of bench/README.md.
 
-    bench/bench.py PROGRAM [--times N] [--only LETTERS] [--tables NAMES] [--keep FOLDER]
+    bench/bench.py PROGRAM [--times N] [--only LETTERS] [--tables NAMES] [--keep FOLDER] [--beside OTHER]
 
 PROGRAM is the proved program, which `./build` makes. All commands of a workload run alternately, N times (9), so that
 the load of the machine affects all of them. If sqlite3 has something like the rules, it runs the same as triggers over
@@ -9,8 +9,10 @@ an in-memory database, in the same run.
 
 The table `firings` has the workloads of many firings: the median time of each run, and firings per second. Its last
 columns say how many times as fast two and four workers are as one, and what the machine gave: how many processors' work
-copies of the run with 1 worker did at once. The tables of bench/costs.py have the cost of one firing as something
-grows: the median time of a script less that of the same script without its firings.
+copies of the run with 1 worker did at once. With `--beside` another build of the program runs in turn with this one,
+and one more column has the ratio of their times with 1, 2 and 4 workers: below 1, this one is faster. The tables of
+bench/costs.py have the cost of one firing as something grows: the median time of a script less that of the same script
+without its firings.
 """
 
 import argparse
@@ -75,7 +77,7 @@ def heading(columns):
 
 def print_firings(given):
     heading(["Workload", "Firings", *(f"{w} worker{'s' if w > 1 else ''}" for w in WORKERS),
-             "sqlite3", "Times as fast", "Processors"])
+             "sqlite3", "Times as fast", "Processors", *(["Of the other"] if given.beside else [])])
     for letter, title, make, make_sql in WORKLOADS:
         if given.only and letter not in given.only:
             continue
@@ -85,14 +87,18 @@ def print_firings(given):
         runs = [([given.program, "--workers", str(workers)], text, 1) for workers in WORKERS]
         runs += [(alone, text, copies) for copies in COPIES]
         runs += [(SQLITE, make_sql(), 1)] if make_sql else []
+        runs += [([given.beside, "--workers", str(workers)], text, 1) for workers in WORKERS] if given.beside else []
         taken, outputs = in_turn(runs, given.times)
         if len(set(outputs[: len(WORKERS)])) != 1:
             sys.exit(f"({letter}): the reports differ")
-        one, two, four, *more = map(statistics.median, taken)
+        middle = list(map(statistics.median, taken))
+        one, two, four, *more = middle
         cells = [f"{took * 1000:.0f} ms, {firings / took:,.0f}/s" for took in (one, two, four)]
         cells += [f"{more[2] * 1000:.0f} ms, {firings / more[2]:,.0f}/s" if make_sql else ""]
         cells += [f"{one / two:.1f}, {one / four:.1f}"]
         cells += [", ".join(f"{copies * one / took:.1f}" for copies, took in zip(COPIES, more))]
+        if given.beside:
+            cells += [", ".join(f"{this / other:.2f}" for this, other in zip(middle, middle[-len(WORKERS) :]))]
         print(f"| ({letter}) {title} | {firings:,} | " + " | ".join(cells) + " |", flush=True)
 
 
@@ -126,6 +132,7 @@ def main():
     words.add_argument("--tables", metavar="NAMES", default="firings," + ",".join(TABLES),
                        help="prints these tables alone: firings," + ",".join(TABLES))
     words.add_argument("--keep", metavar="FOLDER", help="also writes the scripts there")
+    words.add_argument("--beside", metavar="OTHER", default="", help="of the table `firings`: compares with this build")
     given = words.parse_args()
     for number, name in enumerate(given.tables.split(",")):
         if number:

@@ -16,8 +16,9 @@ class Body:
 
     def __init__(self, path, file, name, lines):
         self.path, self.file, self.name = path, file, name
+        # The numbers of its first and last line.
         self.first, self.last = lines
-        # The changed lines, by their numbers, and the text of the whole function.
+        # The changed lines, by their numbers, and the text of the whole function without the edit.
         self.changed, self.text = {}, ""
 
     def has(self, file, line):

@@ -14,7 +14,7 @@ That an edit was refused is kept in the crate's out/, so a later run doesn't try
 crate below it or the toolchain changes. `--anew` tries all again. `--untried` tries only those that have a line
 `# untried`. Several runs may work side by side on different crates.
 
-It says which edit it tries, what came of it, and how many are left; the last line counts them all. The status is 0 if
+It prints what came of each edit, and how many are left; the last line counts them all. The status is 0 if
 each edit applies and was refused, 1 if one wasn't, and 130 if the run was interrupted. The copy is then removed.
 """
 
@@ -32,10 +32,9 @@ import tempfile
 import time
 
 TOP = os.path.dirname(os.path.dirname(os.path.abspath(__file__)))
-sys.path.insert(0, os.path.join(TOP, "checks"))
 sys.dont_write_bytecode = True
 
-from edited_functions import body_of, texts_with, together  # noqa: E402 (it lies in checks/)
+from edited_functions import body_of, texts_with, together  # noqa: E402 (no bytecode is left beside it)
 
 # The folder of the gate's edits, and that of the others.
 FIRST = "must-fail"
