@@ -33,6 +33,7 @@ FIRING_KINDS = (SETS_OFF, FIRES)
 
 NONE = ("none",)
 NO_TRANSACTION = ("the script has no transaction: all rules are taken as installed, and all their events as possible",)
+NARROWER = 'a predicate that begins with "key of x = .." looks at one object, with "x.field < .." at those that fit'
 MOST_CYCLES = 20
 BOX_WIDTH, MOST_BOX_LINES = 36, 4
 
@@ -274,8 +275,8 @@ def graph_text(graph: Graph) -> str:
     sections += [_cycles_text(graph), _chain_text(graph, couplings), _section("Warnings", graph.warnings or NONE)]
     scans = list(graph.scans)
     if scans:
-        scans.append('a predicate that begins with "key of x = .." looks at one object instead')
-    return "\n\n".join(sections + [_section("Queries that go over a whole class", scans or NONE)]) + "\n"
+        scans.append(NARROWER)
+    return "\n\n".join(sections + [_section("Queries that look at a whole class", scans or NONE)]) + "\n"
 
 
 def _node_text(node: Node, edges: list[Edge], couplings: dict[str, str]) -> str:

@@ -8,7 +8,8 @@ an event or a predicate that several tools ask.
 from __future__ import annotations
 
 import re
-from typing import Any, Iterable, Iterator
+from itertools import islice, product
+from typing import Any, Iterable, Iterator, Mapping, Optional
 
 Form = Any
 """An event, an expression or a statement, as JSON gives it."""
@@ -18,6 +19,8 @@ Form = Any
 OBJECT_OPERATIONS = ("create", "update", "delete")
 STATUS_OPERATIONS = ("install", "enable", "disable", "remove")
 RULE_OPERATIONS = STATUS_OPERATIONS + ("fire",)
+RANGES = ("=", "<", "<=", ">", ">=")
+"""The comparisons of which a predicate's first one says which objects are looked at."""
 TWO_OPERANDS = ("+", "-", "*", "/", "%", "and", "or", "=", "!=", "<", "<=", ">", ">=")
 ONE_OPERAND = ("neg", "not")
 COMPOSITE = ("or", "seq", "closure")
@@ -59,6 +62,14 @@ SORTS = {
     "pairs": PAIRS, "args": ARGUMENTS, "body": BODY, "otherwise": BODY,
 }
 
+# ---- what a part of an occurrence has
+
+HAVING: dict[str, tuple[str, ...]] = {
+    "new": ("create", "update"), "old": ("update", "delete"), "id": OBJECT_OPERATIONS, "arg": ("signal",),
+    "time": ("at", "every"),
+}
+"""The simple events whose occurrence has the value that a form asks a part for."""
+
 # ---- modes, kinds and limits
 
 MODES = ("immediate", "deferred", "separate", "dependent", "exclusive")
@@ -72,6 +83,8 @@ DEFAULT_DEPTH, MOST_DEPTH = 8, 16
 MOST_LEVELS = 16
 """So deep do events, expressions and statements nest."""
 MOST_MOMENTS = 1_000
+MOST_SHAPES = 64
+"""So many kinds of occurrences of one event are told apart."""
 MOST_PLACE = 65_535
 NAME_LETTERS, MOST_NAME_BYTES = re.compile(r"[A-Za-z][A-Za-z0-9_]*"), 32
 LEAST, GREATEST = -(2 ** 63), 2 ** 63 - 1
@@ -118,6 +131,24 @@ def has_one_part(event: Form) -> bool:
     return event[0] not in COMPOSITE
 
 
+def shapes(event: Form) -> Optional[list[tuple[Form, ...]]]:
+    """The simple events of the parts of an event's occurrences, one list for each choice of `or`; None if there are
+    very many."""
+    found = list(islice(_shapes(event), MOST_SHAPES + 1))
+    return found if len(found) <= MOST_SHAPES else None
+
+
+def _shapes(event: Form) -> Iterator[tuple[Form, ...]]:
+    if event[0] == "or":
+        for part in event[1:]:
+            yield from _shapes(part)
+    elif event[0] in COMPOSITE:
+        first, second = (list(islice(_shapes(part), MOST_SHAPES + 1)) for part in event[1:])
+        yield from (a + b for a, b in product(first, second))
+    else:
+        yield (event,)
+
+
 def moments_of(pattern: Form, former: int, now: int) -> range:
     """The moments above `former` and up to `now` that a simple event names: all, or one more than the limit."""
     if pattern[0] == "at":
@@ -137,17 +168,29 @@ def due_moments(events: Iterable[Form], former: int, now: int) -> list[int]:
 
 # ---- predicates
 
-def asks_key(name: str, predicate: Form) -> bool:
-    """Whether a predicate begins by asking for the key of its row, so that only one object is looked at."""
-    return is_key_asked(name, conjuncts(predicate)[0])
-
-
 def is_key_asked(name: str, test: Form) -> bool:
     """Whether a test compares the key of its row with an expression that doesn't depend on the row."""
     key = ["key", name]
     if not isinstance(test, list) or test[0] != "=" or key not in test[1:]:
         return False
     return not names_row(test[2] if test[1] == key else test[1], name)
+
+
+def asks_part(name: str, predicate: Form, kinds: Mapping[str, str]) -> bool:
+    """Whether a predicate begins by comparing the key of its row, or a field, with an expression that doesn't depend on
+    the row, so that only the objects that meet this are looked at. `kinds` are those of the class's fields."""
+    test = conjuncts(predicate)[0]
+    if not isinstance(test, list) or test[0] not in RANGES:
+        return False
+    return any(_is_ordered(side, name, kinds) and not names_row(other, name)
+               for side, other in (test[1:], test[:0:-1]))
+
+
+def _is_ordered(side: Form, name: str, kinds: Mapping[str, str]) -> bool:
+    """Whether an expression is the key of the row, or a field of it by which objects are in order: no boolean."""
+    if side == ["key", name]:
+        return True
+    return isinstance(side, list) and side[:2] == ["of", name] and kinds.get(side[2]) in ("int", "text")
 
 
 def conjuncts(predicate: Form) -> list[Form]:

@@ -2,14 +2,17 @@
 classes."""
 from __future__ import annotations
 
-from typing import Iterator
+from typing import Iterator, Mapping
 
 from . import language
 from .influence import Deeds, Reach
-from .language import Form, asks_key
+from .language import Form, asks_part
 from .printing import event_text
 from .rulebase import RuleBase, numbered_items
 from .wording import listed
+
+Kinds = Mapping[str, Mapping[str, str]]
+"""Of each class the kinds of its fields."""
 
 FAILING = (("enable", "enabled"), ("disable", "disabled"), ("fire", "fired"))
 """The rule operations that fail where the rule is absent."""
@@ -65,23 +68,23 @@ def _not_heard(rulebase: RuleBase, sources: dict[str, Deeds]) -> list[str]:
 
 def scans(rulebase: RuleBase) -> list[str]:
     """The queries and the statements `each` that look at all objects of a class."""
-    return list(_scans(rulebase))
+    return list(_scans(rulebase, {one.name: dict(one.fields) for one in rulebase.classes}))
 
 
-def _scans(rulebase: RuleBase) -> Iterator[str]:
+def _scans(rulebase: RuleBase, kinds: Kinds) -> Iterator[str]:
     for rule in rulebase.rules:
         for query in rule.queries:
-            if not asks_key(query.name, query.predicate):
+            if not asks_part(query.name, query.predicate, kinds[query.class_name]):
                 yield f"rule {rule.name}, query {query.name}: all of {query.class_name}"
-        for found in _scanning_each(rule.action):
+        for found in _scanning_each(rule.action, kinds):
             yield f"rule {rule.name}, {found}"
     for item, unit, _ in numbered_items(rulebase):
         if item[0] == "tx":
-            for found in _scanning_each(item[1]):
+            for found in _scanning_each(item[1], kinds):
                 yield f"unit {unit}, {found}"
 
 
-def _scanning_each(body: list[Form]) -> Iterator[str]:
+def _scanning_each(body: list[Form], kinds: Kinds) -> Iterator[str]:
     for statement in language.statements(body):
-        if statement[0] == "each" and not asks_key(statement[1], statement[3]):
+        if statement[0] == "each" and not asks_part(statement[1], statement[3], kinds[statement[2]]):
             yield f"for each {statement[1]}: all of {statement[2]}"

@@ -156,7 +156,7 @@ def query_words(query: Query, is_one_part: bool) -> str:
         return f"query {query.name} found nothing, as there is no object of {query.on}"
     if query.key is None:
         keys = f"{query.on} {some_of([str(key) for key in query.keys], MOST_KEYS)}" if query.keys else "none that fits"
-        return f"query {query.name} went over {counted(query.objects, 'object')} of {query.on} and found {keys}"
+        return f"query {query.name} found {keys} among {counted(query.objects, 'object')} of {query.on}"
     if query.keys:
         return f"query {query.name} found {query.on} {query.key}"
     if query.failed is None:

@@ -341,7 +341,8 @@ CASES = [
     Case(
         "a field that is a text", "S2 /classes/0/1/0",
         script(classes='["acct", [«"bal"»]]'),
-        "a field is [name, kind], and this is a text"),
+        "a field is [name, kind], and this is a text",
+        "put the field into a list of its own: [[name, kind]]"),
     Case(
         "a field without a kind", "S2 /classes/0/1/0",
         script(classes='["acct", [«["bal"]»]]'),
@@ -496,6 +497,11 @@ CASES = [
         rule(event='["at", «"20"»]'),
         "a moment is a whole number, and this is a text", "write 20 without quotes"),
     Case(
+        "every without its first moment", "S2 /rules/0/1",
+        rule(event='«["every", 30]»'),
+        '["every", first, period] has 2 parts after its word, and this has 1',
+        'the first moment comes before the period: ["every", 30, 30]'),
+    Case(
         "a first moment below 0", "S2 /rules/0/1/1",
         rule(event='["every", «-5», 0]'),
         "a moment is 0 or more, and this is -5"),
@@ -556,7 +562,13 @@ CASES = [
     Case(
         "a query that is a text", "S2 /rules/0/3/0",
         rule(queries='[«"x"», "acct", true]'),
-        "a query is [name, class, predicate], and this is a text"),
+        "a query is [name, class, predicate], and this is a text",
+        "put the query into a list of its own: [[name, class, predicate]]"),
+    Case(
+        "a test in place of queries", "S2 /rules/0/3/0",
+        rule(queries='[«"<"», ["new", 0, "bal"], 3]'),
+        "a condition is a list of queries [name, class, predicate], and this is a text",
+        "a test that needs no object is an `if` in the action"),
     Case(
         "a query without a predicate", "S2 /rules/0/3/0",
         rule(queries='[«["x", "acct"]»]'),
@@ -689,6 +701,16 @@ CASES = [
         body('["emit", ' + '["neg", ' * 16 + '«1.5»' + ']' * 17),
         "a number must be whole, and this has a fraction"),
     Case(
+        "a value of the event without its part", "S2 /rules/0/5/0/1",
+        action('["emit", «["new", "bal"]»]'),
+        '["new", i, field] has 2 parts after its word, and this has 1',
+        'the number of the part comes first, mostly 0: ["new", 0, field]'),
+    Case(
+        "a key of the event without its part", "S2 /rules/0/5/0/1",
+        action('["emit", «["id"]»]'),
+        '["id", i] has 1 part after its word, and this has none',
+        'the number of the part is written, mostly 0: ["id", 0]'),
+    Case(
         "a part that is a text", "S2 /rules/0/5/0/1/1",
         action('["emit", ["new", «"0"», "bal"]]'),
         "the number of a part is a whole number, and this is a text", "write 0 without quotes"),
@@ -778,7 +800,8 @@ CASES = [
     Case(
         "a signal without arguments", "S2 /items/0/1/0",
         body('«["signal", "go"]»'),
-        '["signal", name, args] has 2 parts after its word, and this has 1'),
+        '["signal", name, args] has 2 parts after its word, and this has 1',
+        "the arguments are written too: [] if there are none"),
     Case(
         "an if without a second body", "S2 /items/0/1/0",
         body('«["if", true, []]»'),
@@ -811,7 +834,12 @@ CASES = [
     Case(
         "a pair that is a text", "S2 /items/0/1/0/3/0",
         body('["update", "acct", 1, [«"bal"», 1]]'),
-        "a pair is [field, expression], and this is a text"),
+        "a pair is [field, expression], and this is a text",
+        "put the pair into a list of its own: [[field, expression]]"),
+    Case(
+        "a pair that is a number", "S2 /items/0/1/0/3/0",
+        body('["update", "acct", 1, [«1»]]'),
+        "a pair is [field, expression], and this is a number"),
     Case(
         "a pair of one", "S2 /items/0/1/0/3/0",
         body('["create", "acct", 1, [«["bal"]»]]'),

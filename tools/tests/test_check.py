@@ -203,7 +203,7 @@ class AcceptedScripts(InDirectory):
 
     def test_a_key_that_is_asked_for_too_late(self) -> None:
         key, owes = '["=", ["id", 0], ["key", "a"]]', '["<", ["of", "a", "bal"], 0]'
-        hints = [f"{what} goes over all of `acct`: with this test of the key first it looks at one object"
+        hints = [f"with this test of the key first, {what} looks at one object of `acct` only"
                  for what in ("the query `a`", "`each` `a`")]
         self.assertEqual(self.hints(f'["and", {owes}, {key}]'), hints)
         self.assertEqual(self.hints(f'["and", ["and", {owes}, {owes}], ["and", {key}, {key}]]'), hints)
@@ -220,6 +220,41 @@ class AcceptedScripts(InDirectory):
         text = script(items='["tx", [["emit", ["count"]]]]')
         warning = "nothing has occurred in a transaction's own body: `count` always ends with A6 here"
         self.assertEqual(self.warnings(text), [warning])
+
+    def on(self, event: str, value: str) -> str:
+        """A script with a rule that looks at a value, and a transaction in which its event occurs."""
+        rules = f'["r", {event}, "immediate", [], "immediate", [["emit", {value}]]]'
+        made = '["create", "acct", 1, [["bal", 1], ["owner", "o"]]], ["signal", "go", [1]]'
+        return script(rules=rules, items=f'["tx", [["install", "r"], {made}, ["abort"]]], ["clock", 9]')
+
+    def test_a_value_that_the_event_never_has(self) -> None:
+        made, go, nine = '["create", "acct"]', '["signal", "go"]', '["at", 9]'
+        for event, value, cause, warning in (
+                (made, '["time", 0]', "A6", "part 0 of the rule's event is create of acct, which has no `time`"),
+                (made, '["old", 0, "bal"]', "A6", "part 0 of the rule's event is create of acct, which has no `old`"),
+                (made, '["new", 0, "ball"]', "A3", "the class `acct` has no field `ball`"),
+                (made, '["id", 1]', "A6", "the rule's event has no part 1"),
+                (go, '["id", 0]', "A6", "part 0 of the rule's event is signal go, which has no `id`"),
+                (nine, '["arg", 0, 0]', "A6", "part 0 of the rule's event is moment 9, which has no `arg`"),
+                (f'["or", {go}, {made}]', '["time", 0]', "A6",
+                 "part 0 of the rule's event is signal go or create of acct, which has no `time`"),
+                (f'["seq", {made}, {go}]', '["arg", 0, 0]', "A6",
+                 "part 0 of the rule's event is create of acct, which has no `arg`"),
+                (f'["closure", {made}, {go}]', '["id", 2]', "A6", "the rule's event has no part 2")):
+            with self.subTest(event=event, value=value):
+                text = self.on(event, value)
+                self.assertEqual(self.warnings(text), [f"{warning}: this always ends with {cause}"])
+                tree = program.run(text.encode("utf-8"), ["--tree"]).output
+                self.assertIn(f"fire r immediate satisfied aborted {cause}", tree)
+
+    def test_no_warning_where_some_occurrence_has_the_value(self) -> None:
+        made, go = '["create", "acct"]', '["signal", "go"]'
+        for event, value in (
+                (made, '["new", 0, "bal"]'), (f'["or", {made}, {go}]', '["arg", 0, 0]'),
+                (f'["or", {made}, ["create", "mark"]]', '["new", 0, "bal"]'),
+                (f'["seq", {made}, {go}]', '["arg", 1, 0]'), (f'["or", {made}, ["seq", {go}, {made}]]', '["id", 1]')):
+            with self.subTest(event=event, value=value):
+                self.assertEqual(self.warnings(self.on(event, value)), [])
 
     def test_values_of_another_kind(self) -> None:
         text = script(items='["tx", [["update", "acct", "1", [["bal", "5"], ["owner", "o"]]]]]')

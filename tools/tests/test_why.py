@@ -174,7 +174,7 @@ class FiringTest(WhyCase):
             "fire oversell immediate satisfied aborted A9 oversell, in unit 2",
             "It was triggered by update item 7 (stock 3 -> -1) at /rules/0/5/0, in the action of rule reserve.",
             "Rule reserve was triggered by signal order [7] at /items/1/1/0, in the unit's own body.",
-            "Its condition was satisfied. Query low went over 1 object of item and found item 7.",
+            "Its condition was satisfied. Query low found item 7 among 1 object of item.",
             "It vetoed (at /rules/1/5/0)."], "oversell")
 
     def condition(self, predicate, occurrence=ORDER, more=()):
@@ -200,15 +200,15 @@ class FiringTest(WhyCase):
         queries = [["a", "acct", True], ["i", "item", [">", ["of", "i", "stock"], 5]], ["b", "acct", True]]
         asks = simple("asks", ["signal", "go"], queries=queries)
         of = script([asks], install("asks") + [ACCOUNT, GO], [["create", "item", 1, [["stock", 3]]], GO])
-        first = "Its condition wasn't satisfied. Query a went over 1 object of acct and found acct 1. "
+        first = "Its condition wasn't satisfied. Query a found acct 1 among 1 object of acct. "
         self.assertIn(first + "Query i found nothing, as there is no object of item.", self.answer(of, 1, "asks"))
-        self.assertIn(first + "Query i went over 1 object of item and found none that fits.",
+        self.assertIn(first + "Query i found none that fits among 1 object of item.",
                       self.answer(of, 2, "asks"))
 
     def test_the_query_that_met_a_fault_is_named(self):
         faulty = ["=", ["/", 1, ["-", ["of", "b", "bal"], 10]], 0]
         asks = simple("asks", ["signal", "go"], queries=[["a", "acct", True], ["b", "acct", faulty]])
-        self.assertIn("Its condition ended with a fault (A5). Query a went over 1 object of acct and found acct 1. "
+        self.assertIn("Its condition ended with a fault (A5). Query a found acct 1 among 1 object of acct. "
                       "Query b met a fault: 1 / 0 divides by zero.",
                       self.answer(script([asks], install("asks") + [ACCOUNT, GO]), 1, "asks"))
 

@@ -2,7 +2,9 @@
 
 from __future__ import annotations
 
-from ..language import MOST_LEVELS, OF_A_ROW, OF_THE_OCCURRENCE, is_key_asked
+from ..language import HAVING, MOST_LEVELS, OF_A_ROW, OF_THE_OCCURRENCE, is_key_asked
+from ..printing import event_text
+from ..wording import listed
 from .faults import Place
 from .forms import EXPRESSIONS
 from .parts import check_whole, did_you_mean, first_word, form_at, index_at, is_number, kind_of, name_at, names_there
@@ -30,7 +32,7 @@ def read_expression(place: Place, scope: Scope, level: int = 1) -> None:
 
 def read_predicate(place: Place, scope: Scope, name: str, what: str) -> None:
     """Reads the predicate of the row of this name; `what` is the query or statement that it belongs to. Where it asks
-    for the row's key, but not first, all objects of the class are looked at for nothing."""
+    for the row's key, but not first, more objects of the class are looked at than that one."""
     read_expression(place, scope)
     first, *later = conjuncts(place)
     if is_key_asked(name, first.node.value):
@@ -38,7 +40,7 @@ def read_predicate(place: Place, scope: Scope, name: str, what: str) -> None:
     for test in later:
         if is_key_asked(name, test.node.value):
             of = scope.rows[name].class_read.name
-            message = f"{what} goes over all of `{of}`: with this test of the key first it looks at one object"
+            message = f"with this test of the key first, {what} looks at one object of `{of}` only"
             scope.gathered.hint(test, message)
             return
 
@@ -115,3 +117,29 @@ def read_of_occurrence(place: Place, word: str, parts: list[Place], scope: Scope
     if not scope.has_occurrence:
         message = f"nothing has occurred in a transaction's own body: `{word}` always ends with A6 here"
         scope.gathered.warn(place, message)
+    elif word != "count" and scope.shapes is not None:
+        warn_of_part(place, word, parts, scope)
+
+
+def warn_of_part(place: Place, word: str, parts: list[Place], scope: Scope) -> None:
+    """A part that no occurrence of the rule's event has, or that never has the value asked for."""
+    number = parts[0].node.value
+    found = [shape[number] for shape in scope.shapes or () if number < len(shape)]
+    if not found:
+        most = max(map(len, scope.shapes or ()), default=0)
+        known = "it has one part, part 0" if most == 1 else f"its parts are 0 to {most - 1}"
+        scope.gathered.warn(place, f"the rule's event has no part {number}: this always ends with A6", known)
+    elif all(pattern[0] not in HAVING[word] for pattern in found):
+        events = listed(list(dict.fromkeys(map(event_text, found))), "or")
+        message = f"part {number} of the rule's event is {events}, which has no `{word}`: this always ends with A6"
+        scope.gathered.warn(place, message)
+    elif word in ("new", "old"):
+        warn_of_field(parts[1], {pattern[1] for pattern in found if pattern[0] in HAVING[word]}, scope)
+
+
+def warn_of_field(place: Place, classes: set[str], scope: Scope) -> None:
+    """A field that the class of the part lacks, where only one class comes in question."""
+    field, (name, *others) = place.node.value, sorted(classes)
+    if not others and field not in scope.classes[name].kinds:
+        message = f"the class `{name}` has no field `{field}`: this always ends with A3"
+        scope.gathered.warn(place, message, did_you_mean(field, scope.classes[name].kinds))

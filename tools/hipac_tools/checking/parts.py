@@ -74,14 +74,21 @@ def count_of(number: int) -> str:
     return {0: "no parts", 1: "1 part"}.get(number, f"{number} parts")
 
 
-def shape_at(place: Place, shape: Shape, hint: str = "") -> list[Place]:
-    """The parts of a list of fixed parts; the hint is for a wrong number of them."""
+def shape_at(place: Place, shape: Shape, hint: str = "", outside: Optional[Place] = None) -> list[Place]:
+    """The parts of a list of fixed parts; the hint is for a wrong number of them. `outside` is the list of such lists
+    in which it stands, if it stands in one."""
     written = f"{shape.what} is {shape.written()}"
     if not isinstance(place.node.value, list):
-        raise place.wrong_shape(f"{written}, and this is {kind_of(place.node)}")
+        bare = outside is not None and first_word(outside.node) is not None
+        raise place.wrong_shape(f"{written}, and this is {kind_of(place.node)}", bare_shape(shape) if bare else "")
     if len(place.node.items) != len(shape.parts):
         raise place.wrong_shape(f"{written}: {count_of(len(shape.parts))}, and this has {len(place.node.items)}", hint)
     return place.items()
+
+
+def bare_shape(shape: Shape) -> str:
+    """What helps where a list of such lists begins with a text: the parts of one stand in it as they are."""
+    return f"put the {shape.what.split(' ', 1)[1]} into a list of its own: [{shape.written()}]"
 
 
 def form_at(place: Place, grammar: Grammar) -> tuple[str, list[Place]]:
@@ -151,7 +158,21 @@ def other_word(word: str, have: int) -> str:
         return "both bodies are written: the second may be []"
     if word == "sub" and have == 1:
         return "`otherwise` is written: it may be []"
+    if word in SHORT_FORMS and have == SHORT_FORMS[word][0]:
+        return SHORT_FORMS[word][1]
     return ""
+
+
+SHORT_FORMS = {
+    "signal": (1, "the arguments are written too: [] if there are none"),
+    "new": (1, 'the number of the part comes first, mostly 0: ["new", 0, field]'),
+    "old": (1, 'the number of the part comes first, mostly 0: ["old", 0, field]'),
+    "arg": (1, 'the number of the part comes first, mostly 0: ["arg", 0, j]'),
+    "id": (0, 'the number of the part is written, mostly 0: ["id", 0]'),
+    "time": (0, 'the number of the part is written, mostly 0: ["time", 0]'),
+    "every": (1, 'the first moment comes before the period: ["every", 30, 30]'),
+}
+"""Forms with too few parts, by the number of parts that they have."""
 
 
 # ---- names

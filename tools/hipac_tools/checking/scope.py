@@ -5,6 +5,7 @@ from __future__ import annotations
 from dataclasses import dataclass, field, replace
 from typing import Mapping, Optional
 
+from ..language import Form
 from .faults import Note, Place
 
 
@@ -70,6 +71,8 @@ class Scope:
     """Rows that aren't known at the place although they may seem to be, each with the reason."""
     has_occurrence: bool = True
     """Whether something occurred: not in a body of the script."""
+    shapes: Optional[list[tuple[Form, ...]]] = None
+    """The simple events that the parts of the occurrence may be, if they are few."""
 
     def with_row(self, row: Row) -> Scope:
         return replace(self, rows={**self.rows, row.name: row})

@@ -7,14 +7,14 @@ from __future__ import annotations
 from dataclasses import dataclass, replace
 from typing import Optional
 
-from ..language import KINDS, MODES, MOST_DEPTH, MOST_MOMENTS, SECOND_VERSION_MODE, VERSIONS, modes_of
+from ..language import KINDS, MODES, MOST_DEPTH, MOST_MOMENTS, SECOND_VERSION_MODE, VERSIONS, modes_of, shapes
 from ..positions import Node, shortened
 from ..wording import listed
 from .events import Moments, read_event
 from .expressions import read_predicate
 from .faults import Place, Refused
 from .forms import (
-    CLASS, FIELD, ITEMS, KIND_HABITS, MODE_HABITS, NEEDED_MEMBERS, QUERY, ROOT_MEMBERS, RULE,
+    CLASS, EXPRESSIONS, FIELD, ITEMS, KIND_HABITS, MODE_HABITS, NEEDED_MEMBERS, QUERY, ROOT_MEMBERS, RULE,
 )
 from .parts import (
     Limit, did_you_mean, first_word, form_at, kind_of, known_name_at, list_at, new_name_at, shape_at, short_list_at,
@@ -114,7 +114,7 @@ def read_fields(place: Place) -> dict[str, str]:
     kinds: dict[str, str] = {}
     places: dict[str, Place] = {}
     for field_place in short_list_at(place, "the fields of a class", "fields [name, kind]", FIELDS):
-        name_place, kind_place = shape_at(field_place, FIELD)
+        name_place, kind_place = shape_at(field_place, FIELD, outside=place)
         name = new_name_at(name_place, "a field's name", "a field", places)
         kinds[name] = word_at(kind_place, "a kind", KINDS, KIND_HABITS)
         places[name] = name_place
@@ -148,7 +148,7 @@ def read_rule(parts: list[Place], scope: Scope, moments: Moments, version_place:
     _, event, event_mode, queries, action_mode, action = parts
     read_event(event, scope, moments)
     read_mode(event_mode, version_place, version)
-    acting = read_condition(queries, scope)
+    acting = read_condition(queries, replace(scope, shapes=shapes(event.node.value)))
     read_mode(action_mode, version_place, version)
     read_body(action, acting, what="the action of a rule")
 
@@ -163,8 +163,11 @@ def read_mode(place: Place, version_place: Place, version: int) -> None:
 def read_condition(place: Place, scope: Scope) -> Scope:
     """The queries of a condition; what is known after them."""
     query_places = list_at(place, "the condition", "queries [name, class, predicate]")
+    if first_word(place.node) in EXPRESSIONS.words:
+        raise query_places[0].wrong_shape("a condition is a list of queries [name, class, predicate], and this is a text",
+                                          "a test that needs no object is an `if` in the action")
     for position, query_place in enumerate(query_places):
-        name_place, class_place, predicate = shape_at(query_place, QUERY)
+        name_place, class_place, predicate = shape_at(query_place, QUERY, outside=place)
         name = new_name_at(name_place, "a query's name", "a query", scope.row_places())
         class_name = known_name_at(class_place, "a class's name", "class", scope.classes)
         scope = scope.with_row(Row(name, scope.classes[class_name], name_place, True))

@@ -83,7 +83,7 @@ def read_pairs(place: Place, changed: Class, scope: Scope) -> dict[str, Place]:
     """The fields that the pairs name, each once and one of the class's."""
     named: dict[str, Place] = {}
     for pair in list_at(place, "the pairs", "pairs [field, expression]"):
-        field_place, value_place = shape_at(pair, PAIR)
+        field_place, value_place = shape_at(pair, PAIR, outside=place)
         field = new_name_at(field_place, "a field's name", "a pair for the field", named)
         if field not in changed.kinds:
             message = f"the class `{changed.name}` has no field `{field}`"
