@@ -225,7 +225,7 @@ class AcceptedScripts(InDirectory):
         """A script with a rule that looks at a value, and a transaction in which its event occurs."""
         rules = f'["r", {event}, "immediate", [], "immediate", [["emit", {value}]]]'
         made = '["create", "acct", 1, [["bal", 1], ["owner", "o"]]], ["signal", "go", [1]]'
-        return script(rules=rules, items=f'["tx", [["install", "r"], {made}, ["abort"]]], ["clock", 9]')
+        return script(rules=rules, items=f'["tx", [["install", "r"], {made}]], ["clock", 9]')
 
     def test_a_value_that_the_event_never_has(self) -> None:
         made, go, nine = '["create", "acct"]', '["signal", "go"]', '["at", 9]'
