@@ -166,7 +166,8 @@ def main(name):
     with open(os.path.join(BUILT, f"{name}-unproved.lock"), "w", encoding="utf-8") as lock:
         try:
             fcntl.flock(lock, fcntl.LOCK_EX | fcntl.LOCK_NB)
-            print(f"{name}: making the program without proofs, with all checks at run time: about a minute", file=sys.stderr, flush=True)
+            print(f"{name}: making the program without proofs, with all checks at run time: a minute or two",
+                  file=sys.stderr, flush=True)
         except BlockingIOError:
             print(f"{name}: another launch makes the program: waiting for it", file=sys.stderr, flush=True)
             fcntl.flock(lock, fcntl.LOCK_EX)

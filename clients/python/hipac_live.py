@@ -654,7 +654,7 @@ class RuleBase:
     """A rule base in a program that stays up. Several threads may share it: each call is one line and its answer.
 
     - `program`: the words that start the program, else `PROGRAM`. The launcher makes it first if need be, which takes
-      about a minute. What is said on standard error is logged as warnings of "hipac_live".
+      a minute or two. What is said on standard error is logged as warnings of "hipac_live".
     - `workers`: 1 to 64; the answers don't change.
     - `tree`: whether the units have trees.
     - `timeout`: so many seconds a line and its answer may take. If they take longer, the program is killed, and
