@@ -165,7 +165,8 @@ def scan_and_write(objects, rounds=100):
     """One rule that scans a class by a predicate which no index serves, and writes one of its objects."""
     rules = [on_go("r", [["rich", "acct", richest(objects)]], [add("acct", "bal", 1, 1)])]
     items = [["tx", installs(rules) + [create(k, k) for k in range(objects)]]]
-    return Case(objects, rounds, script([ACCOUNT], rules, items), script([ACCOUNT], rules, items + [["tx", [GO]]] * rounds))
+    with_rounds = script([ACCOUNT], rules, items + [["tx", [GO]]] * rounds)
+    return Case(objects, rounds, script([ACCOUNT], rules, items), with_rounds)
 
 
 # Each table: its title, what is counted, and its cases, made when they are run.

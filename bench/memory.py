@@ -21,10 +21,12 @@ def script(is_indexed):
     for number, field in enumerate(("bal", "due")):
         value = ["of", "x", field]
         predicate = ["=", value if is_indexed else ["*", value, 1], 5]
-        rules.append([f"r{number}", ["signal", "go"], "immediate", [["x", "acct", predicate]], "immediate", [["emit", number]]])
+        queries, action = [["x", "acct", predicate]], [["emit", number]]
+        rules.append([f"r{number}", ["signal", "go"], "immediate", queries, "immediate", action])
     creations = [["create", "acct", key, [["bal", key], ["due", key]]] for key in range(OBJECTS)]
     items = [["tx", [["install", rule[0]] for rule in rules]], ["tx", creations], ["tx", [["signal", "go", []]]]]
-    return json.dumps({"version": 1, "classes": CLASSES, "rules": rules, "items": items}, separators=(",", ":")).encode()
+    whole = {"version": 1, "classes": CLASSES, "rules": rules, "items": items}
+    return json.dumps(whole, separators=(",", ":")).encode()
 
 
 def most_resident(program, given):

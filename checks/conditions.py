@@ -3,9 +3,10 @@
 
     checks/conditions.py [--scripts N] [--jobs N]
 
-Each predicate of a script begins by comparing its row's key or a field, so that the program looks at a part of the class
-alone. In the other script each predicate stands in two `not`s, so that the program looks at each object of the class. The
-reports must be the same byte for byte, with trees, for 1 and 4 workers. So faults of predicates must be the same too.
+Each predicate of a script begins by comparing its row's key or a field, so that the program looks at a part of the
+class alone. In the other script each predicate stands in two `not`s, so that the program looks at each object of the
+class. The reports must be the same byte for byte, with trees, for 1 and 4 workers. So faults of predicates must be the
+same too.
 
 HIPAC names the program; the default is the one that ./hipac starts. The seeds are fixed: script n is the same on each
 machine. The last line is 'N passed, M failed'.
@@ -81,7 +82,8 @@ def is_alike(command, seed):
     script = ConditionMaker(seed).script()
     other = {**script, "rules": [scanned_rule(rule) for rule in script["rules"]], "items": scanned(script["items"])}
     runs = [(script, "1"), (script, "4"), (other, "1")]
-    answers = [by_pipe([*command, "--tree", "--workers", workers], json.dumps(given).encode()) for given, workers in runs]
+    answers = [by_pipe([*command, "--tree", "--workers", workers], json.dumps(given).encode())
+               for given, workers in runs]
     return all(answer[:2] == answers[-1][:2] for answer in answers) and answers[-1][0] == 0
 
 

@@ -33,11 +33,12 @@ def deepest(before, after):
     action = nested(before, after, 15, f'["emit",{LEAST}],["signal","go",[{LEAST}]]')
     body = nested('["sub",[', "],[]]", 15, '["signal","start",[]]')
     rest = f'"immediate",[["q","acct",{TRUTH}]],"immediate",[{action}]]'
-    rules = ",".join(f'["{name}",["signal","{event}"],{rest}' for name, event in (("r", "go"), ("s", "start"), ("t", "start")))
+    events = (("r", "go"), ("s", "start"), ("t", "start"))
+    rules = ",".join(f'["{name}",["signal","{event}"],{rest}' for name, event in events)
     installs = '["install","r"],["install","s"],["install","t"]'
     return (
-        '{"version":2,"depth":16,"classes":[["acct",[["bal","int"]]]],"rules":[' + rules + '],"items":[["tx",[["create","acct",1,'
-        '[["bal",1]]],' + installs + ']],["tx",[' + body + "]]]}"
+        '{"version":2,"depth":16,"classes":[["acct",[["bal","int"]]]],"rules":[' + rules + '],"items":['
+        '["tx",[["create","acct",1,[["bal",1]]],' + installs + ']],["tx",[' + body + "]]]}"
     )
 
 
@@ -80,11 +81,13 @@ def all_at_once():
     )
     emit = f',["emit","{letters}"]'
     texts = (MOST_BYTES - len(script) - 8) // len(emit)
-    moments = (f"unit {number + 1} time {number * PERIOD} committed\nemit {number * PERIOD}\n" for number in range(1, 1001))
+    moments = (f"unit {number + 1} time {number * PERIOD} committed\nemit {number * PERIOD}\n"
+               for number in range(1, 1001))
+    row_text = "".join(values(letters, lambda name, value: f" {name}={value}"))
     report = (
         "unit 1 committed\n" + f"emit {-GREATEST}\n" * 255 + "".join(moments)
         + "unit 1002 aborted A8\nunit 1003 committed\nemit 1\n" + f'emit "{letters}"\n' * texts
-        + f"final\nobject {NAME}000 {GREATEST}" + "".join(values(letters, lambda name, value: f" {name}={value}")) + "\n"
+        + f"final\nobject {NAME}000 {GREATEST}{row_text}\n"
         + "".join(f"rule {NAME}{number:03} enabled\n" for number in range(256)) + "end\n"
     )
     return padded(script + emit * texts + "]]]}"), report
@@ -99,7 +102,8 @@ def queued_and_detached():
         '["s",["signal","apart"],"separate",[],"immediate",[["emit",2],["signal","apart",[["arg",0,0]]]]]'
     )
     signals = f',["signal","later",["{letters}"]],["signal","apart",["{letters}"]]' * 512
-    script = '{"version":1,"depth":16,"classes":[],"rules":[' + rules + '],"items":[["tx",[["install","q"],["install","s"]' + signals
+    installs = '["install","q"],["install","s"]'
+    script = '{"version":1,"depth":16,"classes":[],"rules":[' + rules + '],"items":[["tx",[' + installs + signals
     report = (
         "unit 1 committed\n" + "emit 1\n" * (15 * 512) + "separate s committed\nemit 2\n" * (15 * 512)
         + "separate s committed\n" * 512 + "final\nrule q enabled\nrule s enabled\nend\n"

@@ -76,7 +76,8 @@ REFUSALS = [
     ("a rule of five parts", "S2 /rules/0",
      script(rules='[["r",["commit"],"immediate",[],"immediate"]]')),
     ("a rule's name for the second time, before the form of a later rule", "S4 /rules/1/0",
-     script(rules='[["r",["signal","go"],"immediate",[],"immediate",[]],["r",["signal","go"],"immediate",[],"immediate",[]],[]]')),
+     script(rules='[["r",["signal","go"],"immediate",[],"immediate",[]],'
+                  '["r",["signal","go"],"immediate",[],"immediate",[]],[]]')),
     ("the form of a later rule comes before a rule's event", "S2 /rules/1",
      script(rules='[["r",[],"immediate",[],"immediate",[]],[]]')),
     ("257 rules, which are counted before they are read", "S5 rules",
@@ -103,7 +104,8 @@ REFUSALS = [
     ("a moment with a point", "S3 /rules/0/1/1",
      script(rules='[["r",["at",1.5],"immediate",[],"immediate",[]]]')),
     ("an event of 17 levels, before the class in it", "S5 event",
-     script(rules='[["r",' + nested('["or",', ',["commit"]]', 16, '["create","nobody"]') + ',"immediate",[],"immediate",[]]]')),
+     script(rules='[["r",' + nested('["or",', ',["commit"]]', 16, '["create","nobody"]')
+                  + ',"immediate",[],"immediate",[]]]')),
     ("a shape at level 17 comes before the limit", "S2 /rules/0/1/1/1/1/1/1/1/1/1/1/1/1/1/1/1/1/1",
      script(rules='[["r",' + nested('["or",', ',["commit"]]', 16, '["create"]') + ',"immediate",[],"immediate",[]]]')),
     ("an unknown class comes before a later shape", "S4 /rules/0/1/1/1",
@@ -139,11 +141,13 @@ REFUSALS = [
     ("a query of two parts", "S2 /rules/0/3/0",
      script(classes=ACCOUNT, rules='[["r",["signal","go"],"immediate",[["x","acct"]],"immediate",[]]]')),
     ("a query's name for the second time", "S4 /rules/0/3/1/0",
-     script(classes=ACCOUNT, rules='[["r",["signal","go"],"immediate",[["x","acct",true],["x","acct",true]],"immediate",[]]]')),
+     script(classes=ACCOUNT, rules='[["r",["signal","go"],"immediate",'
+                                   '[["x","acct",true],["x","acct",true]],"immediate",[]]]')),
     ("a class that is unknown, in a query", "S4 /rules/0/3/0/1",
      script(classes=ACCOUNT, rules='[["r",["signal","go"],"immediate",[["x","mark",true]],"immediate",[]]]')),
     ("a query that looks at a later one", "S4 /rules/0/3/0/2/1",
-     script(classes=ACCOUNT, rules='[["r",["signal","go"],"immediate",[["x","acct",["key","y"]],["y","acct",true]],"immediate",[]]]')),
+     script(classes=ACCOUNT, rules='[["r",["signal","go"],"immediate",'
+                                   '[["x","acct",["key","y"]],["y","acct",true]],"immediate",[]]]')),
     # ---- statements
     ("a statement that is unknown", "S2 /items/0/1/0",
      script(items='[["tx",[["print",1]]]]')),
@@ -170,17 +174,19 @@ REFUSALS = [
     ("a `for` over the row of a `with`", "S4 /items/0/1/0/4/0/1",
      script(classes=ACCOUNT, items='[["tx",[["with","x","acct",1,[["for","x",[]]]]]]]')),
     ("a class that is unknown, in a `with` whose name is a query's", "S4 /rules/0/5/0/1",
-     script(classes=ACCOUNT, rules='[["r",["signal","go"],"immediate",[["x","acct",true]],"immediate",[["with","x","mark",1,[]]]]]')),
+     script(classes=ACCOUNT, rules='[["r",["signal","go"],"immediate",'
+                                   '[["x","acct",true]],"immediate",[["with","x","mark",1,[]]]]]')),
     ("a `with` whose key looks at its own row", "S4 /items/0/1/0/3/1",
      script(classes=ACCOUNT, items='[["tx",[["with","x","acct",["key","x"],[]]]]]')),
     ("a row after its `each`", "S4 /items/0/1/1/1/1",
      script(classes=ACCOUNT, items='[["tx",[["each","x","acct",["=",["key","x"],1],[]],["emit",["key","x"]]]]]')),
     ("statements of 17 levels, before the value in them", "S5 nesting",
      script(items='[["tx",[' + nested('["sub",[', "],[]]", 16, '["emit",null]') + ']]]')),
-    ("a veto at level 17 of a transaction, before the limit", "S2 /items/0/1/0/1/0/1/0/1/0/1/0/1/0/1/0/1/0/1/0/1/0/1/0/1/0/1/0/1/0/1/0/1/0/1/0",
+    ("a veto at level 17 of a transaction, before the limit", "S2 /items/0" + "/1/0" * 17,
      script(items='[["tx",[' + nested('["sub",[', "],[]]", 16, '["veto"]') + ']]]')),
     ("statements of 17 levels, before the veto in them", "S5 nesting",
-     script(rules='[["r",["signal","go"],"immediate",[],"immediate",[' + nested('["sub",[', "],[]]", 16, '["veto"]') + ']]]')),
+     script(rules='[["r",["signal","go"],"immediate",[],"immediate",['
+                  + nested('["sub",[', "],[]]", 16, '["veto"]') + ']]]')),
     # ---- items
     ("an item that is unknown", "S2 /items/0",
      script(items='[["run",[]]]')),

@@ -36,7 +36,10 @@ RUN_LIMIT = 60
 # The number of programs of one name that stay: of the current sources, and of earlier ones.
 KEPT = 2
 
-ADVICE = "./build makes the proved program instead, in longer time; `rt try`, in the folder of the crate, makes and runs an unproved one"
+ADVICE = (
+    "./build makes the proved program instead, in longer time; "
+    "`rt try`, in the folder of the crate, makes and runs an unproved one"
+)
 
 
 class NotMade(Exception):
@@ -101,7 +104,8 @@ def made_by_try(name, room, words=()):
     if not is_taken:
         with open(said, encoding="utf-8", errors="replace") as file:
             text = file.read()[-2000:].rstrip("\n")
-        raise NotMade(f"rt try ended with status {trying.returncode}, and left no program to take. It said:\n{text}\n{ADVICE}")
+        left = f"rt try ended with status {trying.returncode}, and left no program to take"
+        raise NotMade(f"{left}. It said:\n{text}\n{ADVICE}")
     if status is None or runs(program) != status:
         raise NotMade(f"the program that was taken from rt try doesn't run as it did there. {ADVICE}")
     return program
@@ -117,7 +121,8 @@ def is_kept(folder):
     """Whether this folder has a complete program whose loader still exists."""
     try:
         with open(os.path.join(folder, "loader"), encoding="utf-8") as file:
-            return os.access(file.readline().rstrip("\n"), os.X_OK) and os.access(os.path.join(folder, "program"), os.X_OK)
+            found = file.readline().rstrip("\n")
+        return os.access(found, os.X_OK) and os.access(os.path.join(folder, "program"), os.X_OK)
     except OSError:
         return False
 

@@ -10,10 +10,10 @@ REPOSITORY = Path(__file__).resolve().parents[2]
 EXAMPLES = sorted((REPOSITORY / "examples").glob("*.json"))
 
 CONFUSING_NAMES = ("or", "and", "not", "some", "has", "key", "of", "new", "old", "part", "the", "its", "count", "found",
-                   "that", "is", "there", "with", "true", "then", "if", "at", "in", "as", "for", "each", "once", "moment",
-                   "argument", "else", "try", "rule", "a", "stock")
-CONFUSING_TEXTS = ("", "a", '"', "\\", '\\"', "a and b", ", then", "line\nbreak", "\u2028", "\u00a0", "é", "- 5", "x" * 120,
-                   "many words " * 20, "\\u2028", "\x7f", "\t")
+                   "that", "is", "there", "with", "true", "then", "if", "at", "in", "as", "for", "each", "once",
+                   "moment", "argument", "else", "try", "rule", "a", "stock")
+CONFUSING_TEXTS = ("", "a", '"', "\\", '\\"', "a and b", ", then", "line\nbreak", "\u2028", "\u00a0", "é", "- 5",
+                   "x" * 120, "many words " * 20, "\\u2028", "\x7f", "\t")
 COUPLINGS = ("immediate", "deferred", "separate", "dependent", "exclusive")
 
 
@@ -22,7 +22,8 @@ def script(rules: list, items: list, classes: list = (), version: int = 1, **mem
     return json.dumps({"version": version, "classes": list(classes), "rules": rules, "items": items, **members})
 
 
-def rule(name: str, event: list, action: list, ec: str = "immediate", ca: str = "immediate", queries: list = ()) -> list:
+def rule(name: str, event: list, action: list, ec: str = "immediate", ca: str = "immediate",
+         queries: list = ()) -> list:
     """A rule in its JSON form."""
     return [name, event, ec, list(queries), ca, action]
 
@@ -114,12 +115,14 @@ class RandomRuns:
     def script(self) -> str:
         names = [f"r{number}" for number in range(self.random.randint(1, 6))]
         events = [self.event(2) for _ in names]
-        rules = [rule(name, event, self.body(names, 2), self.random.choice(COUPLINGS), self.random.choice(COUPLINGS[:1] * 4 + COUPLINGS))
+        later = COUPLINGS[:1] * 4 + COUPLINGS
+        rules = [rule(name, event, self.body(names, 2), self.random.choice(COUPLINGS), self.random.choice(later))
                  for name, event in zip(names, events)]
         installed = [name for name in names if self.random.random() < 0.8]
         items = [["tx", [["install", name] for name in installed]]]
         items += [["tx", self.body(names, 3)] for _ in range(3)] + [["clock", self.random.choice((3, 12))]]
-        return script(rules, items, [["c", [["f", "int"]]], ["d", []]], version=2, depth=self.random.choice((1, 2, 3, 4, 8)))
+        depth = self.random.choice((1, 2, 3, 4, 8))
+        return script(rules, items, [["c", [["f", "int"]]], ["d", []]], version=2, depth=depth)
 
     def event(self, depth: int) -> list:
         if depth and self.random.random() < 0.35:

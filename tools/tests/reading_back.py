@@ -89,7 +89,8 @@ def rule_form(words: Words, block: Block) -> list:
     while words.peek(0) in ("if", "and") and words.peek(1) == "some" and words.peek(2) != ".":
         words.take(words.peek(0), "some")
         class_name, row = words.next(), words.next()
-        queries.append([row, class_name, True if words.takes("is", "there") else words.take("has") or words.expression()])
+        predicate = True if words.takes("is", "there") else words.take("has") or words.expression()
+        queries.append([row, class_name, predicate])
         if words.is_done():
             words = block.line()
     indent = 2

@@ -1,7 +1,7 @@
 """Refused scripts, each with the messages of `check`.
 
-The marks « and » around a value are not part of the script. `message` follows the refusal in the first line; `more` are
-the lines after the excerpt, without the excerpts of other places.
+The marks « and » around a value are not part of the script. `message` follows the refusal in the first line; `more`
+are the lines after the excerpt, without the excerpts of other places.
 """
 
 from __future__ import annotations

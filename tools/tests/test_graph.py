@@ -50,7 +50,8 @@ class Edges(unittest.TestCase):
 
     def test_statements_within_statements(self) -> None:
         for wrap in (lambda body: ["if", True, [], body], lambda body: ["each", "x", "c", True, body],
-                     lambda body: ["with", "x", "c", 1, body], lambda body: ["sub", [], body], lambda body: ["for", "q", body]):
+                     lambda body: ["with", "x", "c", 1, body], lambda body: ["sub", [], body],
+                     lambda body: ["for", "q", body]):
             action = [wrap([["signal", "s", []]])]
             found = edges([rule("a", ["commit"], action, queries=[["q", "c", True]]), rule("b", SIGNAL_S, [])], [])
             self.assertIn(("a", "sets off", "b", "signal s"), found)
@@ -67,20 +68,22 @@ class Edges(unittest.TestCase):
                     ("the script", first, "r", "signal s"), ("the script", second, "r", "signal t")})
 
     def test_rule_operations(self) -> None:
-        for word, kind in [("install", "installs"), ("enable", "enables"), ("disable", "disables"), ("remove", "removes"),
-                           ("fire", "fires")]:
+        for word, kind in [("install", "installs"), ("enable", "enables"), ("disable", "disables"),
+                           ("remove", "removes"), ("fire", "fires")]:
             found = edges([rule("a", SIGNAL_S, [[word, "b"]]), rule("b", SIGNAL_T, [])], [["tx", [[word, "a"]]]])
             self.assertEqual(found, {("a", kind, "b", ""), ("the script", kind, "a", "")})
 
     def test_moments(self) -> None:
-        rules = [rule("a", ["at", 5], []), rule("b", ["every", 5, 10], []), rule("c", ["at", 6], []), rule("d", ["at", 0], [])]
+        rules = [rule("a", ["at", 5], []), rule("b", ["every", 5, 10], []), rule("c", ["at", 6], []),
+                 rule("d", ["at", 0], [])]
         self.assertEqual(edges(rules, [installed("a"), ["clock", 5]]), {
             ("the script", "installs", "a", ""), ("the clock", "sets off", "a", "moment 5"),
             ("the clock", "sets off", "b", "every 10 moments from moment 5")})
 
     def test_commit_comes_from_each_top_level_transaction(self) -> None:
         rules = [rule(coupling, SIGNAL_S, [], coupling) for coupling in COUPLINGS]
-        rules += [rule("late", SIGNAL_S, [], ca="separate"), rule("timed", ["at", 1], []), rule("watch", ["commit"], [])]
+        rules += [rule("late", SIGNAL_S, [], ca="separate"), rule("timed", ["at", 1], []),
+                  rule("watch", ["commit"], [])]
         found = edges(rules, [["tx", []], ["clock", 1]], version=2)
         sources = {source for source, kind, target, _ in found if (kind, target) == ("sets off", "watch")}
         self.assertEqual(sources, {"the script", "the clock", "separate", "dependent", "exclusive", "late"})
@@ -103,8 +106,8 @@ class Cycles(unittest.TestCase):
         self.assertTrue(cycle.may_turn)
 
     def test_a_cycle_of_one_and_cycles_that_share_rules(self) -> None:
-        rules = [rule("a", SIGNAL_S, [["signal", "s", []], ["signal", "t", []]]), rule("b", SIGNAL_T, [["signal", "s", []]]),
-                 rule("c", SIGNAL_T, [["signal", "s", []]])]
+        rules = [rule("a", SIGNAL_S, [["signal", "s", []], ["signal", "t", []]]),
+                 rule("b", SIGNAL_T, [["signal", "s", []]]), rule("c", SIGNAL_T, [["signal", "s", []]])]
         cycles = built(rules, [installed("a", "b", "c")]).cycles
         self.assertEqual([cycle.path for cycle in cycles], ["a -> a", "a -> b -> a", "a -> c -> a"])
         self.assertEqual({cycle.breaks for cycle in cycles}, {()})
@@ -140,7 +143,8 @@ class Chains(unittest.TestCase):
 
     def test_an_action_of_its_own_is_no_deeper_than_its_condition(self) -> None:
         for coupling in COUPLINGS[:4]:
-            rules = [rule("a", SIGNAL_S, [["signal", "t", []]], "immediate", coupling), rule("b", SIGNAL_T, [["emit", 1]])]
+            rules = [rule("a", SIGNAL_S, [["signal", "t", []]], "immediate", coupling),
+                     rule("b", SIGNAL_T, [["emit", 1]])]
             for depth in (1, 2):
                 text = script(rules, [installed("a", "b"), ["tx", [["signal", "s", []]]]], depth=depth)
                 self.assertEqual(graph.build(rulebase.read(text)).may_meet_limit, depth == 1)
@@ -170,14 +174,15 @@ class Chains(unittest.TestCase):
             self.assertEqual("A7" in report(text), depth == 1)
 
     def test_what_never_fires_makes_no_chain(self) -> None:
-        rules = [rule("a", SIGNAL_S, [["signal", "t", []]]), rule("b", ["seq", ["signal", "u"], SIGNAL_T], [["signal", "s", []]])]
+        rules = [rule("a", SIGNAL_S, [["signal", "t", []]]),
+                 rule("b", ["seq", ["signal", "u"], SIGNAL_T], [["signal", "s", []]])]
         found = built(rules, [installed("a", "b"), ["tx", [["signal", "s", []]]]])
         self.assertEqual([step.target for step in found.chain.steps], ["a"])
         self.assertEqual([(cycle.path, cycle.may_turn) for cycle in found.cycles], [("a -> b -> a", False)])
 
     def test_the_longest_of_several(self) -> None:
-        rules = [rule("a", SIGNAL_S, [["signal", "t", []], ["signal", "u", []]]), rule("b", SIGNAL_T, [["signal", "u", []]]),
-                 rule("c", ["signal", "u"], [])]
+        rules = [rule("a", SIGNAL_S, [["signal", "t", []], ["signal", "u", []]]),
+                 rule("b", SIGNAL_T, [["signal", "u", []]]), rule("c", ["signal", "u"], [])]
         found = built(rules, [installed("a", "b", "c"), ["tx", [["signal", "s", []]]]])
         self.assertEqual([step.target for step in found.chain.steps], ["a", "b", "c"])
 
@@ -190,15 +195,17 @@ class Chains(unittest.TestCase):
             met += "A7" in output
             self.assertTrue(found.may_meet_limit or "A7" not in output, f"seed {seed}: {text}")
             fired = set(re.findall(r"^ *(?:fire|act|separate|dependent|exclusive) (\w+)", output, re.MULTILINE))
-            self.assertLessEqual(fired, {node.name for node in found.nodes if node.is_rule and node.may_fire}, f"seed {seed}")
+            may_fire = {node.name for node in found.nodes if node.is_rule and node.may_fire}
+            self.assertLessEqual(fired, may_fire, f"seed {seed}")
         self.assertGreater(met, 5)
 
 
 class Oversights(unittest.TestCase):
     def test_rules_that_never_fire(self) -> None:
-        rules = [rule("a", SIGNAL_S, [["install", "c"]]), rule("b", SIGNAL_S, [["install", "c"]]), rule("c", SIGNAL_S, []),
-                 rule("d", ["seq", SIGNAL_S, SIGNAL_T], [])]
-        warnings = built(rules, [["tx", [["enable", "a"], ["fire", "b"], ["install", "d"], ["signal", "s", []]]]]).warnings
+        rules = [rule("a", SIGNAL_S, [["install", "c"]]), rule("b", SIGNAL_S, [["install", "c"]]),
+                 rule("c", SIGNAL_S, []), rule("d", ["seq", SIGNAL_S, SIGNAL_T], [])]
+        body = [["enable", "a"], ["fire", "b"], ["install", "d"], ["signal", "s", []]]
+        warnings = built(rules, [["tx", body]]).warnings
         self.assertEqual(warnings, [
             "rule a is never installed, so it never fires",
             "rule a is enabled by the script, which ends with A2 as it is absent",
@@ -212,7 +219,8 @@ class Oversights(unittest.TestCase):
         rules = [rule("a", SIGNAL_S, [["signal", "u", []]]), rule("b", ["or", SIGNAL_S, ["at", 9]], [])]
         items = [installed("a", "b"), ["tx", [["signal", "u", []], ["signal", "s", []]]], ["clock", 8]]
         self.assertEqual(built(rules, items).warnings, [
-            "moment 9 never happens, and b waits for it", "signal u is heard by no rule, and raised by the script and a"])
+            "moment 9 never happens, and b waits for it",
+            "signal u is heard by no rule, and raised by the script and a"])
 
     def test_a_rule_that_another_installs_may_fire(self) -> None:
         rules = [rule("a", SIGNAL_S, [["install", "b"]]), rule("b", SIGNAL_S, []), rule("c", SIGNAL_T, [])]
@@ -226,7 +234,8 @@ class Oversights(unittest.TestCase):
         for predicate, scans in [
                 (["=", key, 1], False), (["=", 1, key], False), (["and", ["=", key, ["id", 0]], field], False),
                 (["and", ["and", ["=", key, 1], field], field], False),
-                (field, False), (["and", field, ["=", key, 1]], False), (["<", key, 1], False), ([">=", 1, value], False),
+                (field, False), (["and", field, ["=", key, 1]], False), (["<", key, 1], False),
+                ([">=", 1, value], False),
                 (["<=", ["of", "p", "f"], value], False), (["<", ["count"], value], False),
                 (True, True), (["or", ["=", key, 1], field], True), (["=", key, key], True), (["<", value, key], True),
                 (["=", key, ["+", value, 1]], True), (["!=", value, 1], True), (["=", ["+", value, 1], 2], True),
@@ -293,7 +302,8 @@ Queries that look at a whole class
 """)
 
     def test_the_largest_dense_script_takes_no_long_time(self) -> None:
-        rules = [rule(f"r{number}", ["signal", f"s{number}"], [["signal", f"s{other}", []] for other in range(number + 1, 120)])
+        rules = [rule(f"r{number}", ["signal", f"s{number}"],
+                      [["signal", f"s{other}", []] for other in range(number + 1, 120)])
                  for number in range(120)]
         found = built(rules, [installed(*(one[0] for one in rules)), ["tx", [["signal", "s0", []]]]])
         self.assertEqual((len(found.chain.steps), found.cycles), (120, []))
@@ -317,7 +327,8 @@ class CommandLine(unittest.TestCase):
                 self.assertEqual((status, errors), (0, ""))
                 self.assertEqual(output, graph.graph_text(graph.build(rulebase.read_file(str(example)))))
                 names = {one[0] for one in json.loads(example.read_text(encoding="utf-8"))["rules"]}
-                self.assertLessEqual(names, set("".join(ElementTree.parse(target).getroot().itertext()).split()) | names)
+                drawn = "".join(ElementTree.parse(target).getroot().itertext()).split()
+                self.assertLessEqual(names, set(drawn) | names)
 
     def test_wrong_words(self) -> None:
         for words in ((), ("--svg",), (str(EXAMPLES[0]), "--svg"), ("a", "b"), ("--deep",), ("/nowhere/at/all.json",),

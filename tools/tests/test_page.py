@@ -9,13 +9,15 @@ from tests.making import REPOSITORY
 
 WORDS = {"print": printing.script_text, "graph": lambda base: graph.graph_text(graph.build(base))}
 
+SHOWN = re.compile(r"```\n\$ \./hipac-tools (print|graph) (\w+\.json)\n(.*?)```", re.DOTALL)
+
 
 class Page(unittest.TestCase):
     def test_shown_output_is_that_of_the_words(self) -> None:
         shown = 0
         for page in sorted((REPOSITORY / "docs").glob("TOOLS*.md")):
             text = page.read_text(encoding="utf-8")
-            for word, name, output in re.findall(r"```\n\$ \./hipac-tools (print|graph) (\w+\.json)\n(.*?)```", text, re.DOTALL):
+            for word, name, output in SHOWN.findall(text):
                 script = re.search(r"`" + re.escape(name) + r"`:\n\n```json\n(.*?)```", text, re.DOTALL)
                 example = REPOSITORY / "examples" / name
                 source = script.group(1) if script else example.read_text(encoding="utf-8")

@@ -50,7 +50,8 @@ class OwnLayout(unittest.TestCase):
             for number, (left, top, right, bottom) in enumerate(boxes):
                 self.assertTrue(left >= 0 and top >= 0 and right <= width and bottom <= height, seed)
                 for other in boxes[number + 1:]:
-                    self.assertTrue(right <= other[0] or other[2] <= left or bottom <= other[1] or other[3] <= top, seed)
+                    is_beside = right <= other[0] or other[2] <= left
+                    self.assertTrue(is_beside or bottom <= other[1] or other[3] <= top, seed)
 
     def test_arrows_go_down_where_they_can(self) -> None:
         tops = {box.name: one[1] for box, one in zip(BOXES, boxes_of(own(BOXES, ARROWS)))}
@@ -87,7 +88,8 @@ class Graphviz(unittest.TestCase):
         source = picture.dot_source(BOXES[:2], [Arrow("the script", "a", 'a "b" \\', "#123456", is_dashed=True)])
         self.assertIn('"the script" [label="the script", color="#6b7280", style="rounded"];', source)
         self.assertIn('"a" [label="a\\non signal <s> & more\\nimmediate"', source)
-        self.assertIn('"the script" -> "a" [label="a \\"b\\" \\\\", color="#123456", fontcolor="#123456", style=dashed];', source)
+        look = 'label="a \\"b\\" \\\\", color="#123456", fontcolor="#123456", style=dashed'
+        self.assertIn(f'"the script" -> "a" [{look}];', source)
 
 
 class Examples(unittest.TestCase):

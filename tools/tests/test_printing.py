@@ -107,7 +107,8 @@ class Expressions(unittest.TestCase):
 class Statements(unittest.TestCase):
     def test_each_form_without_a_body(self) -> None:
         for statement, text in [
-                (["create", "item", 5, [["stock", 3], ["open", ["=", 1, 2]]]], "create item 5 with stock = 3, open = (1 = 2)"),
+                (["create", "item", 5, [["stock", 3], ["open", ["=", 1, 2]]]],
+                 "create item 5 with stock = 3, open = (1 = 2)"),
                 (["create", "mark", ["key", "i"], []], "create mark (key of i)"),
                 (["update", "item", -5, [["stock", 3]]], "update item (-5) with stock = 3"),
                 (["update", "item", 5, []], "update item 5, changing nothing"),
@@ -127,7 +128,8 @@ class Statements(unittest.TestCase):
         for statement, lines in [
                 (["if", True, emit, []], ["if true: emit 1"]),
                 (["if", True, [], emit], ["if true: do nothing", "else: emit 1"]),
-                (["each", "i", "item", ["<", ["of", "i", "stock"], 0], emit], ["for each item i that has i.stock < 0: emit 1"]),
+                (["each", "i", "item", ["<", ["of", "i", "stock"], 0], emit],
+                 ["for each item i that has i.stock < 0: emit 1"]),
                 (["each", "i", "item", True, []], ["for each item i that is there: do nothing"]),
                 (["for", "i", emit], ["for each i found: emit 1"]),
                 (["with", "i", "item", 5, emit], ["with item 5 as i: emit 1"]),
@@ -139,7 +141,8 @@ class Statements(unittest.TestCase):
     def test_longer_bodies_are_blocks(self) -> None:
         statement = ["if", True, [["for", "i", [["emit", 1], ["abort"]]], ["abort"]], [["sub", [["abort"]], []]]]
         self.assertEqual(statement_lines(statement, "  "), [
-            "  if true:", "    for each i found:", "      emit 1", "      abort", "    abort", "  else:", "    try: abort"])
+            "  if true:", "    for each i found:", "      emit 1", "      abort", "    abort", "  else:",
+            "    try: abort"])
 
 
 class Rules(unittest.TestCase):
@@ -152,8 +155,8 @@ class Rules(unittest.TestCase):
     def test_later_queries_use_earlier_ones(self) -> None:
         queries = [["i", "item", True], ["c", "customer", ["=", ["key", "c"], ["of", "i", "owner"]]]]
         self.assertEqual(printed_rule(rule("owe", ["commit"], [["abort"]], queries=queries)).split("\n"), [
-            "rule owe: on commit, at once:", "  if some item i is there", "  and some customer c has key of c = i.owner",
-            "  then abort"])
+            "rule owe: on commit, at once:", "  if some item i is there",
+            "  and some customer c has key of c = i.owner", "  then abort"])
 
     def test_each_coupling(self) -> None:
         query = ["i", "item", True]
@@ -163,7 +166,8 @@ class Rules(unittest.TestCase):
                 ("dependent", "in a transaction of its own once this one commits"),
                 ("exclusive", "in a transaction of its own should this one abort")]:
             with self.subTest(coupling=coupling):
-                self.assertTrue(printed_rule(rule("r", ["commit"], [], coupling)).startswith(f"rule r: on commit, {words}:"))
+                early = printed_rule(rule("r", ["commit"], [], coupling))
+                self.assertTrue(early.startswith(f"rule r: on commit, {words}:"))
                 late = printed_rule(rule("r", ["commit"], [], ca=coupling))
                 bare = "" if coupling == "immediate" else f", then {words}"
                 self.assertTrue(late.startswith(f"rule r: on commit, at once{bare}:"))
@@ -173,13 +177,15 @@ class Rules(unittest.TestCase):
 
     def test_the_word_before_the_event(self) -> None:
         for event, words in [(["at", 3], "at moment 3"), (["every", 3, 2], "every 2 moments from moment 3"),
-                             (["signal", "a"], "on signal a"), (["or", ["at", 3], ["commit"]], "on moment 3 or commit")]:
+                             (["signal", "a"], "on signal a"),
+                             (["or", ["at", 3], ["commit"]], "on moment 3 or commit")]:
             self.assertIn(f"rule r: {words}, at once", printed_rule(rule("r", event, [])))
 
     def test_parts_are_numbered_only_for_a_rule_that_asks(self) -> None:
         event = ["seq", ["signal", "a"], ["signal", "b"]]
         self.assertIn("signal a followed by signal b,", printed_rule(rule("r", event, [["emit", ["count"]]])))
-        self.assertIn("signal a (part 0) followed by signal b (part 1),", printed_rule(rule("r", event, [["emit", ["arg", 1, 0]]])))
+        asking = printed_rule(rule("r", event, [["emit", ["arg", 1, 0]]]))
+        self.assertIn("signal a (part 0) followed by signal b (part 1),", asking)
 
     def test_long_lines_are_folded_but_never_within_a_text(self) -> None:
         long_text = "and or, " * 30
@@ -192,7 +198,8 @@ class Rules(unittest.TestCase):
 class Items(unittest.TestCase):
     def test_units_have_the_numbers_of_the_report(self) -> None:
         timed = rule("r", ["or", ["every", 2, 3], ["at", 9]], [])
-        self.assertEqual(printed_items([["tx", []], ["clock", 1], ["clock", 9], ["tx", [["abort"]]], ["clock", 30]], [timed]), [
+        items = [["tx", []], ["clock", 1], ["clock", 9], ["tx", [["abort"]]], ["clock", 30]]
+        self.assertEqual(printed_items(items, [timed]), [
             "unit 1, a transaction: do nothing",
             "the clock moves to 1: no moment is due",
             "the clock moves to 9: unit 2 is moment 2, unit 3 is moment 5, unit 4 is moment 8, unit 5 is moment 9",
@@ -211,7 +218,8 @@ class Items(unittest.TestCase):
 
 class Wholes(unittest.TestCase):
     def test_head_and_classes(self) -> None:
-        text = script_text(rulebase.read(script([], [], [["item", [["stock", "int"], ["name", "text"]]], ["mark", []]], depth=8)))
+        classes = [["item", [["stock", "int"], ["name", "text"]]], ["mark", []]]
+        text = script_text(rulebase.read(script([], [], classes, depth=8)))
         self.assertEqual(text, "script of version 1, firings nest at most 8 deep\n\n"
                                "class item has stock: int, name: text\nclass mark has no fields\n")
         self.assertEqual(script_text(rulebase.read(script([], [], version=2))),
@@ -232,7 +240,8 @@ class Wholes(unittest.TestCase):
         for seed in range(150):
             root = RandomScripts(seed).script()
             text = script_text(rulebase.read(json.dumps(root)))
-            self.assertEqual(json.dumps(read_back(text), sort_keys=True), json.dumps(root, sort_keys=True), f"seed {seed}:\n{text}")
+            read, wanted = (json.dumps(one, sort_keys=True) for one in (read_back(text), root))
+            self.assertEqual(read, wanted, f"seed {seed}:\n{text}")
 
     def test_each_changed_leaf_changes_the_text(self) -> None:
         """Each leaf of each example is changed in some ways; each result that is still a script must print
@@ -261,7 +270,8 @@ def changes(root: dict, chance: random.Random) -> list[dict]:
         elif isinstance(value, int):
             others = [value + 1, -value, chance.randrange(100), str(value)]
         elif isinstance(value, str):
-            others = [value + "x", chance.choice(("immediate", "separate", "or", "and", "create", "update", "+", "-", "text"))]
+            words = ("immediate", "separate", "or", "and", "create", "update", "+", "-", "text")
+            others = [value + "x", chance.choice(words)]
         else:
             others = [value[1:], value[:-1], value + value[-1:], value[::-1]]
         for other in others:

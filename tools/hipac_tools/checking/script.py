@@ -164,8 +164,8 @@ def read_condition(place: Place, scope: Scope) -> Scope:
     """The queries of a condition; what is known after them."""
     query_places = list_at(place, "the condition", "queries [name, class, predicate]")
     if first_word(place.node) in EXPRESSIONS.words:
-        raise query_places[0].wrong_shape("a condition is a list of queries [name, class, predicate], and this is a text",
-                                          "a test that needs no object is an `if` in the action")
+        message = "a condition is a list of queries [name, class, predicate], and this is a text"
+        raise query_places[0].wrong_shape(message, "a test that needs no object is an `if` in the action")
     for position, query_place in enumerate(query_places):
         name_place, class_place, predicate = shape_at(query_place, QUERY, outside=place)
         name = new_name_at(name_place, "a query's name", "a query", scope.row_places())

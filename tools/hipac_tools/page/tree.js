@@ -29,7 +29,8 @@ function layOut() {
   drawRows();
 }
 
-/* Elements of lines that look as before stay where they are: a press of the mouse and its release must meet one element. */
+/* Elements of lines that look as before stay where they are: a press of the mouse and its release must meet one
+   element. */
 let drawn = new Map();
 
 function drawRows() {
