@@ -4,7 +4,7 @@
     desk.py serve JOURNAL      takes requests on a local port and answers each, until it is ended
     desk.py ask WORD ..        sends one request, and prints the answer
 
-$DESK_PORT is the port, 7070 where it isn't set. These are the requests, one a line; each number is a whole number:
+$DESK_PORT is the port, 7070 if it isn't set. These are the requests, one a line; each number is a whole number:
 
     product NUMBER STOCK LOW NAME   a new product, which is reordered when there are less than LOW
     order NUMBER PRODUCT COUNT      a new order
@@ -14,7 +14,7 @@ $DESK_PORT is the port, 7070 where it isn't set. These are the requests, one a l
     clock MINUTE                    so many minutes have gone by since the desk was opened; a day has 1440
     show                            all there is
 
-An answer is what the rules have to say, a line each and indented, and then `done` or `no: ` with the reason.
+An answer is what the rules emit, a line each and indented, and then `done` or `no: ` with the reason.
 `rules.json` says what is allowed and what follows: the desk has no rules of its own.
 """
 
@@ -53,8 +53,22 @@ REASONS = {
 }
 
 
+# The words that follow the first word of each request.
+REQUESTS = {
+    "product": "NUMBER STOCK LOW NAME", "order": "NUMBER PRODUCT COUNT", "pay": "NUMBER", "ship": "NUMBER",
+    "cancel": "NUMBER", "deliver": "PRODUCT COUNT", "complain": "PRODUCT", "clock": "MINUTE", "show": "",
+}
+
+
 class NoRequest(Exception):
     """A line that is none of the requests."""
+
+
+def is_meant(word: str) -> str:
+    """What a request looks like that begins with this word."""
+    if word in REQUESTS:
+        return f"the request is: {word} {REQUESTS[word]}".rstrip()
+    return f"the requests are {', '.join(REQUESTS)}"
 
 
 def product(number: int, stock: int, low: int, *name: Value) -> List[Any]:
@@ -121,7 +135,7 @@ def answer(base: RuleBase, request: str) -> List[str]:
     try:
         units = run(base, word, [int(it) if re.fullmatch("-?[0-9]{1,19}", it) else it for it in rest])
     except NoRequest:
-        return ["no: that is no request here"]
+        return [f"no: {is_meant(word)}"]
     except JournalFault as fault:
         return [f"no: {fault}"]
     except Refused as refused:
@@ -172,7 +186,8 @@ class Client(socketserver.StreamRequestHandler):
 
 def serve(journal: str) -> int:
     with RuleBase.recover(journal, RULES) as base, Desk(base) as desk:
-        print(f"desk: open on port {ADDRESS[1]}, with {base.units} units from {base.replayed} lines", file=sys.stderr)
+        print(f"desk: open on port {ADDRESS[1]}; lines replayed: {base.replayed}; units so far: {base.units}",
+              file=sys.stderr)
         try:
             desk.serve_forever(poll_interval=0.1)
         except KeyboardInterrupt:
@@ -188,7 +203,8 @@ def connected() -> socket.socket:
             return socket.create_connection(ADDRESS)
         except ConnectionRefusedError:
             if time.monotonic() > deadline:
-                raise
+                raise ConnectionRefusedError(f"no desk is open on port {ADDRESS[1]}: start one, and wait until it says "
+                                             "that it is open") from None
             time.sleep(0.1)
 
 

@@ -163,6 +163,9 @@ class ManyTest(DeskTest):
         self.assertIn('product 7 name="desk lamp" stock=0 low=0 awaited=false', shown)
 
 
+REQUESTS = "no: the requests are product, order, pay, ship, cancel, deliver, complain, clock, show"
+
+
 class RequestTest(DeskTest):
     def test_each_request(self):
         self.serve()
@@ -183,7 +186,8 @@ class RequestTest(DeskTest):
                 ("complain 7", ["done"]), ("complain 7", ["done", "two complaints in a row 7"]),
                 ("clock 1439", ["done"]), ("clock 1440", ["done", "orders today 1"]),
                 ("clock 1", ["no: refused S2 /1 (a wrong shape): 1; it is minute 1440"]),
-                ("order 1 7", ["no: that is no request here"]), ("", ["no: that is no request here"]),
+                ("order 1 7", ["no: the request is: order NUMBER PRODUCT COUNT"]),
+                ("show 1", ["no: the request is: show"]), ("oder 1 7 2", [REQUESTS]), ("", [REQUESTS]),
                 ("show", ["done", 'order 1 product=7 count=2 state="cancelled" reminded=false',
                           'product 7 name="desk lamp" stock=13 low=2 awaited=false'])):
             with self.subTest(request):

@@ -21,7 +21,7 @@ class Word:
 
 WORDS = {
     "check": Word("check", "says where and why a script is refused"),
-    "print": Word("printing", "writes a script as a person would read it aloud"),
+    "print": Word("printing", "writes a script in words"),
     "graph": Word("graph", "draws which rules can trigger which"),
     "view": Word("view", "shows what a script's transactions did"),
     "why": Word("why", "says why a rule acted, or didn't"),

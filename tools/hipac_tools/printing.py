@@ -16,7 +16,7 @@ from .rulebase import Rule, RuleBase
 
 USAGE = """usage: hipac-tools print SCRIPT.json
 
-Writes a script as a person would read it aloud, one rule a paragraph. `-` is standard input.
+Writes a script in words, one rule a paragraph. `-` is standard input.
 The exit status is 0, or 2 where it is no script, or 3 where the words are wrong or the file can't be read."""
 
 WIDTH = 110
