@@ -14,6 +14,8 @@ from . import events, language, program, report, rulebase
 from .command import FAILED, REFUSED, WRONG_WORDS
 from .course import Course, STEPS, TooLong
 from .notes import Note, Signal
+from .places import Places
+from .positions import NotJson
 from .report import Fire, Operation, Report
 from .values import Primitive
 
@@ -33,6 +35,7 @@ class NoAccount(Exception):
 class Account:
     base: rulebase.RuleBase
     report: Report
+    places: Places
     doubt: Optional[str] = None
 
     @property
@@ -51,13 +54,14 @@ def account_of(script_bytes: bytes, report_text: Optional[str] = None, watch: Op
     if report_text is None:
         report_text = _run(script_bytes)
     try:
-        base = rulebase.read(script_bytes.decode("utf-8"))
+        text = script_bytes.decode("utf-8")
+        base, places = rulebase.read(text), Places(text)
         found = report.read(report_text)
-    except (UnicodeDecodeError, rulebase.Refused):
+    except (UnicodeDecodeError, rulebase.Refused, NotJson):
         raise NoAccount("this is no script; `hipac-tools check` says more", REFUSED)
     except report.ReportFault as fault:
         raise NoAccount(f"the report can't be read: {fault}", REFUSED)
-    account = Account(base, found)
+    account = Account(base, found, places)
     try:
         followed = Course(base, watch, steps).report()
     except TooLong:
@@ -69,7 +73,7 @@ def account_of(script_bytes: bytes, report_text: Optional[str] = None, watch: Op
         if report.write(found) == report.write(followed, trees=False):
             raise NoAccount("the report has no trees: make it with ./hipac --tree", REFUSED)
         return derived(account, DIFFERENT, is_own)
-    return Account(base, followed)
+    return Account(base, followed, places)
 
 
 def _run(script_bytes: bytes) -> str:

@@ -12,6 +12,7 @@ from typing import Any, Dict, List, Optional, Tuple
 from . import reasons
 from .account import Account
 from .notes import undone_by
+from .places import marked
 from .report import Act, Emit, Fire, Operation, Sub, Transaction, children
 from .wording import sentence
 
@@ -139,7 +140,7 @@ class _Maker:
     def _common(self, node: Any) -> List[Tuple[str, str]]:
         facts = []
         if node.note.path:
-            facts.append(("Statement", node.note.path))
+            facts.append(("Statement", marked(node.note.path)))
         undone = reasons.undone_words(node)
         if undone:
             facts.append(("Undone", sentence(undone)))
@@ -152,10 +153,11 @@ class _Maker:
         self.page.nodes.append(row)
         return place
 
-    def _place_of(self, sentence: str) -> int:
-        place = self.sentence_places.setdefault(sentence, len(self.page.sentences))
+    def _place_of(self, words: str) -> int:
+        told = self.account.places.told(words)
+        place = self.sentence_places.setdefault(told, len(self.page.sentences))
         if place == len(self.page.sentences):
-            self.page.sentences.append(sentence)
+            self.page.sentences.append(told)
         return place
 
     def _objects(self) -> None:

@@ -5,6 +5,7 @@ from __future__ import annotations
 from typing import Any, Dict, List, Optional
 
 from .notes import ABORT, Dropped, NO_ABORT, Query, Signal, Stop, ancestry, is_idle, undone_by
+from .places import marked
 from .printing import expression_text
 from .report import Act, End, Fire, Sub, Transaction
 from .values import Occurrence, Primitive, value_text
@@ -32,13 +33,13 @@ LONGEST_VALUE = 40
 
 def at(path: str) -> str:
     """A place in the script, after a sentence."""
-    return f" (at {path})" if path else ""
+    return f" (at {marked(path)})" if path else ""
 
 
 def name_of(node: Any) -> str:
     """A node that contains others, in a few words."""
     if isinstance(node, Sub):
-        return "the `sub`" + (f" at {node.note.path}" if node.note.path else "")
+        return "the `sub`" + (f" at {marked(node.note.path)}" if node.note.path else "")
     if isinstance(node, Transaction):
         return f"unit {node.note.unit}" if node.rule is None else f"{node.mode} {node.rule}"
     return f"the action of rule {node.rule}"
@@ -86,7 +87,7 @@ def trigger_words(signal: Optional[Signal], occurrence: Optional[Occurrence] = N
     if signal is None:
         return f"triggered by a signal (which one {UNTOLD})"
     is_moment = signal.primitive is not None and signal.primitive.kind == "time"
-    path = f" at {signal.path}" if signal.path and not is_moment else ""
+    path = f" at {marked(signal.path)}" if signal.path and not is_moment else ""
     if signal.primitive is None:
         return f"fired by the statement `fire`{path}{place_of(signal)}"
     words = f"triggered by {deed_words(signal.primitive)}{path}{place_of(signal)}"

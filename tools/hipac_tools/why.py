@@ -14,6 +14,7 @@ from .course import STEPS
 from .language import DETACHED
 from .near import nearest
 from .notes import NO_ABORT, Signal, ancestry, undone_by
+from .places import Places
 from .printing import event_text
 from .report import Act, Fire, Operation, Sub, Transaction, Unit, walk
 from .wording import listed, some_of, times
@@ -65,7 +66,7 @@ def explanation(script_bytes: bytes, number: int, rule: Optional[str] = None, st
         which = f"did you mean {meant}?" if meant else f"the rules are {', '.join(account.rules)}"
         raise WrongWords(f"there is no rule {rule}; {which}")
     unit = account.report.units[number - 1]
-    lines = Lines(width)
+    lines = Lines(width, account.places)
     if account.doubt is not None:
         lines.say(0, f"{account.doubt}: only what the report itself tells is said here.")
     if rule is None:
@@ -76,16 +77,17 @@ def explanation(script_bytes: bytes, number: int, rule: Optional[str] = None, st
 
 
 class Lines:
-    """Lines of text, folded and indented."""
+    """Lines of text, folded and indented. They name places of the script by line and column."""
 
-    def __init__(self, width: int) -> None:
+    def __init__(self, width: int, places: Places) -> None:
         self.width = width
+        self.places = places
         self.lines: List[str] = []
 
     def say(self, level: int, words: str) -> None:
         lead = "  " * level
-        self.lines += textwrap.wrap(words, self.width, initial_indent=lead, subsequent_indent=lead + "  ",
-                                    break_long_words=False, break_on_hyphens=False)
+        self.lines += textwrap.wrap(self.places.told(words), self.width, initial_indent=lead,
+                                    subsequent_indent=lead + "  ", break_long_words=False, break_on_hyphens=False)
 
     def say_all(self, level: int, sentences: List[str]) -> None:
         for sentence in sentences:

@@ -7,7 +7,7 @@ import os
 import tempfile
 import unittest
 
-from hipac_tools import why
+from hipac_tools import places, why
 
 CLASSES = [["acct", [["bal", "int"], ["open", "bool"]]], ["item", [["stock", "int"]]]]
 ACCOUNT = ["create", "acct", 1, [["bal", 10], ["open", True]]]
@@ -45,6 +45,30 @@ class WhyCase(unittest.TestCase):
 
     def says(self, of, unit, expected, rule=None, **more):
         self.assertEqual(self.answer(of, unit, rule, **more), expected)
+
+
+class PlacesTest(unittest.TestCase):
+    OF = script([], [["sub", [["abort"]], []], ["create", "note", 1, [["text", "see /items/0/1/0"]]],
+                     ["create", "note", 1, [["text", "\0/items/0\0"]]]], classes=[["note", [["text", "text"]]]])
+
+    def answer(self, text):
+        return why.explanation(text.encode(), 1, width=10_000)
+
+    def test_a_script_of_several_lines_has_lines_and_columns(self):
+        text = json.dumps(self.OF, indent=1)
+        line = text[:text.rindex('"create"')].count("\n")
+        told = self.answer(text)
+        self.assertIn(f"note 1 is there already (at line {line}:5).", told)
+        self.assertIn("Within it the `sub` at line ", told)
+        self.assertNotIn("/items", told)
+
+    def test_a_script_of_one_line_has_paths(self):
+        self.assertIn("note 1 is there already (at /items/0/1/2).", self.answer(json.dumps(self.OF) + "\n"))
+
+    def test_only_marked_paths_of_the_script_are_told(self):
+        told = places.Places('{"rules": [],\n "items": [["tx", []]]}').told
+        self.assertEqual(told(f"a /items/0 at {places.marked('/items/0/1')}."), "a /items/0 at line 2:19.")
+        self.assertEqual(told(places.marked("/items/7")), "/items/7")
 
 
 class CausesTest(WhyCase):
