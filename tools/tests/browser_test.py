@@ -28,9 +28,10 @@ MOST_ELEMENTS = 2_500
 EVERYTHING_FOCUSABLE = "button, input, [tabindex='0'], a[href]"
 
 
-def page_of(script, folder, name):
-    """Writes the page of a script into a folder, with the report that the course gives (test_course compares it)."""
-    one = account_of(json.dumps(script).encode(), report.write(followed(script)))
+def page_of(script, folder, name, text=None):
+    """Writes the page of a script into a folder, with the report that the course gives (test_course compares it). The
+    script's text is on one line if none is given."""
+    one = account_of((text or json.dumps(script)).encode(), report.write(followed(script)))
     path = Path(folder, name + ".html")
     path.write_text(view.page_text(one, name + ".json"), encoding="utf-8")
     return path, one
@@ -316,7 +317,8 @@ class PicturesTest(BrowserCase):
         if not folder:
             self.skipTest("$VIEW_PICTURES isn't set")
         path = next(path for path in EXAMPLES if path.name == "constraint.json")
-        self.browser.open(page_of(json.loads(path.read_text(encoding="utf-8")), self.folder.name, "constraint")[0])
+        text = path.read_text(encoding="utf-8")
+        self.browser.open(page_of(json.loads(text), self.folder.name, "constraint", text)[0])
         self.browser.size(1280, 760)
         self.browser.click(".row.top .kind", "unit 3")
         self.browser.key("*", "n")
