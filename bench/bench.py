@@ -77,7 +77,7 @@ def heading(columns):
 
 def print_firings(given):
     heading(["Workload", "Firings", *(f"{w} worker{'s' if w > 1 else ''}" for w in WORKERS),
-             "sqlite3", "Times as fast", "Processors", *(["Of the other"] if given.beside else [])])
+             "sqlite3", "Speedup", "Processors", *(["Of the other"] if given.beside else [])])
     for letter, title, make, make_sql in WORKLOADS:
         if given.only and letter not in given.only:
             continue
