@@ -701,6 +701,10 @@ CASES = [
         body('["emit", ' + '["neg", ' * 16 + '«1.5»' + ']' * 17),
         "a number must be whole, and this has a fraction"),
     Case(
+        "the time, as other languages call it", "S2 /rules/0/5/0/1",
+        action('["emit", «["now"]»]'),
+        '"now" begins no expression', "did you mean `time`?"),
+    Case(
         "a value of the event without its part", "S2 /rules/0/5/0/1",
         action('["emit", «["new", "bal"]»]'),
         '["new", i, field] has 2 parts after its word, and this has 1',

@@ -80,7 +80,7 @@ EXPRESSIONS = Grammar(
         "==": "=", "eq": "=", "is": "=", "<>": "!=", "ne": "!=", "lt": "<", "le": "<=", "=<": "<=", "gt": ">",
         "ge": ">=", "=>": ">=", "&&": "and", "||": "or", "!": "not", "mod": "%", "rem": "%", "div": "/", "add": "+",
         "plus": "+", "sub": "-", "minus": "-", "mul": "*", "times": "*", "negate": "neg", "get": "of", "field": "of",
-        "after": "new", "before": "old",
+        "after": "new", "before": "old", "now": "time",
     },
 )
 
@@ -90,6 +90,7 @@ STATEMENTS = Grammar(
     {
         "insert": "create", "set": "update", "modify": "update", "print": "emit", "raise": "signal", "trigger": "fire",
         "foreach": "each", "when": "if", "try": "sub", "rollback": "abort", "uninstall": "remove", "let": "with",
+        "assert": "create", "retract": "delete", "notify": "emit", "refuse": "veto", "reject": "veto",
     },
 )
 
