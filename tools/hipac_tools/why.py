@@ -39,8 +39,11 @@ def main(arguments: List[str]) -> int:
     if arguments in (["--help"], ["-h"]):
         print(USAGE)
         return DONE
-    if len(arguments) not in (2, 3) or not arguments[1].isdigit():
+    if len(arguments) not in (2, 3):
         print(USAGE, file=sys.stderr)
+        return WRONG_WORDS
+    if not arguments[1].isdigit():
+        print(f"why: {arguments[1]} is no unit's number; the words are SCRIPT.json UNIT [RULE]", file=sys.stderr)
         return WRONG_WORDS
     name, number = arguments[0], int(arguments[1])
     try:

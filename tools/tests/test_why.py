@@ -437,6 +437,8 @@ class CommandTest(unittest.TestCase):
             self.assertEqual(self.run_words(good, "1", "no")[::2], (3, "why: there is no rule no; the rules are "
                                                                        "tell\n"))
             self.assertEqual(self.run_words(good, "1", "tel")[2], "why: there is no rule tel; did you mean tell?\n")
+            self.assertEqual(self.run_words(good, "tell")[::2], (
+                3, "why: tell is no unit's number; the words are SCRIPT.json UNIT [RULE]\n"))
             self.assertEqual(self.run_words(good)[0], 3)
             self.assertEqual(self.run_words(os.path.join(folder, "none.json"), "1")[0], 2)
             self.assertEqual(self.run_words("--help")[0], 0)
