@@ -1,9 +1,9 @@
-use Rattle.std.proofs.Common.{◌≡◌, ◌-◌, ◌+◌, ◌++◌, ◌∙◌, take, drop, length, ap, subst, true, to_z, of_z, w64, rules, arith}
+use Rattle.std.proofs.Common.{◌≡◌, ◌-◌, ◌++◌, ◌∙◌, take, drop, length, ap, subst, true, to_z, of_z, w64, rules, arith}
 use Rattle.std.proofs.lemmas.List.{take_rest, length-map}
 use Rattle.hp_model.specs.Values as model
 use Rattle.hp_store.specs.Kept.{MakesObjects}
 use Rattle.hp_store.specs.Mapped.{change}
-use Rattle.hp_store.proofs.Overlaid.{walks_first, walks_on, walks_other, walks_last, tells_first, tells_next, names_other}
+use Rattle.hp_store.proofs.Overlaid.{walks_first, walks_on, walks_other, walks_last, tells_first, tells_next}
 use Rattle.hp_store.proofs.layer.Layer.objects_over.Goals as goal
 
 pub loop-cell-init : goal.loop-cell-init
