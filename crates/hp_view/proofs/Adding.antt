@@ -1,13 +1,12 @@
 -- Reads that calls add, one after the other.
 use Rattle.std.specs.Prelude.{IfSome, IfNone}
 use Rattle.hp_model.specs.Values.{KeyedRow}
-use Rattle.hp_model.specs.ClassParts.{ClassPart}
-use Rattle.std.proofs.Common.{◌≡◌, refl, sym, ap, ◌∙◌, subst, ℕ, ℤ, Bool, true, false, List, [], ◌∷◌, ◌++◌, append-nil, append_assoc, Option, Some, None, if◌then◌else◌}
+use Rattle.std.proofs.Common.{◌≡◌, refl, sym, ap, ◌∙◌, subst, ℕ, ℤ, Bool, true, false, List, [], ◌∷◌, ◌++◌, Option, Some, None, if◌then◌else◌}
 use Rattle.std.specs.List.{AllByRecursion}
-use Rattle.hp_model.specs.Cells.{Cell, CellValue, object_cell, Changes, Read, cell_read, keys_read, objects_read, part_read}
+use Rattle.hp_model.specs.Cells.{Cell, CellValue, object_cell, Changes, Read, cell_read, keys_read, objects_read}
 use Rattle.hp_store.specs.Changes.{changes}
-use Rattle.hp_view.specs.Adding.{AddsReads, IsOfClass, IsOfClassOrPart, adds_none, adds_then}
-use Rattle.hp_view.specs.Seeing.{Seeing, beneath, written, was_read, noted, noted_unless, read_cell, OnlyReads, ReadsKeys, ReadsPart}
+use Rattle.hp_view.specs.Adding.{AddsReads, IsOfClass, adds_none, adds_then}
+use Rattle.hp_view.specs.Seeing.{Seeing, beneath, written, was_read, noted, noted_unless, read_cell, OnlyReads, ReadsKeys}
 
 pub adds_noted : (P : Read → Type 0) (before : List Read) (r : Read) → P r → AddsReads P before (noted before r)
 adds_noted P before r fits = by (was_read before r)
@@ -58,20 +57,3 @@ adds_whole objects_in old new class None some none = adds_none (IsOfClass (writt
 pub adds_on : {first old : Seeing} (new : Seeing) (class : ℕ) → OnlyReads first old → AddsReads (IsOfClass (written first) class) first.reads old.reads → AddsReads (IsOfClass (written old) class) old.reads new.reads
     → AddsReads (IsOfClass (written first) class) first.reads new.reads
 adds_on {first} {old} new class only so_far more = adds_then so_far (subst (λ es. AddsReads (IsOfClass (changes es) class) old.reads new.reads) only.writes more)
-
--- ---- a question about a class
-
--- a part of a class
-pub adds_part : (P : Read → Type 0) {old new : Seeing} {class : ℕ} {part : ClassPart} → ((objects : List KeyedRow) → P (part_read class part objects)) → ReadsPart old new class part → AddsReads P old.reads new.reads
-adds_part P {old} {new} {class} {part} fits reads =
-    subst (AddsReads P old.reads) (sym (ap (λ (v : Seeing). v.reads) reads.part_is.2)) (adds_noted P old.reads (part_read class part reads.part_is.0) (fits reads.part_is.0))
-
-of_class : (layer : Changes) (class : ℕ) (r : Read) → IsOfClass layer class r → IsOfClassOrPart layer class r
-of_class layer class (cell_read cell value) is = is
-of_class layer class (keys_read n keys) is = is
-of_class layer class (objects_read n objects) is = is
-of_class layer class (part_read n part objects) is = absurd is
-
--- reads of the class are reads of the class or of a part
-pub adds_either : {layer : Changes} {class : ℕ} {before after : List Read} → AddsReads (IsOfClass layer class) before after → AddsReads (IsOfClassOrPart layer class) before after
-adds_either {layer} {class} adds = adds_more (of_class layer class) adds
