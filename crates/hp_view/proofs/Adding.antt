@@ -3,7 +3,7 @@ use Rattle.std.specs.Prelude.{IfSome, IfNone}
 use Rattle.hp_model.specs.Values.{KeyedRow}
 use Rattle.std.proofs.Common.{◌≡◌, refl, sym, ap, ◌∙◌, subst, ℕ, ℤ, Bool, true, false, List, [], ◌∷◌, ◌++◌, Option, Some, None, if◌then◌else◌}
 use Rattle.std.specs.List.{AllByRecursion}
-use Rattle.hp_model.specs.Cells.{Cell, CellValue, object_cell, Changes, Read, cell_read, keys_read, objects_read}
+use Rattle.hp_model.specs.Cells.{Cell, CellValue, object_cell, Read, cell_read, keys_read, objects_read}
 use Rattle.hp_store.specs.Changes.{changes}
 use Rattle.hp_view.specs.Adding.{AddsReads, IsOfClass, adds_none, adds_then}
 use Rattle.hp_view.specs.Seeing.{Seeing, beneath, written, was_read, noted, noted_unless, read_cell, OnlyReads, ReadsKeys}

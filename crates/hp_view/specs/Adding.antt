@@ -1,5 +1,5 @@
 -- Reads that a call adds.
-use Rattle.std.specs.Prelude.{◌≡◌, refl, ℕ, List, [], ◌∷◌, ◌++◌, None}
+use Rattle.std.specs.Prelude.{◌≡◌, ℕ, List, [], ◌∷◌, ◌++◌, None}
 use Rattle.std.proofs.Common.{ap, ◌∙◌, append-nil, append_assoc, sym}
 use Rattle.std.specs.List.{AllByRecursion}
 use Rattle.hp_model.specs.Cells.{object_cell, rule_cell, detector_cell, Changes, Read, cell_read, keys_read, objects_read, part_read}
