@@ -261,10 +261,11 @@ beyond_detector (Some k) n x t up = up
 tells_from : (class : ℕ) (layer : Entries) (it : Entered) (low : Option ℤ) → KeysRise (map entry it) → AllBeyond low (map entry it)
     → ((q : ℤ) → Beyond low q → changes layer (object_cell class q) ≡ at_key q (map entry it)) → Tells class layer it
 tells_from class layer [] low rise up named = tt
-tells_from class layer ((Object of key, x) ∷ t) low rise up named =
-    (named key (beyond_key low of key x t up) ∙ at_itself key of (change x) (map entry t),
-    tells_from class layer t (Some key) rise.1 rise.0
-    (λ q more. named q (beyond_later low key q (beyond_key low of key x t up) more) ∙ at_higher q key of (change x) (map entry t) more))
+tells_from class layer ((Object of key, x) ∷ t) low rise up named = (
+  named key (beyond_key low of key x t up) ∙ at_itself key of (change x) (map entry t),
+  tells_from class layer t (Some key) rise.1 rise.0
+      (λ q more. named q (beyond_later low key q (beyond_key low of key x t up) more) ∙ at_higher q key of (change x) (map entry t) more),
+)
 tells_from class layer ((Rule n, x) ∷ t) low rise up named =
     (tt, tells_from class layer t low rise (beyond_rule low n x t up) (λ q more. named q more ∙ at_skipped q (Rule n) x t (λ c k e. cc)))
 tells_from class layer ((Detector n, x) ∷ t) low rise up named =
