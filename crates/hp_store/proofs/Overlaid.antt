@@ -17,7 +17,8 @@ use Rattle.hp_store.specs.declared.value.CellValue.TheVariants.{Row, Status as R
 use Rattle.hp_store.specs.Mapped.{change, entry}
 use Rattle.hp_store.specs.Changes.{Entries, changes, class_entries, KeysFit}
 use Rattle.hp_store.specs.Keys.{below, above, merged, AboveKeys, KeysRise}
-use Rattle.hp_store.specs.Kept.{MakesObjects}
+use Rattle.hp_store.specs.Kept.{HoldsOther, MakesObjects}
+use Rattle.hp_store.specs.Parts.{no_cells}
 use Rattle.hp_store.proofs.Entered.{fit_key}
 use Rattle.hp_store.proofs.Merging.{all_weaker, all_filter, below-all, above-all, at_key, at_nothing, at_itself, at_lower, at_higher, at_skipped, changes-key, keys_found, Entered, Merges, merges_first, merges_value, merges_none, merges_other, merges_last}
 use Rattle.hp_store.proofs.Wholes.{HasRow, unchanged}
@@ -229,3 +230,60 @@ walks_last base class old m new layer from it rise none last are w = record {
     unnamed =
         subst (AllByRecursion (IsUnnamed layer class)) (drop-map (λ (o : KeyedRow). o.key) from old)
         (all_weaker (Beyond w.low) (IsUnnamed layer class) (λ q up. w.named q up ∙ ap (λ l. at_key q (map entry l)) none ∙ at_nothing q) (drop from (keys_of old)) w.keys_up)
+
+-- ---- the changes that still come are those of the layer
+
+abbrev pub TellsOne : ℕ → Entries → Cell → Option CellValue → Type 0
+TellsOne class layer (Object of key) x = changes layer (object_cell class key) ≡ Some (change x)
+TellsOne class layer (Rule n) x = Unit {0}
+TellsOne class layer (Detector n) x = Unit {0}
+
+abbrev pub Tells : ℕ → Entries → Entered → Type 0
+Tells class layer [] = Unit {0}
+Tells class layer (e ∷ t) = TellsOne class layer e.0 e.1 × Tells class layer t
+
+beyond_later : (low : Option ℤ) (key q : ℤ) → Beyond low key → int_cmp key q ≡ Less → Beyond low q
+beyond_later None key q up more = tt
+beyond_later (Some k) key q up more = int_cmp_total.trans k key q up more
+
+beyond_key : (low : Option ℤ) (of : ℕ) (key : ℤ) (x : Option CellValue) (t : Entered) → AllBeyond low (map entry ((Object of key, x) ∷ t)) → Beyond low key
+beyond_key None of key x t up = tt
+beyond_key (Some k) of key x t up = up.0
+
+beyond_rule : (low : Option ℤ) (n : ℕ) (x : Option CellValue) (t : Entered) → AllBeyond low (map entry ((Rule n, x) ∷ t)) → AllBeyond low (map entry t)
+beyond_rule None n x t up = tt
+beyond_rule (Some k) n x t up = up
+
+beyond_detector : (low : Option ℤ) (n : ℕ) (x : Option CellValue) (t : Entered) → AllBeyond low (map entry ((Detector n, x) ∷ t)) → AllBeyond low (map entry t)
+beyond_detector None n x t up = tt
+beyond_detector (Some k) n x t up = up
+
+tells_from : (class : ℕ) (layer : Entries) (it : Entered) (low : Option ℤ) → KeysRise (map entry it) → AllBeyond low (map entry it)
+    → ((q : ℤ) → Beyond low q → changes layer (object_cell class q) ≡ at_key q (map entry it)) → Tells class layer it
+tells_from class layer [] low rise up named = tt
+tells_from class layer ((Object of key, x) ∷ t) low rise up named = (
+  named key (beyond_key low of key x t up) ∙ at_itself key of (change x) (map entry t),
+  tells_from class layer t (Some key) rise.1 rise.0
+      (λ q more. named q (beyond_later low key q (beyond_key low of key x t up) more) ∙ at_higher q key of (change x) (map entry t) more),
+)
+tells_from class layer ((Rule n, x) ∷ t) low rise up named =
+    (tt, tells_from class layer t low rise (beyond_rule low n x t up) (λ q more. named q more ∙ at_skipped q (Rule n) x t (λ c k e. cc)))
+tells_from class layer ((Detector n, x) ∷ t) low rise up named =
+    (tt, tells_from class layer t low rise (beyond_detector low n x t up) (λ q more. named q more ∙ at_skipped q (Detector n) x t (λ c k e. cc)))
+
+-- before the first change, and after another one
+pub tells_first : (class : ℕ) (layer : Entries) (found it : Entered) → KeysRise (class_entries class layer) → map entry found ≡ class_entries class layer → it ≡ found → Tells class layer it
+tells_first class layer found it rise entries is =
+    tells_from class layer it None (subst KeysRise (sym (ap (map entry) is ∙ entries)) rise) tt
+    (λ q up. changes-key class q layer ∙ ap (at_key q) (sym (ap (map entry) is ∙ entries)))
+
+pub tells_next : (class : ℕ) (layer : Entries) (it t : Entered) (d : Cell) (x : Option CellValue) → Tells class layer it → it ≡ (d, x) ∷ t → Tells class layer t
+tells_next class layer it t d x tells steps = let now : Tells class layer ((d, x) ∷ t) = subst (Tells class layer) steps tells in now.1
+
+-- a change of an object to something else than a row
+pub names_other : (class : ℕ) (layer : Entries) (it t : Entered) (d : Cell) (x : Option CellValue) (of : ℕ) (key : ℤ) → Tells class layer it → it ≡ (d, x) ∷ t → d ≡ Object of key
+    → HoldsOther (change x) → (k : ℤ) × HoldsOther (over no_cells (changes layer) (object_cell class k))
+names_other class layer it t d x of key tells steps is other =
+    let now : Tells class layer ((d, x) ∷ t) = subst (Tells class layer) steps tells in
+    let said : changes layer (object_cell class key) ≡ Some (change x) = subst (λ c. TellsOne class layer c x) is now.0 in
+    (key, subst HoldsOther (sym (ap (changed None) said)) other)

@@ -1,13 +1,13 @@
 //! Layers of changes.
 
-ghost use Rattle.std.specs.Prelude.{◌≡◌, ◌≤◌, ◌-◌, None, IfOk, IsTrue, map, option_map, length, take, drop};
+ghost use Rattle.std.specs.Prelude.{◌≡◌, ◌≤◌, ◌-◌, false, None, IfOk, IsTrue, map, option_map, length, take, drop};
 ghost use Rattle.std.specs.List.Sorted.{IsStrictlySortedBy};
 ghost use Rattle.std.specs.Ordering.{int_cmp};
 ghost use Rattle.hp_model.specs.Cells.{Cells, changed, over};
 ghost use Rattle.hp_value.specs.Mapped as mapped;
 ghost use Rattle.hp_store.specs.Changes.{changes};
 ghost use Rattle.hp_store.specs.Indexed.{IsComplete, AreComplete, with_value};
-ghost use Rattle.hp_store.specs.Kept.{MakesObjects};
+ghost use Rattle.hp_store.specs.Kept.{HoldsOther, MakesObjects};
 ghost use Rattle.hp_store.specs.Keys.{below, above};
 ghost use Rattle.hp_store.specs.Mapped as here;
 ghost use Rattle.hp_store.specs.Mapped.{entry};
@@ -222,12 +222,13 @@ impl Layer {
 }
 
 impl Layer {
-    ghost use Rattle.std.specs.Prelude.{◌≡◌, ◌↔◌, ℤ, false, [], None, IfOk, IfSome, map};
+    ghost use Rattle.std.specs.Prelude.{◌≡◌, ◌↔◌, ℤ, ⊤, false, [], None, IfOk, IfSome, MatchOption, map};
     ghost use Rattle.std.specs.List.Sorted.{IsStrictlySortedBy};
     ghost use Rattle.std.specs.Ordering.{int_cmp};
     ghost use Rattle.hp_model.specs.Cells.{Cells, AreKeys, AreObjects, object_cell, over};
     ghost use Rattle.hp_store.specs.Changes.{changes, class_entries, KeysFit};
     ghost use Rattle.hp_value.specs.Mapped as mapped;
+    ghost use Rattle.hp_store.specs.Kept.{HoldsOther};
     ghost use Rattle.hp_store.specs.Keys.{KeysRise};
     ghost use Rattle.hp_store.specs.Mapped.{entry};
     ghost use Rattle.hp_store.specs.Parts.{keys_left, no_cells, is_among, Covers};
@@ -285,8 +286,10 @@ impl Layer {
         class: ClassNo,
         objects: &ObjectList,
     ) -> Result<Option<ObjectList>, AllocError>
-        ensures { IfOk result (λ found. IfSome found (λ merged. (base : Cells) → AreObjects base class objects.now →
-            AreObjects (over base (changes self.now)) class merged)) }
+        ensures merged { IfOk result (λ found. IfSome found (λ merged. (base : Cells) →
+            AreObjects base class objects.now → AreObjects (over base (changes self.now)) class merged)) }
+        ensures none { IfOk result (λ found. MatchOption found
+            ((key : ℤ) × HoldsOther (over no_cells (changes self.now) (object_cell class key))) (λ merged. ⊤)) }
     {
         let mut merged = ObjectList::new(alloc);
         let keys = objects.keys();
@@ -375,7 +378,8 @@ fn add_changed(
     key: Key,
     change: &Option<CellValue>,
 ) -> Result<bool, AllocError>
-    ensures { IfOk result (λ done. IsTrue done → MakesObjects list.old key (here.change change.now) list.new) }
+    ensures made { IfOk result (λ done. IsTrue done → MakesObjects list.old key (here.change change.now) list.new) }
+    ensures other { IfOk result (λ done. done ≡ false → HoldsOther (here.change change.now)) }
 {
     match change {
         Some(CellValue::Row(row)) => {
