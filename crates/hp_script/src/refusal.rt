@@ -104,11 +104,7 @@ pub(crate) fn shaped<T>(
 }
 
 /// What the name at a place means, or the refusal of an unknown name.
-pub(crate) fn known<T>(
-    alloc: Global,
-    place: &Place<'_>,
-    meant: Option<T>,
-) -> Result<T, DecodeError>
+pub(crate) fn known<T>(alloc: Global, place: &Place<'_>, meant: Option<T>) -> Result<T, DecodeError>
     ensures { Gives (λ x. x) result (known (steps place.now) meant) }
 {
     match meant {
