@@ -1,6 +1,6 @@
 //! The fields that the rules of a library ask for.
 
-use crate::fixtures::{class, each, field_is, number, query, rule, text};
+use crate::fixtures::{add_query, class, each, field_is, number, rule, text};
 use hp_event::Pattern;
 use hp_rule::{CheckError, EventExpr, Library, Rule, Stmt};
 use hp_value::{ClassNo, Comparison, Expr, Value};
@@ -21,9 +21,7 @@ fn key_is(alloc: Global) -> Result<Box<Expr>, AllocError> {
 
 fn asking(alloc: Global, class: ClassNo, predicate: Box<Expr>) -> Result<Rule, AllocError> {
     let mut asking = rule(alloc, "r", EventExpr::One(Pattern::Commit))?;
-    asking
-        .condition
-        .push(query(alloc, "q", class, predicate)?)?;
+    add_query(alloc, &mut asking, "q", class, predicate)?;
     Ok(asking)
 }
 

@@ -29,17 +29,21 @@ pub fn field_is(
     Ok(Box::new(alloc, compared)?)
 }
 
-pub fn query(
+/// Adds a query to a rule's condition.
+pub fn add_query(
     alloc: Global,
+    rule: &mut Rule,
     name: &str,
     class: ClassNo,
     predicate: Box<Expr>,
-) -> Result<Query, AllocError> {
-    Ok(Query {
-        name: text(alloc, name)?,
+) -> Result<(), AllocError> {
+    let name = text(alloc, name)?;
+    rule.condition.push(Query {
+        name,
         class,
         predicate,
-    })
+    })?;
+    Ok(())
 }
 
 /// A body of one statement `each`.

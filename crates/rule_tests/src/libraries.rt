@@ -1,6 +1,6 @@
 //! Libraries and bodies: their contents, the rules that they list for an occurrence, and their first fault.
 
-use crate::fixtures::{class, each, field_is, number, query, rule, text};
+use crate::fixtures::{add_query, class, each, field_is, number, rule, text};
 use hp_event::Pattern;
 use hp_rule::{
     Assignment, Body, CheckError, CheckFault, EventExpr, Library, Limit, Member, PathStep, Rule,
@@ -47,7 +47,7 @@ fn rules(alloc: Global) -> Result<Vec<Rule>, AllocError> {
     )?;
     let mut grows = rule(alloc, "grows", EventExpr::Or(a, b))?;
     let poor = is_poor(alloc, "poor")?;
-    grows.condition.push(query(alloc, "poor", 0, poor)?)?;
+    add_query(alloc, &mut grows, "poor", 0, poor)?;
     grows.action.push(Stmt::For {
         query: text(alloc, "poor")?,
         body: vec![in alloc; Stmt::Veto]?,
@@ -316,7 +316,7 @@ fn asking(alloc: Global) -> Result<Rule, AllocError> {
     let mut asks = rule(alloc, "new", EventExpr::One(Pattern::Commit))?;
     for (name, row) in [("a", "a"), ("b", "a"), ("c", "d"), ("d", "d")] {
         let poor = is_poor(alloc, row)?;
-        asks.condition.push(query(alloc, name, 0, poor)?)?;
+        add_query(alloc, &mut asks, name, 0, poor)?;
     }
     Ok(asks)
 }
