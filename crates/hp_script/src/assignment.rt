@@ -14,7 +14,7 @@ ghost use Rattle.hp_script.specs.Mapped.{Gives};
 use crate::expression::boxed_expression_at;
 use crate::list::list_at;
 use crate::names::{Names, new_name_at};
-use crate::refusal::{DecodeError, misnamed, misshapen};
+use crate::refusal::{DecodeError, bad_name, shaped};
 use crate::shape::pair_of;
 use hp_rule::{Assignment, Place, RowNames};
 use hp_value::Field;
@@ -36,7 +36,7 @@ fn assigned_field_at<'a>(
 {
     let name = new_name_at(alloc, place, Names::Assignments(before), value)?;
     if Names::Fields(fields).place(name).is_none() {
-        return Err(misnamed(alloc, place));
+        return Err(bad_name(alloc, place));
     }
     Ok(name)
 }
@@ -54,9 +54,7 @@ fn assignment_at(
         (assignment_at (field_names (map field fields.now)) (names_in rows.now) (map assignment before.now)
         (steps place.now) (view value.now)) }
 {
-    let Some((name, value)) = pair_of(value) else {
-        return Err(misshapen(alloc, place));
-    };
+    let (name, value) = shaped(alloc, place, pair_of(value))?;
     let name = assigned_field_at(alloc, &place.item(0), fields, before, name)?;
     let value = boxed_expression_at(alloc, &place.item(1), rows, value)?;
     let field = String::from_str(alloc, name)?;
@@ -100,7 +98,7 @@ pub(crate) fn all_assignments_at(
 {
     let pairs = assignments_at(alloc, place, fields, rows, value)?;
     if pairs.len() < fields.len() {
-        return Err(misnamed(alloc, place));
+        return Err(bad_name(alloc, place));
     }
     Ok(pairs)
 }

@@ -9,7 +9,7 @@ ghost use Rattle.hp_script.specs.Mapped.{Gives};
 
 use crate::list::short_list_at;
 use crate::names::{Names, new_name_at};
-use crate::refusal::{DecodeError, misshapen};
+use crate::refusal::{DecodeError, shaped};
 use crate::shape::pair_of;
 use hp_rule::{Limit, Place};
 use hp_value::{ClassDef, Field, Kind};
@@ -37,13 +37,8 @@ fn kind_of_word(word: &str) -> Option<Kind>
 fn kind_at(alloc: Global, place: &Place<'_>, value: &Value) -> Result<Kind, DecodeError>
     ensures { Gives kind result (kind_at (steps place.now) (view value.now)) }
 {
-    let Some(word) = value.as_str() else {
-        return Err(misshapen(alloc, place));
-    };
-    match kind_of_word(word) {
-        Some(kind) => Ok(kind),
-        None => Err(misshapen(alloc, place)),
-    }
+    let word = shaped(alloc, place, value.as_str())?;
+    shaped(alloc, place, kind_of_word(word))
 }
 
 #[tactic(auto, unfolding(hp_model::specs::Decode::field_at))]
@@ -55,9 +50,7 @@ fn field_at(
 ) -> Result<Field, DecodeError>
     ensures { Gives field result (field_at (map field before.now) (steps place.now) (view value.now)) }
 {
-    let Some((name, kind)) = pair_of(value) else {
-        return Err(misshapen(alloc, place));
-    };
+    let (name, kind) = shaped(alloc, place, pair_of(value))?;
     let name = new_name_at(alloc, &place.item(0), Names::Fields(before), name)?;
     let kind = kind_at(alloc, &place.item(1), kind)?;
     let name = String::from_str(alloc, name)?;
@@ -86,9 +79,7 @@ fn class_at(
 ) -> Result<ClassDef, DecodeError>
     ensures { Gives class_def result (class_at (map class_def before.now) (steps place.now) (view value.now)) }
 {
-    let Some((name, fields)) = pair_of(value) else {
-        return Err(misshapen(alloc, place));
-    };
+    let (name, fields) = shaped(alloc, place, pair_of(value))?;
     let name = new_name_at(alloc, &place.item(0), Names::Classes(before), name)?;
     let fields = fields_at(alloc, &place.item(1), fields)?;
     let fields = Arc::new(alloc, fields)?;

@@ -8,7 +8,7 @@ ghost use Rattle.hp_rule.specs.Places.{steps};
 ghost use Rattle.hp_script.specs.Forms.{version_view};
 ghost use Rattle.hp_script.specs.Mapped.{Gives};
 
-use crate::refusal::{DecodeError, misshapen};
+use crate::refusal::{DecodeError, shaped};
 use crate::version::Version;
 use hp_rule::{Coupling, Place};
 use serde_json::Value;
@@ -51,11 +51,6 @@ pub(crate) fn coupling_at(
 ) -> Result<Coupling, DecodeError>
     ensures { Gives coupling result (coupling_at (version_view version) (steps place.now) (view value.now)) }
 {
-    let Some(word) = value.as_str() else {
-        return Err(misshapen(alloc, place));
-    };
-    match coupling_of_word(version, word) {
-        Some(coupling) => Ok(coupling),
-        None => Err(misshapen(alloc, place)),
-    }
+    let word = shaped(alloc, place, value.as_str())?;
+    shaped(alloc, place, coupling_of_word(version, word))
 }

@@ -16,7 +16,7 @@ use crate::class::classes_at;
 use crate::item::units_at;
 use crate::json::{json_at, member_count};
 use crate::names::Names;
-use crate::refusal::{DecodeError, Refusal, misshapen};
+use crate::refusal::{DecodeError, Refusal, shaped};
 use crate::rule::rules_at;
 use crate::rule_head::{RuleHead, rule_heads_at};
 use crate::schedule::Schedule;
@@ -121,9 +121,7 @@ fn script_at(alloc: Global, value: &Value) -> Result<Script, DecodeError>
     ensures own { IfOk result (λ s. AreOf s.library.value s.items.items) }
     ensures reads { Gives timed_script result (timed_script_at (view value.now)) }
 {
-    let Some(root) = root_of(value) else {
-        return Err(misshapen(alloc, &Place::Root));
-    };
+    let root = shaped(alloc, &Place::Root, root_of(value))?;
     let library = library_of(alloc, &root)?;
     let schedule = items_of(alloc, &library, root.items)?;
     Ok(Script {

@@ -1,7 +1,8 @@
 //! Events.
 
-ghost use Rattle.std.specs.Prelude.{◌≡◌, map, option_map};
+ghost use Rattle.std.specs.Prelude.{◌≡◌, map, option_map, option_and_then};
 ghost use Rattle.serde_json.specs.View.{view};
+ghost use Rattle.hp_model.specs.Json as J;
 ghost use Rattle.hp_model.specs.EventGrammar.{event_form, event_form_of_one, event_form_of_two, event_form_at};
 ghost use Rattle.hp_model.specs.EventGrammar.{on_signal_at, at_moment_at, every_moment_at};
 ghost use Rattle.hp_model.specs.EventGrammar.{parts_at, event_within, event_at};
@@ -15,9 +16,9 @@ ghost use Rattle.hp_script.specs.Mapped.{Gives};
 use crate::name::name_at;
 use crate::number::number_from;
 use crate::reference::class_at;
-use crate::refusal::{DecodeError, Refusal, misshapen};
+use crate::refusal::{DecodeError, Refusal, shaped};
 use crate::scope::Scope;
-use crate::shape::form_of;
+use crate::shape::{Form, form_of};
 use hp_event::Pattern;
 use hp_rule::{EventExpr, Limit, Place};
 use serde_json::Value;
@@ -75,9 +76,11 @@ fn event_form_of_two<'a>(word: &str, first: &'a Value, second: &'a Value) -> Opt
     }
 }
 
-fn event_form<'a>(word: &str, parts: &'a [Value]) -> Option<EventForm<'a>>
-    ensures { option_map event_form_view result ≡ event_form word.now (map view parts.entry.now) }
+fn event_form(value: &Value) -> Option<EventForm<'_>>
+    ensures { option_map event_form_view result
+        ≡ option_and_then (λ (form : J.Form). event_form form.word form.parts) (J.form_of (view value.now)) }
 {
+    let Form { word, parts } = form_of(value)?;
     match parts {
         [] => if word == "commit" {
             Some(EventForm::Commit)
@@ -97,13 +100,7 @@ fn event_form_at<'a>(
 ) -> Result<EventForm<'a>, DecodeError>
     ensures { Gives event_form_view result (event_form_at (steps place.now) (view value.entry.now)) }
 {
-    let Some(form) = form_of(value) else {
-        return Err(misshapen(alloc, place));
-    };
-    match event_form(form.word, form.parts) {
-        Some(form) => Ok(form),
-        None => Err(misshapen(alloc, place)),
-    }
+    shaped(alloc, place, event_form(value))
 }
 
 #[tactic(auto, unfolding(hp_model::specs::EventGrammar::on_create_at, hp_model::specs::EventGrammar::on_update_at, hp_model::specs::EventGrammar::on_delete_at))]

@@ -1,7 +1,8 @@
 //! Expressions.
 
-ghost use Rattle.std.specs.Prelude.{◌≡◌, map, option_map};
+ghost use Rattle.std.specs.Prelude.{◌≡◌, map, option_map, option_and_then};
 ghost use Rattle.serde_json.specs.View.{view};
+ghost use Rattle.hp_model.specs.Json as J;
 ghost use Rattle.hp_model.specs.ExpressionGrammar.{arithmetic_of, comparison_of, form_of_one, other_form_of_two};
 ghost use Rattle.hp_model.specs.ExpressionGrammar.{form_of_two, expression_form, expression_form_at, text_at};
 ghost use Rattle.hp_model.specs.ExpressionGrammar.{field_of_at, key_of_at, key_in_at, argument_at, time_of_at};
@@ -15,9 +16,9 @@ ghost use Rattle.hp_script.specs.Sides.{side_field_at};
 
 use crate::name::name_at;
 use crate::number::index_at;
-use crate::refusal::{DecodeError, Refusal, misshapen, no_integer};
+use crate::refusal::{DecodeError, Refusal, bad_number, shaped};
 use crate::rows::row_at;
-use crate::shape::form_of;
+use crate::shape::{Form, form_of};
 use hp_rule::{Limit, Place, RowNames};
 use hp_value::{Arithmetic, Comparison, Expr, Value as Constant};
 use serde_json::Value;
@@ -130,9 +131,11 @@ fn form_of_two<'a>(word: &str, first: &'a Value, second: &'a Value) -> Option<Ex
     other_form_of_two(word, first, second)
 }
 
-fn expression_form<'a>(word: &str, parts: &'a [Value]) -> Option<ExpressionForm<'a>>
-    ensures { option_map expression_form_view result ≡ expression_form word.now (map view parts.entry.now) }
+fn expression_form(value: &Value) -> Option<ExpressionForm<'_>>
+    ensures { option_map expression_form_view result
+        ≡ option_and_then (λ (form : J.Form). expression_form form.word form.parts) (J.form_of (view value.now)) }
 {
+    let Form { word, parts } = form_of(value)?;
     match parts {
         [] => if word == "count" {
             Some(ExpressionForm::Count)
@@ -155,7 +158,7 @@ fn expression_form_at<'a>(
     if let Some(number) = value.as_number() {
         return match number.as_i64() {
             Some(integer) => Ok(ExpressionForm::Integer(integer)),
-            None => Err(no_integer(alloc, place)),
+            None => Err(bad_number(alloc, place)),
         };
     }
     if let Some(truth) = value.as_bool() {
@@ -164,13 +167,7 @@ fn expression_form_at<'a>(
     if let Some(text) = value.as_str() {
         return Ok(ExpressionForm::Text(text));
     }
-    let Some(form) = form_of(value) else {
-        return Err(misshapen(alloc, place));
-    };
-    match expression_form(form.word, form.parts) {
-        Some(form) => Ok(form),
-        None => Err(misshapen(alloc, place)),
-    }
+    shaped(alloc, place, expression_form(value))
 }
 
 #[tactic(auto, unfolding(hp_model::specs::ExpressionGrammar::text_at))]

@@ -1,7 +1,8 @@
 //! Items: transactions and moves of the clock.
 
-ghost use Rattle.std.specs.Prelude.{◌≡◌, ◌++◌, map, option_map, IfOk};
+ghost use Rattle.std.specs.Prelude.{◌≡◌, ◌++◌, map, option_map, option_and_then, IfOk};
 ghost use Rattle.serde_json.specs.View.{view};
+ghost use Rattle.hp_model.specs.Json as J;
 ghost use Rattle.hp_model.specs.Cascade.{moment};
 ghost use Rattle.hp_model.specs.Decode.{item_form_of_one, item_form, item_form_at, transaction_at, clock_at};
 ghost use Rattle.hp_rule.specs.Mapped.{library as model_library, rule, unit};
@@ -15,11 +16,11 @@ ghost use Rattle.hp_script.specs.Scopes.{library_scope};
 use crate::list::list_at;
 use crate::moment::due_moments;
 use crate::number::number_from;
-use crate::refusal::{DecodeError, Refusal, misshapen};
+use crate::refusal::{DecodeError, Refusal, shaped};
 use crate::rows::no_rows;
 use crate::schedule::Schedule;
 use crate::scope::Scope;
-use crate::shape::form_of;
+use crate::shape::{Form, form_of};
 use crate::statement::statements_at;
 use hp_rule::{Body, Library, Limit, Place, Rule, Unit};
 use serde_json::Value;
@@ -43,9 +44,11 @@ fn item_form_of_one<'a>(word: &str, part: &'a Value) -> Option<ItemForm<'a>>
     }
 }
 
-fn item_form<'a>(word: &str, parts: &'a [Value]) -> Option<ItemForm<'a>>
-    ensures { option_map item_form_view result ≡ item_form word.now (map view parts.entry.now) }
+fn item_form(value: &Value) -> Option<ItemForm<'_>>
+    ensures { option_map item_form_view result
+        ≡ option_and_then (λ (form : J.Form). item_form form.word form.parts) (J.form_of (view value.now)) }
 {
+    let Form { word, parts } = form_of(value)?;
     match parts {
         [part] => item_form_of_one(word, part),
         _ => None,
@@ -59,13 +62,7 @@ fn item_form_at<'a>(
 ) -> Result<ItemForm<'a>, DecodeError>
     ensures { Gives item_form_view result (item_form_at (steps place.now) (view value.entry.now)) }
 {
-    let Some(form) = form_of(value) else {
-        return Err(misshapen(alloc, place));
-    };
-    match item_form(form.word, form.parts) {
-        Some(form) => Ok(form),
-        None => Err(misshapen(alloc, place)),
-    }
+    shaped(alloc, place, item_form(value))
 }
 
 #[tactic(auto, unfolding(hp_model::specs::Decode::transaction_at))]

@@ -7,7 +7,7 @@ ghost use Rattle.hp_rule.specs.Faults.{limit};
 ghost use Rattle.hp_rule.specs.Places.{steps};
 ghost use Rattle.hp_script.specs.Mapped.{Gives};
 
-use crate::refusal::{DecodeError, Refusal, misshapen};
+use crate::refusal::{DecodeError, Refusal, shaped};
 use crate::shape::list_of;
 use hp_rule::{Limit, Place};
 use serde_json::Value;
@@ -21,10 +21,7 @@ pub(crate) fn list_at<'a>(
 ) -> Result<&'a [Value], DecodeError>
     ensures { Gives (λ items. map view items.now) result (list_at (steps place.now) (view value.entry.now)) }
 {
-    match list_of(value) {
-        Some(items) => Ok(items),
-        None => Err(misshapen(alloc, place)),
-    }
+    shaped(alloc, place, list_of(value))
 }
 
 /// The items of the list at a place, of which there may be at most `most`.

@@ -6,7 +6,7 @@ ghost use Rattle.hp_model.specs.Parts.{name_of, name_at};
 ghost use Rattle.hp_rule.specs.Places.{steps};
 ghost use Rattle.hp_script.specs.Mapped.{Gives};
 
-use crate::refusal::{DecodeError, misshapen};
+use crate::refusal::{DecodeError, shaped};
 use hp_rule::{Place, is_name};
 use serde_json::Value;
 use std::alloc::Global;
@@ -26,8 +26,5 @@ pub(crate) fn name_at<'a>(
 ) -> Result<&'a str, DecodeError>
     ensures { Gives (λ x. x.now) result (name_at (steps place.now) (view value.entry.now)) }
 {
-    match name_of(value) {
-        Some(name) => Ok(name),
-        None => Err(misshapen(alloc, place)),
-    }
+    shaped(alloc, place, name_of(value))
 }

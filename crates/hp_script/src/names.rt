@@ -14,7 +14,7 @@ ghost use Rattle.hp_script.specs.Mapped.{Gives};
 ghost use Rattle.hp_script.specs.Names.{names_in, names_of};
 
 use crate::name::name_at;
-use crate::refusal::{DecodeError, misnamed};
+use crate::refusal::{DecodeError, bad_name};
 use crate::rule_head::RuleHead;
 use hp_rule::{Assignment, Place, Rule};
 use hp_value::{ClassDef, Field};
@@ -105,7 +105,7 @@ pub(crate) fn new_name_at<'a>(
 {
     let name = name_at(alloc, place, value)?;
     if before.place(name).is_some() {
-        return Err(misnamed(alloc, place));
+        return Err(bad_name(alloc, place));
     }
     Ok(name)
 }

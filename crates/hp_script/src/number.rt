@@ -6,7 +6,7 @@ ghost use Rattle.hp_model.specs.Parts.{integer_at, index_at, number_from};
 ghost use Rattle.hp_rule.specs.Places.{steps};
 ghost use Rattle.hp_script.specs.Mapped.{Gives};
 
-use crate::refusal::{DecodeError, misshapen, no_integer};
+use crate::refusal::{DecodeError, bad_number, wrong_shape};
 use hp_rule::Place;
 use serde_json::Value;
 use std::alloc::Global;
@@ -21,11 +21,11 @@ pub(crate) fn integer_at(
     ensures { Gives (λ z. z) result (integer_at (steps place.now) (view value.now)) }
 {
     let Some(number) = value.as_number() else {
-        return Err(misshapen(alloc, place));
+        return Err(wrong_shape(alloc, place));
     };
     match number.as_i64() {
         Some(integer) => Ok(integer),
-        None => Err(no_integer(alloc, place)),
+        None => Err(bad_number(alloc, place)),
     }
 }
 
@@ -36,7 +36,7 @@ pub(crate) fn index_at(alloc: Global, place: &Place<'_>, value: &Value) -> Resul
 {
     let integer = integer_at(alloc, place, value)?;
     if integer < 0 || 65_535 < integer {
-        return Err(misshapen(alloc, place));
+        return Err(wrong_shape(alloc, place));
     }
     Ok(integer as u16)
 }
@@ -55,11 +55,11 @@ pub(crate) fn number_from(
 {
     let integer = integer_at(alloc, place, value)?;
     if integer < 0 {
-        return Err(misshapen(alloc, place));
+        return Err(wrong_shape(alloc, place));
     }
     let number = integer as u64;
     if number < least {
-        return Err(misshapen(alloc, place));
+        return Err(wrong_shape(alloc, place));
     }
     Ok(number)
 }

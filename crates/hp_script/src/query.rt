@@ -12,7 +12,7 @@ ghost use Rattle.hp_script.specs.Mapped.{Gives};
 use crate::expression::boxed_expression_at;
 use crate::list::list_at;
 use crate::reference::class_at;
-use crate::refusal::{DecodeError, misshapen};
+use crate::refusal::{DecodeError, shaped};
 use crate::rows::new_row_at;
 use crate::scope::Scope;
 use crate::shape::list_of;
@@ -43,9 +43,7 @@ fn query_at(
         (query_at (class_names (scope_view scope.entry.now).classes) (map query before.now)
         (steps place.now) (view value.now)) }
 {
-    let Some((name, class, predicate)) = triple_of(value) else {
-        return Err(misshapen(alloc, place));
-    };
+    let (name, class, predicate) = shaped(alloc, place, triple_of(value))?;
     let earlier = RowNames::Queries(before);
     let name = new_row_at(alloc, &place.item(0), &earlier, name)?;
     let class = class_at(alloc, &place.item(1), scope, class)?;

@@ -12,7 +12,7 @@ ghost use Rattle.hp_script.specs.Mapped.{Gives};
 
 use crate::name::name_at;
 use crate::names::class_place;
-use crate::refusal::{DecodeError, misnamed};
+use crate::refusal::{DecodeError, bad_name, known};
 use crate::scope::Scope;
 use hp_rule::{Place, RowNames};
 use hp_value::{ClassNo, Field, RuleNo};
@@ -47,10 +47,7 @@ pub(crate) fn class_at(
         (place_at (class_names (scope_view scope.entry.now).classes) (steps place.now) (view value.now)) }
 {
     let name = name_at(alloc, place, value)?;
-    match class_number(scope, name) {
-        Some(number) => Ok(number),
-        None => Err(misnamed(alloc, place)),
-    }
+    known(alloc, place, class_number(scope, name))
 }
 
 /// The rule that is named at a place.
@@ -65,10 +62,7 @@ pub(crate) fn rule_at(
         (place_at (scope_view scope.entry.now).rules (steps place.now) (view value.now)) }
 {
     let name = name_at(alloc, place, value)?;
-    match rule_number(scope, name) {
-        Some(number) => Ok(number),
-        None => Err(misnamed(alloc, place)),
-    }
+    known(alloc, place, rule_number(scope, name))
 }
 
 /// Whether a query of the rule has this name.
@@ -93,7 +87,7 @@ pub(crate) fn query_at<'a>(
     if is_query(scope, name) {
         Ok(name)
     } else {
-        Err(misnamed(alloc, place))
+        Err(bad_name(alloc, place))
     }
 }
 

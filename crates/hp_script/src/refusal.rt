@@ -1,9 +1,9 @@
 //! Why a script is refused, and where.
 
 ghost use Rattle.std.specs.Prelude.{◌≡◌};
-ghost use Rattle.hp_model.specs.Refusals.{wrong_shape, bad_number, bad_name};
+ghost use Rattle.hp_model.specs.Refusals.{wrong_shape, bad_number, bad_name, shaped, known};
 ghost use Rattle.hp_rule.specs.Places.{steps};
-ghost use Rattle.hp_script.specs.Mapped.{IsRefusal};
+ghost use Rattle.hp_script.specs.Mapped.{Gives, IsRefusal};
 ghost use Rattle.hp_script.specs.declared.refusal.DecodeError.TheVariants.{Memory};
 
 use hp_rule::{Limit, PathStep, Place};
@@ -60,7 +60,7 @@ impl<T: Drop> From<AllocFailed<T>> for DecodeError {
 }
 
 /// The refusal of a value that has not the form that the grammar wants here.
-pub(crate) fn misshapen(alloc: Global, place: &Place<'_>) -> DecodeError
+pub(crate) fn wrong_shape(alloc: Global, place: &Place<'_>) -> DecodeError
     ensures { IsRefusal result (wrong_shape (steps place.now)) }
 {
     match place.path(alloc) {
@@ -70,7 +70,7 @@ pub(crate) fn misshapen(alloc: Global, place: &Place<'_>) -> DecodeError
 }
 
 /// The refusal of a number that is not a signed 64-bit integer.
-pub(crate) fn no_integer(alloc: Global, place: &Place<'_>) -> DecodeError
+pub(crate) fn bad_number(alloc: Global, place: &Place<'_>) -> DecodeError
     ensures { IsRefusal result (bad_number (steps place.now)) }
 {
     match place.path(alloc) {
@@ -80,11 +80,35 @@ pub(crate) fn no_integer(alloc: Global, place: &Place<'_>) -> DecodeError
 }
 
 /// The refusal of a name that is unknown or taken, or of a list that lacks one.
-pub(crate) fn misnamed(alloc: Global, place: &Place<'_>) -> DecodeError
+pub(crate) fn bad_name(alloc: Global, place: &Place<'_>) -> DecodeError
     ensures { IsRefusal result (bad_name (steps place.now)) }
 {
     match place.path(alloc) {
         Ok(path) => DecodeError::Refused(Refusal::S4(path)),
         Err(_) => DecodeError::Memory,
+    }
+}
+
+/// What was found at a place, or the refusal of a value that has not the form that the grammar wants here.
+pub(crate) fn shaped<T>(
+    alloc: Global,
+    place: &Place<'_>,
+    found: Option<T>,
+) -> Result<T, DecodeError>
+    ensures { Gives (λ x. x) result (shaped (steps place.now) found) }
+{
+    match found {
+        Some(found) => Ok(found),
+        None => Err(wrong_shape(alloc, place)),
+    }
+}
+
+/// What the name at a place means, or the refusal of an unknown name.
+pub(crate) fn known<T>(alloc: Global, place: &Place<'_>, meant: Option<T>) -> Result<T, DecodeError>
+    ensures { Gives (λ x. x) result (known (steps place.now) meant) }
+{
+    match meant {
+        Some(meant) => Ok(meant),
+        None => Err(bad_name(alloc, place)),
     }
 }

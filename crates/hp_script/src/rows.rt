@@ -8,7 +8,7 @@ ghost use Rattle.hp_rule.specs.Places.{steps};
 ghost use Rattle.hp_script.specs.Mapped.{Gives};
 
 use crate::name::name_at;
-use crate::refusal::{DecodeError, misnamed};
+use crate::refusal::{DecodeError, bad_name};
 use hp_rule::{Place, RowNames};
 use serde_json::Value;
 use std::alloc::Global;
@@ -34,7 +34,7 @@ pub(crate) fn row_at<'a>(
     if rows.knows(name) {
         Ok(name)
     } else {
-        Err(misnamed(alloc, place))
+        Err(bad_name(alloc, place))
     }
 }
 
@@ -50,7 +50,7 @@ pub(crate) fn new_row_at<'a>(
 {
     let name = name_at(alloc, place, value)?;
     if rows.knows(name) {
-        return Err(misnamed(alloc, place));
+        return Err(bad_name(alloc, place));
     }
     Ok(name)
 }

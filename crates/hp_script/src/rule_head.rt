@@ -9,7 +9,7 @@ ghost use Rattle.hp_script.specs.Mapped.{Gives};
 
 use crate::list::short_list_at;
 use crate::names::{Names, new_name_at};
-use crate::refusal::{DecodeError, misshapen};
+use crate::refusal::{DecodeError, shaped};
 use crate::shape::list_of;
 use hp_rule::{Limit, Place};
 use serde_json::Value;
@@ -70,9 +70,7 @@ fn rule_head_at<'a>(
     ensures { Gives head_view result
         (rule_head_at (heads_view before.entry.now) (steps place.now) (view value.entry.now)) }
 {
-    let Some(parts) = rule_parts_of(value) else {
-        return Err(misshapen(alloc, place));
-    };
+    let parts = shaped(alloc, place, rule_parts_of(value))?;
     let name = new_name_at(alloc, &place.item(0), Names::Heads(before), parts.name)?;
     Ok(RuleHead { name, parts })
 }

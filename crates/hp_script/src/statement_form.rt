@@ -1,7 +1,8 @@
 //! The forms of statements.
 
-ghost use Rattle.std.specs.Prelude.{◌≡◌, map, option_map};
+ghost use Rattle.std.specs.Prelude.{◌≡◌, map, option_map, option_and_then};
 ghost use Rattle.serde_json.specs.View.{view};
+ghost use Rattle.hp_model.specs.Json as J;
 ghost use Rattle.hp_model.specs.StatementGrammar.{statement_form_of_none, statement_form_of_one};
 ghost use Rattle.hp_model.specs.StatementGrammar.{statement_form_of_two, statement_form_of_three};
 ghost use Rattle.hp_model.specs.StatementGrammar.{statement_form_of_four, statement_form, is_veto, statement_form_at};
@@ -9,9 +10,9 @@ ghost use Rattle.hp_rule.specs.Places.{steps};
 ghost use Rattle.hp_script.specs.Forms.{scope_view, statement_form_view};
 ghost use Rattle.hp_script.specs.Mapped.{Gives};
 
-use crate::refusal::{DecodeError, misshapen};
+use crate::refusal::{DecodeError, shaped, wrong_shape};
 use crate::scope::Scope;
-use crate::shape::form_of;
+use crate::shape::{Form, form_of};
 use hp_rule::{Place, RuleOperation};
 use serde_json::Value;
 use std::alloc::Global;
@@ -111,9 +112,11 @@ fn statement_form_of_four<'a>(
     }
 }
 
-fn statement_form<'a>(word: &str, parts: &'a [Value]) -> Option<StatementForm<'a>>
-    ensures { option_map statement_form_view result ≡ statement_form word.now (map view parts.entry.now) }
+fn statement_form(value: &Value) -> Option<StatementForm<'_>>
+    ensures { option_map statement_form_view result
+        ≡ option_and_then (λ (form : J.Form). statement_form form.word form.parts) (J.form_of (view value.now)) }
 {
+    let Form { word, parts } = form_of(value)?;
     match parts {
         [] => statement_form_of_none(word),
         [part] => statement_form_of_one(word, part),
@@ -143,14 +146,9 @@ pub(crate) fn statement_form_at<'a>(
     ensures { Gives statement_form_view result
         (statement_form_at (scope_view scope.entry.now) (steps place.now) (view value.entry.now)) }
 {
-    let Some(form) = form_of(value) else {
-        return Err(misshapen(alloc, place));
-    };
-    let Some(form) = statement_form(form.word, form.parts) else {
-        return Err(misshapen(alloc, place));
-    };
+    let form = shaped(alloc, place, statement_form(value))?;
     if is_veto(form) && !scope.in_action {
-        return Err(misshapen(alloc, place));
+        return Err(wrong_shape(alloc, place));
     }
     Ok(form)
 }

@@ -1,26 +1,11 @@
 //! The fields that the rules of a library ask for.
 
-use crate::fixtures::{class, number, rule, text};
+use crate::fixtures::{add_query, class, each, field_is, number, rule, text};
 use hp_event::Pattern;
-use hp_rule::{CheckError, EventExpr, Library, Query, Rule, Stmt};
+use hp_rule::{CheckError, EventExpr, Library, Rule, Stmt};
 use hp_value::{ClassNo, Comparison, Expr, Value};
 use std::alloc::{AllocError, Global};
 use std::test::Fail;
-
-// The row's field equals 0.
-fn field_is(
-    alloc: Global,
-    row: &str,
-    field: &str,
-    how: Comparison,
-) -> Result<Box<Expr>, AllocError> {
-    let own = Expr::FieldOf {
-        variable: text(alloc, row)?,
-        field: text(alloc, field)?,
-    };
-    let own = Box::new(alloc, own)?;
-    Ok(Box::new(alloc, Expr::Comparison(how, own, number(alloc, 0)?))?)
-}
 
 // 0 is at most the row's key.
 fn key_is(alloc: Global) -> Result<Box<Expr>, AllocError> {
@@ -36,28 +21,8 @@ fn key_is(alloc: Global) -> Result<Box<Expr>, AllocError> {
 
 fn asking(alloc: Global, class: ClassNo, predicate: Box<Expr>) -> Result<Rule, AllocError> {
     let mut asking = rule(alloc, "r", EventExpr::One(Pattern::Commit))?;
-    asking.condition.push(Query {
-        name: text(alloc, "q")?,
-        class,
-        predicate,
-    })?;
+    add_query(alloc, &mut asking, "q", class, predicate)?;
     Ok(asking)
-}
-
-fn each(
-    alloc: Global,
-    row: &str,
-    class: ClassNo,
-    predicate: Box<Expr>,
-    body: Vec<Stmt>,
-) -> Result<Vec<Stmt>, AllocError> {
-    let each = Stmt::Each {
-        variable: text(alloc, row)?,
-        class,
-        predicate,
-        body,
-    };
-    Ok(vec![in alloc; each]?)
 }
 
 // A subtransaction that asks for `level`, and another body for `fee`.
@@ -106,7 +71,7 @@ fn library(alloc: Global) -> Result<Library, CheckError> {
 }
 
 #[test]
-fn each_asked_field_once(rt: HostRuntime) -> Result<(), Fail> {
+fn each_field_that_is_asked_for_is_listed_once(rt: HostRuntime) -> Result<(), Fail> {
     let alloc = rt.alloc();
     let library = library(alloc)?;
     let wanted = [(0, "bal"), (0, "limit"), (1, "level"), (0, "fee")];

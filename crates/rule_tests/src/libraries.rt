@@ -1,10 +1,10 @@
 //! Libraries and bodies: their contents, the rules that they list for an occurrence, and their first fault.
 
-use crate::fixtures::{class, number, rule, text};
+use crate::fixtures::{add_query, class, each, field_is, number, rule, text};
 use hp_event::Pattern;
 use hp_rule::{
-    Assignment, Body, CheckError, CheckFault, EventExpr, Library, Limit, Member, PathStep, Query,
-    Rule, RuleOperation, Stmt,
+    Assignment, Body, CheckError, CheckFault, EventExpr, Library, Limit, Member, PathStep, Rule,
+    RuleOperation, Stmt,
 };
 use hp_value::{ClassDef, Comparison, Expr, Key, Prim, Row, Value};
 use std::alloc::{AllocError, Global};
@@ -22,13 +22,7 @@ fn nested(alloc: Global, nots: usize) -> Result<Box<Expr>, AllocError> {
 
 // The field `bal` of a row is below 0.
 fn is_poor(alloc: Global, row: &str) -> Result<Box<Expr>, AllocError> {
-    let balance = Expr::FieldOf {
-        variable: text(alloc, row)?,
-        field: text(alloc, "bal")?,
-    };
-    let balance = Box::new(alloc, balance)?;
-    let below = Expr::Comparison(Comparison::Less, balance, number(alloc, 0)?);
-    Ok(Box::new(alloc, below)?)
+    field_is(alloc, row, "bal", Comparison::Less)
 }
 
 fn accounts(alloc: Global) -> Result<Vec<ClassDef>, AllocError> {
@@ -36,14 +30,6 @@ fn accounts(alloc: Global) -> Result<Vec<ClassDef>, AllocError> {
     all.push(class(alloc, "account", &["bal", "limit"])?)?;
     all.push(class(alloc, "log", &[])?)?;
     Ok(all)
-}
-
-fn query(alloc: Global, name: &str, row: &str) -> Result<Query, AllocError> {
-    Ok(Query {
-        name: text(alloc, name)?,
-        class: 0,
-        predicate: is_poor(alloc, row)?,
-    })
 }
 
 fn both(alloc: Global, a: Pattern, b: Pattern) -> Result<[Box<EventExpr>; 2], AllocError> {
@@ -60,7 +46,8 @@ fn rules(alloc: Global) -> Result<Vec<Rule>, AllocError> {
         Pattern::Signal(text(alloc, "go")?),
     )?;
     let mut grows = rule(alloc, "grows", EventExpr::Or(a, b))?;
-    grows.condition.push(query(alloc, "poor", "poor")?)?;
+    let poor = is_poor(alloc, "poor")?;
+    add_query(alloc, &mut grows, "poor", 0, poor)?;
     grows.action.push(Stmt::For {
         query: text(alloc, "poor")?,
         body: vec![in alloc; Stmt::Veto]?,
@@ -328,7 +315,8 @@ fn classes_and_fields_have_their_limits(rt: HostRuntime) -> Result<(), Fail> {
 fn asking(alloc: Global) -> Result<Rule, AllocError> {
     let mut asks = rule(alloc, "new", EventExpr::One(Pattern::Commit))?;
     for (name, row) in [("a", "a"), ("b", "a"), ("c", "d"), ("d", "d")] {
-        asks.condition.push(query(alloc, name, row)?)?;
+        let poor = is_poor(alloc, row)?;
+        add_query(alloc, &mut asks, name, 0, poor)?;
     }
     Ok(asks)
 }
@@ -394,10 +382,10 @@ fn subtransaction(alloc: Global, body: Vec<Stmt>) -> Stmt {
     }
 }
 
-// A body in which `round` statements nest around one that aborts.
-fn nested_body(alloc: Global, round: usize, inmost: Vec<Stmt>) -> Result<Box<Faulty>, AllocError> {
+// A body in which this many subtransactions nest around some statements.
+fn nested_body(alloc: Global, levels: usize, inmost: Vec<Stmt>) -> Result<Box<Faulty>, AllocError> {
     let mut inner = inmost;
-    for _ in 1..round {
+    for _ in 1..levels {
         inner = vec![in alloc; subtransaction(alloc, inner)]?;
     }
     body(alloc, subtransaction(alloc, inner))
@@ -522,18 +510,9 @@ fn with_object(
     body(alloc, statement)
 }
 
-fn each_row(alloc: Global) -> Result<Vec<Stmt>, AllocError> {
-    let each = Stmt::Each {
-        variable: text(alloc, "x")?,
-        class: 0,
-        predicate: is_poor(alloc, "x")?,
-        body: Vec::new(alloc),
-    };
-    Ok(vec![in alloc; each]?)
-}
-
 fn wrong_statements(alloc: Global) -> Result<Vec<(Box<Faulty>, Wanted)>, AllocError> {
-    let again = with_object(alloc, number(alloc, 1)?, each_row(alloc)?)?;
+    let each_x = each(alloc, "x", 0, is_poor(alloc, "x")?, Vec::new(alloc))?;
+    let again = with_object(alloc, number(alloc, 1)?, each_x)?;
     let own_key = with_object(alloc, is_poor(alloc, "x")?, Vec::new(alloc))?;
     let mut cases = Vec::new(alloc);
     cases.push((body(alloc, Stmt::Veto)?, Wanted::Shape(None, &[0])))?;

@@ -111,7 +111,7 @@ fn answers(alloc: Global, postfix: &str, words: &str) -> Result<String, AllocErr
 }
 
 #[test]
-fn occurrences_by_hand(rt: HostRuntime) -> Result<(), Fail> {
+fn events_occur_as_worked_out_by_hand(rt: HostRuntime) -> Result<(), Fail> {
     let cases = [
         // A disjunction occurs once where both arms do, with the parts of the first.
         ("aa|", "a1 b2 a3", "1:a1 - 1:a3"),
@@ -150,7 +150,7 @@ fn stepped(alloc: Global, expr: &Arc<EventExpr>, words: &str) -> Result<Detector
 }
 
 #[test]
-fn detectors_know_what_matters(rt: HostRuntime) -> Result<(), Fail> {
+fn detectors_are_equal_if_they_know_the_same(rt: HostRuntime) -> Result<(), Fail> {
     let alloc = rt.alloc();
     let cases = [
         ("ab;", "a1 b2 a5", "a5", true),
@@ -172,7 +172,7 @@ fn detectors_know_what_matters(rt: HostRuntime) -> Result<(), Fail> {
 }
 
 #[test]
-fn events_are_pure_and_mention(rt: HostRuntime) -> Result<(), Fail> {
+fn an_event_says_if_it_looks_back_and_what_it_mentions(rt: HostRuntime) -> Result<(), Fail> {
     let alloc = rt.alloc();
     let pure = event(alloc, "ab|")?;
     assert!(rt; is_pure(&pure));
@@ -229,7 +229,7 @@ fn refused_steps_change_nothing(rt: HostRuntime) -> Result<(), Fail> {
 
 /// Knowledge steps as a detector of the event does.
 #[test]
-fn knowledge_goes_on_by_itself(rt: HostRuntime) -> Result<(), Fail> {
+fn knowledge_steps_as_a_detector_does(rt: HostRuntime) -> Result<(), Fail> {
     let alloc = rt.alloc();
     let expr = event(alloc, "ab;")?;
     let mut known = Knowledge::fresh(alloc, &expr)?;

@@ -76,7 +76,7 @@ fn alone<R: Abort>(
 }
 
 #[test]
-fn limits_of_arithmetic(rt: HostRuntime) {
+fn arithmetic_overflows_outside_64_bits_and_divides_by_no_zero(rt: HostRuntime) {
     let (least, largest) = (i64::MIN, i64::MAX);
     let overflow = Err(Cause::Overflow);
     let rows = [
@@ -105,7 +105,7 @@ fn limits_of_arithmetic(rt: HostRuntime) {
 
 // Operands are evaluated before their kinds are tested, and kinds are tested before the result.
 #[test]
-fn order_of_faults(rt: HostRuntime) -> Result<(), Fail> {
+fn operands_are_evaluated_before_their_kinds_are_tested(rt: HostRuntime) -> Result<(), Fail> {
     let alloc = rt.alloc();
     let zero = Cause::DivideByZero;
     let e = operator(alloc, Arithmetic::Plus, truth(true), one_by_zero(alloc)?);
@@ -124,7 +124,7 @@ fn order_of_faults(rt: HostRuntime) -> Result<(), Fail> {
 }
 
 #[test]
-fn short_circuit(rt: HostRuntime) -> Result<(), Fail> {
+fn and_and_or_evaluate_the_second_operand_only_if_it_matters(rt: HostRuntime) -> Result<(), Fail> {
     let alloc = rt.alloc();
     let e = both(alloc, truth(false), one_by_zero(alloc)?);
     alone(&rt, alloc, e, Ok(Value::Bool(false)))?;
@@ -141,7 +141,7 @@ fn short_circuit(rt: HostRuntime) -> Result<(), Fail> {
 
 // In UTF-8 the first byte of é is above that of each letter, and a prefix precedes a longer text.
 #[test]
-fn texts_by_bytes(rt: HostRuntime) -> Result<(), Fail> {
+fn texts_are_ordered_by_their_bytes(rt: HostRuntime) -> Result<(), Fail> {
     for (s, t) in [("Z", "a"), ("z", "é"), ("", "a"), ("ab", "abc")] {
         let v = text(rt.alloc(), s)?;
         let w = text(rt.alloc(), t)?;
@@ -243,7 +243,7 @@ fn other_values<R: Abort>(rt: &R, alloc: Global, env: &Env<'_>) -> Result<(), Al
 }
 
 #[test]
-fn values_of_an_occurrence(rt: HostRuntime) -> Result<(), Fail> {
+fn expressions_read_the_parts_of_an_occurrence(rt: HostRuntime) -> Result<(), Fail> {
     let occurrence = three_parts(rt.alloc())?;
     let env = Env::new(Some(&occurrence), &[]);
     part_values(&rt, rt.alloc(), &env)?;
@@ -305,7 +305,7 @@ fn named_values<R: Abort>(
 }
 
 #[test]
-fn names_of_rows(rt: HostRuntime) -> Result<(), Fail> {
+fn a_name_means_its_innermost_row(rt: HostRuntime) -> Result<(), Fail> {
     let kept = kept(rt.alloc())?;
     let row = stock(rt.alloc(), "cog", 9)?;
     named_values(&rt, rt.alloc(), &Env::new(None, &kept), &row)?;
@@ -313,7 +313,7 @@ fn names_of_rows(rt: HostRuntime) -> Result<(), Fail> {
 }
 
 #[test]
-fn rows_of_a_class(rt: HostRuntime) -> Result<(), Fail> {
+fn a_row_has_the_fields_of_its_class(rt: HostRuntime) -> Result<(), Fail> {
     let row = stock(rt.alloc(), "bolt", 7)?;
     assert!(rt; row.len() == 2 && row.get(2).is_none());
     assert!(rt; matches!(row.get(1), Some(("held", Value::Int(7)))));
@@ -371,7 +371,7 @@ fn three_objects(alloc: Global) -> Result<ObjectList, AllocError> {
 }
 
 #[test]
-fn lists_of_objects_are_compared(rt: HostRuntime) -> Result<(), Fail> {
+fn lists_of_objects_are_equal_if_their_rows_are(rt: HostRuntime) -> Result<(), Fail> {
     let alike = two_objects(rt.alloc(), "bal", 7)?;
     let mixed = two_objects(rt.alloc(), "sum", 7)?;
     compare(&rt, rt.alloc(), &alike, &mixed)?;
@@ -382,7 +382,7 @@ fn lists_of_objects_are_compared(rt: HostRuntime) -> Result<(), Fail> {
 
 // If an allocation is refused, the value is the same or there is none; it is never another value or a cause.
 #[test]
-fn memory_or_the_value(rt: HostRuntime) -> Result<(), Fail> {
+fn a_refused_allocation_gives_no_other_value(rt: HostRuntime) -> Result<(), Fail> {
     let alloc = rt.alloc();
     let row = stock(alloc, "bolt", 7)?;
     let outer = Env::new(None, &[]);

@@ -245,7 +245,7 @@ fn either_way(
 }
 
 #[test]
-fn each_comparison_of_a_key(rt: HostRuntime) -> Result<(), Fail> {
+fn each_comparison_of_a_key_finds_its_rows(rt: HostRuntime) -> Result<(), Fail> {
     let mut looks = Looks::new(rt.alloc())?;
     let two = Value::Int(2);
     looks.assert_cases(&rt, rt.alloc(), Attribute::Key, &two, &by_key())?;
@@ -253,7 +253,7 @@ fn each_comparison_of_a_key(rt: HostRuntime) -> Result<(), Fail> {
 }
 
 #[test]
-fn each_comparison_of_a_field(rt: HostRuntime) -> Result<(), Fail> {
+fn each_comparison_of_a_field_finds_its_rows(rt: HostRuntime) -> Result<(), Fail> {
     let mut looks = Looks::new(rt.alloc())?;
     let three = Value::Int(3);
     looks.assert_cases(
@@ -268,7 +268,7 @@ fn each_comparison_of_a_field(rt: HostRuntime) -> Result<(), Fail> {
 
 // What follows the comparison is evaluated on the part alone: elsewhere it would have a fault.
 #[test]
-fn what_follows_a_comparison(rt: HostRuntime) -> Result<(), Fail> {
+fn what_follows_a_comparison_is_evaluated_on_the_part_alone(rt: HostRuntime) -> Result<(), Fail> {
     let alloc = rt.alloc();
     let mut looks = Looks::new(alloc)?;
     let env = Env::new(None, &[]);
@@ -312,7 +312,7 @@ fn is_poor(alloc: Global) -> Result<Box<Expr>, AllocError> {
 }
 
 #[test]
-fn a_row_that_lacks_the_field(rt: HostRuntime) -> Result<(), Fail> {
+fn a_row_that_lacks_the_field_is_a_fault(rt: HostRuntime) -> Result<(), Fail> {
     let alloc = rt.alloc();
     let mut looks = Looks::new(alloc)?;
     let env = Env::new(None, &[]);
@@ -324,7 +324,7 @@ fn a_row_that_lacks_the_field(rt: HostRuntime) -> Result<(), Fail> {
 }
 
 #[test]
-fn a_value_of_another_kind(rt: HostRuntime) -> Result<(), Fail> {
+fn a_value_of_another_kind_is_a_fault(rt: HostRuntime) -> Result<(), Fail> {
     let alloc = rt.alloc();
     let mut looks = Looks::new(alloc)?;
     let env = Env::new(None, &[]);
@@ -348,7 +348,7 @@ fn a_value_of_another_kind(rt: HostRuntime) -> Result<(), Fail> {
 
 // A boolean isn't an integer or a text, so no part is asked for, and all rows are looked at.
 #[test]
-fn truth_values(rt: HostRuntime) -> Result<(), Fail> {
+fn a_comparison_with_a_boolean_asks_for_no_part(rt: HostRuntime) -> Result<(), Fail> {
     let alloc = rt.alloc();
     let mut looks = Looks::new(alloc)?;
     let env = Env::new(None, &[]);
@@ -365,7 +365,7 @@ fn truth_values(rt: HostRuntime) -> Result<(), Fail> {
 }
 
 #[test]
-fn texts_by_their_bytes(rt: HostRuntime) -> Result<(), Fail> {
+fn a_part_by_texts_goes_by_their_bytes(rt: HostRuntime) -> Result<(), Fail> {
     let alloc = rt.alloc();
     let mut looks = Looks::new(alloc)?;
     for (key, name) in [(-20, "b"), (-3, "a"), (2, "ab"), (10, "")] {
@@ -386,7 +386,7 @@ fn texts_by_their_bytes(rt: HostRuntime) -> Result<(), Fail> {
 
 // A fault of the other side is one of the first row, if there is a row.
 #[test]
-fn the_other_side_has_a_fault(rt: HostRuntime) -> Result<(), Fail> {
+fn a_fault_of_the_other_side_is_one_of_the_first_row(rt: HostRuntime) -> Result<(), Fail> {
     let alloc = rt.alloc();
     let mut looks = Looks::new(alloc)?;
     let env = Env::new(None, &[]);
@@ -407,7 +407,7 @@ fn the_other_side_has_a_fault(rt: HostRuntime) -> Result<(), Fail> {
 }
 
 #[test]
-fn a_class_without_objects(rt: HostRuntime) -> Result<(), Fail> {
+fn a_part_of_a_class_without_objects_is_empty(rt: HostRuntime) -> Result<(), Fail> {
     let alloc = rt.alloc();
     let mut looks = Looks::new(alloc)?;
     let env = Env::new(None, &[]);
@@ -420,7 +420,7 @@ fn a_class_without_objects(rt: HostRuntime) -> Result<(), Fail> {
 
 // The other side names the row itself, even if an outer name means another row: no part is asked for.
 #[test]
-fn the_name_means_the_own_row(rt: HostRuntime) -> Result<(), Fail> {
+fn the_name_of_the_row_hides_an_outer_one(rt: HostRuntime) -> Result<(), Fail> {
     let alloc = rt.alloc();
     let mut looks = Looks::new(alloc)?;
     let outer = account(alloc, 100)?;

@@ -13,7 +13,7 @@ use std::process::Abort;
 use std::test::Fail;
 
 #[test]
-fn rows_of_one_class_by_rising_keys(rt: HostRuntime) -> Result<(), Fail> {
+fn an_answer_has_the_rows_of_one_class_by_rising_keys(rt: HostRuntime) -> Result<(), Fail> {
     let alloc = rt.alloc();
     let mut objects = accounts(alloc)?;
     let env = Env::new(None, &[]);
@@ -36,7 +36,7 @@ fn rows_of_one_class_by_rising_keys(rt: HostRuntime) -> Result<(), Fail> {
 }
 
 #[test]
-fn the_first_fault_in_key_order(rt: HostRuntime) -> Result<(), Fail> {
+fn an_answer_is_the_first_fault_in_key_order(rt: HostRuntime) -> Result<(), Fail> {
     let alloc = rt.alloc();
     let mut objects = accounts(alloc)?;
     let env = Env::new(None, &[]);
@@ -72,7 +72,7 @@ fn the_first_fault_in_key_order(rt: HostRuntime) -> Result<(), Fail> {
 }
 
 #[test]
-fn a_predicate_without_truth_value(rt: HostRuntime) -> Result<(), Fail> {
+fn a_predicate_that_is_no_boolean_is_a_fault(rt: HostRuntime) -> Result<(), Fail> {
     let alloc = rt.alloc();
     let mut objects = accounts(alloc)?;
     let env = Env::new(None, &[]);
@@ -111,7 +111,7 @@ fn of_key(
 
 // What follows the key is evaluated for its row alone: the row at 2 has a text, above which nothing is.
 #[test]
-fn one_key_is_asked_for(rt: HostRuntime) -> Result<(), Fail> {
+fn a_query_for_one_key_tests_its_row_alone(rt: HostRuntime) -> Result<(), Fail> {
     let alloc = rt.alloc();
     let mut objects = accounts(alloc)?;
     let named = row(alloc, "bal", Value::Text(text(alloc, "much")?))?;
@@ -127,7 +127,7 @@ fn one_key_is_asked_for(rt: HostRuntime) -> Result<(), Fail> {
 
 // A fault of the value compared with the key is a fault of the first row, if there is one.
 #[test]
-fn a_key_that_has_no_value(rt: HostRuntime) -> Result<(), Fail> {
+fn a_fault_of_the_key_is_one_of_the_first_row(rt: HostRuntime) -> Result<(), Fail> {
     let alloc = rt.alloc();
     let mut objects = accounts(alloc)?;
     let env = Env::new(None, &[]);
@@ -202,7 +202,7 @@ fn assert_kept(
 }
 
 #[test]
-fn a_later_query_names_the_first_row(rt: HostRuntime) -> Result<(), Fail> {
+fn a_later_query_may_name_the_first_row_of_an_earlier_one(rt: HostRuntime) -> Result<(), Fail> {
     let alloc = rt.alloc();
     let queries = two_queries(alloc)?;
     let mut objects = accounts(alloc)?;
@@ -213,7 +213,7 @@ fn a_later_query_names_the_first_row(rt: HostRuntime) -> Result<(), Fail> {
 }
 
 #[test]
-fn an_empty_answer_and_a_fault(rt: HostRuntime) -> Result<(), Fail> {
+fn a_condition_ends_at_its_first_empty_answer_or_fault(rt: HostRuntime) -> Result<(), Fail> {
     let alloc = rt.alloc();
     let mut objects = accounts(alloc)?;
     assert!(rt; matches!(verdict(alloc, &[], &mut objects)?, Verdict::Satisfied(_)));

@@ -68,7 +68,7 @@ fn balance(objects: &Objects, key: Key) -> Option<i64> {
 }
 
 #[test]
-fn replays_up_to_the_depth_limit(rt: HostRuntime) -> Result<(), Fail> {
+fn a_replay_leaves_out_the_firing_that_is_too_deep(rt: HostRuntime) -> Result<(), Fail> {
     let tree = depth_limit(rt.alloc())?;
     let objects = replay(Objects::new(rt.alloc()), &tree)?;
     assert_eq!(rt; objects.len(), 1);
@@ -81,7 +81,7 @@ fn replays_up_to_the_depth_limit(rt: HostRuntime) -> Result<(), Fail> {
 }
 
 #[test]
-fn replays_over_what_was_there(rt: HostRuntime) -> Result<(), Fail> {
+fn a_replay_goes_over_the_objects_before_it(rt: HostRuntime) -> Result<(), Fail> {
     let mut objects = Objects::new(rt.alloc());
     for (key, balance) in [(-20, 1), (-3, 2), (2, 3)] {
         objects.insert(ACCT, key, account(rt.alloc(), balance)?)?;

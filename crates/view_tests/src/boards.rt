@@ -74,7 +74,7 @@ fn numbers_once(rt: HostRuntime) -> Result<(), Fail> {
 
 // Every draw from a board of 0 is None.
 #[test]
-fn a_board_of_none(rt: HostRuntime) -> Result<(), Fail> {
+fn a_board_of_none_draws_nothing(rt: HostRuntime) -> Result<(), Fail> {
     let (board, mut seats) = Board::<Layer>::new(rt.alloc(), 0, 2)?;
     let Some(seat) = seats.pop() else {
         return Err(Fail::from("no seat"));
@@ -133,7 +133,7 @@ fn post_twice(rt: &impl Abort, alloc: Global, board: &Board<Layer>) -> Result<()
 }
 
 #[test]
-fn a_set_cell_gives_both_back(rt: HostRuntime) -> Result<(), Fail> {
+fn a_second_post_gets_both_arguments_back(rt: HostRuntime) -> Result<(), Fail> {
     let (board, _seats) = Board::<Layer>::new(rt.alloc(), 1, 1)?;
     post_twice(&rt, rt.alloc(), &board)
 }

@@ -1,56 +1,62 @@
-//! A small bank: class 0 with the keys -3, 2 and 10, whose balances are 100 more.
+//! A small bank: class 0 with the keys -3, 2 and 10, whose balances are 100 more. Layers that change such objects.
 
 ghost use Rattle.std.specs.Prelude.{◌≡◌, IfOk, []};
 
 use hp_store::{CellValue, Layer, Snapshot};
-use hp_value::{Cell, Field, Key, Kind, Row, Value};
+use hp_value::{Cell, ClassNo, Field, Key, KeyedRow, Kind, Row, Value};
 use hp_view::View;
 use std::alloc::{AllocError, Global};
 use std::sync::Arc;
 
-fn fields(alloc: Global) -> Result<Arc<Vec<Field>>, AllocError> {
-    let name = String::from_str(alloc, "bal")?;
-    let mut fields = Vec::new(alloc);
-    fields.push(Field {
-        name,
-        kind: Kind::Int,
-    })?;
-    Ok(Arc::new(alloc, fields)?)
+/// The class of the tests' objects.
+pub const CLASS: ClassNo = 0;
+
+pub fn object(key: Key) -> Cell {
+    Cell::Object(CLASS, key)
+}
+
+/// A row of one field.
+fn row(alloc: Global, field: &str, kind: Kind, value: Value) -> Result<CellValue, AllocError> {
+    let name = String::from_str(alloc, field)?;
+    let fields = Arc::new(alloc, vec![in alloc; Field { name, kind }]?)?;
+    let row = Row::new(alloc, &fields, vec![in alloc; value]?)?;
+    Ok(CellValue::Row(row))
 }
 
 pub fn balance(alloc: Global, value: i64) -> Result<CellValue, AllocError> {
-    let fields = fields(alloc)?;
-    let mut values = Vec::new(alloc);
-    values.push(Value::Int(value))?;
-    let row = Row::new(alloc, &fields, values)?;
-    Ok(CellValue::Row(row))
+    row(alloc, "bal", Kind::Int, Value::Int(value))
 }
 
-// A row of one text, a name.
 pub fn name(alloc: Global, text: &str) -> Result<CellValue, AllocError> {
-    let mut fields = Vec::new(alloc);
-    fields.push(Field {
-        name: String::from_str(alloc, "name")?,
-        kind: Kind::Text,
-    })?;
-    let fields = Arc::new(alloc, fields)?;
-    let mut values = Vec::new(alloc);
-    values.push(Value::Text(String::from_str(alloc, text)?))?;
-    let row = Row::new(alloc, &fields, values)?;
-    Ok(CellValue::Row(row))
+    let text = String::from_str(alloc, text)?;
+    row(alloc, "name", Kind::Text, Value::Text(text))
 }
 
-fn accounts(alloc: Global) -> Result<Arc<Layer>, AllocError> {
+/// A layer that gives objects balances, and removes others.
+pub fn changes(alloc: Global, made: &[(Key, i64)], removed: &[Key]) -> Result<Layer, AllocError> {
     let mut layer = Layer::new(alloc);
-    for (key, value) in [(10, 110), (-3, 97), (2, 102)] {
-        layer.insert(Cell::Object(0, key), Some(balance(alloc, value)?))?;
+    for (key, value) in made {
+        let _ = layer.insert(object(*key), Some(balance(alloc, *value)?))?;
     }
-    Ok(Arc::new(alloc, layer)?)
+    for key in removed {
+        let _ = layer.insert(object(*key), None)?;
+    }
+    Ok(layer)
 }
 
-fn snapshot(alloc: Global) -> Result<Snapshot, AllocError> {
-    let accounts = accounts(alloc)?;
-    Snapshot::empty(alloc)?.with_layer(alloc, accounts)
+/// A layer that creates a number of objects, from the key 0 on, with their keys as balances.
+pub fn many(alloc: Global, count: i64) -> Result<Layer, AllocError> {
+    let mut layer = Layer::new(alloc);
+    for key in 0..count {
+        let _ = layer.insert(object(key), Some(balance(alloc, key)?))?;
+    }
+    Ok(layer)
+}
+
+/// A snapshot of the bank.
+pub fn snapshot(alloc: Global) -> Result<Snapshot, AllocError> {
+    let accounts = changes(alloc, &[(10, 110), (-3, 97), (2, 102)], &[])?;
+    Snapshot::empty(alloc)?.with_layer(alloc, Arc::new(alloc, accounts)?)
 }
 
 pub fn bank(alloc: Global) -> Result<View, AllocError>
@@ -59,12 +65,12 @@ pub fn bank(alloc: Global) -> Result<View, AllocError>
     View::new(alloc, snapshot(alloc)?)
 }
 
-// Sets the balance of an object.
+/// Sets the balance of an object.
 pub fn set(alloc: Global, view: &mut View, key: Key, value: i64) -> Result<(), AllocError> {
-    view.put(Cell::Object(0, key), balance(alloc, value)?)
+    view.put(object(key), balance(alloc, value)?)
 }
 
-// The balance in a cell, if it has one.
+/// The balance in a cell, if it has one.
 pub fn balance_in(value: Option<&CellValue>) -> Option<i64> {
     if let Some(CellValue::Row(row)) = value {
         if let Ok(Value::Int(n)) = row.field("bal") {
@@ -74,7 +80,20 @@ pub fn balance_in(value: Option<&CellValue>) -> Option<i64> {
     None
 }
 
-// The balance of an object, if the view shows it.
+/// The balance of an object, if the view shows it.
 pub fn shown(view: &View, key: Key) -> Option<i64> {
-    balance_in(view.peek(Cell::Object(0, key)))
+    balance_in(view.peek(object(key)))
+}
+
+/// Whether these are the rows of the objects with some keys.
+pub fn have_keys(rows: &[KeyedRow], keys: &[Key]) -> bool {
+    if rows.len() != keys.len() {
+        return false;
+    }
+    for i in 0..keys.len() {
+        if rows[i].key != keys[i] {
+            return false;
+        }
+    }
+    true
 }

@@ -1,28 +1,15 @@
 //! Lists of a class's objects that go on under changes of these objects.
 
-use crate::fixtures::balance;
+use crate::fixtures::{CLASS, changes, many, snapshot};
 use hp_store::{Layer, Snapshot, Store};
-use hp_value::{Cell, Key, ObjectList};
+use hp_value::{Key, ObjectList};
 use std::alloc::{AllocError, Global};
 use std::process::Abort;
 use std::sync::Arc;
 use std::test::Fail;
 
-/// A layer that gives objects balances, and removes others.
 fn layer(alloc: Global, made: &[(Key, i64)], removed: &[Key]) -> Result<Arc<Layer>, AllocError> {
-    let mut layer = Layer::new(alloc);
-    for (key, value) in made {
-        let _ = layer.insert(Cell::Object(0, *key), Some(balance(alloc, *value)?))?;
-    }
-    for key in removed {
-        let _ = layer.insert(Cell::Object(0, *key), None)?;
-    }
-    Ok(Arc::new(alloc, layer)?)
-}
-
-fn three(alloc: Global) -> Result<Snapshot, AllocError> {
-    let layer = layer(alloc, &[(10, 110), (-3, 97), (2, 102)], &[])?;
-    Snapshot::empty(alloc)?.with_layer(alloc, layer)
+    Ok(Arc::new(alloc, changes(alloc, made, removed)?)?)
 }
 
 fn are_same(kept: Option<&Arc<ObjectList>>, anew: Option<Arc<ObjectList>>) -> bool {
@@ -40,9 +27,9 @@ fn goes_on(
     layer: Arc<Layer>,
 ) -> Result<bool, AllocError> {
     let anew = plain.with_layer(alloc, Arc::try_clone(&layer)?)?;
-    let anew = anew.objects(alloc, 0)?;
+    let anew = anew.objects(alloc, CLASS)?;
     let changed = listed.with_layer(alloc, layer)?;
-    Ok(are_same(changed.kept_objects(0), anew))
+    Ok(are_same(changed.kept_objects(CLASS), anew))
 }
 
 /// Changes alone, then at the front, in the middle and at the end, and of all objects.
@@ -67,28 +54,23 @@ fn compare(
 
 #[test]
 fn a_list_under_changes_is_that_of_the_cells(rt: HostRuntime) -> Result<(), Fail> {
-    let mut listed = three(rt.alloc())?;
-    listed.keep_objects(rt.alloc(), 0)?;
-    let plain = three(rt.alloc())?;
+    let mut listed = snapshot(rt.alloc())?;
+    listed.keep_objects(rt.alloc(), CLASS)?;
+    let plain = snapshot(rt.alloc())?;
     compare(&rt, rt.alloc(), &listed, &plain)
 }
 
-/// A store of many objects.
-fn many(alloc: Global) -> Result<Store, AllocError> {
-    let mut layer = Layer::new(alloc);
-    for key in 0..100 {
-        let _ = layer.insert(Cell::Object(0, key), Some(balance(alloc, key)?))?;
-    }
+fn store_of_a_hundred(alloc: Global) -> Result<Store, AllocError> {
     let mut store = Store::empty(alloc)?;
-    store.apply(alloc, Arc::new(alloc, layer)?)?;
+    store.apply(alloc, Arc::new(alloc, many(alloc, 100)?)?)?;
     Ok(store)
 }
 
 /// As a unit that reads the class as a whole.
 fn ask(alloc: Global, store: &mut Store) -> Result<(), AllocError> {
-    let found = store.snapshot()?.objects(alloc, 0)?;
+    let found = store.snapshot()?.objects(alloc, CLASS)?;
     match found {
-        Some(objects) => store.keep_objects(0, objects),
+        Some(objects) => store.keep_objects(CLASS, objects),
         None => Ok(()),
     }
 }
@@ -96,7 +78,7 @@ fn ask(alloc: Global, store: &mut Store) -> Result<(), AllocError> {
 /// Changes one object, and says whether the store keeps a list after it.
 fn keeps_under_change(alloc: Global, store: &mut Store, key: Key) -> Result<bool, AllocError> {
     store.apply(alloc, layer(alloc, &[(key, 1000)], &[])?)?;
-    Ok(store.snapshot()?.kept_objects(0).is_some())
+    Ok(store.snapshot()?.kept_objects(CLASS).is_some())
 }
 
 fn change_each_time(rt: &impl Abort, alloc: Global, store: &mut Store) -> Result<(), Fail> {
@@ -112,6 +94,6 @@ fn change_each_time(rt: &impl Abort, alloc: Global, store: &mut Store) -> Result
 fn a_list_goes_on_under_one_change_after_each_time_it_is_asked_for(
     rt: HostRuntime,
 ) -> Result<(), Fail> {
-    let mut store = many(rt.alloc())?;
+    let mut store = store_of_a_hundred(rt.alloc())?;
     change_each_time(&rt, rt.alloc(), &mut store)
 }

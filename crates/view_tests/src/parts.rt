@@ -1,27 +1,12 @@
 //! Parts of a class, as a snapshot finds them and compares them.
 
-use crate::fixtures::{balance, name};
+use crate::fixtures::{CLASS, balance, changes, have_keys, many, name, object};
 use hp_store::{Layer, Snapshot, Store};
-use hp_value::{Attribute, Bounds, Cell, ClassPart, Key, KeyedRow};
+use hp_value::{Attribute, Bounds, ClassPart, Key, KeyedRow};
 use std::alloc::{AllocError, Global};
 use std::process::Abort;
 use std::sync::Arc;
 use std::test::Fail;
-
-/// The class of the tests' objects.
-const CLASS: u32 = 3;
-
-/// A layer that gives objects balances, and removes others.
-fn layer(alloc: Global, made: &[(Key, i64)], removed: &[Key]) -> Result<Layer, AllocError> {
-    let mut layer = Layer::new(alloc);
-    for (key, value) in made {
-        let _ = layer.insert(Cell::Object(CLASS, *key), Some(balance(alloc, *value)?))?;
-    }
-    for key in removed {
-        let _ = layer.insert(Cell::Object(CLASS, *key), None)?;
-    }
-    Ok(layer)
-}
 
 fn write(
     alloc: Global,
@@ -29,8 +14,8 @@ fn write(
     made: &[(Key, i64)],
     removed: &[Key],
 ) -> Result<(), AllocError> {
-    let layer = layer(alloc, made, removed)?;
-    store.apply(alloc, Arc::new(alloc, layer)?)
+    let changes = changes(alloc, made, removed)?;
+    store.apply(alloc, Arc::new(alloc, changes)?)
 }
 
 fn by_key(low: Option<Key>, high: Option<Key>) -> ClassPart<'static> {
@@ -60,18 +45,6 @@ fn finds(
     };
     let is_there = snapshot.has_part_over(writes, CLASS, part, &objects);
     Ok(is_there && have_keys(&objects, keys))
-}
-
-fn have_keys(objects: &[KeyedRow], keys: &[Key]) -> bool {
-    if objects.len() != keys.len() {
-        return false;
-    }
-    for i in 0..keys.len() {
-        if objects[i].key != keys[i] {
-            return false;
-        }
-    }
-    true
 }
 
 /// Keys 0, 10, .. 90 with their tenths as balances.
@@ -156,7 +129,7 @@ fn has_under(
     writes: (&[(Key, i64)], &[Key]),
 ) -> Result<bool, AllocError> {
     let (made, removed) = writes;
-    let writes = layer(alloc, made, removed)?;
+    let writes = changes(alloc, made, removed)?;
     Ok(snapshot.has_part_over(&writes, CLASS, part, objects))
 }
 
@@ -286,26 +259,17 @@ fn a_part_by_a_field_is_found_through_layers(rt: HostRuntime) -> Result<(), Fail
     ask_balances_through_layers(&rt, rt.alloc(), &mut store)
 }
 
-/// Keys from 0 on with their own numbers as balances.
-fn many(alloc: Global, count: i64) -> Result<Layer, AllocError> {
-    let mut layer = Layer::new(alloc);
-    for key in 0..count {
-        let _ = layer.insert(Cell::Object(CLASS, key), Some(balance(alloc, key)?))?;
-    }
-    Ok(layer)
-}
-
 /// A layer of many changes has an index of its own, which its later changes go into.
 fn ask_a_long_layer(rt: &impl Abort, alloc: Global, store: &Store) -> Result<(), Fail> {
     let mut writes = many(alloc, 100)?;
     writes.keep_index(alloc, CLASS, "bal")?;
-    let _ = writes.insert(Cell::Object(CLASS, 7), Some(balance(alloc, 50)?))?;
-    let _ = writes.insert(Cell::Object(CLASS, 49), None)?;
-    let _ = writes.insert(Cell::Object(CLASS, 51), None)?;
-    let _ = writes.remove(Cell::Object(CLASS, 51));
+    let _ = writes.insert(object(7), Some(balance(alloc, 50)?))?;
+    let _ = writes.insert(object(49), None)?;
+    let _ = writes.insert(object(51), None)?;
+    let _ = writes.remove(object(51));
     let snapshot = store.snapshot()?;
     assert!(rt; finds(alloc, &snapshot, &writes, &by_balance(49, 51), &[7, 50])?);
-    let _ = writes.insert(Cell::Object(CLASS, 7), Some(balance(alloc, 7)?))?;
+    let _ = writes.insert(object(7), Some(balance(alloc, 7)?))?;
     assert!(rt; finds(alloc, &snapshot, &writes, &by_balance(49, 51), &[50])?);
     Ok(())
 }
@@ -327,7 +291,7 @@ fn store_of_names(alloc: Global) -> Result<Store, AllocError> {
         (4, "a name that is longer than forty bytes, two"),
         (5, ""),
     ] {
-        let _ = layer.insert(Cell::Object(CLASS, key), Some(name(alloc, text)?))?;
+        let _ = layer.insert(object(key), Some(name(alloc, text)?))?;
     }
     let mut store = Store::empty(alloc)?;
     store.keep_index(alloc, CLASS, "name")?;

@@ -2,9 +2,9 @@
 
 ghost use Rattle.std.specs.Prelude.{◌≡◌, []};
 
-use crate::fixtures::{bank, set};
+use crate::fixtures::{bank, have_keys, object, set};
 use hp_attempt::{first_failed, holds};
-use hp_value::{Attribute, Bounds, Cell, ClassPart, Key, KeyedRow};
+use hp_value::{Attribute, Bounds, ClassPart, Key};
 use hp_view::{Found, Reads, Seen, View};
 use std::alloc::{AllocError, Global};
 use std::process::Abort;
@@ -23,13 +23,6 @@ fn from_key(low: Key) -> ClassPart<'static> {
     }
 }
 
-fn assert_keys(rt: &impl Abort, rows: &[KeyedRow], wanted: &[Key]) {
-    assert_eq!(rt; rows.len(), wanted.len());
-    for (row, key) in rows.iter().zip(wanted) {
-        assert_eq!(rt; row.key, *key);
-    }
-}
-
 fn assert_part(
     rt: &impl Abort,
     alloc: Global,
@@ -38,7 +31,7 @@ fn assert_part(
     wanted: &[Key],
 ) -> Result<(), Fail> {
     let rows = view.part(alloc, 0, part)?.ok_or("a part is found")?;
-    assert_keys(rt, &rows, wanted);
+    assert!(rt; have_keys(&rows, wanted));
     Ok(())
 }
 
@@ -47,7 +40,7 @@ fn assert_found(rt: &impl Abort, reads: &Reads, wanted: &[&[Key]]) {
     assert_eq!(rt; reads.len(), wanted.len());
     for ((seen, found), keys) in reads.iter().zip(wanted) {
         assert!(rt; matches!((seen, found), (Seen::Part(0, _), Found::Part(_))));
-        assert_keys(rt, found.objects(), keys);
+        assert!(rt; have_keys(found.objects(), keys));
     }
 }
 
@@ -68,7 +61,7 @@ fn a_part_is_read_once(rt: HostRuntime) -> Result<(), Fail> {
 
 fn ask_over_writes(rt: &impl Abort, alloc: Global, view: &mut View) -> Result<(), Fail> {
     set(alloc, view, 3, 103)?;
-    view.cut(Cell::Object(0, 2))?;
+    view.cut(object(2))?;
     assert_part(rt, alloc, view, &BY_KEYS, &[3])
 }
 
@@ -120,7 +113,7 @@ fn change_rows(rt: &impl Abort, alloc: Global, view: &mut View, reads: &Reads) -
     // Objects of the class that aren't in the part.
     set(alloc, view, -3, 5)?;
     set(alloc, view, 6, 5)?;
-    view.cut(Cell::Object(0, 10))?;
+    view.cut(object(10))?;
     assert!(rt; holds(reads, view));
 
     set(alloc, view, 2, 5)?;
@@ -145,9 +138,9 @@ fn come_and_leave(
 ) -> Result<(), Fail> {
     set(alloc, view, 3, 103)?;
     assert_fails(rt, view, reads);
-    view.cut(Cell::Object(0, 3))?;
+    view.cut(object(3))?;
     assert!(rt; holds(reads, view));
-    view.cut(Cell::Object(0, 2))?;
+    view.cut(object(2))?;
     assert_fails(rt, view, reads);
     Ok(())
 }

@@ -3,19 +3,13 @@
 //! A function that owns stores and snapshots has few `?` and hands them on by reference: with many it takes minutes to
 //! prove.
 
+use crate::fixtures::{CLASS, object};
 use hp_store::{CellValue, Layer, Snapshot, Status, Store};
 use hp_value::{Cell, Key, Row};
 use std::alloc::{AllocError, Global};
 use std::process::Abort;
 use std::sync::Arc;
 use std::test::Fail;
-
-/// The class of the tests' objects.
-const CLASS: u32 = 3;
-
-fn object(key: Key) -> Cell {
-    Cell::Object(CLASS, key)
-}
 
 fn row(alloc: Global) -> Result<CellValue, AllocError> {
     let fields = Arc::new(alloc, Vec::new(alloc))?;
@@ -73,7 +67,7 @@ fn overwrite(rt: &impl Abort, alloc: Global, store: &mut Store) -> Result<(), Fa
 }
 
 #[test]
-fn apply_overwrites_and_removes(rt: HostRuntime) -> Result<(), Fail> {
+fn a_layer_overwrites_and_removes(rt: HostRuntime) -> Result<(), Fail> {
     let mut store = store_of_three(rt.alloc())?;
     overwrite(&rt, rt.alloc(), &mut store)
 }
@@ -168,7 +162,7 @@ fn change_alone(rt: &impl Abort, alloc: Global, store: &mut Store) -> Result<(),
 }
 
 #[test]
-fn snapshot_keeps_what_it_had(rt: HostRuntime) -> Result<(), Fail> {
+fn a_snapshot_keeps_what_it_had(rt: HostRuntime) -> Result<(), Fail> {
     let mut store = store_of_three(rt.alloc())?;
     let before = store.snapshot()?;
     change(&rt, rt.alloc(), &mut store, &before)?;
@@ -192,7 +186,7 @@ fn stack_twenty(rt: &impl Abort, alloc: Global, snapshot: &mut Snapshot) -> Resu
 }
 
 #[test]
-fn twenty_layers_are_at_most_eight(rt: HostRuntime) -> Result<(), Fail> {
+fn twenty_layers_are_folded_into_at_most_eight(rt: HostRuntime) -> Result<(), Fail> {
     let mut snapshot = store_of_three(rt.alloc())?.snapshot()?;
     stack_twenty(&rt, rt.alloc(), &mut snapshot)
 }
@@ -235,7 +229,7 @@ fn changed(alloc: Global, snapshot: &Snapshot) -> Result<Snapshot, AllocError> {
 }
 
 #[test]
-fn keys_are_compared(rt: HostRuntime) -> Result<(), Fail> {
+fn a_snapshot_is_compared_with_keys_that_were_read(rt: HostRuntime) -> Result<(), Fail> {
     let first = store_of_three(rt.alloc())?.snapshot()?;
     let snapshot = changed(rt.alloc(), &first)?;
     let writes = layer(rt.alloc(), &[1, 3], &[5])?;

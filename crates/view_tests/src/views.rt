@@ -2,7 +2,7 @@
 
 ghost use Rattle.std.specs.Prelude.{◌≡◌, []};
 
-use crate::fixtures::{balance, balance_in, bank, shown};
+use crate::fixtures::{balance, balance_in, bank, changes, object, set, shown};
 use hp_query::{Query, answer};
 use hp_store::{Layer, Snapshot};
 use hp_value::{Cell, Comparison, Env, Expr, Key, KeyedRow, Value};
@@ -29,16 +29,16 @@ fn assert_reads(rt: &impl Abort, reads: &Reads, wanted: &[(Seen, Option<i64>, us
 }
 
 fn three_writes(alloc: Global, view: &mut View) -> Result<(), AllocError> {
-    view.put(Cell::Object(0, 2), balance(alloc, 6)?)?;
-    view.cut(Cell::Object(0, 10))?;
-    view.put(Cell::Object(0, 1), balance(alloc, 7)?)
+    set(alloc, view, 2, 6)?;
+    view.cut(object(10))?;
+    set(alloc, view, 1, 7)
 }
 
 fn all_reads(alloc: Global, view: &mut View) -> Result<(), AllocError> {
-    view.read(Cell::Object(0, -3))?;
-    view.read(Cell::Object(0, 10))?;
-    view.read(Cell::Object(0, 11))?;
-    view.read(Cell::Object(0, -3))?;
+    view.read(object(-3))?;
+    view.read(object(10))?;
+    view.read(object(11))?;
+    view.read(object(-3))?;
     drop(view.keys(alloc, 0)?);
     drop(view.keys(alloc, 0)?);
     Ok(())
@@ -47,8 +47,8 @@ fn all_reads(alloc: Global, view: &mut View) -> Result<(), AllocError> {
 // The cell that the view emptied is no read, and the keys are read as the snapshot has them.
 fn assert_all_reads(rt: &impl Abort, reads: &Reads) {
     let wanted = [
-        (Seen::Cell(Cell::Object(0, -3)), Some(97), 0),
-        (Seen::Cell(Cell::Object(0, 11)), None, 0),
+        (Seen::Cell(object(-3)), Some(97), 0),
+        (Seen::Cell(object(11)), None, 0),
         (Seen::Keys(0), None, 3),
     ];
     assert_reads(rt, reads, &wanted);
@@ -86,7 +86,7 @@ fn write_and_get(rt: &impl Abort, alloc: Global, view: &mut View) -> Result<(), 
         (10, None),
         (11, None),
     ] {
-        assert_eq!(rt; balance_in(view.get(Cell::Object(0, key))?), wanted);
+        assert_eq!(rt; balance_in(view.get(object(key))?), wanted);
     }
     Ok(())
 }
@@ -101,7 +101,7 @@ fn what_is_got_is_what_the_view_wrote_or_the_snapshot_holds(rt: HostRuntime) -> 
 fn commit_and_abort(rt: &impl Abort, alloc: Global, view: &mut View) -> Result<(), AllocError> {
     let outer = view.enter();
     let inner = view.enter();
-    view.put(Cell::Object(0, 2), balance(alloc, 6)?)?;
+    view.put(object(2), balance(alloc, 6)?)?;
     view.commit(inner);
     assert_eq!(rt; shown(view, 2), Some(6));
     view.abort(outer)?;
@@ -119,7 +119,7 @@ fn a_commit_keeps_what_was_written(rt: HostRuntime) -> Result<(), Fail> {
 fn frozen_after_each_write(alloc: Global, view: &mut View) -> Result<Vec<Snapshot>, AllocError> {
     let mut frozen = Vec::new(alloc);
     for key in 20..40 {
-        view.put(Cell::Object(0, key), balance(alloc, key)?)?;
+        set(alloc, view, key, key)?;
         frozen.push(view.freeze(alloc)?)?;
     }
     Ok(frozen)
@@ -129,7 +129,7 @@ fn assert_frozen(rt: &impl Abort, alloc: Global, frozen: &[Snapshot]) -> Result<
     for (i, snapshot) in frozen.iter().enumerate() {
         assert_eq!(rt; snapshot.keys(alloc, 0)?.len(), i.saturating_add(4));
         assert!(rt; snapshot.layers() <= 8);
-        assert_eq!(rt; balance_in(snapshot.get(Cell::Object(0, 20))), Some(20));
+        assert_eq!(rt; balance_in(snapshot.get(object(20))), Some(20));
     }
     Ok(())
 }
@@ -172,22 +172,18 @@ fn assert_all(
     Ok(())
 }
 
-fn write(alloc: Global, view: &mut View, cell: Cell) -> Result<(), AllocError> {
-    view.put(cell, balance(alloc, 6)?)
-}
-
 // Where the keys were read alone, each row is read by itself, and the row that the view wrote is no read.
 #[test]
 fn a_query_over_a_view(rt: HostRuntime) -> Result<(), Fail> {
     let mut view = bank(rt.alloc())?;
     view.read_keys(rt.alloc(), 0)?;
-    write(rt.alloc(), &mut view, Cell::Object(0, 2))?;
+    set(rt.alloc(), &mut view, 2, 6)?;
     assert_all(&rt, rt.alloc(), &mut view, &[(-3, 97), (2, 6), (10, 110)])?;
     let (reads, _) = view.into_parts();
     let wanted = [
         (Seen::Keys(0), None, 3),
-        (Seen::Cell(Cell::Object(0, -3)), Some(97), 0),
-        (Seen::Cell(Cell::Object(0, 10)), Some(110), 0),
+        (Seen::Cell(object(-3)), Some(97), 0),
+        (Seen::Cell(object(10)), Some(110), 0),
     ];
     assert_reads(&rt, &reads, &wanted);
     Ok(())
@@ -195,10 +191,10 @@ fn a_query_over_a_view(rt: HostRuntime) -> Result<(), Fail> {
 
 // Changes an object, makes two and deletes one.
 fn write_four(alloc: Global, view: &mut View) -> Result<(), AllocError> {
-    write(alloc, view, Cell::Object(0, 2))?;
-    write(alloc, view, Cell::Object(0, -9))?;
-    write(alloc, view, Cell::Object(0, 7))?;
-    view.cut(Cell::Object(0, 10))
+    set(alloc, view, 2, 6)?;
+    set(alloc, view, -9, 6)?;
+    set(alloc, view, 7, 6)?;
+    view.cut(object(10))
 }
 
 // The class is one read, as it stands beneath the writes.
@@ -216,7 +212,7 @@ fn a_class_that_was_written_is_read_as_a_whole(rt: HostRuntime) -> Result<(), Fa
 fn ask_twice(rt: &impl Abort, alloc: Global, view: &mut View) -> Result<(), Fail> {
     let all = [(-3, 97), (2, 102), (10, 110)];
     assert_all(rt, alloc, view, &all)?;
-    write(alloc, view, Cell::Object(1, 2))?;
+    view.put(Cell::Object(1, 2), balance(alloc, 6)?)?;
     assert_all(rt, alloc, view, &all)
 }
 
@@ -234,7 +230,7 @@ fn a_class_is_read_as_a_whole(rt: HostRuntime) -> Result<(), Fail> {
 fn get_after_the_whole(rt: &impl Abort, alloc: Global, view: &mut View) -> Result<(), AllocError> {
     drop(view.objects(alloc, 0)?);
     for (key, wanted) in [(-3, Some(97)), (2, Some(102)), (10, Some(110)), (11, None)] {
-        assert_eq!(rt; balance_in(view.get(Cell::Object(0, key))?), wanted);
+        assert_eq!(rt; balance_in(view.get(object(key))?), wanted);
     }
     Ok(())
 }
@@ -245,7 +241,7 @@ fn what_is_got_of_a_class_read_as_a_whole_is_no_further_read(rt: HostRuntime) ->
     get_after_the_whole(&rt, rt.alloc(), &mut view)?;
     let (reads, _) = view.into_parts();
     assert_reads(&rt, &reads, &[(Seen::Keys(0), None, 3)]);
-    assert!(rt; reads.has_cell(Cell::Object(0, 2)) && reads.has_cell(Cell::Object(0, 11)));
+    assert!(rt; reads.has_cell(object(2)) && reads.has_cell(object(11)));
     assert!(rt; !reads.has_cell(Cell::Object(1, 2)) && !reads.has_cell(Cell::Rule(0)));
     Ok(())
 }
@@ -254,7 +250,7 @@ fn what_is_got_of_a_class_read_as_a_whole_is_no_further_read(rt: HostRuntime) ->
 fn get_after_the_keys(alloc: Global, view: &mut View) -> Result<(), AllocError> {
     view.read_keys(alloc, 0)?;
     drop(view.objects(alloc, 0)?);
-    let _ = view.get(Cell::Object(0, 2))?;
+    let _ = view.get(object(2))?;
     Ok(())
 }
 
@@ -265,7 +261,7 @@ fn what_is_got_after_the_keys_alone_is_read(rt: HostRuntime) -> Result<(), Fail>
     let (reads, _) = view.into_parts();
     let wanted = [
         (Seen::Keys(0), None, 3),
-        (Seen::Cell(Cell::Object(0, 2)), Some(102), 0),
+        (Seen::Cell(object(2)), Some(102), 0),
     ];
     assert_reads(&rt, &reads, &wanted);
     Ok(())
@@ -298,8 +294,8 @@ fn a_query_for_one_key_reads_one_cell(rt: HostRuntime) -> Result<(), Fail> {
     look_at_two_keys(&rt, rt.alloc(), &mut view)?;
     let (reads, _) = view.into_parts();
     let wanted = [
-        (Seen::Cell(Cell::Object(0, 2)), Some(102), 0),
-        (Seen::Cell(Cell::Object(0, 3)), None, 0),
+        (Seen::Cell(object(2)), Some(102), 0),
+        (Seen::Cell(object(3)), None, 0),
     ];
     assert_reads(&rt, &reads, &wanted);
     Ok(())
@@ -310,12 +306,12 @@ fn assert_whole(rt: &impl Abort, alloc: Global, view: &mut View) -> Result<(), F
         panic!(rt; "no list of the class");
     };
     assert!(rt; view.has_objects(0, &all));
-    view.put(Cell::Object(0, 2), balance(alloc, 6)?)?;
+    set(alloc, view, 2, 6)?;
     assert!(rt; !view.has_objects(0, &all));
     assert!(rt; view.objects(alloc, 0)?.is_none());
-    view.put(Cell::Object(0, 2), balance(alloc, 102)?)?;
+    set(alloc, view, 2, 102)?;
     assert!(rt; view.has_objects(0, &all));
-    view.cut(Cell::Object(0, 2))?;
+    view.cut(object(2))?;
     assert!(rt; !view.has_objects(0, &all));
     Ok(())
 }
@@ -326,13 +322,9 @@ fn the_objects_of_a_class_are_compared_row_by_row(rt: HostRuntime) -> Result<(),
     assert_whole(&rt, rt.alloc(), &mut view)
 }
 
-// A layer that writes two cells and empties one.
+/// A layer that writes two cells and empties one.
 fn upper(alloc: Global) -> Result<Layer, AllocError> {
-    let mut layer = Layer::new(alloc);
-    layer.insert(Cell::Object(0, 1), Some(balance(alloc, 8)?))?;
-    layer.insert(Cell::Object(0, 2), Some(balance(alloc, 9)?))?;
-    layer.insert(Cell::Object(0, 10), None)?;
-    Ok(layer)
+    changes(alloc, &[(1, 8), (2, 9)], &[10])
 }
 
 fn take_in_and_abort(rt: &impl Abort, view: &mut View, upper: &Layer) -> Result<(), AllocError> {
@@ -349,7 +341,7 @@ fn take_in_and_abort(rt: &impl Abort, view: &mut View, upper: &Layer) -> Result<
 #[test]
 fn a_layer_taken_in_is_taken_back(rt: HostRuntime) -> Result<(), Fail> {
     let mut view = bank(rt.alloc())?;
-    write(rt.alloc(), &mut view, Cell::Object(0, 2))?;
+    set(rt.alloc(), &mut view, 2, 6)?;
     let upper = upper(rt.alloc())?;
     take_in_and_abort(&rt, &mut view, &upper)?;
     Ok(())
@@ -358,14 +350,14 @@ fn a_layer_taken_in_is_taken_back(rt: HostRuntime) -> Result<(), Fail> {
 // The calls of a view, by a number.
 fn call(alloc: Global, view: &mut View, number: u8) -> Result<(), AllocError> {
     match number {
-        0 => view.read(Cell::Object(0, 2))?,
+        0 => view.read(object(2))?,
         1 => drop(view.keys(alloc, 0)?),
-        2 => view.put(Cell::Object(0, 2), balance(alloc, 6)?)?,
+        2 => set(alloc, view, 2, 6)?,
         3 => drop(view.freeze(alloc)?),
-        4 => view.cut(Cell::Object(0, 10))?,
+        4 => view.cut(object(10))?,
         5 => view.take_in(&upper(alloc)?)?,
         6 => view.read_objects(alloc, 0)?,
-        _ => drop(view.get(Cell::Object(0, -3))?.is_some()),
+        _ => drop(view.get(object(-3))?.is_some()),
     }
     Ok(())
 }
