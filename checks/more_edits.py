@@ -66,6 +66,9 @@ UNPROVED = re.compile(
 UNREAD = re.compile(r"is not in scope|has no field|is no name|operand is missing|expected the end|cannot continue")
 NO_SUCH_NAME = re.compile(r"has no field|is not in scope|has no `|was not admitted")
 
+# A line that says that a function's proof wasn't begun: no contract was tried.
+NO_PROOF = re.compile(r"fn \S+: no proof: ")
+
 SIGNALS = (signal.SIGINT, signal.SIGTERM, signal.SIGHUP)
 
 
@@ -386,7 +389,10 @@ def came_to(status, lines, changed):
     if told and not of_contracts:
         return BY_NAME, told[0]
     notes = [line for line in lines if line.startswith("note: ")]
-    return REFUSED, next(iter(of_contracts + notes), lines[-1])
+    if not of_contracts + notes:
+        # (as where the borrow checker doesn't cover the function)
+        return BAD, next((line for line in lines if NO_PROOF.match(line)), lines[-1])
+    return REFUSED, (of_contracts + notes)[0]
 
 
 class Room:
