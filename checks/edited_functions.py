@@ -18,22 +18,25 @@ class Body:
         self.path, self.file, self.name = path, file, name
         # The numbers of its first and last line.
         self.first, self.last = lines
-        # The changed lines, by their numbers, and the text of the whole function without the edit.
-        self.changed, self.text = {}, ""
+        # The changed lines, by their numbers, and the words that they hold and did not hold before.
+        self.changed, self.words = {}, set()
+        # Where the proofs of the file's functions stand, each in a folder of its name.
+        self.proofs = "proofs" + re.sub(r"(/lib|/main)?\.rt$", "", file.removeprefix("src")) + "/"
 
     def has(self, file, line):
         """Whether a place that the prover names belongs to the function: a line of it, or a file of its proof."""
         if file == self.file:
             return self.first <= line <= self.last
-        module = re.sub(r"(/lib|/main)?\.rt$", "", self.file.removeprefix("src"))
         folder, _, _ = file.rpartition("/")
-        return folder.startswith(f"proofs{module}/") and os.path.basename(folder) == self.name
+        return folder.startswith(self.proofs) and os.path.basename(folder) == self.name
 
     def is_apart_from(self, other):
-        """Whether both can be tried together: neither function names the other one, nor is it the same."""
-        if self.name == other.name:
+        """Whether both can be tried together: it can be told of which function a complaint is, and neither edit calls
+        the other function anew, since a cycle of calls is a fault of each function in it."""
+        pairs = (self, other), (other, self)
+        if self.name == other.name and any(one.proofs.startswith(two.proofs) for one, two in pairs):
             return False
-        return not any(re.search(rf"\b{one.name}\b", two.text) for one, two in ((self, other), (other, self)))
+        return not any(one.name in two.words for one, two in pairs)
 
 
 def functions(text):
@@ -45,6 +48,10 @@ def functions(text):
             ends = (at for at in range(number, len(lines) + 1) if lines[at - 1] == head[1] + "}")
             found.append((head[2], (number, next(ends, number))))
     return found
+
+
+def words(line):
+    return set(re.findall(r"\w+", line))
 
 
 def body_of(path, before, after):
@@ -60,7 +67,8 @@ def body_of(path, before, after):
     for name, (first, last) in functions(before[file]):
         if all(first <= number <= last for number in changed):
             body = Body(path, file, name, (first, last))
-            body.changed, body.text = changed, "\n".join(old[first - 1 : last])
+            body.changed = changed
+            body.words = {word for number, line in changed.items() for word in words(line) - words(old[number - 1])}
             return body
     return None
 

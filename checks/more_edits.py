@@ -46,8 +46,8 @@ PARTS = ("src", "specs", "proofs")
 # The line of an edit that was never tried. It is removed when the prover has refused the edit.
 UNTRIED = "# untried"
 
-# What an edit can come to. The second: the first goal that fails is a proof file's that names what the edit took away,
-# so that no contract was tried.
+# What an edit can come to. The second: the only complaints are of a proof file that names what the edit took away, so
+# that no contract was tried.
 REFUSED = "refused"
 BY_NAME = "refused, since a proof names what it took away"
 PROVED = "NOT REFUSED"
@@ -65,6 +65,9 @@ UNPROVED = re.compile(
 # The words of complaints of a text that can't be read, and of a proof that names what is not there.
 UNREAD = re.compile(r"is not in scope|has no field|is no name|operand is missing|expected the end|cannot continue")
 NO_SUCH_NAME = re.compile(r"has no field|is not in scope|has no `|was not admitted")
+
+# A line that says that a function's proof wasn't begun: no contract was tried.
+NO_PROOF = re.compile(r"fn \S+: no proof: ")
 
 SIGNALS = (signal.SIGINT, signal.SIGTERM, signal.SIGHUP)
 
@@ -327,6 +330,17 @@ def restore(work, kept):
 # ---- checks
 
 
+def with_their_ends(lines):
+    """Lines, where those that continue a complaint are joined with it."""
+    found = []
+    for line in lines:
+        if re.match(r"  [^|]", line) and found and COMPLAINT.match(found[-1]):
+            found[-1] += " " + line.strip()
+        else:
+            found.append(line)
+    return found
+
+
 def said_by(words, folder, room):
     """Runs a command in a folder, and returns its status and the lines that it printed. Its children end with it."""
     how = {"cwd": folder, "stdin": subprocess.DEVNULL, "stdout": subprocess.PIPE, "stderr": subprocess.STDOUT}
@@ -338,7 +352,7 @@ def said_by(words, folder, room):
             if running.poll() is None:
                 # (the checks that it started end too)
                 running.kill()
-    return running.returncode, said.rstrip("\n").split("\n")
+    return running.returncode, with_their_ends(said.rstrip("\n").split("\n"))
 
 
 def is_unread(line, changed):
@@ -381,12 +395,14 @@ def came_to(status, lines, changed):
         return PROVED, "the crate is still proved"
     if status != 1 or not any(line.startswith("logic=not-proved") for line in lines):
         return BAD, next((line for line in lines if "error" in line), lines[-1])
+    shown = complaints(lines) + [line for line in lines if UNPROVED.match(line) and not COMPLAINT.match(line)]
+    if shown:
+        return REFUSED, shown[0]
     told = [line for line in lines if COMPLAINT.match(line)]
-    of_contracts = complaints(lines)
-    if told and not of_contracts:
+    if told:
         return BY_NAME, told[0]
-    notes = [line for line in lines if line.startswith("note: ")]
-    return REFUSED, next(iter(of_contracts + notes), lines[-1])
+    # (as where the borrow checker doesn't cover the function)
+    return BAD, next((line for line in lines if NO_PROOF.match(line)), lines[-1])
 
 
 class Room:
