@@ -32,7 +32,6 @@ use hp_view::View;
 use std::alloc::{AllocError, Global};
 
 /// The query of a statement `each`.
-#[derive(Clone, Copy)]
 pub(crate) struct Selection<'a> {
     /// The name of the row that is tested.
     pub(crate) variable: &'a str,
@@ -43,7 +42,6 @@ pub(crate) struct Selection<'a> {
 }
 
 /// The binding of a statement `with`.
-#[derive(Clone, Copy)]
 pub(crate) struct Binding<'a> {
     /// The name of the object's row in the body.
     pub(crate) variable: &'a str,
@@ -123,24 +121,25 @@ impl<R> Engine<'_, R> {
         &self,
         view: &mut View,
         context: &Context<'_>,
-        selection: Selection<'_>,
+        variable: &str,
+        class: ClassNo,
+        predicate: &Expr,
     ) -> Result<Vec<KeyedRow>, Halt>
-        ensures { let x = selection.entry.variable.now in
-            let predicate = expression selection.entry.predicate.now in
+        ensures { let predicate = expression predicate.now in
             let environment = (context_in context.now).environment in
             Looks keyed_rows (library self.now.lib.now)
-            (λ S. conditions.answer environment x selection.entry.class predicate S.objects) view.old view.new result }
+            (λ S. conditions.answer environment variable.now class predicate S.objects) view.old view.new result }
     {
         let mut look = Counting::new(view);
         let rows = selected_rows(
             self.alloc,
-            selection.variable,
-            selection.class,
-            selection.predicate,
+            variable,
+            class,
+            predicate,
             &context.env,
             &mut look,
         );
-        look.add_predicate(selection.predicate, self.effort);
+        look.add_predicate(predicate, self.effort);
         rows
     }
 

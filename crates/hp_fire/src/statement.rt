@@ -153,8 +153,13 @@ impl<R: Threads + Sync> Engine<'_, R> {
             let statement = rules.each x selection.entry.class predicate (body_in body.now) in
             StatementRuns self.now.lib.now context.now statement view.old view.new result }
     {
-        let rows = self.selected(view, context, selection)?;
-        let course = self.each_row(view, body, selection.variable, &rows, context)?;
+        let Selection {
+            variable,
+            class,
+            predicate,
+        } = selection;
+        let rows = self.selected(view, context, variable, class, predicate)?;
+        let course = self.each_row(view, body, variable, &rows, context)?;
         Ok(course)
     }
 
@@ -189,8 +194,13 @@ impl<R: Threads + Sync> Engine<'_, R> {
             let statement = rules.with_object x binding.entry.class key (body_in body.now) in
             StatementRuns self.now.lib.now context.now statement view.old view.new result }
     {
-        let row = self.named_object(view, context, binding.class, binding.key)?;
-        let inner = (&*context).bound(binding.variable, row.key, &row.row);
+        let Binding {
+            variable,
+            class,
+            key,
+        } = binding;
+        let row = self.named_object(view, context, class, key)?;
+        let inner = (&*context).bound(variable, row.key, &row.row);
         let course = self.statements(view, body, &inner)?;
         Ok(course)
     }

@@ -9,7 +9,7 @@ ghost use Rattle.hp_attempt.specs.Mapped.{attempt as attempt_of};
 ghost use Rattle.hp_fire.specs.Channels.{IsOf};
 ghost use Rattle.hp_fire.specs.Groups.{AreSoundTries, AreOf};
 
-use crate::speculate::channel::{Receiver, receive};
+use crate::speculate::channel::{Receiver, Sent};
 use crate::speculate::past::{Effort, Past};
 use crate::speculate::policy::ROOM;
 use hp_attempt::{Attempt, holds};
@@ -133,17 +133,6 @@ impl Pending {
         }
     }
 
-    // Stores what several workers have returned.
-    fn put_all(&mut self, found: Vec<Vec<Tried>>)
-        ensures { (library : ModelLibrary) → AreSound library self.old.attempts.items
-            → All (λ tries. AreSoundTries library tries.items) found.items
-            → AreSound library self.new.attempts.items }
-    {
-        for tries in found {
-            self.put_each(tries);
-        }
-    }
-
     /// Stores what the workers of a wave return when they end; nothing if memory ran out.
     pub(crate) fn put_returned(&mut self, found: Result<Vec<Vec<Tried>>, AllocError>)
         ensures { (library : ModelLibrary) → AreSound library self.old.attempts.items
@@ -153,7 +142,9 @@ impl Pending {
         let Ok(found) = found else {
             return;
         };
-        self.put_all(found);
+        for tries in found {
+            self.put_each(tries);
+        }
     }
 
     /// Stores the attempts that the workers of a wave have sent.
@@ -176,7 +167,7 @@ impl Pending {
             → AreSound library self.old.attempts.items → AreSound library self.new.attempts.items }
     {
         for _ in 0..ROOM {
-            let Some(tried) = receive(receiver) else {
+            let Ok(Sent::Tried(tried)) = receiver.pop() else {
                 return;
             };
             self.put(tried);

@@ -18,7 +18,7 @@ use crate::speculate::past::Effort;
 use crate::speculate::pending::Tried;
 use crate::speculate::policy::POLLS;
 use crate::speculate::progress::Progress;
-use crate::speculate::wave::{Job, Wave, hand_over, kept_layer};
+use crate::speculate::wave::{Job, Wave, hand_over};
 use crate::speculate::worker::Worker;
 use hp_attempt::{Attempt, Outcome};
 use hp_board::Seat;
@@ -160,15 +160,16 @@ impl<
         ensures channels { AreOf (library self.now.lib.now) receivers.new.items }
     {
         let wave = worker.wave;
+        let (polls, last_polls) = if wave.early { (1, POLLS) } else { (0, 0) };
         for _ in 0..wave.tasks.len() {
             let Some(tried) = self.next_attempt(worker) else {
                 break;
             };
             progress.pending.put(tried);
-            progress.accept_sent(self.alloc, wave, view, receivers, wave.polls(1))?;
+            progress.accept_sent(self.alloc, wave, view, receivers, polls)?;
             worker.note_veto(progress.settled.end);
         }
-        progress.accept_sent(self.alloc, wave, view, receivers, wave.polls(POLLS))
+        progress.accept_sent(self.alloc, wave, view, receivers, last_polls)
     }
 
     /// A worker's part of a wave: it tries tasks until none is left, and sends the attempts. It returns those for which
@@ -229,7 +230,7 @@ impl<
             return None;
         }
         let wave = worker.wave;
-        if let Some(layer) = kept_layer(wave, number) {
+        if let Some(Some(layer)) = wave.kept.get(number) {
             worker.post(number, layer);
             return None;
         }
