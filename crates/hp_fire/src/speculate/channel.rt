@@ -1,14 +1,17 @@
 //! Channels over which the workers of a wave send attempts to the owner of the group.
 
-ghost use Rattle.std.specs.Prelude.{IfOk};
+ghost use Rattle.std.specs.Prelude.{◌≡◌, IfOk, IfSome};
 ghost use Rattle.rtrb.specs.Ring.{sent, received};
+ghost use Rattle.hp_model.specs.Rules.{Library as ModelLibrary};
+ghost use Rattle.hp_model.specs.Soundness.{IsSound};
 ghost use Rattle.hp_rule.specs.Mapped.{library};
+ghost use Rattle.hp_attempt.specs.Mapped.{attempt as attempt_of};
 ghost use Rattle.hp_fire.specs.Channels.{IsOf};
 
 use crate::speculate::pending::Tried;
 use crate::speculate::policy::ROOM;
 use hp_rule::Library;
-use rtrb::{Consumer, Producer, Protocol, RingBuffer};
+use rtrb::{Consumer, Producer, Protocol, PushError, RingBuffer};
 use std::alloc::{AllocError, Global};
 
 /// An item of a channel: first the library whose rules the tasks fire, and then attempts.
@@ -50,3 +53,26 @@ pub(crate) fn channel<'a>(
     Ok((sender, receiver))
 }
 
+/// Sends an attempt. It comes back if the channel is full.
+pub(crate) fn send(sender: &mut Sender<'_>, tried: Tried) -> Option<Tried>
+    requires { (l : ModelLibrary) → IsOf l (sent sender.old) → IsSound l (attempt_of tried.attempt) }
+    ensures channel { (l : ModelLibrary) → IsOf l (sent sender.old) → IsOf l (sent sender.new) }
+    ensures back { IfSome result (λ back. back ≡ tried) }
+{
+    match sender.push(Sent::Tried(tried)) {
+        Err(PushError::Full(Sent::Tried(back))) => Some(back),
+        _ => None,
+    }
+}
+
+/// Receives the next attempt, if one has arrived.
+pub(crate) fn receive(receiver: &mut Receiver<'_>) -> Option<Tried>
+    ensures channel { (l : ModelLibrary) → IsOf l (received receiver.old) → IsOf l (received receiver.new) }
+    ensures sound { (l : ModelLibrary) → IsOf l (received receiver.old)
+        → IfSome result (λ tried. IsSound l (attempt_of tried.attempt)) }
+{
+    match receiver.pop() {
+        Ok(Sent::Tried(tried)) => Some(tried),
+        _ => None,
+    }
+}

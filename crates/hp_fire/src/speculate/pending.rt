@@ -9,7 +9,7 @@ ghost use Rattle.hp_attempt.specs.Mapped.{attempt as attempt_of};
 ghost use Rattle.hp_fire.specs.Channels.{IsOf};
 ghost use Rattle.hp_fire.specs.Groups.{AreSoundTries, AreOf};
 
-use crate::speculate::channel::{Receiver, Sent};
+use crate::speculate::channel::{Receiver, receive};
 use crate::speculate::past::{Effort, Past};
 use crate::speculate::policy::ROOM;
 use hp_attempt::{Attempt, holds};
@@ -167,7 +167,7 @@ impl Pending {
             → AreSound library self.old.attempts.items → AreSound library self.new.attempts.items }
     {
         for _ in 0..ROOM {
-            let Ok(Sent::Tried(tried)) = receiver.pop() else {
+            let Some(tried) = receive(receiver) else {
                 return;
             };
             self.put(tried);

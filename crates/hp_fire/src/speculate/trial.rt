@@ -12,7 +12,6 @@ ghost use Rattle.hp_fire.specs.Groups.{AreSoundTries, IsAcceptedWithin, IsWave, 
 
 use crate::attempting::attempt_on;
 use crate::speculate::channel::Receiver;
-use crate::speculate::fork_join::on_threads;
 use crate::speculate::gate::Gate;
 use crate::speculate::past::Effort;
 use crate::speculate::pending::Tried;
@@ -27,6 +26,7 @@ use hp_store::Snapshot;
 use hp_view::View;
 use std::alloc::{AllocError, Global};
 use std::thread::Threads;
+use std::{mem, thread};
 
 /// What is needed to try the tasks of a wave.
 pub(crate) struct Trial<'a, R, G, F> {
@@ -82,7 +82,7 @@ impl<
             view.old progress.old view.new progress.new) }
         ensures channels { AreOf (library self.now.lib.now) receivers.new.items }
     {
-        let (seat, jobs) = seats;
+        let (seat, mut jobs) = seats;
         let mut seat = Some(seat);
         let mut owner = || -> Result<(), AllocError>
             requires { IsSync R.row × IsSync G.row × IsSync F.row × IsWave wave.now
@@ -101,14 +101,19 @@ impl<
             };
             self.try_as_owner(wave, seat, view, progress, receivers)
         };
-        let worker = |job| -> Vec<Tried>
+        let mut workers = || -> Result<Vec<Vec<Tried>>, AllocError>
             requires { IsSync R.row × IsSync G.row × IsSync F.row × IsWave wave.now
-                × IsJob (library self.now.lib.now) wave.now.board.deal job
+                × All (IsJob (library self.now.lib.now) wave.now.board.deal) jobs.items
                 × All (MayFire F.Fn self.now.fire.now) wave.now.tasks.now
                 × Fires F.Fn self.now.fire.now (library self.now.lib.now) }
-            ensures { AreSoundTries (library self.entry.now.lib.now) result.items }
-        { self.try_as_worker(wave, job) };
-        on_threads(self.rt, self.alloc, &worker, jobs, &mut owner)
+            ensures { let are_sound = AreSoundTries (library self.entry.now.lib.now) in
+                IfOk result (λ all. All (λ found. are_sound found.items) all.items) }
+        {
+            let jobs = mem::replace(&mut jobs, Vec::new(self.alloc));
+            self.on_threads(wave, jobs)
+        };
+        let (accepted, found) = thread::join_mut(self.rt, &mut owner, &mut workers);
+        (found, accepted)
     }
 
     /// The owner's part of a wave: it tries tasks as the workers do, and accepts the front of the attempts as they
@@ -174,7 +179,7 @@ impl<
 
     /// A worker's part of a wave: it tries tasks until none is left, and sends the attempts. It returns those for which
     /// the channel had no room.
-    fn try_as_worker(&self, wave: &Wave<'_>, job: Job<'_>) -> Vec<Tried>
+    pub(crate) fn try_as_worker(&self, wave: &Wave<'_>, job: Job<'_>) -> Vec<Tried>
         requires fires { All (MayFire F.Fn self.now.fire.now) wave.now.tasks.now }
         requires firings { Fires F.Fn self.now.fire.now (library self.now.lib.now) }
         requires wave { IsWave wave.now }

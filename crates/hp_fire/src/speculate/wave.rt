@@ -10,13 +10,12 @@ ghost use Rattle.hp_attempt.specs.Mapped.{attempt as attempt_of};
 ghost use Rattle.hp_fire.specs.Channels.{IsOf};
 ghost use Rattle.hp_fire.specs.Groups.{AreSoundTries, IsJob, AreOf};
 
-use crate::speculate::channel::{Receiver, Sender, Sent, channel};
+use crate::speculate::channel::{Receiver, Sender, channel, send};
 use crate::speculate::pending::Tried;
 use hp_attempt::Attempt;
 use hp_board::{Board, Posted, Seat};
 use hp_rule::{Library, Task};
 use hp_store::{Layer, Snapshot};
-use rtrb::PushError;
 use std::alloc::{AllocError, Global};
 use std::collections::VecDeque;
 use std::sync::Arc;
@@ -112,7 +111,7 @@ pub(crate) fn hand_over(sender: &mut Sender<'_>, found: &mut Vec<Tried>, tried: 
     ensures found { (l : ModelLibrary) → IsOf l (sent sender.old) → AreSoundTries l found.old.items
         → AreSoundTries l found.new.items }
 {
-    let Err(PushError::Full(Sent::Tried(back))) = sender.push(Sent::Tried(tried)) else {
+    let Some(back) = send(sender, tried) else {
         return;
     };
     if found.reserve(1).is_ok() {
