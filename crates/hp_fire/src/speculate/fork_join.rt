@@ -39,7 +39,7 @@ impl<
         requires firings { Fires F.Fn self.now.fire.now (library self.now.lib.now) }
         requires wave { IsWave wave.now }
         requires jobs { All (IsJob (library self.now.lib.now) wave.now.board.deal) jobs.items }
-        ensures each { IfOk result (λ all. length all.items ≡ length jobs.items) }
+        ensures each { IfOk result (λ all. length all.items ≡ length jobs.entry.items) }
         ensures sound { let are_sound = AreSoundTries (library self.now.lib.now) in
             IfOk result (λ all. All (λ found. are_sound found.items) all.items) }
     {
@@ -59,7 +59,7 @@ impl<
                 × All (MayFire F.Fn self.now.fire.now) wave.now.tasks.now
                 × Fires F.Fn self.now.fire.now (library self.now.lib.now) }
             ensures { let are_sound = AreSoundTries (library self.entry.now.lib.now) in
-                IfOk result (λ all. (length all.items ≡ length jobs.items)
+                IfOk result (λ all. (length all.items ≡ length jobs.entry.items)
                 × All (λ found. are_sound found.items) all.items) }
         { self.on_threads(wave, jobs) };
         let (last, before) = thread::join(self.rt, apart, rest);

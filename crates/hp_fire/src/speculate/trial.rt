@@ -142,32 +142,9 @@ impl<
         let Ok(mut worker) = Worker::new(self.alloc, wave, seat) else {
             return Ok(());
         };
-        self.accept_each(&mut worker, view, progress, receivers)
-    }
-
-    /// The same, once the owner's part has a worker.
-    fn accept_each(
-        &self,
-        worker: &mut Worker<'_>,
-        view: &mut View,
-        progress: &mut Progress,
-        receivers: &mut Vec<Receiver<'_>>,
-    ) -> Result<(), AllocError>
-        requires fires { All (MayFire F.Fn self.now.fire.now) worker.old.wave.now.tasks.now }
-        requires firings { Fires F.Fn self.now.fire.now (library self.now.lib.now) }
-        requires wave { IsWave worker.old.wave.now }
-        requires worker { IsWorker worker.old }
-        requires channels { AreOf (library self.now.lib.now) receivers.old.items }
-        requires sound { AreSound (library self.now.lib.now) progress.old.pending.attempts.items }
-        requires accepted { IsAcceptedWithin progress.old }
-        ensures comes { OnOk result (ComesInWave (library self.now.lib.now) worker.old.wave.now
-            view.old progress.old view.new progress.new) }
-        ensures channels { AreOf (library self.now.lib.now) receivers.new.items }
-    {
-        let wave = worker.wave;
         let (polls, last_polls) = if wave.early { (1, POLLS) } else { (0, 0) };
         for _ in 0..wave.tasks.len() {
-            let Some(tried) = self.next_attempt(worker) else {
+            let Some(tried) = self.next_attempt(&mut worker) else {
                 break;
             };
             progress.pending.put(tried);
