@@ -9,9 +9,9 @@ ghost use Rattle.hp_fire.specs.Mapped as mapped;
 
 use hp_rule::Task;
 use hp_value::{Answer, Env, Key, KeyedRow, Row, RuleNo};
-use std::alloc::AllocError;
 
 /// The context of a statement, besides the view.
+#[derive(Clone, Copy)]
 pub(crate) struct Context<'a> {
     /// The environment of its expressions.
     pub(crate) env: Env<'a>,
@@ -22,15 +22,6 @@ pub(crate) struct Context<'a> {
     /// The depth of the transaction around it.
     pub(crate) depth: u8,
 }
-
-// By hand, as with the engine.
-impl<'a> Clone for Context<'a> {
-    fn clone(&self) -> Result<Context<'a>, AllocError> {
-        Ok(*self)
-    }
-}
-
-impl<'a> Copy for Context<'a> {}
 
 impl<'a> Context<'a> {
     /// The context of the body of a script.

@@ -1,70 +1,76 @@
-//! The threads of a wave's workers.
+//! Calls on threads of their own.
 
-ghost use Rattle.std.specs.Prelude.{◌≡◌, IfOk, All, length};
-ghost use Rattle.std.specs.Thread.{IsSync};
-ghost use Rattle.hp_rule.specs.Mapped.{library};
-ghost use Rattle.hp_fire.specs.Given.{MayFire, Fires};
-ghost use Rattle.hp_fire.specs.Groups.{AreSoundTries, IsWave, IsJob};
+ghost use Rattle.std.specs.Prelude.{[], ◌∷◌, IfOk, IfSome, IsSome};
+ghost use denote.Param.Send.{IsSync, IsSend};
+ghost use Rattle.std.specs.Fork.{AcceptsJobs};
+ghost use Rattle.std.specs.Fork.Halves.{GivesFor};
 
-use crate::speculate::gate::Gate;
-use crate::speculate::past::Effort;
-use crate::speculate::pending::Tried;
-use crate::speculate::trial::Trial;
-use crate::speculate::wave::{Job, Wave};
-use hp_attempt::Outcome;
-use hp_rule::Task;
-use hp_view::View;
-use std::alloc::AllocError;
-use std::thread;
+use std::alloc::{AllocError, Global};
 use std::thread::Threads;
+use std::{mem, thread};
 
-impl<
+/// Calls a function for each job, and another function besides, each on a thread of its own if one can be started. The
+/// results are in the order of the jobs.
+///
+/// This thread starts all others, and then sleeps until they end. Linux mostly puts a new thread on the processor of
+/// the thread that starts it. So a thread that was just started should start no other, and a starter that goes on
+/// working would delay the thread that waits for its processor (measured, `bench/README.md`).
+///
+/// After an error the results are dropped.
+#[cycle(fork_join)]
+pub(crate) fn on_threads<
     R: Threads + Sync,
-    G: Gate + Sync,
-    F: Fn(&mut View, &Task, &Effort, usize) -> Result<Outcome, AllocError> + Sync,
-> Trial<'_, R, G, F> {
-    /// Tries tasks as workers, one for each job, each on a thread of its own if one can be started. A worker for which
-    /// no thread can be started runs last in this one.
-    ///
-    /// This thread starts all others, and then sleeps until they end. Linux mostly puts a new thread on the processor
-    /// of the thread that starts it. So a thread that was just started should start no other, and a starter that goes
-    /// on working would delay the thread that waits for its processor (measured, `bench/README.md`).
-    #[cycle(workers)]
-    pub(crate) fn on_threads(
-        &self,
-        wave: &Wave<'_>,
-        mut jobs: Vec<Job<'_>>,
-    ) -> Result<Vec<Vec<Tried>>, AllocError>
-        requires fires { All (MayFire F.Fn self.now.fire.now) wave.now.tasks.now }
-        requires firings { Fires F.Fn self.now.fire.now (library self.now.lib.now) }
-        requires wave { IsWave wave.now }
-        requires jobs { All (IsJob (library self.now.lib.now) wave.now.board.deal) jobs.items }
-        ensures each { IfOk result (λ all. length all.items ≡ length jobs.entry.items) }
-        ensures sound { let are_sound = AreSoundTries (library self.now.lib.now) in
-            IfOk result (λ all. All (λ found. are_sound found.items) all.items) }
+    J: Send + Drop,
+    X: Send + Drop,
+    F: Fn(J) -> X + Sync,
+    Y: Send + Drop,
+    H: FnMut() -> Y + Send,
+>(
+    rt: &R,
+    alloc: Global,
+    f: &F,
+    mut jobs: Vec<J>,
+    besides: &mut H,
+) -> (Result<Vec<X>, AllocError>, Y)
+    requires jobs { AcceptsJobs F.Fn f.now jobs.items }
+    requires besides { H.pre besides.old }
+    ensures jobs { IfOk result.0 (λ results. GivesFor F.Fn f.now jobs.items results.items) }
+    ensures besides { H.step besides.old result.1 besides.new }
+{
+    let Some(last) = jobs.pop() else {
+        let mut nothing = || {};
+        let (own, ()) = thread::join_mut(rt, besides, &mut nothing);
+        return (Ok(Vec::new(alloc)), own);
+    };
+    let mut last = Some(last);
+    let mut apart = || -> X
+        requires { IsSync F.row × IsSend J.row × IsSend X.row × IsSome last × IfSome last (F.pre f.now) }
+        ensures { IfSome last.entry (λ job. GivesFor F.Fn f.entry.now (job ∷ []) (result ∷ [])) }
     {
-        let Some(job) = jobs.pop() else {
-            return Ok(Vec::new(self.alloc));
+        let Some(job) = last.take() else {
+            unreachable!();
         };
-        let apart = move || -> Vec<Tried>
-            requires { IsSync R.row × IsSync G.row × IsSync F.row × IsWave wave.now
-                × IsJob (library self.now.lib.now) wave.now.board.deal job
-                × All (MayFire F.Fn self.now.fire.now) wave.now.tasks.now
-                × Fires F.Fn self.now.fire.now (library self.now.lib.now) }
-            ensures { AreSoundTries (library self.entry.now.lib.now) result.items }
-        { self.try_as_worker(wave, job) };
-        let rest = move || -> Result<Vec<Vec<Tried>>, AllocError>
-            requires { IsSync R.row × IsSync G.row × IsSync F.row × IsWave wave.now
-                × All (IsJob (library self.now.lib.now) wave.now.board.deal) jobs.items
-                × All (MayFire F.Fn self.now.fire.now) wave.now.tasks.now
-                × Fires F.Fn self.now.fire.now (library self.now.lib.now) }
-            ensures { let are_sound = AreSoundTries (library self.entry.now.lib.now) in
-                IfOk result (λ all. (length all.items ≡ length jobs.entry.items)
-                × All (λ found. are_sound found.items) all.items) }
-        { self.on_threads(wave, jobs) };
-        let (last, before) = thread::join(self.rt, apart, rest);
-        let mut all = before?;
-        all.push(last)?;
-        Ok(all)
+        f(job)
+    };
+    let mut rest = || -> (Result<Vec<X>, AllocError>, Y)
+        requires { AcceptsJobs F.Fn f.now jobs.items × H.pre besides.now × IsSend H.row × IsSend Y.row }
+        ensures { IfOk result.0 (λ results. GivesFor F.Fn f.entry.now jobs.entry.items results.items)
+            × H.step besides.entry.now result.1 besides.exit.now }
+    {
+        on_threads(
+            rt,
+            alloc,
+            f,
+            mem::replace(&mut jobs, Vec::new(alloc)),
+            besides,
+        )
+    };
+    let (result, (before, own)) = thread::join_mut(rt, &mut apart, &mut rest);
+    let Ok(mut results) = before else {
+        return (Err(AllocError), own);
+    };
+    match results.push(result) {
+        Ok(()) => (Ok(results), own),
+        Err(_) => (Err(AllocError), own),
     }
 }

@@ -12,12 +12,13 @@ ghost use Rattle.hp_fire.specs.Groups.{AreSoundTries, IsAcceptedWithin, IsWave, 
 
 use crate::attempting::attempt_on;
 use crate::speculate::channel::Receiver;
+use crate::speculate::fork_join::on_threads;
 use crate::speculate::gate::Gate;
 use crate::speculate::past::Effort;
 use crate::speculate::pending::Tried;
 use crate::speculate::policy::POLLS;
 use crate::speculate::progress::Progress;
-use crate::speculate::wave::{Job, Wave, hand_over};
+use crate::speculate::wave::{Job, Wave, hand_over, kept_layer};
 use crate::speculate::worker::Worker;
 use hp_attempt::{Attempt, Outcome};
 use hp_board::Seat;
@@ -26,7 +27,6 @@ use hp_store::Snapshot;
 use hp_view::View;
 use std::alloc::{AllocError, Global};
 use std::thread::Threads;
-use std::{mem, thread};
 
 /// What is needed to try the tasks of a wave.
 pub(crate) struct Trial<'a, R, G, F> {
@@ -82,7 +82,7 @@ impl<
             view.old progress.old view.new progress.new) }
         ensures channels { AreOf (library self.now.lib.now) receivers.new.items }
     {
-        let (seat, mut jobs) = seats;
+        let (seat, jobs) = seats;
         let mut seat = Some(seat);
         let mut owner = || -> Result<(), AllocError>
             requires { IsSync R.row × IsSync G.row × IsSync F.row × IsWave wave.now
@@ -101,19 +101,14 @@ impl<
             };
             self.try_as_owner(wave, seat, view, progress, receivers)
         };
-        let mut workers = || -> Result<Vec<Vec<Tried>>, AllocError>
+        let worker = |job| -> Vec<Tried>
             requires { IsSync R.row × IsSync G.row × IsSync F.row × IsWave wave.now
-                × All (IsJob (library self.now.lib.now) wave.now.board.deal) jobs.items
+                × IsJob (library self.now.lib.now) wave.now.board.deal job
                 × All (MayFire F.Fn self.now.fire.now) wave.now.tasks.now
                 × Fires F.Fn self.now.fire.now (library self.now.lib.now) }
-            ensures { let are_sound = AreSoundTries (library self.entry.now.lib.now) in
-                IfOk result (λ all. All (λ found. are_sound found.items) all.items) }
-        {
-            let jobs = mem::replace(&mut jobs, Vec::new(self.alloc));
-            self.on_threads(wave, jobs)
-        };
-        let (accepted, found) = thread::join_mut(self.rt, &mut owner, &mut workers);
-        (found, accepted)
+            ensures { AreSoundTries (library self.entry.now.lib.now) result.items }
+        { self.try_as_worker(wave, job) };
+        on_threads(self.rt, self.alloc, &worker, jobs, &mut owner)
     }
 
     /// The owner's part of a wave: it tries tasks as the workers do, and accepts the front of the attempts as they
@@ -142,21 +137,43 @@ impl<
         let Ok(mut worker) = Worker::new(self.alloc, wave, seat) else {
             return Ok(());
         };
-        let (polls, last_polls) = if wave.early { (1, POLLS) } else { (0, 0) };
+        self.accept_each(&mut worker, view, progress, receivers)
+    }
+
+    /// The same, once the owner's part has a worker.
+    fn accept_each(
+        &self,
+        worker: &mut Worker<'_>,
+        view: &mut View,
+        progress: &mut Progress,
+        receivers: &mut Vec<Receiver<'_>>,
+    ) -> Result<(), AllocError>
+        requires fires { All (MayFire F.Fn self.now.fire.now) worker.old.wave.now.tasks.now }
+        requires firings { Fires F.Fn self.now.fire.now (library self.now.lib.now) }
+        requires wave { IsWave worker.old.wave.now }
+        requires worker { IsWorker worker.old }
+        requires channels { AreOf (library self.now.lib.now) receivers.old.items }
+        requires sound { AreSound (library self.now.lib.now) progress.old.pending.attempts.items }
+        requires accepted { IsAcceptedWithin progress.old }
+        ensures comes { OnOk result (ComesInWave (library self.now.lib.now) worker.old.wave.now
+            view.old progress.old view.new progress.new) }
+        ensures channels { AreOf (library self.now.lib.now) receivers.new.items }
+    {
+        let wave = worker.wave;
         for _ in 0..wave.tasks.len() {
-            let Some(tried) = self.next_attempt(&mut worker) else {
+            let Some(tried) = self.next_attempt(worker) else {
                 break;
             };
             progress.pending.put(tried);
-            progress.accept_sent(self.alloc, wave, view, receivers, polls)?;
+            progress.accept_sent(self.alloc, wave, view, receivers, wave.polls(1))?;
             worker.note_veto(progress.settled.end);
         }
-        progress.accept_sent(self.alloc, wave, view, receivers, last_polls)
+        progress.accept_sent(self.alloc, wave, view, receivers, wave.polls(POLLS))
     }
 
     /// A worker's part of a wave: it tries tasks until none is left, and sends the attempts. It returns those for which
     /// the channel had no room.
-    pub(crate) fn try_as_worker(&self, wave: &Wave<'_>, job: Job<'_>) -> Vec<Tried>
+    fn try_as_worker(&self, wave: &Wave<'_>, job: Job<'_>) -> Vec<Tried>
         requires fires { All (MayFire F.Fn self.now.fire.now) wave.now.tasks.now }
         requires firings { Fires F.Fn self.now.fire.now (library self.now.lib.now) }
         requires wave { IsWave wave.now }
@@ -212,7 +229,7 @@ impl<
             return None;
         }
         let wave = worker.wave;
-        if let Some(Some(layer)) = wave.kept.get(number) {
+        if let Some(layer) = kept_layer(wave, number) {
             worker.post(number, layer);
             return None;
         }

@@ -41,6 +41,14 @@ pub(crate) struct Wave<'a> {
     pub(crate) early: bool,
 }
 
+impl Wave<'_> {
+    /// How often the owner polls for attempts at the end of the wave: `often` times, or never if accepting them early
+    /// isn't cheap.
+    pub(crate) fn polls(&self, often: usize) -> usize {
+        if self.early { often } else { 0 }
+    }
+}
+
 /// What one worker is given.
 #[derive(Drop)]
 pub(crate) struct Job<'a> {
@@ -97,6 +105,11 @@ fn is_any_kept(attempts: &VecDeque<Option<Attempt>>) -> bool {
         }
     }
     false
+}
+
+/// What the kept attempt at a task wrote, if there is one.
+pub(crate) fn kept_layer<'a>(wave: &'a Wave<'_>, number: usize) -> Option<&'a Arc<Layer>> {
+    wave.kept.get(number)?.as_ref()
 }
 
 /// A layer as it is posted.

@@ -1,9 +1,9 @@
-use Rattle.std.proofs.Common.{ap, refl, ◌∙◌}
+use Rattle.std.proofs.Common.{refl, ◌∙◌}
 use Rattle.std.proofs.lemmas.Result.{IfOk-weaker}
 use Rattle.hp_rule.specs.Mapped.{library}
 use Rattle.hp_fire.specs.declared.speculate.progress.Progress.{Progress}
 use Rattle.hp_fire.proofs.Coming.{comes_then, comes_put}
-use Rattle.hp_fire.proofs.speculate.trial.Trial.try_as_owner.Goals as goal
+use Rattle.hp_fire.proofs.speculate.trial.Trial.accept_each.Goals as goal
 
 pub returns-in_err-accept_sent-clause-channels : goal.returns-in_err-accept_sent-clause-channels
 returns-in_err-accept_sent-clause-channels g c = c.accept_sent.ensures.channels (library c.args.self.now.lib.now) c.loop.invariant.1
@@ -26,5 +26,5 @@ loop-preserved g c =
       comes_then c.args.progress.now c.loop.progress c.accept_sent.new.self so_far.0 (comes_then c.loop.progress put c.accept_sent.new.self (comes_put c.loop.view c.loop.progress put refl sound) accepted),
       c.accept_sent.ensures.channels lib so_far.1,
       c.note_veto.ensures.worker,
-      ap (λ w. w.now) (c.note_veto.ensures.wave ∙ c.next_attempt.ensures.wave) ∙ so_far.3,
+      c.note_veto.ensures.wave ∙ c.next_attempt.ensures.wave ∙ so_far.3,
     )
