@@ -133,17 +133,6 @@ impl Pending {
         }
     }
 
-    // Stores what several workers have returned.
-    fn put_all(&mut self, found: Vec<Vec<Tried>>)
-        ensures { (library : ModelLibrary) → AreSound library self.old.attempts.items
-            → All (λ tries. AreSoundTries library tries.items) found.items
-            → AreSound library self.new.attempts.items }
-    {
-        for tries in found {
-            self.put_each(tries);
-        }
-    }
-
     /// Stores what the workers of a wave return when they end; nothing if memory ran out.
     pub(crate) fn put_returned(&mut self, found: Result<Vec<Vec<Tried>>, AllocError>)
         ensures { (library : ModelLibrary) → AreSound library self.old.attempts.items
@@ -153,7 +142,9 @@ impl Pending {
         let Ok(found) = found else {
             return;
         };
-        self.put_all(found);
+        for tries in found {
+            self.put_each(tries);
+        }
     }
 
     /// Stores the attempts that the workers of a wave have sent.
