@@ -1,3 +1,5 @@
+//! Tests of the program: its command line, and devices that move little at a time or fail.
+
 use crate::running::run;
 use hp_report::{Fault, Status, Watched, exit_code};
 use hp_words::{Options, WordFault, parse_words, word_code};
@@ -7,7 +9,7 @@ use std::process::Abort;
 use std::test::Fail;
 use std::thread::Threads;
 
-/// The thinnest run: one update and one rule.
+/// The thinnest run: one update, and a rule that emits the difference.
 const SCRIPT: &[u8] = br#"{
   "version": 1,
   "classes": [["acct", [["bal", "int"]]]],
@@ -96,7 +98,7 @@ fn asked<R: AllocGlobal>(rt: &R, given: &[&str]) -> Result<Result<Options, WordF
 }
 
 #[test]
-fn words_that_are_taken(rt: HostRuntime) -> Result<(), Fail> {
+fn words_give_their_options(rt: HostRuntime) -> Result<(), Fail> {
     assert_eq!(rt;
         asked(&rt, &[])?,
         Ok(Options {
@@ -136,7 +138,7 @@ fn words_that_are_taken(rt: HostRuntime) -> Result<(), Fail> {
 }
 
 #[test]
-fn words_that_are_refused(rt: HostRuntime) -> Result<(), Fail> {
+fn other_words_are_refused(rt: HostRuntime) -> Result<(), Fail> {
     assert_eq!(rt; asked(&rt, &["--workers", "0"])?, Err(WordFault::Refused));
     assert_eq!(rt; asked(&rt, &["--workers", "65"])?, Err(WordFault::Refused));
     assert_eq!(rt; asked(&rt, &["--workers", "256"])?, Err(WordFault::Refused));
@@ -147,7 +149,7 @@ fn words_that_are_refused(rt: HostRuntime) -> Result<(), Fail> {
 }
 
 #[test]
-fn exit_statuses(rt: HostRuntime) -> Result<(), Fail> {
+fn each_ending_has_its_exit_status(rt: HostRuntime) -> Result<(), Fail> {
     assert_eq!(rt; exit_code(&Ok(Status::Reported)), 0);
     assert_eq!(rt; exit_code(&Ok(Status::Refused)), 2);
     assert_eq!(rt; exit_code(&Err(Fault::NoMemory)), 4);
@@ -157,7 +159,7 @@ fn exit_statuses(rt: HostRuntime) -> Result<(), Fail> {
 }
 
 #[test]
-fn byte_by_byte(rt: HostRuntime) -> Result<(), Fail> {
+fn a_script_runs_byte_by_byte(rt: HostRuntime) -> Result<(), Fail> {
     let mut reader = Watched::new(slow_device(&rt, SCRIPT, 1));
     let mut writer = Watched::new(slow_device(&rt, b"", 1));
     let status = run(&rt, rt.alloc(), &mut reader, &mut writer, ONE_WORKER)?;
@@ -187,7 +189,7 @@ fn expect_read_faults<R: Abort + AllocGlobal + Threads + Sync>(
 }
 
 #[test]
-fn each_read_fails(rt: HostRuntime) -> Result<(), Fail> {
+fn a_failed_read_is_the_fault_and_nothing_is_written(rt: HostRuntime) -> Result<(), Fail> {
     let spaces = vec![in rt.alloc(); 32; 1_048_576]?;
     expect_read_faults(&rt, SCRIPT, 1, SCRIPT.len() + 1);
     expect_read_faults(&rt, spaces.as_slice(), 4096, 257);
@@ -217,7 +219,7 @@ fn expect_write_faults<R: Abort + AllocGlobal + Threads + Sync>(
 }
 
 #[test]
-fn each_write_fails(rt: HostRuntime) {
+fn after_a_failed_write_a_prefix_is_written(rt: HostRuntime) {
     let rows: [(&[u8], &[u8]); 2] = [(SCRIPT, TEXT), (b"{", b"refused S1\n")];
     for (script, text) in rows {
         expect_write_faults(&rt, script, text, false);

@@ -85,7 +85,7 @@ fn lines_are_answered_wherever_they_are_cut(rt: HostRuntime) -> Result<(), Fail>
 }
 
 #[test]
-fn a_failed_read_ends_it_after_the_lines_before(rt: HostRuntime) -> Result<(), Fail> {
+fn a_failed_read_ends_the_run_after_the_lines_before_it(rt: HostRuntime) -> Result<(), Fail> {
     let input = session(rt.alloc())?;
     // The last read finds the end of the input.
     for read in 0..=input.len() {
@@ -101,7 +101,7 @@ fn a_failed_read_ends_it_after_the_lines_before(rt: HostRuntime) -> Result<(), F
 }
 
 #[test]
-fn a_failed_write_ends_it_in_the_midst_of_an_answer(rt: HostRuntime) -> Result<(), Fail> {
+fn a_failed_write_ends_the_run_within_an_answer(rt: HostRuntime) -> Result<(), Fail> {
     let input = session(rt.alloc())?;
     for taken in 0..ANSWERS.len() {
         let writes = bytes_until(taken.wrapping_add(1));
@@ -111,7 +111,7 @@ fn a_failed_write_ends_it_in_the_midst_of_an_answer(rt: HostRuntime) -> Result<(
 }
 
 #[test]
-fn a_write_that_takes_nothing_ends_it(rt: HostRuntime) -> Result<(), Fail> {
+fn a_write_that_takes_nothing_ends_the_run(rt: HostRuntime) -> Result<(), Fail> {
     let input = session(rt.alloc())?;
     let writes = Steps {
         first: 4096,

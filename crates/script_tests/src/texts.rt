@@ -296,7 +296,7 @@ fn others(alloc: Global) -> Result<UnitReport, Fail> {
 }
 
 #[test]
-fn shows_other_lines(rt: HostRuntime) -> Result<(), Fail> {
+fn shows_each_other_kind_of_line(rt: HostRuntime) -> Result<(), Fail> {
     let alloc = rt.alloc();
     let objects = [(10, 4), (2, 3), (-3, i64::MIN), (-20, 1)];
     let statuses = [RuleStatus::Disabled, RuleStatus::Absent];
