@@ -7,7 +7,7 @@ ghost use Rattle.hp_model.specs.Tree.{Task as ModelTask};
 ghost use Rattle.hp_model.specs.Transactions as model;
 ghost use Rattle.hp_model.specs.Transactions.{Work};
 ghost use Rattle.hp_model.specs.Firing.{Level, veto_of, action_course, run_action};
-ghost use Rattle.hp_model.specs.Answers.{queued_at, detached_at, closing, closing_action};
+ghost use Rattle.hp_model.specs.Answers.{queued_at, detached_at, closing};
 ghost use Rattle.hp_rule.specs.Mapped.{task, detached as detached_of};
 ghost use Rattle.hp_tree.specs.Mapped.{what as what_of, ending as ending_of};
 ghost use Rattle.hp_model.specs.Answers as answers;
@@ -134,25 +134,6 @@ fn as_part(alloc: Global, what: What, course: Course, after: End) -> Result<Cour
     })
 }
 
-/// An action as its rule's firing.
-fn as_firing(alloc: Global, what: What, course: Course) -> Result<Outcome, AllocError>
-    ensures { IfOk result (λ o. firing o ≡ closing_action (what_of what) (course_in course)) }
-{
-    let end = vetoed_by(course.end);
-    let Course {
-        end: _,
-        queued,
-        detached,
-        items,
-    } = as_part(alloc, what, course, End::Done)?;
-    Ok(Outcome {
-        end,
-        queued,
-        detached,
-        tree: items,
-    })
-}
-
 /// The rule whose veto ended a course; `None` if no veto did.
 pub fn vetoed_by(how: End) -> Option<RuleNo>
     ensures { result ≡ veto_of (mapped.end how) }
@@ -177,7 +158,19 @@ pub(crate) fn close_action(
         → RunsFiring library (run_action (what_of what) level t found) first view.new (firing o)) }
 {
     end_transaction(view, mark, course.end)?;
-    as_firing(alloc, what, course)
+    let end = vetoed_by(course.end);
+    let Course {
+        end: _,
+        queued,
+        detached,
+        items,
+    } = as_part(alloc, what, course, End::Done)?;
+    Ok(Outcome {
+        end,
+        queued,
+        detached,
+        tree: items,
+    })
 }
 
 /// Ends the body of a statement `sub`, which began at a mark and took this course. The answer also says whether it

@@ -1,6 +1,6 @@
 //! The results of statements, signals and groups.
 
-ghost use Rattle.std.specs.Prelude.{◌≡◌, ◌++◌, IsTrue, IfOk, OnOk, [], length};
+ghost use Rattle.std.specs.Prelude.{◌≡◌, ◌++◌, IfOk, OnOk, [], length};
 ghost use Rattle.hp_model.specs.Answers.{ended, followed, is_done};
 ghost use Rattle.hp_model.specs.Tree.{no_items};
 ghost use Rattle.hp_tree.specs.Mapped.{before};
@@ -25,7 +25,7 @@ pub enum End {
 }
 
 /// The result of a statement, a body or a signal, besides its writes.
-#[derive(Debug, Drop)]
+#[derive(Drop)]
 pub struct Course {
     /// How it ended.
     pub end: End,
@@ -38,7 +38,7 @@ pub struct Course {
 }
 
 /// The result of a group of sibling firings, besides its writes.
-#[derive(Debug, Drop)]
+#[derive(Drop)]
 pub struct GroupOutcome {
     /// The result of each firing, in the order of the tasks, up to the one whose veto stopped the group.
     pub outcomes: Vec<Outcome>,
@@ -107,19 +107,11 @@ impl Course {
         }
     }
 
-    /// Whether the course has only an end.
-    fn is_blank(&self) -> bool
-        ensures { IsTrue result → (self.now.queued.items ≡ []) × (self.now.detached.items ≡ [])
-            × (self.now.items.items ≡ []) }
-    {
-        self.queued.is_empty() && self.detached.is_empty() && self.items.is_empty()
-    }
-
     /// Appends the course that followed this one. After an error a part may have been added.
     pub fn join(&mut self, more: Course) -> Result<(), AllocError>
         ensures { OnOk result (course self.new ≡ followed (course self.old) (course more)) }
     {
-        if self.is_blank() {
+        if self.queued.is_empty() && self.detached.is_empty() && self.items.is_empty() {
             *self = more;
             return Ok(());
         }

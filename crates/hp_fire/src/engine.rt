@@ -50,7 +50,7 @@ impl<'a, R> Engine<'a, R> {
             lib,
             width,
             past,
-            effort: past.effort(),
+            effort: &past.effort,
         }
     }
 

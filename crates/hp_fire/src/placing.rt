@@ -65,7 +65,10 @@ fn sort_tasks(alloc: Global, tasks: Vec<Task>) -> Result<Placed, AllocError>
             Coupling::Immediate => immediate.push(task)?,
             Coupling::Deferred => queued.push(task)?,
             Coupling::Separate | Coupling::Dependent | Coupling::Exclusive => {
-                detached.push(as_detached(task))?
+                detached.push(Detached {
+                    task,
+                    released: false,
+                })?
             }
         }
     }
@@ -112,16 +115,6 @@ pub(crate) fn one_task(alloc: Global, task: Task) -> Result<Vec<Task>, AllocErro
     let mut tasks = Vec::with_capacity(alloc, 1)?;
     tasks.push_reserved(task);
     Ok(tasks)
-}
-
-/// A detached task that isn't released.
-fn as_detached(task: Task) -> Detached
-    ensures { detached_of result ≡ unreleased (task_of task) }
-{
-    Detached {
-        task,
-        released: false,
-    }
 }
 
 /// A group of firings as a part of the transaction around it. A veto that stopped the group aborts the transaction.

@@ -94,19 +94,9 @@ fn of_first_wave(retried: &[bool], from: usize, count: usize) -> usize
 {
     let mut first = 0usize;
     for number in 0..count {
-        if !was_retried(retried, from + number) {
+        if let Some(false) = retried.get(from + number) {
             first += 1;
         }
     }
     first
-}
-
-// Whether a task was tried again.
-fn was_retried(retried: &[bool], number: usize) -> bool
-    ensures { result ≡ slice_index_or retried.now number true }
-{
-    match retried.get(number) {
-        Some(retried) => *retried,
-        None => true,
-    }
 }

@@ -26,19 +26,18 @@ pub(crate) fn share_beneath(
     Ok(())
 }
 
-/// Lists these classes in a snapshot. Workers that start from it share the lists.
-pub(crate) fn share_in(
+/// A view's cells as a snapshot with the lists of these classes. Workers that start from it share the lists.
+pub(crate) fn frozen(
     alloc: Global,
     lib: &Library,
     tasks: &[Task],
-    snapshot: &mut Snapshot,
-) -> Result<(), AllocError>
-    ensures { snapshot.new ≡ snapshot.old }
-{
+    view: &View,
+) -> Result<Snapshot, AllocError> {
+    let mut snapshot = view.freeze(alloc)?;
     for class in asked_classes(alloc, lib, tasks)? {
         snapshot.keep_objects(alloc, class)?;
     }
-    Ok(())
+    Ok(snapshot)
 }
 
 // The classes that the conditions of these tasks ask for, without duplicates.
@@ -52,17 +51,14 @@ fn asked_classes(alloc: Global, lib: &Library, tasks: &[Task]) -> Result<Vec<Cla
     Ok(classes)
 }
 
-// Adds the classes of a condition whose objects are all looked at, unless they are in the list.
+// Adds the classes of a condition whose objects are all looked at, unless they are in the list. A query looks at all of
+// them if it asks neither for one key nor for values of a field.
 fn note_asked(condition: &[Query], classes: &mut Vec<ClassNo>) -> Result<(), AllocError> {
     for query in condition {
-        if scans(query) && !classes.contains(&query.class) {
+        let scans = !query.asks_key() && query.asked_field().is_none();
+        if scans && !classes.contains(&query.class) {
             classes.push(query.class)?;
         }
     }
     Ok(())
-}
-
-// Whether a query looks at all objects of its class: it asks neither for one key nor for values of a field.
-fn scans(query: &Query) -> bool {
-    !query.asks_key() && query.asked_field().is_none()
 }

@@ -10,7 +10,7 @@ pub trait Gate {
 }
 
 /// A gate that holds no worker.
-#[derive(Clone, Copy, Debug)]
+#[derive(Clone, Copy)]
 pub struct NoGate;
 
 impl Gate for NoGate {

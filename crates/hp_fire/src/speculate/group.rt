@@ -106,7 +106,8 @@ impl<
         let before = self.effort.so_far();
         let mut settled = Settled::new(self.alloc, self.tasks.len())?;
         for task in self.tasks {
-            if self.starts_workers(settled.outcomes.len(), self.effort.since(before)) {
+            let cost = self.effort.so_far().saturating_sub(before);
+            if self.starts_workers(settled.outcomes.len(), cost) {
                 return Ok(settled);
             }
             let outcome = self.fire_counted(view, task)?;
@@ -127,14 +128,11 @@ impl<
         if self.width < 2 || left < 2 {
             return false;
         }
-        self.eager || self.is_enough_left(fired, cost)
-    }
-
-    /// Whether enough work is left, if it is time to ask.
-    fn is_enough_left(&self, fired: usize, cost: u64) -> bool {
+        if self.eager || !is_time_to_ask(fired) {
+            return self.eager;
+        }
         let mean = cost / (fired as u64).max(1);
-        is_time_to_ask(fired)
-            && do_workers_pay(self.past, &self.tasks[fired.min(self.tasks.len())..], mean)
+        do_workers_pay(self.past, &self.tasks[fired.min(self.tasks.len())..], mean)
     }
 
     /// Fires a task on the owner's thread, and notes the cost for its rule.
@@ -145,7 +143,8 @@ impl<
     {
         let before = self.effort.so_far();
         let outcome = (self.fire)(view, task, self.effort, self.width)?;
-        self.past.note(task.rule, self.effort.since(before));
+        let cost = self.effort.so_far().saturating_sub(before);
+        self.past.note(task.rule, cost);
         Ok(outcome)
     }
 

@@ -9,7 +9,7 @@ use std::sync::atomic::Ordering::SeqCst;
 /// The work done so far, in operators of expressions: other work counts as the number of operators that take as long.
 ///
 /// It is counted and not timed, so that runs can be repeated. No report and no contract depends on it.
-#[derive(Debug, Drop)]
+#[derive(Drop)]
 pub struct Effort {
     operators: AtomicU64,
 }
@@ -31,20 +31,15 @@ impl Effort {
     pub(crate) fn so_far(&self) -> u64 {
         self.operators.load(SeqCst)
     }
-
-    /// The work since an earlier value of `so_far`.
-    pub(crate) fn since(&self, before: u64) -> u64 {
-        self.so_far().saturating_sub(before)
-    }
 }
 
 /// The cost of each rule's last firing.
 ///
 /// It decides where workers are worth starting, and nothing else: no report and no contract depends on it.
-#[derive(Debug, Drop)]
+#[derive(Drop)]
 pub struct Past {
-    // The work of the run's own thread.
-    effort: Effort,
+    /// The work of the run's own thread.
+    pub(crate) effort: Effort,
     // For each rule the cost of its last firing, or 0 if it hasn't fired.
     costs: Vec<AtomicU64>,
 }
@@ -58,11 +53,6 @@ impl Past {
             effort: Effort::new(),
             costs: no_costs(alloc, rules).unwrap_or(Vec::new(alloc)),
         }
-    }
-
-    /// The work of the run's own thread.
-    pub(crate) fn effort(&self) -> &Effort {
-        &self.effort
     }
 
     /// The cost of the rule's last firing, if it is known.

@@ -3,7 +3,6 @@
 ghost use Rattle.std.specs.Prelude.{◌+◌, ◌^◌, ◌<◌, length};
 ghost use Rattle.hp_board.specs.Passes.{IsPassOf};
 
-use crate::speculate::policy::CONFLICTS;
 use crate::speculate::wave::Wave;
 use hp_attempt::Attempt;
 use hp_board::Pass;
@@ -21,8 +20,8 @@ pub(crate) struct Predecessors {
     layer: Arc<Layer>,
     // The number of tasks, from the first, whose layers are merged.
     count: usize,
-    // The number of the worker's last attempts in a row that were in conflict with a predecessor that isn't merged.
-    conflicts: usize,
+    /// The number of the worker's last attempts in a row that were in conflict with a predecessor that isn't merged.
+    pub(crate) conflicts: usize,
 }
 
 impl Predecessors {
@@ -62,12 +61,6 @@ impl Predecessors {
         (self.over(alloc, &wave.snapshot, later), pass)
     }
 
-    /// Whether the worker's last attempts were in conflict with predecessors, so that further attempts are likely to
-    /// fail.
-    pub(crate) fn are_in_conflict(&self) -> bool {
-        self.conflicts >= CONFLICTS
-    }
-
     /// Notes whether the attempt at a task is in conflict: it read what a slow predecessor, or one after that, wrote.
     pub(crate) fn note(
         &mut self,
@@ -105,15 +98,10 @@ impl Predecessors {
         if predecessor != self.count {
             return later.take_in(layer);
         }
-        self.take_in(layer)?;
+        // The merged layers aren't shared between two tasks, so nothing is copied.
+        Arc::make_mut(&mut self.layer)?.take_in(layer)?;
         self.count = predecessor + 1;
         Ok(())
-    }
-
-    // Merges a layer over the others. They aren't shared between two tasks, so nothing is copied.
-    fn take_in(&mut self, layer: &Layer) -> Result<(), AllocError> {
-        let all = Arc::make_mut(&mut self.layer)?;
-        all.take_in(layer)
     }
 
     // A snapshot under the merged layers, under those that were found later.

@@ -6,18 +6,16 @@ ghost use Rattle.hp_board.specs.Deal.{IsSeatOf};
 ghost use Rattle.hp_fire.specs.Groups.{IsWave, IsJob, AreOf};
 
 use crate::speculate::channel::Receiver;
-use crate::speculate::extents::share_in;
+use crate::speculate::extents::frozen;
 use crate::speculate::pending::Pending;
 use crate::speculate::policy::COPIES;
 use crate::speculate::wave::{Job, Wave, jobs_for, kept_layers};
 use hp_board::{Board, Seat};
 use hp_rule::{Library, Task};
-use hp_store::Snapshot;
 use hp_view::View;
 use std::alloc::{AllocError, Global};
 
 /// The settings of a wave.
-#[derive(Clone, Copy)]
 pub(crate) struct Plan<'a> {
     /// The library.
     pub(crate) lib: &'a Library,
@@ -59,37 +57,35 @@ pub(crate) fn prepare<'a>(
     ensures jobs { IfOk result (λ s. All (IsJob (library plan.entry.lib.now) s.wave.board.deal) s.jobs.items) }
     ensures channels { IfOk result (λ s. AreOf (library plan.entry.lib.now) s.receivers.items) }
 {
-    let left = plan.tasks.len() - plan.done;
-    let workers = plan.width.clamp(1, 64).min(left);
-    let snapshot = frozen(plan, alloc, view)?;
+    let Plan {
+        lib,
+        tasks,
+        done,
+        stop_at_veto,
+        width,
+    } = plan;
+    let left = tasks.len() - done;
+    let workers = width.clamp(1, 64).min(left);
+    let snapshot = frozen(alloc, lib, &tasks[done..], view)?;
     let kept = kept_layers(alloc, &pending.attempts)?;
     let (board, mut seats) = Board::new(alloc, left, workers)?;
     let Some(seat) = seats.pop() else {
         unreachable!();
     };
     let wave = Wave {
-        tasks: plan.tasks,
-        done: plan.done,
-        stop_at_veto: plan.stop_at_veto,
+        tasks,
+        done,
+        stop_at_veto,
         kept,
         snapshot,
         board,
         early: view.written() <= left.saturating_mul(COPIES),
     };
-    let (jobs, receivers) = jobs_for(alloc, plan.lib, &wave, seats)?;
+    let (jobs, receivers) = jobs_for(alloc, lib, &wave, seats)?;
     Ok(Start {
         wave,
         seat,
         jobs,
         receivers,
     })
-}
-
-// The snapshot from which tasks start, with the lists of classes that all workers share.
-fn frozen(plan: Plan<'_>, alloc: Global, view: &View) -> Result<Snapshot, AllocError>
-    requires { plan.done < length plan.tasks.now }
-{
-    let mut snapshot = view.freeze(alloc)?;
-    share_in(alloc, plan.lib, &plan.tasks[plan.done..], &mut snapshot)?;
-    Ok(snapshot)
 }

@@ -1,12 +1,11 @@
 //! Waves: workers and the owner of a group try the tasks that aren't settled, all at once.
 
-ghost use Rattle.std.specs.Prelude.{◌<◌, Ok, All, IfOk, length};
+ghost use Rattle.std.specs.Prelude.{All, IfOk};
 ghost use Rattle.rtrb.specs.Ring.{sent};
 ghost use Rattle.hp_model.specs.Rules.{Library as ModelLibrary};
 ghost use Rattle.hp_model.specs.Soundness.{IsSound};
 ghost use Rattle.hp_rule.specs.Mapped.{library};
 ghost use Rattle.hp_board.specs.Deal.{IsSeatOf};
-ghost use Rattle.hp_board.specs.Passes.{IsPassOf};
 ghost use Rattle.hp_attempt.specs.Mapped.{attempt as attempt_of};
 ghost use Rattle.hp_fire.specs.Channels.{IsOf};
 ghost use Rattle.hp_fire.specs.Groups.{AreSoundTries, IsJob, AreOf};
@@ -14,7 +13,7 @@ ghost use Rattle.hp_fire.specs.Groups.{AreSoundTries, IsJob, AreOf};
 use crate::speculate::channel::{Receiver, Sender, channel, send};
 use crate::speculate::pending::Tried;
 use hp_attempt::Attempt;
-use hp_board::{Board, Pass, Posted, Seat};
+use hp_board::{Board, Posted, Seat};
 use hp_rule::{Library, Task};
 use hp_store::{Layer, Snapshot};
 use std::alloc::{AllocError, Global};
@@ -86,20 +85,26 @@ pub(crate) fn kept_layers(
     attempts: &VecDeque<Option<Attempt>>,
 ) -> Result<Vec<Option<Arc<Layer>>>, AllocError> {
     let mut layers = Vec::new(alloc);
-    if !attempts.iter().any(|place| place.is_some()) {
+    if !is_any_kept(attempts) {
         return Ok(layers);
     }
     for place in attempts {
-        layers.push(layer_of(place)?)?;
+        match place {
+            Some(attempt) => layers.push(Some(Arc::try_clone(&attempt.layer)?))?,
+            None => layers.push(None)?,
+        }
     }
     Ok(layers)
 }
 
-fn layer_of(place: &Option<Attempt>) -> Result<Option<Arc<Layer>>, AllocError> {
-    match place {
-        Some(attempt) => Ok(Some(Arc::try_clone(&attempt.layer)?)),
-        None => Ok(None),
+// Whether an attempt is kept.
+fn is_any_kept(attempts: &VecDeque<Option<Attempt>>) -> bool {
+    for place in attempts {
+        if place.is_some() {
+            return true;
+        }
     }
+    false
 }
 
 /// What the kept attempt at a task wrote, if there is one.
@@ -107,28 +112,8 @@ pub(crate) fn kept_layer<'a>(wave: &'a Wave<'_>, number: usize) -> Option<&'a Ar
     wave.kept.get(number)?.as_ref()
 }
 
-/// Posts what a task wrote. The answer is whether it did.
-pub(crate) fn post_layer(
-    alloc: Global,
-    wave: &Wave<'_>,
-    number: usize,
-    layer: &Arc<Layer>,
-    pass: Pass<Arc<Layer>>,
-) -> (bool, Pass<Arc<Layer>>)
-    requires number { number < length wave.now.board.cells }
-    requires pass { IsPassOf wave.now.board.cells pass }
-    ensures { IsPassOf wave.now.board.cells result.1 }
-{
-    let Ok(posted) = boxed(alloc, layer) else {
-        return (false, pass);
-    };
-    match wave.board.post(number, posted, pass) {
-        Ok(pass) => (true, pass),
-        Err((_, pass)) => (false, pass),
-    }
-}
-
-fn boxed(alloc: Global, layer: &Arc<Layer>) -> Result<Posted<Arc<Layer>>, AllocError> {
+/// A layer as it is posted.
+pub(crate) fn boxed(alloc: Global, layer: &Arc<Layer>) -> Result<Posted<Arc<Layer>>, AllocError> {
     Posted::new(alloc, Arc::try_clone(layer)?)
 }
 

@@ -4,8 +4,9 @@ ghost use Rattle.std.specs.Prelude.{◌≡◌, ◌<◌, IfOk, IfSome, length};
 ghost use Rattle.hp_board.specs.Deal.{IsSeatOf};
 ghost use Rattle.hp_fire.specs.Groups.{IsWorker};
 
+use crate::speculate::policy::CONFLICTS;
 use crate::speculate::predecessors::Predecessors;
-use crate::speculate::wave::{Wave, post_layer};
+use crate::speculate::wave::{Wave, boxed};
 use hp_attempt::Attempt;
 use hp_board::{Pass, Seat};
 use hp_store::{Layer, Snapshot};
@@ -65,7 +66,7 @@ impl<'a> Worker<'a> {
     /// Whether more attempts are in vain, or are likely to be: a veto has stopped the group, or the worker's last
     /// attempts were in conflict with predecessors.
     pub(crate) fn has_given_up(&self) -> bool {
-        self.is_stopped || self.predecessors.are_in_conflict()
+        self.is_stopped || self.predecessors.conflicts >= CONFLICTS
     }
 
     /// Notes the rule whose veto has stopped the group, if one has. No attempt is accepted after a veto.
@@ -102,12 +103,22 @@ impl<'a> Worker<'a> {
         ensures worker { IsWorker self.new }
         ensures wave { self.new.wave ≡ self.old.wave }
     {
+        let Ok(posted) = boxed(self.alloc, layer) else {
+            return false;
+        };
         let Some(pass) = self.pass.take() else {
             return false;
         };
-        let (is_posted, pass) = post_layer(self.alloc, self.wave, number, layer, pass);
-        self.pass = Some(pass);
-        is_posted
+        match self.wave.board.post(number, posted, pass) {
+            Ok(pass) => {
+                self.pass = Some(pass);
+                true
+            }
+            Err((_, pass)) => {
+                self.pass = Some(pass);
+                false
+            }
+        }
     }
 
     /// Notes whether the attempt at a task is in conflict with a slow predecessor, or one after that.
