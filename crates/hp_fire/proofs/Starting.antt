@@ -1,7 +1,8 @@
 -- Signals and the tasks that they start.
 use Rattle.std.proofs.Common.{arith, ◌≡◌, refl, sym, ap, subst, ℕ, suc, ◌+◌, ◌*◌, ◌<◌, ◌≤◌, List, [], ◌∷◌, Bool, true, false, map, length}
 use Rattle.std.proofs.lemmas.List.Elements.{All-cons, All-nil}
-use Rattle.std.specs.Prelude.{All, ◌++◌, Option, Some, None, is_some, filter, if◌then◌else◌}
+use Rattle.std.specs.Prelude.{All, ◌++◌, Option, Some, None, is_some, filter, if◌then◌else◌, Result, Ok, Err, IfOk}
+use Rattle.std.specs.Global.{Vec}
 use Rattle.std.proofs.Common.{mul-le-mul_right, suc-mul}
 use Rattle.hp_model.specs.Occurrences.{Primitive}
 use Rattle.hp_model.specs.Rules.{Library, is_immediate}
@@ -9,22 +10,47 @@ use Rattle.hp_model.specs.Tree.{Task}
 use Rattle.hp_model.specs.Firing.{level_at, siblings, fire_task, start, signal_in}
 use Rattle.hp_model.specs.Soundness.{Answer, FiringAnswer}
 use Rattle.hp_model.specs.Answers.{SiblingsAnswer, ended, followed, placing, group_answer, queued_in, detached_in, items_in}
-use Rattle.hp_model.specs.Transactions.{done, unreleased}
+use Rattle.hp_model.specs.Transactions.{Work, done, unreleased}
 use Rattle.hp_model.proofs.FaithfulFirings.{AreAt, faithful_start_none, faithful_start, faithful_signal}
 use Rattle.hp_rule.specs.declared.library.Library.{Library as RustLibrary}
 use Rattle.hp_rule.specs.declared.task.Task.{Task as RustTask}
 use Rattle.hp_rule.specs.Mapped.{library, task}
-use Rattle.hp_ops.specs.Triggers.{IsTriggered}
+use Rattle.hp_value.specs.declared.halt.Halt.{Halt}
+use Rattle.hp_value.specs.declared.halt.Halt.TheVariants.{Cause as ByCause, Memory}
+use Rattle.hp_ops.specs.Triggers.{IsTriggered, Triggers}
 use Rattle.hp_view.specs.Seeing.{Seeing, GoesOn}
 use Rattle.hp_view.proofs.Views.{GoesOn-same, GoesOn-then}
-use Rattle.hp_fire.specs.Runs.{Runs, RunsFiring, RunsGroup, AreReady}
+use Rattle.hp_fire.specs.Runs.{Runs, RunsFiring, RunsGroup, AreReady, Starts}
+use Rattle.hp_fire.specs.Statements.{TasksStart}
 use Rattle.hp_fire.specs.Weights.{deepest, levels, left}
 use Rattle.hp_fire.proofs.Immediate.{AllImmediate, all_fire, none_is_deferred, none_is_detached}
 use Rattle.hp_fire.proofs.Steps.{GroupLoop, grows, runs_answer, goes_unvetoed, group_starts, group_goes, group_stops, group_ends}
 
-pub signal_runs : {library : Library} {depth : ℕ} {p : Primitive} {tasks : List Task} {v w z : Seeing} {a : Answer} → IsTriggered library depth p v w tasks → GoesOn v w
+signal_runs : {library : Library} {depth : ℕ} {p : Primitive} {tasks : List Task} {v w z : Seeing} {a : Answer} → IsTriggered library depth p v w tasks → GoesOn v w
     → Runs library (start (level_at library depth).below tasks) w z a → Runs library (signal_in (level_at library depth) p) v z a
 signal_runs {library} {depth} {p} triggered on r = record { goes_on = GoesOn-then on r.goes_on; faithful = faithful_signal (level_at library depth) p (grows r.goes_on) triggered.heard r.faithful }
+
+-- ---- what is left of a work is to start tasks
+
+pub signal_starts : (lib : RustLibrary) (depth : ℕ) (p : Primitive) (v w : Seeing) (result : Result (Vec RustTask) Halt) → Triggers (library lib) depth p v w result → GoesOn v w
+    → TasksStart lib depth (signal_in (level_at (library lib) depth) p) v w result
+signal_starts lib depth p v w (Ok tasks) triggered on = record { then_runs = λ {last} {a} r. signal_runs triggered on r }
+signal_starts lib depth p v w (Err (ByCause c)) faithful on = record { goes_on = on; faithful = faithful }
+signal_starts lib depth p v w (Err Memory) steps on = tt
+
+pub signal_ready : (lib : RustLibrary) (depth : ℕ) (p : Primitive) (v w : Seeing) (result : Result (Vec RustTask) Halt) → Triggers (library lib) depth p v w result
+    → IfOk result (λ ts. AreReady (library lib) depth (map task ts.items))
+signal_ready lib depth p v w (Ok tasks) triggered = record { at = triggered.at; within = triggered.within }
+signal_ready lib depth p v w (Err h) none = tt
+
+-- there are tasks
+pub then_starts : (lib : RustLibrary) (depth : ℕ) (work : Work) (before old : Seeing) (result : Result (Vec RustTask) Halt) (tasks : Vec RustTask) → result ≡ Ok tasks → TasksStart lib depth work before old result
+    → Starts (library lib) (start (level_at (library lib) depth).below (map task tasks.items)) work before old
+then_starts lib depth work before old result tasks is given = subst (λ (r : Result (Vec RustTask) Halt). TasksStart lib depth work before old r) is given
+
+pub are_ready : (lib : RustLibrary) (depth : ℕ) (result : Result (Vec RustTask) Halt) (tasks : Vec RustTask) → result ≡ Ok tasks → IfOk result (λ ts. AreReady (library lib) depth (map task ts.items))
+    → AreReady (library lib) depth (map task tasks.items)
+are_ready lib depth result tasks is ready = subst (λ (r : Result (Vec RustTask) Halt). IfOk r (λ ts. AreReady (library lib) depth (map task ts.items))) is ready
 
 pub start_none : (library : Library) (depth : ℕ) {tasks : List Task} → tasks ≡ [] → (v : Seeing) (a : Answer) → a ≡ ended done → Runs library (start (level_at library depth).below tasks) v v a
 start_none library depth {tasks} none v a is =

@@ -23,19 +23,21 @@ use Rattle.hp_value.specs.Mapped.{Meets, cause}
 use Rattle.hp_ops.specs.Triggers.{IsFired, Fires}
 use Rattle.hp_value.specs.declared.expr.Expr.{Expr}
 use Rattle.hp_value.specs.Mapped.{expression}
+use Rattle.hp_rule.specs.declared.library.Library.{Library as RustLibrary}
 use Rattle.hp_rule.specs.declared.stmt.Stmt.{Stmt}
 use Rattle.hp_rule.specs.declared.stmt.Stmt.TheVariants.{With}
 use Rattle.hp_rule.specs.declared.stmt.Stmt.TheViews.{the_lemmas}
-use Rattle.hp_rule.specs.Mapped.{statement, body_in}
+use Rattle.hp_rule.specs.Mapped.{library, statement, body_in}
 use Rattle.hp_rule.proofs.Bodies.{row_body_lem}
 use Rattle.hp_view.specs.Seeing.{Seeing, written, OnlyReads}
 use Rattle.hp_view.proofs.Views.{GoesOn-same, GoesOn-then}
 use Rattle.hp_view.proofs.Reading.{GoesOn-only}
 use Rattle.hp_fire.specs.declared.course.Course.{Course}
-use Rattle.hp_fire.specs.Runs.{Runs, Steps, Looks, Makes}
+use Rattle.hp_fire.specs.Runs.{Runs, Steps, Finding, Looks, Makes}
+use Rattle.hp_fire.specs.Statements.{TasksStart}
 use Rattle.hp_fire.specs.Signals.{signal_of}
 use Rattle.hp_fire.proofs.Making.{steps_halt}
-use Rattle.hp_fire.proofs.Steps.{runs_as, found_cause, grows, only_written}
+use Rattle.hp_fire.proofs.Steps.{runs_as, found_cause, found_value, grows, only_written}
 
 -- ---- the same statement
 
@@ -84,18 +86,25 @@ signal_makes f library level x o v (Err Memory) is = tt
 
 -- ---- what is found
 
+pub found_steps : {A : Type 0} (library : Library) (of : State → Outcome A) (f : A → Work) (x : A) (v w z : Seeing) (result : Result Course Halt) → Finding library of v w (Ok x) → Steps library (f x) w z result
+    → Steps library (λ S. with_value (of S) f S) v z result
+found_steps library of f x v w z (Ok c) found r = found_value f found r
+found_steps library of f x v w z (Err (ByCause c)) found r = found_value f found r
+found_steps library of f x v w z (Err Memory) found r = tt
+
 pub found_halt : {A X : Type 0} (f : X → A) (next : A → Work) (of : State → Outcome A) (h : Halt) (library : Library) (v w : Seeing) → Looks f library of v w (Err h) → Steps library (λ S. with_value (of S) next S) v w (Err h)
 found_halt f next of (ByCause c) library v w found = found_cause next found
 found_halt f next of Memory library v w found = tt
 
 -- ---- the statement that fires a rule
 
-pub fire_halt : (library : Library) (context : Context) (depth n : ℕ) (h : Halt) (v w : Seeing) → OnlyReads v w → Fires library depth n w (Err h) → Steps library (run_statement (fire n) (level_at library depth) context) v w (Err h)
-fire_halt library context depth n (ByCause c) v w only fires = record {
+pub fire_halt : (lib : RustLibrary) (context : Context) (depth n : ℕ) (h : Halt) (v w : Seeing) → OnlyReads v w → Fires (library lib) depth n w (Err h)
+    → TasksStart lib depth (run_statement (fire n) (level_at (library lib) depth) context) v w (Err h)
+fire_halt lib context depth n (ByCause c) v w only fires = record {
   goes_on = GoesOn-only only;
-  faithful = subst (λ b. FaithfulWork library (run_statement (fire n) (level_at library depth) context) w.reads b (written w) (ended (abort_by (cause c)))) (only_written only) fires;
+  faithful = subst (λ b. FaithfulWork (library lib) (run_statement (fire n) (level_at (library lib) depth) context) w.reads b (written w) (ended (abort_by (cause c)))) (only_written only) fires;
 }
-fire_halt library context depth n Memory v w only fires = tt
+fire_halt lib context depth n Memory v w only fires = tt
 
 starts : (library : Library) (depth n : ℕ) (s : Status) → (s ≡ absent → ⊥) → (S : State) → start_fired s (level_at library depth) n S ≡ start (level_at library depth).below (fired_task (level_at library depth) n ∷ []) S
 starts library depth n absent there S = absurd (there refl)

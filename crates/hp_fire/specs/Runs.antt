@@ -67,6 +67,10 @@ Makes f library level work old new (Ok p) = Made library level work old new (f p
 Makes f library level work old new (Err (ByCause x)) = Runs library work old new (ended (abort_by (cause x)))
 Makes f library level work old new (Err Memory) = ⊤
 
+-- what is left of the work is the rest
+pub record Starts (library : Library) (rest work : Work) (old new : Seeing) : Type 0 where
+  pub then_runs : {last : Seeing} {a : Answer} → Runs library rest new last a → Runs library work old last a
+
 -- the body of a statement `sub` has ended with this course, and nothing follows it
 pub record SubOver (library : Library) (f : Work) (old new : Seeing) (a : Answer) : Type 0 where
   pub goes_on : GoesOn old new

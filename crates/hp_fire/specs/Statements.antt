@@ -1,13 +1,16 @@
 -- What the engine's calls do, for a library and the context of a statement.
-use Rattle.std.specs.Prelude.{ℕ, Bool, List, Result, map}
+use Rattle.std.specs.Prelude.{⊤, ℕ, Bool, List, Result, Ok, Err, map}
+use Rattle.std.specs.Global.{Vec}
 use Rattle.hp_model.specs.Values.{Name}
 use Rattle.hp_model.specs.Rules.{Statement, Body}
-use Rattle.hp_model.specs.Transactions.{Work, for_each}
-use Rattle.hp_model.specs.Firing.{level_at, run_statement, run_body, with_row, signal_in, start, siblings, fire_task}
+use Rattle.hp_model.specs.Transactions.{Work, abort_by, for_each}
+use Rattle.hp_model.specs.Firing.{level_at, run_statement, run_body, with_row, start, siblings, fire_task}
+use Rattle.hp_model.specs.Answers.{ended}
 use Rattle.hp_value.specs.declared.halt.Halt.{Halt}
+use Rattle.hp_value.specs.declared.halt.Halt.TheVariants.{Cause as ByCause, Memory}
 use Rattle.hp_value.specs.declared.occurrence.Primitive.{Primitive}
 use Rattle.hp_value.specs.declared.row.KeyedRow.{KeyedRow}
-use Rattle.hp_value.specs.Mapped.{keyed_row, primitive}
+use Rattle.hp_value.specs.Mapped.{cause, keyed_row, primitive}
 use Rattle.hp_rule.specs.declared.library.Library.{Library}
 use Rattle.hp_rule.specs.declared.task.Task.{Task}
 use Rattle.hp_rule.specs.Mapped.{library, task}
@@ -18,7 +21,7 @@ use Rattle.hp_fire.specs.declared.course.Course.{Course}
 use Rattle.hp_fire.specs.declared.course.GroupOutcome.{GroupOutcome}
 use Rattle.hp_fire.specs.declared.context.Context.{Context}
 use Rattle.hp_fire.specs.Mapped.{course, context, group}
-use Rattle.hp_fire.specs.Runs.{Runs, RunsFiring, RunsGroup, Steps, Makes}
+use Rattle.hp_fire.specs.Runs.{Runs, RunsFiring, RunsGroup, Steps, Starts, Makes}
 
 -- what a statement does in a context
 abbrev pub statement_in : Library → Context → Statement → Work
@@ -44,13 +47,12 @@ OperationIsMade lib c s old new result = Makes primitive (library lib) (level_at
 abbrev pub BodyRuns : Library → Context → Body → Seeing → Seeing → Course → Type 0
 BodyRuns lib c b old new result = Runs (library lib) (body_work lib c b) old new (course result)
 
--- the occurrence is signalled, unless a cause ends that or memory runs out
-abbrev pub SignalRuns : Library → (depth : ℕ) → Primitive → Seeing → Seeing → Result Course Halt → Type 0
-SignalRuns lib depth p old new result = Steps (library lib) (signal_in (level_at (library lib) depth) (primitive p)) old new result
-
--- the tasks are started in a transaction of this depth
-abbrev pub TasksStart : Library → (depth : ℕ) → List Task → Seeing → Seeing → Course → Type 0
-TasksStart lib depth tasks old new result = Runs (library lib) (start (level_at (library lib) depth).below (map task tasks)) old new (course result)
+-- what is left of the work is to start these tasks in a transaction of this depth, unless a cause has ended the work or
+-- memory has run out
+abbrev pub TasksStart : Library → (depth : ℕ) → Work → Seeing → Seeing → Result (Vec Task) Halt → Type 0
+TasksStart lib depth work old new (Ok tasks) = Starts (library lib) (start (level_at (library lib) depth).below (map task tasks.items)) work old new
+TasksStart lib depth work old new (Err (ByCause x)) = Runs (library lib) work old new (ended (abort_by (cause x)))
+TasksStart lib depth work old new (Err Memory) = ⊤
 
 -- the tasks fire as siblings
 abbrev pub SiblingsFire : Library → (stops : Bool) → List Task → Seeing → Seeing → GroupOutcome → Type 0

@@ -22,6 +22,7 @@ use crate::engine::Engine;
 use crate::settling::settled;
 use crate::speculate::{Effort, Gate, Group, NoGate, Past};
 use hp_attempt::{Attempt, Outcome};
+use hp_ops::trigger;
 use hp_rule::{Library, Stmt, Task};
 use hp_store::Snapshot;
 use hp_value::Prim;
@@ -51,7 +52,8 @@ impl<R: Threads + Sync> Engine<'_, R> {
         ensures { IfOk result (λ c. Runs (library self.now.lib.now)
             (signal_in (level_at (library self.now.lib.now) depth) (primitive prim.now)) view.old view.new (course c)) }
     {
-        let result = self.signal(view, prim, depth);
+        let tasks = trigger(self.alloc, view, self.lib, prim, depth);
+        let result = self.start(view, tasks, depth);
         settled(self.alloc, result)
     }
 

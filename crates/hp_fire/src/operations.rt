@@ -5,34 +5,34 @@ ghost use Rattle.hp_model.specs.Tree.{without_detachments};
 ghost use Rattle.hp_model.specs.Transactions.{Work};
 ghost use Rattle.hp_model.specs.Rules as rules;
 ghost use Rattle.hp_model.specs.Firing as model;
-ghost use Rattle.hp_model.specs.Firing.{Level, values_of, boolean_value};
+ghost use Rattle.hp_model.specs.Firing.{Level, level_at, values_of, boolean_value};
 ghost use Rattle.hp_model.specs.Conditions as conditions;
 ghost use Rattle.hp_model.specs.Answers.{tells};
 ghost use Rattle.hp_model.specs.Operations.{operation_items};
 ghost use Rattle.hp_value.specs.Mapped.{Meets, environment, expression, keyed_row, primitive, rule_operation};
 ghost use Rattle.hp_query.specs.Mapped.{keyed_rows};
-ghost use Rattle.hp_rule.specs.Mapped.{assignment, library};
+ghost use Rattle.hp_rule.specs.Mapped.{assignment, library, task as task_of};
 ghost use Rattle.hp_view.specs.Seeing.{Seeing};
 ghost use Rattle.hp_fire.specs.Mapped.{context as context_in, course as course_in};
-ghost use Rattle.hp_fire.specs.Runs.{Runs, Steps, Looks, Made};
+ghost use Rattle.hp_fire.specs.Runs.{AreReady, Steps, Looks, Made};
 ghost use Rattle.hp_fire.specs.Signals.{signal_of};
-ghost use Rattle.hp_fire.specs.Statements.{OperationIsMade};
+ghost use Rattle.hp_fire.specs.Statements.{OperationIsMade, TasksStart};
 
 use crate::context::Context;
 use crate::counting::Counting;
 use crate::course::{Course, End};
 use crate::engine::Engine;
+use crate::placing::one_task;
 use crate::settling::settled;
-use hp_ops::{create, delete, find_object, given_values, new_object, set_rule, update};
+use hp_ops::{create, delete, find_object, fire, given_values, new_object, set_rule, update};
 use hp_query::selected_rows;
-use hp_rule::{Assignment, RuleOperation};
+use hp_rule::{Assignment, RuleOperation, Task};
 use hp_tree::{Item, Operation};
 use hp_value::{Cause, ClassNo, Env, Expr, Halt, KeyedRow, Prim, RuleNo};
 use hp_view::View;
 use std::alloc::{AllocError, Global};
 
 /// The query of a statement `each`.
-#[derive(Clone, Copy)]
 pub(crate) struct Selection<'a> {
     /// The name of the row that is tested.
     pub(crate) variable: &'a str,
@@ -43,7 +43,6 @@ pub(crate) struct Selection<'a> {
 }
 
 /// The binding of a statement `with`.
-#[derive(Clone, Copy)]
 pub(crate) struct Binding<'a> {
     /// The name of the object's row in the body.
     pub(crate) variable: &'a str,
@@ -118,29 +117,47 @@ impl<R> Engine<'_, R> {
         Ok(course)
     }
 
+    /// The task of a statement `fire`, as a list.
+    pub(crate) fn fired(
+        &self,
+        view: &mut View,
+        rule: RuleNo,
+        depth: u8,
+    ) -> Result<Vec<Task>, Halt>
+        ensures ready { IfOk result (λ ts. AreReady (library self.now.lib.now) depth (map task_of ts.items)) }
+        ensures starts { (context : model.Context)
+            → let work = model.run_statement (rules.fire rule) (level_at (library self.now.lib.now) depth) context in
+            TasksStart self.now.lib.now depth work view.old view.new result }
+    {
+        let task = fire(self.alloc, view, self.lib, rule, depth)?;
+        let tasks = one_task(self.alloc, task)?;
+        Ok(tasks)
+    }
+
     /// All rows of a statement `each`.
     pub(crate) fn selected(
         &self,
         view: &mut View,
         context: &Context<'_>,
-        selection: Selection<'_>,
+        variable: &str,
+        class: ClassNo,
+        predicate: &Expr,
     ) -> Result<Vec<KeyedRow>, Halt>
-        ensures { let x = selection.entry.variable.now in
-            let predicate = expression selection.entry.predicate.now in
+        ensures { let predicate = expression predicate.now in
             let environment = (context_in context.now).environment in
             Looks keyed_rows (library self.now.lib.now)
-            (λ S. conditions.answer environment x selection.entry.class predicate S.objects) view.old view.new result }
+            (λ S. conditions.answer environment variable.now class predicate S.objects) view.old view.new result }
     {
         let mut look = Counting::new(view);
         let rows = selected_rows(
             self.alloc,
-            selection.variable,
-            selection.class,
-            selection.predicate,
+            variable,
+            class,
+            predicate,
             &context.env,
             &mut look,
         );
-        look.add_predicate(selection.predicate, self.effort);
+        look.add_predicate(predicate, self.effort);
         rows
     }
 
@@ -216,11 +233,11 @@ pub(crate) fn operated_course(
     alloc: Global,
     prim: &Prim,
     given: Result<Course, Halt>,
-) -> Result<Course, AllocError>
-    ensures { IfOk result (λ c. (library : rules.Library) (level : Level) (work : Work) (old middle new : Seeing)
+) -> Result<Course, Halt>
+    ensures { (library : rules.Library) (level : Level) (work : Work) (old middle new : Seeing)
         → Made library level work old middle (primitive prim.now)
         → Steps library (model.signal_in level (primitive prim.now)) middle new given
-        → Runs library work old new (course_in c)) }
+        → Steps library work old new result }
 {
     let mut course = operation_course(alloc, prim)?;
     let more = settled(alloc, given)?;

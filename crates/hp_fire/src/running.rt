@@ -1,10 +1,12 @@
-//! Signals, groups and firings. They call the statements in `statement`, which call them.
+//! The tasks of signals, groups and firings. They call the statements in `statement`, which call them.
 
 ghost use Rattle.std.specs.Prelude.{◌≡◌, ◌+◌, true, IfOk, All, map};
 ghost use Rattle.std.specs.Thread.{IsSync};
+ghost use Rattle.hp_model.specs.Transactions.{Work};
 ghost use Rattle.hp_rule.specs.Mapped.{library, task as task_of};
-ghost use Rattle.hp_fire.specs.Runs.{AreReady};
-ghost use Rattle.hp_fire.specs.Statements.{SignalRuns, TasksStart, SiblingsFire, TaskFires};
+ghost use Rattle.hp_view.specs.Seeing.{Seeing};
+ghost use Rattle.hp_fire.specs.Runs.{AreReady, Steps};
+ghost use Rattle.hp_fire.specs.Statements.{TasksStart, SiblingsFire, TaskFires};
 
 use crate::closing::close_action;
 use crate::context::Context;
@@ -14,36 +16,27 @@ use crate::engine::Engine;
 use crate::placing::{firing_course, place_tasks, placed_course, single_immediate};
 use crate::speculate::{Effort, FIRING, Group, NoGate};
 use hp_attempt::Outcome;
-use hp_ops::trigger;
 use hp_rule::Task;
-use hp_value::{Halt, Prim};
+use hp_value::Halt;
 use hp_view::View;
 use std::alloc::AllocError;
 use std::thread::Threads;
 
 impl<R: Threads + Sync> Engine<'_, R> {
-    /// Signals an occurrence in a transaction of depth `depth`.
-    #[cycle(fire)]
-    pub(crate) fn signal(&self, view: &mut View, prim: &Prim, depth: u8) -> Result<Course, Halt>
-        ensures { SignalRuns self.now.lib.now depth prim.now view.old view.new result }
-    {
-        let tasks = trigger(self.alloc, view, self.lib, prim, depth)?;
-        let course = self.start(view, tasks, depth)?;
-        Ok(course)
-    }
-
     /// Starts the tasks of a signal, or of a statement that fires a rule: places them, and fires the immediate ones as
-    /// siblings.
+    /// siblings. A cause for which there are no tasks ends the signal or the statement.
     #[cycle(fire)]
     pub(crate) fn start(
         &self,
         view: &mut View,
-        tasks: Vec<Task>,
+        tasks: Result<Vec<Task>, Halt>,
         depth: u8,
-    ) -> Result<Course, AllocError>
-        requires { AreReady (library self.now.lib.now) depth (map task_of tasks.items) }
-        ensures { IfOk result (TasksStart self.now.lib.now depth tasks.items view.old view.new) }
+    ) -> Result<Course, Halt>
+        requires { IfOk tasks (λ ts. AreReady (library self.now.lib.now) depth (map task_of ts.items)) }
+        ensures { (work : Work) (before : Seeing) → TasksStart self.now.lib.now depth work before view.old tasks
+            → Steps (library self.now.lib.now) work before view.new result }
     {
+        let tasks = tasks?;
         if tasks.is_empty() {
             return Ok(Course::ended(self.alloc, End::Done));
         }
@@ -56,7 +49,8 @@ impl<R: Threads + Sync> Engine<'_, R> {
         };
         let placed = place_tasks(self.alloc, tasks)?;
         let group = self.group(view, &placed.immediate, depth)?;
-        placed_course(self.alloc, placed, group)
+        let course = placed_course(self.alloc, placed, group)?;
+        Ok(course)
     }
 
     /// Fires the tasks of a signal as siblings, in a transaction of depth `depth`. With several tasks and threads, and

@@ -7,8 +7,7 @@ ghost use Rattle.hp_model.specs.Firing.{level_at};
 ghost use Rattle.hp_value.specs.Mapped.{expression, primitive};
 ghost use Rattle.hp_rule.specs.Mapped.{body_in, library, statement as statement_of};
 ghost use Rattle.hp_view.specs.Seeing.{Seeing};
-ghost use Rattle.hp_fire.specs.Mapped.{course as course_in};
-ghost use Rattle.hp_fire.specs.Runs.{Runs, Steps, Makes};
+ghost use Rattle.hp_fire.specs.Runs.{Steps, Makes};
 ghost use Rattle.hp_fire.specs.Statements.{StatementRuns, BodyRuns, body_for_each};
 
 use crate::closing::close_sub;
@@ -16,12 +15,11 @@ use crate::context::Context;
 use crate::course::{Course, End};
 use crate::engine::Engine;
 use crate::operations::{Binding, Selection, emitted, is_true, operated_course, signalled};
-use crate::placing::one_task;
 use crate::settling::{settled, vetoed};
 use crate::speculate::STATEMENT;
-use hp_ops::fire;
+use hp_ops::trigger;
 use hp_rule::Stmt;
-use hp_value::{Cause, Expr, Halt, KeyedRow, Prim, RuleNo};
+use hp_value::{Cause, Expr, Halt, KeyedRow, Prim};
 use hp_view::View;
 use std::alloc::AllocError;
 use std::thread::Threads;
@@ -91,7 +89,11 @@ impl<R: Threads + Sync> Engine<'_, R> {
                 };
                 self.each_found(view, selection, body, context)
             }
-            Stmt::For { query, body } => self.each_kept(view, query, body, context),
+            Stmt::For { query, body } => {
+                let query: &str = query;
+                let rows = (&*context).kept(query);
+                self.each_row(view, body, query, rows, context)
+            }
             Stmt::With {
                 variable,
                 class,
@@ -109,7 +111,10 @@ impl<R: Threads + Sync> Engine<'_, R> {
             Stmt::Abort => Ok(Course::ended(self.alloc, End::Abort(Cause::Asked))),
             Stmt::Veto => Ok(vetoed(self.alloc, context.rule)),
             Stmt::OnRule { operation, rule } => self.rule_changed(view, *operation, *rule),
-            Stmt::Fire(rule) => self.fire_rule(view, *rule, context),
+            Stmt::Fire(rule) => {
+                let tasks = self.fired(view, *rule, context.depth);
+                self.start(view, tasks, context.depth)
+            }
         }
     }
 
@@ -153,26 +158,13 @@ impl<R: Threads + Sync> Engine<'_, R> {
             let statement = rules.each x selection.entry.class predicate (body_in body.now) in
             StatementRuns self.now.lib.now context.now statement view.old view.new result }
     {
-        let rows = self.selected(view, context, selection)?;
-        let course = self.each_row(view, body, selection.variable, &rows, context)?;
-        Ok(course)
-    }
-
-    /// Runs a statement `for`.
-    #[cycle(fire)]
-    fn each_kept(
-        &self,
-        view: &mut View,
-        query: &str,
-        body: &[Stmt],
-        context: &Context<'_>,
-    ) -> Result<Course, Halt>
-        ensures { let statement = rules.for_answer query.now (body_in body.now) in
-            StatementRuns self.now.lib.now context.now statement view.old view.new result }
-    {
-        let rows = (&*context).kept(query);
-        let course = self.each_row(view, body, query, rows, context)?;
-        Ok(course)
+        let Selection {
+            variable,
+            class,
+            predicate,
+        } = selection;
+        let rows = self.selected(view, context, variable, class, predicate)?;
+        self.each_row(view, body, variable, &rows, context)
     }
 
     /// Runs a statement `with`.
@@ -189,8 +181,13 @@ impl<R: Threads + Sync> Engine<'_, R> {
             let statement = rules.with_object x binding.entry.class key (body_in body.now) in
             StatementRuns self.now.lib.now context.now statement view.old view.new result }
     {
-        let row = self.named_object(view, context, binding.class, binding.key)?;
-        let inner = (&*context).bound(binding.variable, row.key, &row.row);
+        let Binding {
+            variable,
+            class,
+            key,
+        } = binding;
+        let row = self.named_object(view, context, class, key)?;
+        let inner = (&*context).bound(variable, row.key, &row.row);
         let course = self.statements(view, body, &inner)?;
         Ok(course)
     }
@@ -218,22 +215,6 @@ impl<R: Threads + Sync> Engine<'_, R> {
         Ok(course)
     }
 
-    /// Runs a statement `fire`.
-    #[cycle(fire)]
-    fn fire_rule(
-        &self,
-        view: &mut View,
-        rule: RuleNo,
-        context: &Context<'_>,
-    ) -> Result<Course, Halt>
-        ensures { StatementRuns self.now.lib.now context.now (rules.fire rule) view.old view.new result }
-    {
-        let task = fire(self.alloc, view, self.lib, rule, context.depth)?;
-        let tasks = one_task(self.alloc, task)?;
-        let course = self.start(view, tasks, context.depth)?;
-        Ok(course)
-    }
-
     /// Runs a body for each row, bound to a name, up to the first run that isn't done.
     #[cycle(fire)]
     fn each_row(
@@ -243,9 +224,9 @@ impl<R: Threads + Sync> Engine<'_, R> {
         variable: &str,
         rows: &[KeyedRow],
         context: &Context<'_>,
-    ) -> Result<Course, AllocError>
+    ) -> Result<Course, Halt>
         ensures { let work = body_for_each self.now.lib.now context.now variable.now rows.now (body_in body.now) in
-            IfOk result (λ c. Runs (library self.now.lib.now) work view.old view.new (course_in c)) }
+            Steps (library self.now.lib.now) work view.old view.new result }
     {
         let mut so_far = Course::ended(self.alloc, End::Done);
         for row in rows {
@@ -269,8 +250,8 @@ impl<R: Threads + Sync> Engine<'_, R> {
             → Steps (library self.now.lib.now) work before view.new result }
     {
         let prim = made?;
-        let result = self.signal(view, &prim, depth);
-        let course = operated_course(self.alloc, &prim, result)?;
-        Ok(course)
+        let tasks = trigger(self.alloc, view, self.lib, &prim, depth);
+        let result = self.start(view, tasks, depth);
+        operated_course(self.alloc, &prim, result)
     }
 }

@@ -3,7 +3,7 @@ use Rattle.std.proofs.Common.{SFits, w64, of_z, to_z, Ok}
 use Rattle.std.proofs.lemmas.Int.{to_z-of_z}
 use Rattle.std.proofs.lemmas.Result.{err_from_is_err_and, IfOk-weaker}
 use Rattle.std.proofs.Math.ListN.{drop_of_length-le}
-use Rattle.hp_model.specs.Values.{requested}
+use Rattle.hp_model.specs.Values.{KeyedRow, requested}
 use Rattle.hp_model.specs.Conditions.{answer}
 use Rattle.std.specs.Prelude.{filter}
 use Rattle.hp_model.specs.Tree.{Task, no_items}
@@ -11,7 +11,7 @@ use Rattle.hp_model.specs.Transactions.{abort_by, deferred_of, detached_of, done
 use Rattle.hp_model.specs.Answers.{is_done, followed, group_answer}
 use Rattle.hp_model.specs.Rules as R
 use Rattle.hp_model.specs.Rules.{Body, is_immediate, rule_at}
-use Rattle.hp_model.specs.Firing.{Context, level_at, run_body, with_row, action_course, values_of, boolean_value, choose, named_object, start, siblings, fire_task}
+use Rattle.hp_model.specs.Firing.{Context, level_at, run_statement, run_body, with_row, action_course, signal_in, values_of, boolean_value, choose, named_object, siblings, fire_task}
 use Rattle.hp_value.specs.Mapped.{keyed_row, answers, expression, primitive, rule_operation}
 use Rattle.hp_query.specs.Mapped.{keyed_rows}
 use Rattle.hp_rule.specs.declared.stmt.Stmt.TheViews.{the_lemmas}
@@ -24,12 +24,12 @@ use Rattle.hp_value.specs.declared.env.Answer.{Answer as KeptAnswer}
 use Rattle.hp_fire.specs.declared.deciding.Decision.{Decision}
 use Rattle.hp_fire.specs.declared.deciding.Decision.TheVariants.{Acts}
 use Rattle.hp_fire.specs.Decides.{ThenActs, Decides}
-use Rattle.hp_fire.specs.Runs.{Runs, RunsGroup, Made, Makes, SubRuns}
+use Rattle.hp_fire.specs.Runs.{Runs, RunsGroup, Steps, Made, Makes, SubRuns}
 use Rattle.hp_fire.proofs.Decisions.{acts_runs}
 use Rattle.hp_fire.proofs.Making.{steps_halt}
-use Rattle.hp_fire.proofs.Stating.{with_is, steps_at, runs_at, signal_makes, found_halt, fire_halt, fire_runs}
+use Rattle.hp_fire.proofs.Stating.{with_is, steps_at, runs_at, signal_makes, found_halt, found_steps}
 use Rattle.hp_fire.proofs.Steps.{runs_answer, runs_ends, runs_value, found_value, sub_over, sub_then, body_each, loop_starts, loop_next, loop_stops, loop_ends}
-use Rattle.hp_fire.proofs.Starting.{signal_runs, start_none, start_single, single_measure, start_runs, group_measure, none_long, map_none, tasks_at}
+use Rattle.hp_fire.proofs.Starting.{signal_starts, signal_ready, then_starts, are_ready, start_none, start_single, single_measure, start_runs, group_measure, none_long, map_none, tasks_at}
 use denote.Param.{param}
 use denote.Param.Send.{IsSync, param_sync, sendable}
 use denote.Ref.{NamedLft}
@@ -95,7 +95,13 @@ Engine::operated-returns g t c = λ work before made.
     let lib = library c.args.self.now.lib.now in
     let is : c.args.made ≡ Ok c.in_ok-prim.prim = search rules in
     let is_made : Made lib (level_at lib c.args.depth) work before c.args.view.now (primitive c.in_ok-prim.prim) = subst (Makes primitive lib (level_at lib c.args.depth) work before c.args.view.now) is made in
-    c.in_ok-course.ensures lib (level_at lib c.args.depth) work before c.args.view.now c.signal-result.new.view is_made c.signal-result.ensures
+    let started = c.start-result.ensures (signal_in (level_at lib c.args.depth) (primitive c.in_ok-prim.prim)) c.args.view.now
+        (signal_starts c.args.self.now.lib.now c.args.depth (primitive c.in_ok-prim.prim) c.args.view.now c.trigger-tasks.new.view c.trigger-tasks.result c.trigger-tasks.ensures.triggers c.trigger-tasks.ensures.goes_on) in
+    c.operated_course.ensures lib (level_at lib c.args.depth) work before c.args.view.now c.start-result.new.view is_made started
+
+pub Engine::operated-start-result-requires : goal.Engine::operated-start-result-requires
+Engine::operated-start-result-requires g t c = λ κs lives.
+    (omega (arith, c.decreases), (lives, signal_ready c.args.self.now.lib.now c.args.depth (primitive c.in_ok-prim.prim) c.args.view.now c.trigger-tasks.new.view c.trigger-tasks.result c.trigger-tasks.ensures.triggers))
 
 pub Engine::firing-returns-in_ok-course-in-Acts : goal.Engine::firing-returns-in_ok-course-in-Acts
 Engine::firing-returns-in_ok-course-in-Acts g t c =
@@ -113,49 +119,56 @@ Engine::firing-returns-in_ok-course-in-Acts g t c =
     c.in_ok-course-in-Acts.ensures)) in
     IfOk-weaker c.close_action.result _ _ (λ o closes. acts_runs acts (closes lib (level_at lib fired.depth) (task fired) (answers found) c.decide.new.view here (sym c.enter-mark.ensures))) c.close_action.ensures
 
--- ---- signals
-
-pub Engine::signal-returns : goal.Engine::signal-returns
-Engine::signal-returns g t c = signal_runs c.in_ok-tasks.ensures.triggers c.in_ok-tasks.ensures.goes_on c.in_ok-course.ensures
+-- ---- the tasks of signals
 
 pub Engine::start-returns-then-is_empty : goal.Engine::start-returns-then-is_empty
-Engine::start-returns-then-is_empty g t c =
-    let long : length c.args.tasks.items ≡ c.args.tasks.len = search rules in
-    let zero : c.args.tasks.len ≡ 0 = search rules in
-    let none : c.args.tasks.items ≡ [] = none_long c.args.tasks.items (long ∙ zero) in
-    start_none (library c.args.self.now.lib.now) c.args.depth (ap (map task) none) c.args.view.now _ c.ended.ensures
+Engine::start-returns-then-is_empty g t c = λ work before starts.
+    let is : c.args.tasks ≡ Ok c.in_ok-tasks.tasks = search rules in
+    let long : length c.in_ok-tasks.tasks.items ≡ c.in_ok-tasks.tasks.len = search rules in
+    let zero : c.in_ok-tasks.tasks.len ≡ 0 = search rules in
+    let none : c.in_ok-tasks.tasks.items ≡ [] = none_long c.in_ok-tasks.tasks.items (long ∙ zero) in
+    (then_starts c.args.self.now.lib.now c.args.depth work before c.args.view.now c.args.tasks c.in_ok-tasks.tasks is starts).then_runs
+    (start_none (library c.args.self.now.lib.now) c.args.depth (ap (map task) none) c.args.view.now _ c.ended.ensures)
 
 pub Engine::start-firing-requires : goal.Engine::start-firing-requires
 Engine::start-firing-requires g t c = λ κs lives.
-    (omega (arith, single_measure c.args.self.now.lib.now c.args.depth c.args.tasks.items c.in-Ok.task c.requires (ap (map task) c.in-Ok.ensures.one.0), c.decreases), (lives, search rules))
+    let is : c.args.tasks ≡ Ok c.in_ok-tasks.tasks = search rules in
+    let ready = are_ready c.args.self.now.lib.now c.args.depth c.args.tasks c.in_ok-tasks.tasks is c.requires in
+    (omega (arith, single_measure c.args.self.now.lib.now c.args.depth c.in_ok-tasks.tasks.items c.in-Ok.task ready (ap (map task) c.in-Ok.ensures.one.0), c.decreases), (lives, search rules))
 
 pub Engine::start-returns-in-Ok : goal.Engine::start-returns-in-Ok
-Engine::start-returns-in-Ok g t c =
-    runs_answer c.firing_course.ensures
-    (start_single (map task c.args.tasks.items) (task c.in-Ok.task) c.requires (ap (map task) c.in-Ok.ensures.one.0) c.in-Ok.ensures.one.1 c.in_ok-outcome-in-Ok.ensures)
+Engine::start-returns-in-Ok g t c = λ work before starts.
+    let is : c.args.tasks ≡ Ok c.in_ok-tasks.tasks = search rules in
+    let ready = are_ready c.args.self.now.lib.now c.args.depth c.args.tasks c.in_ok-tasks.tasks is c.requires in
+    (then_starts c.args.self.now.lib.now c.args.depth work before c.args.view.now c.args.tasks c.in_ok-tasks.tasks is starts).then_runs
+    (runs_answer c.firing_course.ensures
+    (start_single (map task c.in_ok-tasks.tasks.items) (task c.in-Ok.task) ready (ap (map task) c.in-Ok.ensures.one.0) c.in-Ok.ensures.one.1 c.in_ok-outcome-in-Ok.ensures))
 
 pub Engine::start-group-requires : goal.Engine::start-group-requires
 Engine::start-group-requires g t c = λ κs lives.
-    let long : length c.args.tasks.items ≡ c.args.tasks.len = search rules in
-    let some : c.args.tasks.items ≡ [] → ⊥ = λ e. let zero : c.args.tasks.len ≡ 0 = sym long ∙ ap length e in search rules in
-    let now : map task c.deref.result.now ≡ filter (λ (u : Task). is_immediate u.place) (map task c.args.tasks.items) = ap (map task) c.deref.ensures.value ∙ c.in_ok-placed.ensures.immediate ∙ ap (λ ts. filter (λ (u : Task). is_immediate u.place) (map task ts)) c.in-Err.ensures.others in
-    let falls = group_measure c.args.self.now.lib.now c.args.depth c.args.tasks.items c.requires some in
-    let at = tasks_at c.args.depth c.args.tasks.items c.deref.result.now c.requires now in
+    let is : c.args.tasks ≡ Ok c.in_ok-tasks.tasks = search rules in
+    let ready = are_ready c.args.self.now.lib.now c.args.depth c.args.tasks c.in_ok-tasks.tasks is c.requires in
+    let long : length c.in_ok-tasks.tasks.items ≡ c.in_ok-tasks.tasks.len = search rules in
+    let some : c.in_ok-tasks.tasks.items ≡ [] → ⊥ = λ e. let zero : c.in_ok-tasks.tasks.len ≡ 0 = sym long ∙ ap length e in search rules in
+    let now : map task c.deref.result.now ≡ filter (λ (u : Task). is_immediate u.place) (map task c.in_ok-tasks.tasks.items) = ap (map task) c.deref.ensures.value ∙ c.in_ok-placed.ensures.immediate ∙ ap (λ ts. filter (λ (u : Task). is_immediate u.place) (map task ts)) c.in-Err.ensures.others in
+    let falls = group_measure c.args.self.now.lib.now c.args.depth c.in_ok-tasks.tasks.items ready some in
+    let at = tasks_at c.args.depth c.in_ok-tasks.tasks.items c.deref.result.now ready now in
     (omega (arith, falls, c.decreases), (lives, search (at, rules)))
 
 pub Engine::start-returns : goal.Engine::start-returns
-Engine::start-returns g t c =
-    let long : length c.args.tasks.items ≡ c.args.tasks.len = search rules in
-    let some : c.args.tasks.items ≡ [] → ⊥ = λ e. let zero : c.args.tasks.len ≡ 0 = sym long ∙ ap length e in search rules in
+Engine::start-returns g t c = λ work before starts.
+    let is : c.args.tasks ≡ Ok c.in_ok-tasks.tasks = search rules in
+    let ready = are_ready c.args.self.now.lib.now c.args.depth c.args.tasks c.in_ok-tasks.tasks is c.requires in
+    let long : length c.in_ok-tasks.tasks.items ≡ c.in_ok-tasks.tasks.len = search rules in
+    let some : c.in_ok-tasks.tasks.items ≡ [] → ⊥ = λ e. let zero : c.in_ok-tasks.tasks.len ≡ 0 = sym long ∙ ap length e in search rules in
     let same = c.in-Err.ensures.others in
-    let now : map task c.deref.result.now ≡ filter (λ (u : Task). is_immediate u.place) (map task c.args.tasks.items) = ap (map task) c.deref.ensures.value ∙ c.in_ok-placed.ensures.immediate ∙ ap (λ ts. filter (λ (u : Task). is_immediate u.place) (map task ts)) same in
+    let now : map task c.deref.result.now ≡ filter (λ (u : Task). is_immediate u.place) (map task c.in_ok-tasks.tasks.items) = ap (map task) c.deref.ensures.value ∙ c.in_ok-placed.ensures.immediate ∙ ap (λ ts. filter (λ (u : Task). is_immediate u.place) (map task ts)) same in
     let queued = c.in_ok-placed.ensures.queued ∙ ap (λ ts. deferred_of (map task ts)) same in
     let apart = c.in_ok-placed.ensures.detached ∙ ap (λ ts. map unreleased (detached_of (map task ts))) same in
-    IfOk-weaker c.placed_course.result _ _ (λ placed is.
-    runs_answer (is ∙ (λ i. followed (record { end = done; queued = queued i; detached = apart i; items = no_items }) (group_answer (group c.in_ok-group.group))))
-    (start_runs (map task c.args.tasks.items) c.requires (λ e. some (map_none task c.args.tasks.items e))
+    (then_starts c.args.self.now.lib.now c.args.depth work before c.args.view.now c.args.tasks c.in_ok-tasks.tasks is starts).then_runs
+    (runs_answer (c.in_ok-course.ensures ∙ (λ i. followed (record { end = done; queued = queued i; detached = apart i; items = no_items }) (group_answer (group c.in_ok-group.group))))
+    (start_runs (map task c.in_ok-tasks.tasks.items) ready (λ e. some (map_none task c.in_ok-tasks.tasks.items e))
     (subst (λ ts. RunsGroup (library c.args.self.now.lib.now) (siblings (fire_task (library c.args.self.now.lib.now)) true ts) c.args.view.now c.group.new.view (group c.in_ok-group.group)) now c.in_ok-group.ensures)))
-    c.placed_course.ensures
 
 pub Engine::group-run-requires-sync-F : goal.Engine::group-run-requires-sync-F
 Engine::group-run-requires-sync-F g t c = λ κs lives.
@@ -205,8 +218,13 @@ Engine::statement-returns-in-Each g t c =
 
 pub Engine::statement-returns-in-For : goal.Engine::statement-returns-in-For
 Engine::statement-returns-in-For g t c =
-    let is : R.for_answer c.deref-in-For.result.now (body_in c.deref-in-For-2.result.now) ≡ statement c.args.stmt.now = search (rules, the_lemmas, row_body_lem) in
-    steps_at (library c.args.self.now.lib.now) (level_at (library c.args.self.now.lib.now) c.args.context.now.depth) (context c.args.context.now) c.args.view.now c.each_kept.new.view c.each_kept.result is c.each_kept.ensures
+    let name = c.deref-query.result.now in
+    let body = body_in c.deref-in-For.result.now in
+    let lib = library c.args.self.now.lib.now in
+    let level = level_at (library c.args.self.now.lib.now) c.args.context.now.depth in
+    let is : R.for_answer c.deref-query.result.now (body_in c.deref-in-For.result.now) ≡ statement c.args.stmt.now = search (rules, the_lemmas, row_body_lem) in
+    steps_at lib level (context c.args.context.now) c.args.view.now c.each_row.new.view c.each_row.result is
+    (subst (λ rs. Steps lib (for_each rs (λ r. run_body body level (with_row name r (context c.args.context.now)))) c.args.view.now c.each_row.new.view c.each_row.result) c.kept-rows.ensures c.each_row.ensures)
 
 pub Engine::statement-returns-in-With : goal.Engine::statement-returns-in-With
 Engine::statement-returns-in-With g t c =
@@ -238,7 +256,9 @@ Engine::statement-returns-in-OnRule g t c =
 pub Engine::statement-returns-in-Fire : goal.Engine::statement-returns-in-Fire
 Engine::statement-returns-in-Fire g t c =
     let is : R.fire c.in-Fire.rule ≡ statement c.args.stmt.now = search (rules, the_lemmas) in
-    steps_at (library c.args.self.now.lib.now) (level_at (library c.args.self.now.lib.now) c.args.context.now.depth) (context c.args.context.now) c.args.view.now c.fire_rule.new.view c.fire_rule.result is c.fire_rule.ensures
+    let level = level_at (library c.args.self.now.lib.now) c.args.context.now.depth in
+    steps_at (library c.args.self.now.lib.now) level (context c.args.context.now) c.args.view.now c.start.new.view c.start.result is
+    (c.start.ensures (run_statement (R.fire c.in-Fire.rule) level (context c.args.context.now)) c.args.view.now (c.fired-tasks.ensures.starts (context c.args.context.now)))
 
 -- ---- the functions of the statements
 
@@ -269,14 +289,10 @@ Engine::each_found-returns-in_err-rows g t c =
 
 pub Engine::each_found-returns : goal.Engine::each_found-returns
 Engine::each_found-returns g t c =
-    found_value (λ rs. for_each rs (λ r. run_body (body_in c.args.body.now) (level_at (library c.args.self.now.lib.now) c.args.context.now.depth) (with_row c.args.selection.variable.now r (context c.args.context.now)))) c.in_ok-rows.ensures
-    (subst (λ rs. Runs (library c.args.self.now.lib.now) (for_each (map keyed_row rs) (λ r. run_body (body_in c.args.body.now) (level_at (library c.args.self.now.lib.now) c.args.context.now.depth) (with_row c.args.selection.variable.now r (context c.args.context.now)))) c.selected.new.view c.each_row.new.view (course c.in_ok-course.course)) c.deref.ensures.value
-    c.in_ok-course.ensures)
-
-pub Engine::each_kept-returns : goal.Engine::each_kept-returns
-Engine::each_kept-returns g t c =
-    subst (λ rs. Runs (library c.args.self.now.lib.now) (for_each rs (λ r. run_body (body_in c.args.body.now) (level_at (library c.args.self.now.lib.now) c.args.context.now.depth) (with_row c.args.query.now r (context c.args.context.now)))) c.args.view.now c.each_row.new.view (course c.in_ok-course.course))
-    c.kept-rows.ensures c.in_ok-course.ensures
+    let work = λ (r : KeyedRow). run_body (body_in c.args.body.now) (level_at (library c.args.self.now.lib.now) c.args.context.now.depth) (with_row c.args.selection.variable.now r (context c.args.context.now)) in
+    found_steps (library c.args.self.now.lib.now) (λ S. answer (context c.args.context.now).environment c.args.selection.variable.now c.args.selection.class (expression c.args.selection.predicate.now) S.objects)
+    (λ rs. for_each rs work) (map keyed_row c.in_ok-rows.rows.items) c.args.view.now c.selected.new.view c.each_row.new.view c.each_row.result c.in_ok-rows.ensures
+    (subst (λ rs. Steps (library c.args.self.now.lib.now) (for_each (map keyed_row rs) work) c.selected.new.view c.each_row.new.view c.each_row.result) c.deref.ensures.value c.each_row.ensures)
 
 pub Engine::with_object-returns-in_err-row : goal.Engine::with_object-returns-in_err-row
 Engine::with_object-returns-in_err-row g t c =
@@ -310,15 +326,3 @@ Engine::sub_or_otherwise-returns g t c =
     let ran : SubRuns (library c.args.self.now.lib.now) work c.args.view.now c.close_sub.new.view (course c.in_ok-course.course) c.in_ok-course.aborted = c.in_ok-course.ensures (library c.args.self.now.lib.now) work c.args.view.now c.in_ok-inside.ensures (sym c.enter-mark.ensures) in
     runs_answer c.in_ok-join.ensures
     (sub_then (subst (λ b. SubRuns (library c.args.self.now.lib.now) work c.args.view.now c.close_sub.new.view (course c.in_ok-course.course) b) c.if-not-aborted.false ran) c.in_ok-more.ensures)
-
-pub Engine::fire_rule-returns-in_err-task : goal.Engine::fire_rule-returns-in_err-task
-Engine::fire_rule-returns-in_err-task g t c =
-    let p = err_from_is_err_and c.from_residual.result c.from_residual.ensures.1 in
-    rw (p.1, p.2)
-    (fire_halt (library c.args.self.now.lib.now) (context c.args.context.now) c.args.context.now.depth c.args.rule c.in_err-task.field-0.0 c.args.view.now c.fire.new.view c.fire.ensures.only c.in_err-task.ensures.fires)
-
-pub Engine::fire_rule-returns : goal.Engine::fire_rule-returns
-Engine::fire_rule-returns g t c =
-    fire_runs (context c.args.context.now) c.fire.ensures.only c.in_ok-task.ensures.fires
-    (subst (λ ts. Runs (library c.args.self.now.lib.now) (start (level_at (library c.args.self.now.lib.now) c.args.context.now.depth).below (map task ts)) c.fire.new.view c.start.new.view (course c.in_ok-course.course)) c.in_ok-tasks.ensures
-    c.in_ok-course.ensures)

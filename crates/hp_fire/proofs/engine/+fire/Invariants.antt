@@ -27,23 +27,14 @@ decreases-Engine::run_branch g l = 16 * left l.self.now.lib.now (levels l.self.n
 abbrev pub decreases-Engine::each_found : goal.decreases-Engine::each_found
 decreases-Engine::each_found g l = 16 * left l.self.now.lib.now (levels l.self.now.lib.now l.context.now.depth) (most size-Stmt l.body.now) + 3
 
-abbrev pub decreases-Engine::each_kept : goal.decreases-Engine::each_kept
-decreases-Engine::each_kept g l = 16 * left l.self.now.lib.now (levels l.self.now.lib.now l.context.now.depth) (goal.size-Engine::each_kept g l) + 3
-
 abbrev pub decreases-Engine::with_object : goal.decreases-Engine::with_object
 decreases-Engine::with_object g l = 16 * left l.self.now.lib.now (levels l.self.now.lib.now l.context.now.depth) (most size-Stmt l.body.now) + 2
 
 abbrev pub decreases-Engine::sub_or_otherwise : goal.decreases-Engine::sub_or_otherwise
 decreases-Engine::sub_or_otherwise g l = 16 * left l.self.now.lib.now (levels l.self.now.lib.now l.context.now.depth) (max (most size-Stmt l.body.now) (most size-Stmt l.otherwise.now)) + 3
 
-abbrev pub decreases-Engine::fire_rule : goal.decreases-Engine::fire_rule
-decreases-Engine::fire_rule g l = 16 * left l.self.now.lib.now (levels l.self.now.lib.now l.context.now.depth) 0 + 2
-
 abbrev pub decreases-Engine::operated : goal.decreases-Engine::operated
 decreases-Engine::operated g l = 16 * left l.self.now.lib.now (levels l.self.now.lib.now l.depth) 0 + 3
-
-abbrev pub decreases-Engine::signal : goal.decreases-Engine::signal
-decreases-Engine::signal g l = 16 * left l.self.now.lib.now (levels l.self.now.lib.now l.depth) 0 + 2
 
 abbrev pub decreases-Engine::start : goal.decreases-Engine::start
 decreases-Engine::start g l = 16 * left l.self.now.lib.now (levels l.self.now.lib.now l.depth) 0 + 1

@@ -1,6 +1,17 @@
 use Rattle.std.proofs.lemmas.Result.{IfOk-weaker}
+use Rattle.hp_model.specs.Firing.{level_at, signal_in}
+use Rattle.hp_value.specs.Mapped.{primitive}
 use Rattle.hp_rule.specs.Mapped.{library}
+use Rattle.hp_fire.proofs.Starting.{signal_starts, signal_ready}
 use Rattle.hp_fire.proofs.engine.Engine.run_signal.Goals as goal
 
+pub start-result-requires : goal.start-result-requires
+start-result-requires g c = λ κs within.
+    signal_ready c.args.self.now.lib.now c.args.depth (primitive c.args.prim.now) c.args.view.now c.trigger-tasks.new.view c.trigger-tasks.result c.trigger-tasks.ensures.triggers
+
 pub returns : goal.returns
-returns g c = IfOk-weaker c.settled.result _ _ (λ r runs. runs (library c.args.self.now.lib.now) _ c.args.view.now c.signal-result.new.view c.signal-result.ensures) c.settled.ensures
+returns g c =
+    let lib = c.args.self.now.lib.now in
+    let started = c.start-result.ensures (signal_in (level_at (library lib) c.args.depth) (primitive c.args.prim.now)) c.args.view.now
+        (signal_starts lib c.args.depth (primitive c.args.prim.now) c.args.view.now c.trigger-tasks.new.view c.trigger-tasks.result c.trigger-tasks.ensures.triggers c.trigger-tasks.ensures.goes_on) in
+    IfOk-weaker c.settled.result _ _ (λ r runs. runs (library lib) _ c.args.view.now c.start-result.new.view started) c.settled.ensures
