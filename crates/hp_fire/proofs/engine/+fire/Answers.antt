@@ -101,7 +101,7 @@ Engine::operated-returns g t c = λ work before made.
 
 pub Engine::operated-start-result-requires : goal.Engine::operated-start-result-requires
 Engine::operated-start-result-requires g t c = λ κs lives.
-    (omega (arith, c.decreases), (lives, signal_ready c.args.self.now.lib.now c.args.depth (primitive c.in_ok-prim.prim) c.args.view.now c.trigger-tasks.new.view c.trigger-tasks.result c.trigger-tasks.ensures.triggers))
+    (omega (arith, c.decreases), (lives, (search rules, signal_ready c.args.self.now.lib.now c.args.depth (primitive c.in_ok-prim.prim) c.args.view.now c.trigger-tasks.new.view c.trigger-tasks.result c.trigger-tasks.ensures.triggers)))
 
 pub Engine::firing-returns-in_ok-course-in-Acts : goal.Engine::firing-returns-in_ok-course-in-Acts
 Engine::firing-returns-in_ok-course-in-Acts g t c =

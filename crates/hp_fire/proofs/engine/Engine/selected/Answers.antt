@@ -13,9 +13,8 @@ pub returns : goal.returns
 returns g c =
     let lib = library c.args.self.now.lib.now in
     let environment = (context c.args.context.now).environment in
-    let asked = c.args.selection in
     let rows = c.selected_rows-rows in
     let new = rows.new.look.view.now in
-    subst (λ (v : Seeing). Looks keyed_rows lib (λ S. answer environment asked.variable.now asked.class (expression asked.predicate.now) S.objects) c.args.view.now v rows.result) (search rules)
-    (looks_of keyed_rows lib (λ objects. answer environment asked.variable.now asked.class (expression asked.predicate.now) objects) c.args.view.now new rows.result
+    subst (λ (v : Seeing). Looks keyed_rows lib (λ S. answer environment c.args.variable.now c.args.class (expression c.args.predicate.now) S.objects) c.args.view.now v rows.result) (search rules)
+    (looks_of keyed_rows lib (λ objects. answer environment c.args.variable.now c.args.class (expression c.args.predicate.now) objects) c.args.view.now new rows.result
     (subst (λ (v : Seeing). OnlyReads v new) c.new-look.ensures.now rows.ensures.goes_on.only) rows.ensures.answer)
