@@ -21,8 +21,8 @@ use Rattle.hp_view.specs.declared.reads.Found.TheVariants.{Value, Keys, Objects,
 use Rattle.hp_view.specs.declared.reads.Seen.{Seen}
 use Rattle.hp_view.specs.declared.reads.Seen.TheVariants.{Cell as OfCell, Keys as OfKeys, Part as OfPart}
 use Rattle.hp_view.specs.Mapped.{read}
-use Rattle.hp_view.specs.Adding.{AddsReads, IsOfClass}
-use Rattle.hp_view.proofs.Adding.{adds_noted, adds_then, adds_more}
+use Rattle.hp_view.specs.Adding.{AddsReads, IsOfClass, adds_then}
+use Rattle.hp_view.proofs.Adding.{adds_noted, adds_more}
 use Rattle.hp_attempt.specs.States.{States, LeadsToOne, IsSoundFor, FaithfulFiringFor}
 use Rattle.hp_attempt.specs.Holding.{IsReadOf, IsReadAgain, IsFor, IsForAny, IsAccepted, ReadsMore, Covers}
 

@@ -1,9 +1,9 @@
 -- A view that counts the rows that a query looks at: it shows what the view shows.
-use Rattle.std.specs.Prelude.{◌≡◌, refl}
+use Rattle.std.specs.Prelude.{◌≡◌, refl, ℕ}
 use Rattle.std.proofs.Common.{◌∙◌}
 use Rattle.hp_model.specs.State.{Objects}
 use Rattle.hp_view.specs.Seeing.{OnlyReads}
-use Rattle.hp_view.specs.Looks.{Allows, only_reads_same, only_reads_then, reads_narrow}
+use Rattle.hp_view.specs.Looks.{Allows, AsksOf, asks_same, asks_then, only_reads_same, only_reads_then, reads_narrow}
 use Rattle.hp_fire.specs.declared.counting.Counting.{Counting}
 
 abbrev pub AllowsCounted : Counting → Objects → Type 0
@@ -13,6 +13,16 @@ AllowsCounted c world = Allows c.view.now world
 pub record OnlyCounts (a b : Counting) : Type 0 where
   pub same : b.view.ghost_name ≡ a.view.ghost_name
   pub only : OnlyReads a.view.now b.view.now
+
+-- a question about a class does to the view what it does to any
+abbrev pub AsksCounted : ℕ → Counting → Counting → Type 0
+AsksCounted class a b = AsksOf class a.view.now b.view.now
+
+pub asks_counted_same : (class : ℕ) (c : Counting) → AsksCounted class c c
+asks_counted_same class c = asks_same class c.view.now
+
+pub asks_counted_then : (class : ℕ) (a b c : Counting) → AsksCounted class a b → AsksCounted class b c → AsksCounted class a c
+asks_counted_then class a b c one two = asks_then class a.view.now b.view.now c.view.now one two
 
 pub counts_same : (c : Counting) → OnlyCounts c c
 counts_same c = record { same = refl; only = only_reads_same c.view.now }

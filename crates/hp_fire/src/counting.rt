@@ -61,14 +61,21 @@ fn operators(expr: &Expr) -> u64 {
 
 impl Look for Counting<'_> {
     ghost use Rattle.hp_fire.specs.Counted.{AllowsCounted, OnlyCounts, counts_same, counts_then, counts_narrow};
+    ghost use Rattle.hp_fire.specs.Counted.{AsksCounted, asks_counted_same, asks_counted_then};
 
     ghost allows = { AllowsCounted };
 
     ghost goes_on = { OnlyCounts };
 
+    ghost asks = { AsksCounted };
+
     ghost goes_on_same = { counts_same };
 
     ghost goes_on_then = { counts_then };
+
+    ghost asks_same = { asks_counted_same };
+
+    ghost asks_then = { asks_counted_then };
 
     ghost narrows = { counts_narrow };
 

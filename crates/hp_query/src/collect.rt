@@ -18,6 +18,7 @@ pub(crate) fn objects_of<L: Look>(
     class: ClassNo,
 ) -> Result<Arc<ObjectList>, AllocError>
     ensures goes_on { L.goes_on look.old look.new }
+    ensures asks { L.asks class look.old look.new }
     ensures narrows { (world : Objects) → L.allows look.new world → L.allows look.old world }
     ensures listed { IfOk result (λ objects. (world : Objects) →
         ObjectsRise world → L.allows look.new world → objects.value ≡ rows_of class world) }
@@ -35,6 +36,7 @@ fn collected<L: Look>(
     class: ClassNo,
 ) -> Result<Arc<ObjectList>, AllocError>
     ensures goes_on { L.goes_on look.old look.new }
+    ensures asks { L.asks class look.old look.new }
     ensures narrows { (world : Objects) → L.allows look.new world → L.allows look.old world }
     ensures listed { IfOk result (λ objects. (world : Objects) →
         ObjectsRise world → L.allows look.new world → objects.value ≡ rows_of class world) }

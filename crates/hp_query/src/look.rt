@@ -1,6 +1,6 @@
 //! What a query reads.
 
-ghost use Rattle.std.specs.Prelude.{◌≡◌, Ok, IfOk, IfSome};
+ghost use Rattle.std.specs.Prelude.{◌≡◌, ℕ, Ok, IfOk, IfSome};
 ghost use Rattle.hp_model.specs.State.{Objects, find_object, rows_of};
 ghost use Rattle.hp_model.specs.ClassParts.{picked};
 ghost use Rattle.hp_value.specs.Mapped.{class_part};
@@ -25,15 +25,20 @@ pub trait Look {
     // what a call may do to the look; for a view: its writes stay the same
     ghost goes_on: { Self → Self → Type 0 };
 
+    // what a question about a class may do to the look; for a view: it reads nothing of another class
+    ghost asks: { ℕ → Self → Self → Type 0 };
+
     /// The row of the object with this key in this class, or `None` if there is no such object.
     fn row(&mut self, alloc: Global, class: ClassNo, key: Key) -> Result<Option<Row>, AllocError>
         ensures goes_on { goes_on self.old self.new }
+        ensures asks { asks class self.old self.new }
         ensures found { IfOk result (λ found. (world : Objects) →
             ObjectsRise world → allows self.new world → found ≡ find_object world class key) };
 
     /// The keys of a class's objects, in ascending order.
     fn keys(&mut self, alloc: Global, class: ClassNo) -> Result<Vec<Key>, AllocError>
         ensures goes_on { goes_on self.old self.new }
+        ensures asks { asks class self.old self.new }
         ensures listed { IfOk result (λ keys. (world : Objects) →
             ObjectsRise world → allows self.new world → keys.items ≡ class_keys class world) };
 
@@ -45,6 +50,7 @@ pub trait Look {
         class: ClassNo,
     ) -> Result<Option<Arc<ObjectList>>, AllocError>
         ensures goes_on { goes_on self.old self.new }
+        ensures asks { asks class self.old self.new }
         ensures listed { IfOk result (λ found. IfSome found (λ objects. (world : Objects) →
             ObjectsRise world → allows self.new world → objects.value ≡ rows_of class world)) };
 
@@ -57,6 +63,7 @@ pub trait Look {
         part: &ClassPart<'_>,
     ) -> Result<Option<Vec<KeyedRow>>, AllocError>
         ensures goes_on { goes_on self.old self.new }
+        ensures asks { asks class self.old self.new }
         ensures listed { IfOk result (λ found. IfSome found (λ objects. (world : Objects) →
             ObjectsRise world → allows self.new world →
             picked (class_part part.now) (rows_of class world) ≡ Ok (keyed_rows objects))) };
@@ -65,6 +72,11 @@ pub trait Look {
 
     ghost goes_on_then: { (first second third : Self) → goes_on first second → goes_on second third →
         goes_on first third };
+
+    ghost asks_same: { (class : ℕ) → (look : Self) → asks class look look };
+
+    ghost asks_then: { (class : ℕ) → (first second third : Self) → asks class first second →
+        asks class second third → asks class first third };
 
     // a later state of the look allows no world that an earlier one didn't
     ghost narrows: { (first second : Self) → goes_on first second → (world : Objects) → allows second world →

@@ -100,9 +100,15 @@ impl Look for PlainObjects {
 
     ghost goes_on = { λ before after. after ≡ before };
 
+    ghost asks = { λ class before after. after ≡ before };
+
     ghost goes_on_same = { λ look. refl };
 
     ghost goes_on_then = { λ first second third one two. two ∙ one };
+
+    ghost asks_same = { λ class look. refl };
+
+    ghost asks_then = { λ class first second third one two. two ∙ one };
 
     ghost narrows = { λ first second on world is. is ∙ on };
 

@@ -54,6 +54,7 @@ pub fn answer<L: Look>(
     look: &mut L,
 ) -> Result<Vec<KeyedRow>, Halt>
     ensures goes_on { L.goes_on look.old look.new }
+    ensures asks { L.asks query.now.class look.old look.new }
     ensures narrows { (world : Objects) → L.allows look.new world → L.allows look.old world }
     ensures answer { let asked = mapped.query query.now in
         (world : Objects) → ObjectsRise world → L.allows look.new world
@@ -82,6 +83,7 @@ pub fn selected_rows<L: Look>(
     look: &mut L,
 ) -> Result<Vec<KeyedRow>, Halt>
     ensures goes_on { L.goes_on look.old look.new }
+    ensures asks { L.asks class look.old look.new }
     ensures narrows { (world : Objects) → L.allows look.new world → L.allows look.old world }
     ensures answer { (world : Objects) → ObjectsRise world → L.allows look.new world
         → Meets keyed_rows result (model.answer (environment env.now) name.now class (expression predicate.now) world) }
@@ -121,6 +123,7 @@ fn selected_at<L: Look>(
     requires { IsFalseElsewhere (environment asked.now.env.now) asked.now.name.now
         (expression asked.now.predicate.now) key }
     ensures goes_on { L.goes_on look.old look.new }
+    ensures asks { L.asks asked.now.class look.old look.new }
     ensures narrows { (world : Objects) → L.allows look.new world → L.allows look.old world }
     ensures answer { (world : Objects) → ObjectsRise world → L.allows look.new world
         → Meets keyed_rows result
@@ -144,6 +147,7 @@ fn part_rows<L: Look>(
     look: &mut L,
 ) -> Result<Option<Vec<KeyedRow>>, AllocError>
     ensures goes_on { L.goes_on look.old look.new }
+    ensures asks { L.asks asked.now.class look.old look.new }
     ensures narrows { (world : Objects) → L.allows look.new world → L.allows look.old world }
     ensures answer { let env = environment asked.now.env.now in
         let predicate = expression asked.now.predicate.now in

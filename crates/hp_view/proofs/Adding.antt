@@ -1,15 +1,12 @@
 -- Reads that calls add, one after the other.
 use Rattle.std.specs.Prelude.{IfSome, IfNone}
 use Rattle.hp_model.specs.Values.{KeyedRow}
-use Rattle.std.proofs.Common.{◌≡◌, refl, sym, ap, ◌∙◌, subst, ℕ, ℤ, Bool, true, false, List, [], ◌∷◌, ◌++◌, append-nil, append_assoc, Option, Some, None, if◌then◌else◌}
+use Rattle.std.proofs.Common.{◌≡◌, refl, sym, ap, ◌∙◌, subst, ℕ, ℤ, Bool, true, false, List, [], ◌∷◌, ◌++◌, Option, Some, None, if◌then◌else◌}
 use Rattle.std.specs.List.{AllByRecursion}
-use Rattle.hp_model.specs.Cells.{Cell, CellValue, object_cell, Changes, Read, cell_read, keys_read, objects_read}
+use Rattle.hp_model.specs.Cells.{Cell, CellValue, object_cell, Read, cell_read, keys_read, objects_read}
 use Rattle.hp_store.specs.Changes.{changes}
-use Rattle.hp_view.specs.Adding.{AddsReads, IsOfClass}
+use Rattle.hp_view.specs.Adding.{AddsReads, IsOfClass, adds_none, adds_then}
 use Rattle.hp_view.specs.Seeing.{Seeing, beneath, written, was_read, noted, noted_unless, read_cell, OnlyReads, ReadsKeys}
-
-pub adds_none : (P : Read → Type 0) {before after : List Read} → after ≡ before → AddsReads P before after
-adds_none P {before} same = record { others = []; are = same ∙ sym (append-nil before); allowed = tt }
 
 pub adds_noted : (P : Read → Type 0) (before : List Read) (r : Read) → P r → AddsReads P before (noted before r)
 adds_noted P before r fits = by (was_read before r)
@@ -17,17 +14,6 @@ adds_noted P before r fits = by (was_read before r)
     by : (b : Bool) → AddsReads P before (if b then before else before ++ r ∷ [])
     by true = adds_none P refl
     by false = record { others = r ∷ []; are = refl; allowed = (fits, tt) }
-
-all_append : (P : Read → Type 0) (xs ys : List Read) → AllByRecursion P xs → AllByRecursion P ys → AllByRecursion P (xs ++ ys)
-all_append P [] ys p q = q
-all_append P (x ∷ xs) ys p q = (p.0, all_append P xs ys p.1 q)
-
-pub adds_then : {P : Read → Type 0} {first second third : List Read} → AddsReads P first second → AddsReads P second third → AddsReads P first third
-adds_then {P} {first} one two = record {
-  others = one.others ++ two.others;
-  are = two.are ∙ ap (λ rs. rs ++ two.others) one.are ∙ append_assoc first one.others two.others;
-  allowed = all_append P one.others two.others one.allowed two.allowed;
-}
 
 all_more : {P Q : Read → Type 0} (xs : List Read) → ((r : Read) → P r → Q r) → AllByRecursion P xs → AllByRecursion Q xs
 all_more [] more p = tt

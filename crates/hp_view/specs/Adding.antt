@@ -1,5 +1,6 @@
 -- Reads that a call adds.
-use Rattle.std.specs.Prelude.{◌≡◌, ℕ, List, ◌++◌, None}
+use Rattle.std.specs.Prelude.{◌≡◌, ℕ, List, [], ◌∷◌, ◌++◌, None}
+use Rattle.std.proofs.Common.{ap, ◌∙◌, append-nil, append_assoc, sym}
 use Rattle.std.specs.List.{AllByRecursion}
 use Rattle.hp_model.specs.Cells.{object_cell, rule_cell, detector_cell, Changes, Read, cell_read, keys_read, objects_read, part_read}
 
@@ -17,3 +18,24 @@ IsOfClass layer class (cell_read (detector_cell n) value) = ⊥
 IsOfClass layer class (keys_read n keys) = n ≡ class
 IsOfClass layer class (objects_read n objects) = n ≡ class
 IsOfClass layer class (part_read n part objects) = ⊥
+
+-- the same, or of a part of the class
+abbrev pub IsOfClassOrPart : Changes → ℕ → Read → Type 0
+IsOfClassOrPart layer class (part_read n part objects) = n ≡ class
+IsOfClassOrPart layer class r = IsOfClass layer class r
+
+-- ---- one call after another
+
+pub adds_none : (P : Read → Type 0) {before after : List Read} → after ≡ before → AddsReads P before after
+adds_none P {before} same = record { others = []; are = same ∙ sym (append-nil before); allowed = tt }
+
+all_append : (P : Read → Type 0) (xs ys : List Read) → AllByRecursion P xs → AllByRecursion P ys → AllByRecursion P (xs ++ ys)
+all_append P [] ys p q = q
+all_append P (x ∷ xs) ys p q = (p.0, all_append P xs ys p.1 q)
+
+pub adds_then : {P : Read → Type 0} {first second third : List Read} → AddsReads P first second → AddsReads P second third → AddsReads P first third
+adds_then {P} {first} one two = record {
+  others = one.others ++ two.others;
+  are = two.are ∙ ap (λ rs. rs ++ two.others) one.are ∙ append_assoc first one.others two.others;
+  allowed = all_append P one.others two.others one.allowed two.allowed;
+}

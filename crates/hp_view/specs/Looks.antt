@@ -4,6 +4,7 @@ use Rattle.std.proofs.Common.{sym, ap, ◌∙◌, subst, append-nil, append_asso
 use Rattle.hp_model.specs.State.{Objects, find_object}
 use Rattle.hp_model.specs.Cells.{Cells, object_cell, row_value, over, Holds}
 use Rattle.hp_model.proofs.BridgesCells.{Holds-front}
+use Rattle.hp_view.specs.Adding.{AddsReads, IsOfClassOrPart, adds_none, adds_then}
 use Rattle.hp_view.specs.Seeing.{Seeing, written, OnlyReads}
 use Rattle.hp_store.specs.Changes.{changes}
 
@@ -12,6 +13,11 @@ pub record Allows (v : Seeing) (world : Objects) : Type 0 where
   pub base : Cells
   pub held : Holds base v.reads
   pub objects : (class : ℕ) → (key : ℤ) → over base (written v) (object_cell class key) ≡ option_map row_value (find_object world class key)
+
+-- a question about a class adds reads of it and of its parts, and no others
+pub record AsksOf (class : ℕ) (old new : Seeing) : Type 0 where
+  pub only : OnlyReads old new
+  pub adds : AddsReads (IsOfClassOrPart (written old) class) old.reads new.reads
 
 -- ---- the laws of a look
 
@@ -31,4 +37,13 @@ reads_narrow first second on world allowed = record {
   base = allowed.base;
   held = Holds-front allowed.base first.reads on.reads.0 (subst (Holds allowed.base) on.reads.1 allowed.held);
   objects = λ class key. ap (λ es. over allowed.base (changes es) (object_cell class key)) (sym on.writes) ∙ allowed.objects class key;
+}
+
+pub asks_same : (class : ℕ) (v : Seeing) → AsksOf class v v
+asks_same class v = record { only = only_reads_same v; adds = adds_none (IsOfClassOrPart (written v) class) refl }
+
+pub asks_then : (class : ℕ) (first second third : Seeing) → AsksOf class first second → AsksOf class second third → AsksOf class first third
+asks_then class first second third one two = record {
+  only = only_reads_then first second third one.only two.only;
+  adds = adds_then one.adds (subst (λ es. AddsReads (IsOfClassOrPart (changes es) class) second.reads third.reads) one.only.writes two.adds);
 }

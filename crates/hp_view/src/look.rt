@@ -10,15 +10,23 @@ use std::sync::Arc;
 impl Look for View {
     ghost use Rattle.hp_view.specs.Seeing.{OnlyReads};
     ghost use Rattle.hp_view.specs.Looks.{Allows, only_reads_same, only_reads_then, reads_narrow};
+    ghost use Rattle.hp_view.specs.Looks.{AsksOf, asks_same, asks_then};
 
     // the objects of the cells where the view's reads hold, under the view's writes
     ghost allows = { Allows };
 
     ghost goes_on = { OnlyReads };
 
+    // of the class or of its parts, and where the view's own writes cover an object, not of its cell
+    ghost asks = { AsksOf };
+
     ghost goes_on_same = { only_reads_same };
 
     ghost goes_on_then = { only_reads_then };
+
+    ghost asks_same = { asks_same };
+
+    ghost asks_then = { asks_then };
 
     ghost narrows = { reads_narrow };
 

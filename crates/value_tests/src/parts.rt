@@ -29,9 +29,15 @@ impl Look for Parts {
 
     ghost goes_on = { λ before after. ⊤ };
 
+    ghost asks = { λ class before after. ⊤ };
+
     ghost goes_on_same = { λ look. tt };
 
     ghost goes_on_then = { λ first second third one two. tt };
+
+    ghost asks_same = { λ class look. tt };
+
+    ghost asks_then = { λ class first second third one two. tt };
 
     ghost narrows = { λ first second on world is. is };
 

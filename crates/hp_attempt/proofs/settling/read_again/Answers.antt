@@ -1,9 +1,9 @@
 use Rattle.std.proofs.Common.{◌≡◌, refl, ap, subst, sym}
 use Rattle.hp_value.specs.Mapped.{cell}
 use Rattle.hp_view.specs.declared.reads.Seen.TheVariants.{Cell as OfCell}
-use Rattle.hp_view.specs.Adding.{AddsReads}
+use Rattle.hp_view.specs.Adding.{AddsReads, adds_none}
 use Rattle.hp_view.specs.Seeing.{Seeing, written}
-use Rattle.hp_view.proofs.Adding.{adds_cell, adds_none}
+use Rattle.hp_view.proofs.Adding.{adds_cell}
 use Rattle.hp_view.specs.Mapped.{read}
 use Rattle.hp_attempt.specs.Holding.{IsReadAgain, IsFor}
 use Rattle.hp_attempt.proofs.Taking.{again_cell, where_ok, either_way}

@@ -1,8 +1,8 @@
 use Rattle.std.proofs.Common.{◌≡◌, refl, ap, subst, sym, []}
 use Rattle.hp_model.specs.Cells.{keys_read}
-use Rattle.hp_view.specs.Adding.{AddsReads}
+use Rattle.hp_view.specs.Adding.{AddsReads, adds_none}
 use Rattle.hp_view.specs.Seeing.{Seeing, written}
-use Rattle.hp_view.proofs.Adding.{adds_keys, adds_none}
+use Rattle.hp_view.proofs.Adding.{adds_keys}
 use Rattle.hp_view.specs.Mapped.{class_read}
 use Rattle.hp_attempt.specs.Holding.{IsReadAgain, IsFor}
 use Rattle.hp_attempt.proofs.Taking.{again_keys, again_objects, where_ok, either_way}

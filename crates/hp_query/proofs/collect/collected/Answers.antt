@@ -8,6 +8,7 @@ use Rattle.hp_query.proofs.collect.collected.Goals.{in-Some+in_ok-push, in_defau
 pub loop-key-init : goal.loop-key-init
 loop-key-init g c = record {
   on = c.keys.ensures.goes_on;
+  asks = c.keys.ensures.asks;
   collects = λ world rise allowed.
       subst (Collects c.args.class world c.deref-key-items.result.now) (sym c.new-objects.ensures)
       (collects_first c.args.class world c.deref-key-items.result.now rise (c.deref-key-items.ensures.value ∙ c.in_ok-keys.ensures.listed world rise allowed));
@@ -16,12 +17,18 @@ loop-key-init g c = record {
 pub returns-in_err-row-clause-goes_on : goal.returns-in_err-row-clause-goes_on
 returns-in_err-row-clause-goes_on g c = g.met.L.Look.goes_on_then c.args.look.now c.loop-key.look c.row.new.self c.loop-key.invariant.on c.row.ensures.goes_on
 
+pub returns-in_err-row-clause-asks : goal.returns-in_err-row-clause-asks
+returns-in_err-row-clause-asks g c = g.met.L.Look.asks_then c.args.class c.args.look.now c.loop-key.look c.row.new.self c.loop-key.invariant.asks c.row.ensures.asks
+
 pub returns-in_err-row-clause-narrows : goal.returns-in_err-row-clause-narrows
 returns-in_err-row-clause-narrows g c = λ world allowed.
     g.met.L.Look.narrows c.args.look.now c.loop-key.look c.loop-key.invariant.on world (g.met.L.Look.narrows c.loop-key.look c.row.new.self c.row.ensures.goes_on world allowed)
 
 pub returns-in_err-push-clause-goes_on : goal.returns-in_err-push-clause-goes_on
 returns-in_err-push-clause-goes_on g c = g.met.L.Look.goes_on_then c.args.look.now c.loop-key.look c.row.new.self c.loop-key.invariant.on c.row.ensures.goes_on
+
+pub returns-in_err-push-clause-asks : goal.returns-in_err-push-clause-asks
+returns-in_err-push-clause-asks g c = g.met.L.Look.asks_then c.args.class c.args.look.now c.loop-key.look c.row.new.self c.loop-key.invariant.asks c.row.ensures.asks
 
 pub returns-in_err-push-clause-narrows : goal.returns-in_err-push-clause-narrows
 returns-in_err-push-clause-narrows g c = λ world allowed.
@@ -33,6 +40,7 @@ loop-key-preserved g c =
     let fits : FitsSigned w64 (get_or keys c.loop-key.key-index (pos 0)) = search rules in
     record {
       on = g.met.L.Look.goes_on_then c.args.look.now c.loop-key.look c.row.new.self c.loop-key.invariant.on c.row.ensures.goes_on;
+      asks = g.met.L.Look.asks_then c.args.class c.args.look.now c.loop-key.look c.row.new.self c.loop-key.invariant.asks c.row.ensures.asks;
       collects = λ world rise allowed.
           let before = c.loop-key.invariant.collects world rise (g.met.L.Look.narrows c.loop-key.look c.row.new.self c.row.ensures.goes_on world allowed) in
           elim c.match-branch-3.branch [
@@ -47,11 +55,17 @@ loop-key-preserved g c =
 pub returns-in_err-new-clause-goes_on : goal.returns-in_err-new-clause-goes_on
 returns-in_err-new-clause-goes_on g c = c.loop-key.invariant.on
 
+pub returns-in_err-new-clause-asks : goal.returns-in_err-new-clause-asks
+returns-in_err-new-clause-asks g c = c.loop-key.invariant.asks
+
 pub returns-in_err-new-clause-narrows : goal.returns-in_err-new-clause-narrows
 returns-in_err-new-clause-narrows g c = g.met.L.Look.narrows c.args.look.now c.loop-key.look c.loop-key.invariant.on
 
 pub returns-clause-goes_on : goal.returns-clause-goes_on
 returns-clause-goes_on g c = c.loop-key.invariant.on
+
+pub returns-clause-asks : goal.returns-clause-asks
+returns-clause-asks g c = c.loop-key.invariant.asks
 
 pub returns-clause-narrows : goal.returns-clause-narrows
 returns-clause-narrows g c = g.met.L.Look.narrows c.args.look.now c.loop-key.look c.loop-key.invariant.on

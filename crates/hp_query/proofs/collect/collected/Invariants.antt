@@ -8,5 +8,6 @@ use Rattle.hp_query.proofs.collect.collected.Given as goal
 abbrev pub invariant-loop-key : goal.invariant-loop-key
 invariant-loop-key g l = record {
   on : g.L.Look.goes_on l.fn.look l.look;
+  asks : g.L.Look.asks l.class l.fn.look l.look;
   collects : (world : Objects) → ObjectsRise world → g.L.Look.allows l.look world → Collects l.class world (drop l.key-index l.key-items) l.objects;
 }
