@@ -118,12 +118,7 @@ impl<R> Engine<'_, R> {
     }
 
     /// The task of a statement `fire`, as a list.
-    pub(crate) fn fired(
-        &self,
-        view: &mut View,
-        rule: RuleNo,
-        depth: u8,
-    ) -> Result<Vec<Task>, Halt>
+    pub(crate) fn fired(&self, view: &mut View, rule: RuleNo, depth: u8) -> Result<Vec<Task>, Halt>
         ensures ready { IfOk result (λ ts. AreReady (library self.now.lib.now) depth (map task_of ts.items)) }
         ensures starts { (context : model.Context)
             → let work = model.run_statement (rules.fire rule) (level_at (library self.now.lib.now) depth) context in

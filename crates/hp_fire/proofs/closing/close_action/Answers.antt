@@ -1,9 +1,6 @@
-use Rattle.std.proofs.Common.{rules, ◌≡◌, sym, subst}
+use Rattle.std.proofs.Common.{rules, subst}
 use Rattle.hp_tree.specs.Mapped.{what}
 use Rattle.hp_model.specs.Firing.{run_action}
-use Rattle.hp_model.specs.Answers.{closing_action}
-use Rattle.hp_attempt.specs.Mapped.{firing}
-use Rattle.hp_fire.specs.Mapped.{course}
 use Rattle.hp_fire.specs.Runs.{RunsFiring}
 use Rattle.hp_fire.proofs.Steps.{closes_action}
 use Rattle.hp_fire.proofs.closing.close_action.Goals as goal

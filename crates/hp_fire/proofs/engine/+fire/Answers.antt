@@ -96,7 +96,7 @@ Engine::operated-returns g t c = λ work before made.
     let is : c.args.made ≡ Ok c.in_ok-prim.prim = search rules in
     let is_made : Made lib (level_at lib c.args.depth) work before c.args.view.now (primitive c.in_ok-prim.prim) = subst (Makes primitive lib (level_at lib c.args.depth) work before c.args.view.now) is made in
     let started = c.start-result.ensures (signal_in (level_at lib c.args.depth) (primitive c.in_ok-prim.prim)) c.args.view.now
-        (signal_starts c.args.self.now.lib.now c.args.depth (primitive c.in_ok-prim.prim) c.args.view.now c.trigger-tasks.new.view c.trigger-tasks.result c.trigger-tasks.ensures.triggers c.trigger-tasks.ensures.goes_on) in
+    (signal_starts c.args.self.now.lib.now c.args.depth (primitive c.in_ok-prim.prim) c.args.view.now c.trigger-tasks.new.view c.trigger-tasks.result c.trigger-tasks.ensures.triggers c.trigger-tasks.ensures.goes_on) in
     c.operated_course.ensures lib (level_at lib c.args.depth) work before c.args.view.now c.start-result.new.view is_made started
 
 pub Engine::operated-start-result-requires : goal.Engine::operated-start-result-requires

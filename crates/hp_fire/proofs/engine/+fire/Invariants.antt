@@ -1,5 +1,5 @@
 use denote.Param.Weighed.{most}
-use Rattle.std.proofs.Common.{◌+◌, ◌-◌, ◌*◌, max, drop, map}
+use Rattle.std.proofs.Common.{◌+◌, ◌*◌, max, drop, map}
 use Rattle.hp_model.specs.Transactions.{for_each}
 use Rattle.hp_model.specs.Firing.{level_at, run_statement, run_body, with_row}
 use Rattle.hp_value.specs.Mapped.{keyed_row}
