@@ -1,6 +1,6 @@
 //! The results of statements, signals and groups.
 
-ghost use Rattle.std.specs.Prelude.{◌≡◌, ◌++◌, IfOk, OnOk, [], length};
+ghost use Rattle.std.specs.Prelude.{◌≡◌, ◌++◌, IsTrue, IfOk, OnOk, [], length};
 ghost use Rattle.hp_model.specs.Answers.{ended, followed, is_done};
 ghost use Rattle.hp_model.specs.Tree.{no_items};
 ghost use Rattle.hp_tree.specs.Mapped.{before};
@@ -107,11 +107,19 @@ impl Course {
         }
     }
 
+    /// Whether the course has only an end.
+    fn is_blank(&self) -> bool
+        ensures { IsTrue result → (self.now.queued.items ≡ []) × (self.now.detached.items ≡ [])
+            × (self.now.items.items ≡ []) }
+    {
+        self.queued.is_empty() && self.detached.is_empty() && self.items.is_empty()
+    }
+
     /// Appends the course that followed this one. After an error a part may have been added.
     pub fn join(&mut self, more: Course) -> Result<(), AllocError>
         ensures { OnOk result (course self.new ≡ followed (course self.old) (course more)) }
     {
-        if self.queued.is_empty() && self.detached.is_empty() && self.items.is_empty() {
+        if self.is_blank() {
             *self = more;
             return Ok(());
         }

@@ -3,7 +3,7 @@
 ghost use Rattle.std.specs.Prelude.{◌≡◌, ◌≤◌, IfOk, map, [], ◌∷◌};
 ghost use Rattle.hp_model.specs.Rules.{rule_at};
 ghost use Rattle.hp_model.specs.Conditions.{satisfied};
-ghost use Rattle.hp_model.specs.Tree.{fire_node, with_later_action};
+ghost use Rattle.hp_model.specs.Tree.{condition_step, fire_node, with_later_action};
 ghost use Rattle.hp_model.specs.Firing.{action_task};
 ghost use Rattle.hp_model.specs.Answers.{handing_on};
 ghost use Rattle.hp_value.specs.Mapped as mapped;
@@ -66,10 +66,7 @@ impl<R> Engine<'_, R> {
         ensures { IfOk result (λ d. Decides (library self.now.lib.now) (task_of task.now) view.old view.new d) }
     {
         match &task.step {
-            Step::Condition => {
-                let verdict = self.condition_verdict(view, task)?;
-                self.follow(task, verdict)
-            }
+            Step::Condition => self.decide_condition(view, task),
             Step::Action(answers) => {
                 let what = What::Act {
                     rule: task.rule,
@@ -79,6 +76,15 @@ impl<R> Engine<'_, R> {
                 Ok(Decision::Acts(what, Found::Shared(answers)))
             }
         }
+    }
+
+    /// Begins the firing of a condition.
+    fn decide_condition(&self, view: &mut View, task: &Task) -> Result<Decision, AllocError>
+        requires { (task_of task.now).step ≡ condition_step }
+        ensures { IfOk result (λ d. Decides (library self.now.lib.now) (task_of task.now) view.old view.new d) }
+    {
+        let verdict = self.condition_verdict(view, task)?;
+        self.follow(task, verdict)
     }
 
     /// The verdict on the condition of a task's rule.

@@ -133,6 +133,17 @@ impl Pending {
         }
     }
 
+    // Stores what several workers have returned.
+    fn put_all(&mut self, found: Vec<Vec<Tried>>)
+        ensures { (library : ModelLibrary) → AreSound library self.old.attempts.items
+            → All (λ tries. AreSoundTries library tries.items) found.items
+            → AreSound library self.new.attempts.items }
+    {
+        for tries in found {
+            self.put_each(tries);
+        }
+    }
+
     /// Stores what the workers of a wave return when they end; nothing if memory ran out.
     pub(crate) fn put_returned(&mut self, found: Result<Vec<Vec<Tried>>, AllocError>)
         ensures { (library : ModelLibrary) → AreSound library self.old.attempts.items
@@ -142,9 +153,7 @@ impl Pending {
         let Ok(found) = found else {
             return;
         };
-        for tries in found {
-            self.put_each(tries);
-        }
+        self.put_all(found);
     }
 
     /// Stores the attempts that the workers of a wave have sent.

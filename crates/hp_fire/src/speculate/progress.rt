@@ -165,13 +165,18 @@ impl Progress {
         for _ in 0..polls {
             self.pending.receive_all(receivers);
             self.settle(alloc, view, wave.tasks, wave.stop_at_veto)?;
-            let is_missing = matches!(self.pending.attempts.front(), Some(None));
-            if !is_missing || !self.settled.goes_on(wave.tasks.len()) {
+            if !self.lacks_next(wave) {
                 break;
             }
             spin_loop();
         }
         Ok(())
+    }
+
+    // Whether the attempt at the next task is missing.
+    fn lacks_next(&self, wave: &Wave<'_>) -> bool {
+        let is_missing = matches!(self.pending.attempts.front(), Some(None));
+        is_missing && self.settled.goes_on(wave.tasks.len())
     }
 }
 

@@ -1,4 +1,4 @@
-use Rattle.std.proofs.Common.{rules, ◌≡◌, ◌∙◌, ◌++◌, [], ap, sym, map}
+use Rattle.std.proofs.Common.{◌∙◌, ◌++◌, ap, sym, map}
 use Rattle.hp_model.specs.Tree.{append}
 use Rattle.std.proofs.lemmas.List.{map-append}
 use Rattle.hp_rule.specs.Mapped.{task, detached}
@@ -15,14 +15,12 @@ returns c i = record {
   items = (ap items_in c.in_ok-append-3.ensures.items ∙ items-append c.args.self.now.items.items c.args.more.items.items) i;
 }
 
-pub returns-then-is_empty : goal.returns-then-is_empty
-returns-then-is_empty c i =
-    let queued : c.args.self.now.queued.items ≡ [] = search rules in
-    let apart : c.args.self.now.detached.items ≡ [] = search rules in
-    let items : c.args.self.now.items.items ≡ [] = search rules in
+pub returns-then-is_blank : goal.returns-then-is_blank
+returns-then-is_blank c i =
+    let blank = c.is_blank.ensures c.if-is_blank.true in
     record {
       end = end c.args.more.end;
-      queued = ap (λ ts. map task ts ++ map task c.args.more.queued.items) (sym queued) i;
-      detached = ap (λ ds. map detached ds ++ map detached c.args.more.detached.items) (sym apart) i;
-      items = ap (λ is. append (items_in is) (items_in c.args.more.items.items)) (sym items) i;
+      queued = ap (λ ts. map task ts ++ map task c.args.more.queued.items) (sym blank.0) i;
+      detached = ap (λ ds. map detached ds ++ map detached c.args.more.detached.items) (sym blank.1) i;
+      items = ap (λ is. append (items_in is) (items_in c.args.more.items.items)) (sym blank.2) i;
     }

@@ -4,7 +4,7 @@ use Rattle.std.specs.Global.{Global}
 use Rattle.std.proofs.lemmas.List.Elements.{All-head, All-tail}
 use Rattle.hp_fire.specs.declared.speculate.pending.Tried.{Tried}
 use Rattle.hp_fire.specs.Groups.{AreSoundTries}
-use Rattle.hp_fire.proofs.speculate.pending.Pending.put_returned.Goals as goal
+use Rattle.hp_fire.proofs.speculate.pending.Pending.put_all.Goals as goal
 
 pub loop-tries-preserved : goal.loop-tries-preserved
 loop-tries-preserved c = λ library all found.
