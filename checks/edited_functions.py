@@ -4,6 +4,7 @@ Each function is proved against the contracts of those that it calls, whatever t
 of different functions can be tried together: an edit is refused if the prover complains of its own function.
 """
 
+import collections
 import os
 import re
 
@@ -20,15 +21,18 @@ class Body:
         self.first, self.last = lines
         # The changed lines, by their numbers, and the words that they hold and did not hold before.
         self.changed, self.words = {}, set()
-        # Where the proofs of the file's functions stand, each in a folder of its name.
+        # Where the proofs of the file's functions stand, each in a folder of its name. A method's proof may stand below
+        # the file that defines its type, so its name alone counts if no other function of the crate has it.
         self.proofs = "proofs" + re.sub(r"(/lib|/main)?\.rt$", "", file.removeprefix("src")) + "/"
+        self.is_unique = False
 
     def has(self, file, line):
         """Whether a place that the prover names belongs to the function: a line of it, or a file of its proof."""
         if file == self.file:
             return self.first <= line <= self.last
         folder, _, _ = file.rpartition("/")
-        return folder.startswith(self.proofs) and os.path.basename(folder) == self.name
+        is_near = folder.startswith("proofs/" if self.is_unique else self.proofs)
+        return is_near and os.path.basename(folder) == self.name
 
     def is_apart_from(self, other):
         """Whether both can be tried together: it can be told of which function a complaint is, and neither edit calls
@@ -48,6 +52,12 @@ def functions(text):
             ends = (at for at in range(number, len(lines) + 1) if lines[at - 1] == head[1] + "}")
             found.append((head[2], (number, next(ends, number))))
     return found
+
+
+def unique_names(texts):
+    """The names that only one function of these texts has."""
+    numbers = collections.Counter(name for text in texts for name, _ in functions(text))
+    return {name for name, number in numbers.items() if number == 1}
 
 
 def words(line):

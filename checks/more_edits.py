@@ -34,7 +34,7 @@ import time
 TOP = os.path.dirname(os.path.dirname(os.path.abspath(__file__)))
 sys.dont_write_bytecode = True
 
-from edited_functions import body_of, texts_with, together  # noqa: E402 (no bytecode is left beside it)
+from edited_functions import body_of, texts_with, together, unique_names  # noqa: E402 (no bytecode is left beside it)
 
 # The folder of the gate's edits, and that of the others.
 FIRST = "must-fail"
@@ -442,6 +442,10 @@ class Room:
     def text(self, path):
         return text_of(os.path.join(self.at, path))
 
+    def sources(self):
+        """The paths of the crate's sources."""
+        return [f"src/{path}" for path in files_in(os.path.join(self.at, "src")) if path.endswith(".rt")]
+
     def write(self, texts):
         for path, text in texts.items():
             with open(os.path.join(self.at, path), "w", encoding="utf-8") as file:
@@ -481,6 +485,7 @@ class Tries:
         self.here, self.count = here, count
         self.crate = os.path.basename(here.at)
         self.results = Results(self.crate)
+        self.unique = unique_names(map(here.text, here.sources()))
         # The names of the edits that came to each kind.
         self.names = {}
 
@@ -518,7 +523,10 @@ class Tries:
     def body(self, path):
         """The edit as a change of one function, if it is one."""
         texts, _ = edited(self.crate, path)
-        return body_of(path, {file: self.here.text(file) for file in texts}, texts) if texts else None
+        body = body_of(path, {file: self.here.text(file) for file in texts}, texts) if texts else None
+        if body:
+            body.is_unique = body.name in self.unique
+        return body
 
 
 def try_edits(here, paths, count):
