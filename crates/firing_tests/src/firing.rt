@@ -44,10 +44,10 @@ fn run(
 }
 
 #[test]
-fn an_elders_effect_is_seen_by_a_younger(rt: HostRuntime) -> Result<(), Fail> {
+fn a_predecessors_effect_is_seen_by_a_later_sibling(rt: HostRuntime) -> Result<(), Fail> {
     let alloc = rt.alloc();
-    for (is_elder, made) in [(true, Some(30)), (false, None)] {
-        let seen = run(&rt, alloc, enriching(alloc, is_elder), going(alloc), 0)?;
+    for (is_first, made) in [(true, Some(30)), (false, None)] {
+        let seen = run(&rt, alloc, enriching(alloc, is_first), going(alloc), 0)?;
         assert_eq!(rt; seen.end, End::Done);
         assert_eq!(rt; seen.balances, (Some(10), Some(200), made, None, None));
     }
