@@ -254,7 +254,7 @@ fn lists(alloc: Global) -> Result<Rule, AllocError> {
     on_rich(alloc, "lists", for_each(alloc)?)
 }
 
-fn listing(alloc: Global) -> Result<Library, CheckError> {
+fn library_that_lists(alloc: Global) -> Result<Library, CheckError> {
     let lists = lists(alloc);
     library(alloc, lists, idles(alloc, "idle", Coupling::Deferred))
 }
@@ -262,7 +262,7 @@ fn listing(alloc: Global) -> Result<Library, CheckError> {
 #[test]
 fn for_binds_the_kept_rows(rt: HostRuntime) -> Result<(), Fail> {
     let alloc = rt.alloc();
-    let seen = run(&rt, alloc, listing(alloc), setting(alloc, 2, 25), 0)?;
+    let seen = run(&rt, alloc, library_that_lists(alloc), setting(alloc, 2, 25), 0)?;
     assert_eq!(rt; seen.balances, (Some(10), Some(0), None, None, None));
     assert_eq!(rt; seen.inside, (Some(25), None, None));
     Ok(())
@@ -312,7 +312,7 @@ fn fire(
 #[test]
 fn an_unsatisfied_condition_has_no_action(rt: HostRuntime) -> Result<(), Fail> {
     let alloc = rt.alloc();
-    let (end, node, balances) = fire(&rt, alloc, listing(alloc))?;
+    let (end, node, balances) = fire(&rt, alloc, library_that_lists(alloc))?;
     assert_eq!(rt; end, None);
     assert_eq!(rt; balances, (Some(10), Some(20), None, None, None));
     let what = What::Fire {
