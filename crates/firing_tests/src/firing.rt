@@ -262,7 +262,13 @@ fn library_that_lists(alloc: Global) -> Result<Library, CheckError> {
 #[test]
 fn for_binds_the_kept_rows(rt: HostRuntime) -> Result<(), Fail> {
     let alloc = rt.alloc();
-    let seen = run(&rt, alloc, library_that_lists(alloc), setting(alloc, 2, 25), 0)?;
+    let seen = run(
+        &rt,
+        alloc,
+        library_that_lists(alloc),
+        setting(alloc, 2, 25),
+        0,
+    )?;
     assert_eq!(rt; seen.balances, (Some(10), Some(0), None, None, None));
     assert_eq!(rt; seen.inside, (Some(25), None, None));
     Ok(())
