@@ -72,7 +72,7 @@ step_more n None are = are
 step_more n (Some next) are = record { objects = are.objects; rules = are.rules }
 
 pub steps_written : {v w z : Seeing} {steps : Entries} → OnlyReads v w → AreSteps (changes steps) → TakesIn w z steps → OnlySteps v z
-steps_written {v} {w} only are takes = record {
+steps_written {v} {w} {z} {steps} only are takes = record {
   objects = λ class key. at (object_cell class key) (are.objects class key);
   rules = λ n. at (rule_cell n) (are.rules n);
 }
@@ -128,9 +128,9 @@ ShowsStatus w n s = (base : Cells) → Holds base w.reads → status_at (over ba
 
 module _ (library : Library) (p : Primitive) (n : ℕ) (v w : Seeing) (s : Status) (only : OnlyReads v w) (shows : ShowsStatus w n s) where
   -- with the writes before the read of the status
-  before_read : {depth : ℕ} {ns : List ℕ} {before steps : Changes} {tasks : List Task} → Heard (level_at library depth) p ns v.reads before (stacked (written v) steps) tasks
+  before_read : {depth : ℕ} {ns : List ℕ} {before : Changes} (steps : Changes) {tasks : List Task} → Heard (level_at library depth) p ns v.reads before (stacked (written v) steps) tasks
       → Heard (level_at library depth) p ns v.reads before (stacked (written w) steps) tasks
-  before_read {depth} {ns} {before} {steps} {tasks} so_far = subst (λ es. Heard (level_at library depth) p ns v.reads before (stacked (changes es) steps) tasks) (sym only.writes) so_far
+  before_read {depth} {ns} {before} steps {tasks} so_far = subst (λ es. Heard (level_at library depth) p ns v.reads before (stacked (changes es) steps) tasks) (sym only.writes) so_far
 
   -- and with the steps over them
   shows_beside : (steps : Changes) → LeaveOut n steps → (base : Cells) → Holds base w.reads → status_at (over base (stacked (written w) steps) (rule_cell n)) ≡ s
@@ -140,13 +140,13 @@ module _ (library : Library) (p : Primitive) (n : ℕ) (v w : Seeing) (s : Statu
   tells_idle idle = record {
     extends = λ depth ns before steps tasks apart out so_far.
         subst (Heard (level_at library depth) p (ns ++ n ∷ []) w.reads before (stacked (written w) steps)) (sym (append-nil tasks))
-        (heard_idle (level_at library depth) p n s idle (grows_only only) (before_read so_far) (shows_beside steps out));
+        (heard_idle (level_at library depth) p n s idle (grows_only only) (before_read steps so_far) (shows_beside steps out));
   }
 
   pub tells_nowhere : s ≡ enabled → slice_get library.rules n ≡ None → Notified library p n v w None None
   tells_nowhere is none = record {
     extends = λ depth ns before steps tasks apart out so_far.
-        heard_nowhere (level_at library depth) p n (past_end library.rules n none) (grows_only only) (before_read so_far) (λ base held. shows_beside steps out base held ∙ is);
+        heard_nowhere (level_at library depth) p n (past_end library.rules n none) (grows_only only) (before_read steps so_far) (λ base held. shows_beside steps out base held ∙ is);
   }
 
   task_then : (rule : Rule) (d depth : ℕ) (o : Option Occurrence) (task : Option Task) → task ≡ option_map (condition_task n rule.event_coupling d) o
@@ -162,7 +162,7 @@ module _ (library : Library) (p : Primitive) (n : ℕ) (v w : Seeing) (s : Statu
   tells_enabled z d o task next is made notified = record {
     extends = λ depth ns before steps tasks apart out so_far.
         subst (λ t. Heard (level_at library depth) p (ns ++ n ∷ []) z.reads before (stacked (written z) (with_step steps n next)) (tasks ++ option_to_list t)) (sym (task_then (rule_at library n) d depth o task made))
-        (notified.extends depth ns v.reads before steps tasks apart out (grows_only only) (λ base held. shows base held ∙ is) (before_read so_far));
+        (notified.extends depth ns v.reads before steps tasks apart out (grows_only only) (λ base held. shows base held ∙ is) (before_read steps so_far));
   }
 
 -- ---- all rules
