@@ -113,10 +113,16 @@ fn notify(
 {
     let status = find_status(view, number)?;
     if !is_enabled(status) {
-        return Ok(Heard { task: None, next: None });
+        return Ok(Heard {
+            task: None,
+            next: None,
+        });
     }
     let Some(rule) = lib.rule(number) else {
-        return Ok(Heard { task: None, next: None });
+        return Ok(Heard {
+            task: None,
+            next: None,
+        });
     };
     let (made, next) = notify_enabled(alloc, view, number, rule, notice.prim, shared)?;
     let Some(occurrence) = made else {

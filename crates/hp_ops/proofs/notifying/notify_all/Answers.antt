@@ -1,4 +1,4 @@
-use Rattle.std.proofs.Common.{arith, ◌≡◌, refl, ap, sym, ◌∙◌, subst, ◌+◌, ◌≤◌, [], ◌++◌, append-nil, map, length, get_or, true}
+use Rattle.std.proofs.Common.{arith, ◌≡◌, refl, ap, sym, ◌∙◌, subst, ◌+◌, ◌≤◌, [], ◌++◌, map, length, get_or, true}
 use Rattle.std.specs.Prelude.{option_map, option_to_list}
 use Rattle.hp_store.specs.Changes.{changes}
 use Rattle.hp_store.proofs.Based.{on_err}
@@ -7,7 +7,6 @@ use Rattle.hp_value.specs.Mapped.{primitive}
 use Rattle.hp_rule.specs.Mapped.{library, task as task_of}
 use Rattle.hp_rule.specs.Mentions.{is_mentioned}
 use Rattle.hp_view.proofs.Views.{GoesOn-same, GoesOn-then}
-use Rattle.hp_ops.specs.Notified.{with_step}
 use Rattle.hp_ops.specs.Stepped.{entries}
 use Rattle.hp_ops.proofs.Notices.{HaveHeard, mentioned_among, none_heard, told_listed, all_listed, depth_more, tasks_more, only_none, only_then, reads_alone, reads_then_same, steps_written}
 use Rattle.hp_ops.proofs.notifying.notify_all.Goals as goal
