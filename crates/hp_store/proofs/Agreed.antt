@@ -21,7 +21,7 @@ use Rattle.hp_model.specs.Cells.{object_cell, row_value, Cells, belongs_in, AreP
 use Rattle.hp_value.specs.declared.row.KeyedRow.{KeyedRow as Object}
 use Rattle.hp_value.specs.Mapped.{keyed_row, keys_of}
 use Rattle.hp_value.specs.Same.{row_decides}
-use Rattle.hp_store.specs.Parts.{Covers, is_among, says, is_told, holds_row, is_shown}
+use Rattle.hp_store.specs.Parts.{Covers, is_among, says, agrees_at, holds_row, is_shown}
 use Rattle.hp_store.proofs.Cells.{int_at}
 use Rattle.hp_store.proofs.Based.{no_keys_rise}
 
@@ -75,11 +75,11 @@ all_pass test [] each = refl
 all_pass test (x ∷ xs) each = ap₂ (λ a b. a && b) (each x) (all_pass test xs each)
 
 -- keys that all pass, and cover the class
-pub tells_covers : (test : ℤ → Bool) (p : ClassPart) (class : ℕ) (cells : Cells) (keys : List ℤ) (r : Bool) → r ≡ list_all test keys → Covers (is_among keys) p class cells → IsTrue r → Covers test p class cells
-tells_covers test p class cells keys r is covers holds key fails = covers key (not_among test keys key (sym is ∙ holds) fails)
+pub agree_covers : (test : ℤ → Bool) (p : ClassPart) (class : ℕ) (cells : Cells) (keys : List ℤ) (r : Bool) → r ≡ list_all test keys → Covers (is_among keys) p class cells → IsTrue r → Covers test p class cells
+agree_covers test p class cells keys r is covers holds key fails = covers key (not_among test keys key (sym is ∙ holds) fails)
 
-pub tells_always : (test : ℤ → Bool) (keys : List ℤ) (r : Bool) → r ≡ false → r ≡ list_all test keys → ((key : ℤ) → test key ≡ true) → IsTrue false
-tells_always test keys r fails is each = sym fails ∙ is ∙ all_pass test keys each
+pub agree_always : (test : ℤ → Bool) (keys : List ℤ) (r : Bool) → r ≡ false → r ≡ list_all test keys → ((key : ℤ) → test key ≡ true) → IsTrue false
+agree_always test keys r fails is each = sym fails ∙ is ∙ all_pass test keys each
 
 -- ---- the objects of a part
 
@@ -134,19 +134,19 @@ module _ (cells : Cells) (p : ClassPart) (class : ℕ) where
           ap (λ k. belongs_in p k (cells (object_cell class k))) ((Decides-int_eq key o.key).0 is) ∙ ap (belongs_in p o.key) here.0 ∙ here.1
       by later false is h = later (All-tail (IsShown cells p class) o os shown) h
 
-  pub part_told : (objects : List KeyedRow) → IsStrictlySortedBy int_cmp (keys_of objects) → All (IsShown cells p class) objects → Covers (is_told cells p class (keys_of objects)) p class cells → ArePart cells class p objects
-  part_told objects rise shown covers = record { rise = rise; has = λ key. has key (is_told cells p class (keys_of objects) key) refl; rows = λ k d low. (shown k d low).0 }
+  pub part_agreed : (objects : List KeyedRow) → IsStrictlySortedBy int_cmp (keys_of objects) → All (IsShown cells p class) objects → Covers (agrees_at cells p class (keys_of objects)) p class cells → ArePart cells class p objects
+  part_agreed objects rise shown covers = record { rise = rise; has = λ key. has key (agrees_at cells p class (keys_of objects) key) refl; rows = λ k d low. (shown k d low).0 }
     where
       by : (key : ℤ) (b : Bool) → is_among (keys_of objects) key ≡ b → belongs_in p key (cells (object_cell class key)) ≡ Ok false → belongs_in p key (cells (object_cell class key)) ≡ Ok (is_among (keys_of objects) key)
       by key true is none = shown_at objects key shown is ∙ ap Ok (sym is)
       by key false is none = none ∙ ap Ok (sym is)
 
-      has : (key : ℤ) (t : Bool) → is_told cells p class (keys_of objects) key ≡ t → belongs_in p key (cells (object_cell class key)) ≡ Ok (is_among (keys_of objects) key)
+      has : (key : ℤ) (t : Bool) → agrees_at cells p class (keys_of objects) key ≡ t → belongs_in p key (cells (object_cell class key)) ≡ Ok (is_among (keys_of objects) key)
       has key true is = said (is_among (keys_of objects) key) (belongs_in p key (cells (object_cell class key))) is
       has key false is = by key (is_among (keys_of objects) key) refl (covers key is)
 
-  pub told_of_part : (objects : List KeyedRow) → ArePart cells class p objects → (key : ℤ) → is_told cells p class (keys_of objects) key ≡ true
-  told_of_part objects are key = saying (is_among (keys_of objects) key) (belongs_in p key (cells (object_cell class key))) (are.has key)
+  pub agreed_of_part : (objects : List KeyedRow) → ArePart cells class p objects → (key : ℤ) → agrees_at cells p class (keys_of objects) key ≡ true
+  agreed_of_part objects are key = saying (is_among (keys_of objects) key) (belongs_in p key (cells (object_cell class key))) (are.has key)
 
   among_at : (objects : List KeyedRow) (k : ℕ) (d : KeyedRow) → k < length objects → is_among (keys_of objects) (get_or objects k d).key ≡ true
   among_at [] k d low = absurd (omega arith)
@@ -169,15 +169,15 @@ module _ (cells : Cells) (p : ClassPart) (class : ℕ) (objects : List Object) w
   Rows = map keyed_row objects
 
   abbrev Test : ℤ → Bool
-  Test = is_told cells p class (keys_of Rows)
+  Test = agrees_at cells p class (keys_of Rows)
 
-  pub told : (b : Bool) → IsStrictlySortedBy int_cmp (keys_of Rows) → true ≡ list_all (λ o. is_shown cells p class (keyed_row o)) objects → (IsTrue b → Covers Test p class cells)
+  pub agreed : (b : Bool) → IsStrictlySortedBy int_cmp (keys_of Rows) → true ≡ list_all (λ o. is_shown cells p class (keyed_row o)) objects → (IsTrue b → Covers Test p class cells)
       → (((key : ℤ) → Test key ≡ true) → IsTrue b) → (IsTrue b → ArePart cells class p Rows) × (ArePart cells class p Rows → IsTrue b)
-  told b rise shown covers always =
-      (λ t. part_told cells p class Rows rise (all_shown cells p class objects (sym shown)) (covers t), λ are. always (told_of_part cells p class Rows are))
+  agreed b rise shown covers always =
+      (λ t. part_agreed cells p class Rows rise (all_shown cells p class objects (sym shown)) (covers t), λ are. always (agreed_of_part cells p class Rows are))
 
-  pub told_missing : (b : Bool) → b ≡ false → b ≡ list_all (λ o. is_shown cells p class (keyed_row o)) objects → (IsTrue b → ArePart cells class p Rows) × (ArePart cells class p Rows → IsTrue b)
-  told_missing b fails shown =
+  pub agreed_missing : (b : Bool) → b ≡ false → b ≡ list_all (λ o. is_shown cells p class (keyed_row o)) objects → (IsTrue b → ArePart cells class p Rows) × (ArePart cells class p Rows → IsTrue b)
+  agreed_missing b fails shown =
       (λ t. absurd (cc (sym t ∙ fails)), λ are. shown ∙ shown_all cells p class objects (shown_of_part cells p class Rows are))
 
 -- ---- where a search for a key ends

@@ -8,7 +8,7 @@ ghost use Rattle.hp_script.specs.Timed.{timed_script_of};
 ghost use Rattle.hp_lines.specs.Lines.{begun};
 ghost use Rattle.hp_lines.specs.Live as L;
 ghost use Rattle.hp_live.specs.Ends.{status_at};
-ghost use Rattle.hp_live.specs.Kept.{StandsFor, IsStage, IsDesk, Answers};
+ghost use Rattle.hp_live.specs.Kept.{StandsFor, IsStage, IsServer, Answers};
 
 use crate::base::RuleBase;
 use crate::options::Options;
@@ -34,7 +34,7 @@ pub(crate) enum Stage {
 /// Collects the bytes of lines and answers each line. It drops the reports of a line's units after the answer is
 /// written.
 #[derive(Drop)]
-pub struct Desk {
+pub struct Server {
     pub(crate) options: Options,
     pub(crate) stage: Stage,
     pub(crate) line: Vec<u8>,
@@ -116,12 +116,12 @@ fn answer_at<T: Threads + Sync>(
     }
 }
 
-impl Desk {
-    /// A desk before the first line.
-    pub fn new(alloc: Global, options: Options) -> Desk
-        ensures { IsDesk result (L.new_desk options.tree) }
+impl Server {
+    /// A server before the first line.
+    pub fn new(alloc: Global, options: Options) -> Server
+        ensures { IsServer result (L.new_server options.tree) }
     {
-        Desk {
+        Server {
             options,
             stage: Stage::Unopened,
             line: Vec::new(alloc),
@@ -141,8 +141,8 @@ impl Desk {
     /// Answers the collected line, and clears it for the next. After an error some of what the line asks for may have
     /// happened.
     fn answer<T: Threads + Sync>(&mut self, rt: &T, alloc: Global) -> Result<String, AllocError>
-        ensures text { IfOk result (λ text. (d : L.Desk) → IsDesk self.old d → string_bytes text ≡ L.reply d) }
-        ensures next { OnOk result ((d : L.Desk) → IsDesk self.old d → IsDesk self.new (L.answered d)) }
+        ensures text { IfOk result (λ text. (s : L.Server) → IsServer self.old s → string_bytes text ≡ L.reply s) }
+        ensures next { OnOk result ((s : L.Server) → IsServer self.old s → IsServer self.new (L.answered s)) }
     {
         let text = answer_at(rt, alloc, &mut self.stage, &self.line, self.options)?;
         self.line.clear();
@@ -157,11 +157,11 @@ impl Desk {
         writer: &mut W,
     ) -> Result<(), Fault>
         requires { W.has_failed writer.old ≡ false }
-        ensures said { OnOk result ((d : L.Desk) →
-            IsDesk self.old d → Appends (W.contents writer.old) (W.contents writer.new) (L.reply d)) }
-        ensures next { OnOk result ((d : L.Desk) → IsDesk self.old d → IsDesk self.new (L.answered d)) }
-        ensures begins { (d : L.Desk) →
-            IsDesk self.old d → Begins (W.contents writer.old) (W.contents writer.new) (L.reply d) }
+        ensures output { OnOk result ((s : L.Server) →
+            IsServer self.old s → Appends (W.contents writer.old) (W.contents writer.new) (L.reply s)) }
+        ensures next { OnOk result ((s : L.Server) → IsServer self.old s → IsServer self.new (L.answered s)) }
+        ensures begins { (s : L.Server) →
+            IsServer self.old s → Begins (W.contents writer.old) (W.contents writer.new) (L.reply s) }
         ensures write { result ≡ Err Fault.Write ↔ (W.has_failed writer.new ≡ true) }
         ensures whole { OnOk result (W.has_failed writer.new ≡ false) }
         ensures read { result ≢ Err Fault.Read }
@@ -172,7 +172,7 @@ impl Desk {
     }
 
     /// Takes one more byte.
-    fn tell<T: Threads + Sync, W: Sink>(
+    fn feed_byte<T: Threads + Sync, W: Sink>(
         &mut self,
         rt: &T,
         alloc: Global,
@@ -180,11 +180,11 @@ impl Desk {
         byte: u8,
     ) -> Result<(), Fault>
         requires { W.has_failed writer.old ≡ false }
-        ensures said { OnOk result ((d : L.Desk) →
-            IsDesk self.old d → Appends (W.contents writer.old) (W.contents writer.new) (L.told d byte)) }
-        ensures next { OnOk result ((d : L.Desk) → IsDesk self.old d → IsDesk self.new (L.next d byte)) }
-        ensures begins { (d : L.Desk) →
-            IsDesk self.old d → Begins (W.contents writer.old) (W.contents writer.new) (L.told d byte) }
+        ensures output { OnOk result ((s : L.Server) →
+            IsServer self.old s → Appends (W.contents writer.old) (W.contents writer.new) (L.byte_output s byte)) }
+        ensures next { OnOk result ((s : L.Server) → IsServer self.old s → IsServer self.new (L.next s byte)) }
+        ensures begins { (s : L.Server) →
+            IsServer self.old s → Begins (W.contents writer.old) (W.contents writer.new) (L.byte_output s byte) }
         ensures write { result ≡ Err Fault.Write ↔ (W.has_failed writer.new ≡ true) }
         ensures whole { OnOk result (W.has_failed writer.new ≡ false) }
         ensures read { result ≢ Err Fault.Read }
@@ -201,7 +201,7 @@ impl Desk {
     /// Takes a piece of the input. When it returns `Ok`, all lines that are complete with the piece have been answered.
     ///
     /// The writer must not have failed before. After an error what was written is a prefix of these answers, and the
-    /// desk is of no further use: some of what a line asks for may have happened without an answer.
+    /// server can't be used further: some of what a line asks for may have happened without an answer.
     pub fn feed<T: Threads + Sync, W: Sink>(
         &mut self,
         rt: &T,
@@ -210,17 +210,17 @@ impl Desk {
         piece: &[u8],
     ) -> Result<(), Fault>
         requires { W.has_failed writer.old ≡ false }
-        ensures said { OnOk result ((d : L.Desk) →
-            IsDesk self.old d → Appends (W.contents writer.old) (W.contents writer.new) (L.said d piece.now)) }
-        ensures next { OnOk result ((d : L.Desk) → IsDesk self.old d → IsDesk self.new (L.after d piece.now)) }
-        ensures begins { (d : L.Desk) →
-            IsDesk self.old d → Begins (W.contents writer.old) (W.contents writer.new) (L.said d piece.now) }
+        ensures output { OnOk result ((s : L.Server) → IsServer self.old s →
+            Appends (W.contents writer.old) (W.contents writer.new) (L.piece_output s piece.now)) }
+        ensures next { OnOk result ((s : L.Server) → IsServer self.old s → IsServer self.new (L.after s piece.now)) }
+        ensures begins { (s : L.Server) →
+            IsServer self.old s → Begins (W.contents writer.old) (W.contents writer.new) (L.piece_output s piece.now) }
         ensures write { result ≡ Err Fault.Write ↔ (W.has_failed writer.new ≡ true) }
         ensures whole { OnOk result (W.has_failed writer.new ≡ false) }
         ensures read { result ≢ Err Fault.Read }
     {
         for byte in piece {
-            self.tell(rt, alloc, writer, *byte)?;
+            self.feed_byte(rt, alloc, writer, *byte)?;
         }
         Ok(())
     }
@@ -235,12 +235,12 @@ impl Desk {
         writer: &mut W,
     ) -> Result<(), Fault>
         requires { W.has_failed writer.old ≡ false }
-        ensures said { OnOk result ((d : L.Desk) →
-            IsDesk self.old d → Appends (W.contents writer.old) (W.contents writer.new) (L.said_at_end d)) }
-        ensures stage { OnOk result ((d : L.Desk) →
-            IsDesk self.old d → IsStage self.new.stage (L.stage_after d.with_tree d.stage (begun d.line))) }
-        ensures begins { (d : L.Desk) →
-            IsDesk self.old d → Begins (W.contents writer.old) (W.contents writer.new) (L.said_at_end d) }
+        ensures output { OnOk result ((s : L.Server) →
+            IsServer self.old s → Appends (W.contents writer.old) (W.contents writer.new) (L.end_output s)) }
+        ensures stage { OnOk result ((s : L.Server) →
+            IsServer self.old s → IsStage self.new.stage (L.stage_after s.with_tree s.stage (begun s.line))) }
+        ensures begins { (s : L.Server) →
+            IsServer self.old s → Begins (W.contents writer.old) (W.contents writer.new) (L.end_output s) }
         ensures write { result ≡ Err Fault.Write ↔ (W.has_failed writer.new ≡ true) }
         ensures whole { OnOk result (W.has_failed writer.new ≡ false) }
         ensures read { result ≢ Err Fault.Read }

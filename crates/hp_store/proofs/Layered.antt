@@ -76,8 +76,8 @@ changes_in-append : (below above : List Entries) (q : Cell) → changes_in (belo
 changes_in-append [] above q = sym (or_none (changes_in above q))
 changes_in-append (l ∷ below) above q = ap (λ o. option_or o (changes l q)) (changes_in-append below above q) ∙ or_assoc (changes_in above q) (changes_in below q) (changes l q)
 
-pub piled_over : (layers below above pile : List Entries) (layer one : Entries) → layers ≡ below ++ above → pile ≡ below ++ one ∷ [] → ((q : Cell) → changes one q ≡ option_or (changes layer q) (changes_in above q))
+pub folded_over : (layers below above pile : List Entries) (layer one : Entries) → layers ≡ below ++ above → pile ≡ below ++ one ∷ [] → ((q : Cell) → changes one q ≡ option_or (changes layer q) (changes_in above q))
     → (q : Cell) → changes_in pile q ≡ option_or (changes layer q) (changes_in layers q)
-piled_over layers below above pile layer one split is step q =
+folded_over layers below above pile layer one split is step q =
     ap (λ ls. changes_in ls q) is ∙ changes_in-push below one q ∙ ap (λ o. option_or o (changes_in below q)) (step q) ∙ or_assoc (changes layer q) (changes_in above q) (changes_in below q)
     ∙ ap (option_or (changes layer q)) (sym (changes_in-append below above q) ∙ ap (λ ls. changes_in ls q) (sym split))

@@ -2,9 +2,9 @@ use Rattle.std.proofs.Common.{subst}
 use Rattle.std.proofs.lemmas.Result.{IfOk-weaker}
 use Rattle.hp_lines.specs.Live as L
 use Rattle.hp_live.specs.Kept.{IsStage, Answers}
-use Rattle.hp_live.specs.declared.desk.Stage.TheVariants.{Up}
+use Rattle.hp_live.specs.declared.server.Stage.TheVariants.{Up}
 use Rattle.hp_live.proofs.Asked.{stands_up}
-use Rattle.hp_live.proofs.desk.answer_at.Goals as goal
+use Rattle.hp_live.proofs.server.answer_at.Goals as goal
 
 pub returns-in-Up : goal.returns-in-Up
 returns-in-Up g c =

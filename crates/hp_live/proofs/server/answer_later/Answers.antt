@@ -5,7 +5,7 @@ use Rattle.hp_script.specs.Mapped.{schedule, refusal}
 use Rattle.hp_script.specs.Requests as R
 use Rattle.hp_script.specs.Requests.{request_of}
 use Rattle.hp_live.proofs.Asked.{both_ok, answers_item, answers_state, answers_refusal}
-use Rattle.hp_live.proofs.desk.answer_later.Goals as goal
+use Rattle.hp_live.proofs.server.answer_later.Goals as goal
 
 pub returns-in-Ok-Item : goal.returns-in-Ok-Item
 returns-in-Ok-Item g c =

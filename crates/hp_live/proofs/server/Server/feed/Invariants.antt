@@ -1,6 +1,6 @@
 use Rattle.std.proofs.Common.{take}
-use Rattle.hp_live.proofs.Told.{Fed}
-use Rattle.hp_live.proofs.desk.Desk.feed.Given as goal
+use Rattle.hp_live.proofs.Fed.{Fed}
+use Rattle.hp_live.proofs.server.Server.feed.Given as goal
 
 abbrev pub invariant-loop-byte : goal.invariant-loop-byte
 invariant-loop-byte g l =

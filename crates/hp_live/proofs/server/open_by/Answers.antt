@@ -1,6 +1,6 @@
 use Rattle.hp_script.specs.Mapped.{timed_script}
 use Rattle.hp_live.proofs.Asked.{answers_script}
-use Rattle.hp_live.proofs.desk.open_by.Goals as goal
+use Rattle.hp_live.proofs.server.open_by.Goals as goal
 
 pub returns : goal.returns
 returns g c line read =

@@ -2,7 +2,7 @@ use Rattle.std.proofs.Common.{◌≡◌, Ok}
 use Rattle.std.proofs.lemmas.Result.{IfOk-weaker}
 use Rattle.hp_script.specs.Mapped.{timed_script}
 use Rattle.hp_script.specs.Timed.{timed_script_of}
-use Rattle.hp_live.proofs.desk.open.Goals as goal
+use Rattle.hp_live.proofs.server.open.Goals as goal
 
 pub returns-in-Ok : goal.returns-in-Ok
 returns-in-Ok g c =

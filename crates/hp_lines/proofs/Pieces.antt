@@ -1,4 +1,4 @@
--- What is said of bytes that come in pieces, and that it is what is answered to their lines.
+-- What is written for bytes that come in pieces: the answers to their lines.
 use Rattle.std.proofs.Common.{◌≡◌, ◌==◌, ℕ, suc, ◌+◌, ◌<◌, ◌≤◌, nat_lt, Bool, true, false, cond, List, [], ◌∷◌, ◌++◌, length, take, slice_index_or, Option, inl, inr, refl, sym, ap, subst, ◌∙◌, append_assoc, append-nil, arith}
 use Rattle.std.specs.Io.KnownBytes.{Appends, Consumes}
 use Rattle.std.proofs.Math.Seq.{take-suc}
@@ -7,37 +7,37 @@ use Rattle.std.proofs.lemmas.List.{take_all, take-append-le, length-take-le, len
 use Rattle.std.proofs.KnownBytes.{Appends-nil, Appends-trans, Consumes-nil, Consumes-trans}
 use Rattle.hp_report.specs.Device.{Begins}
 use Rattle.hp_lines.specs.Lines.{Line, begun, lines_from, lines_of, kept_with}
-use Rattle.hp_lines.specs.Live.{Stage, unopened, up, closed, Answer, answer, answers, stage_after, output, Desk, new_desk, reply, answered, grown, told, next, said, after, said_at_end}
+use Rattle.hp_lines.specs.Live.{Stage, unopened, up, closed, Answer, answer, answers, stage_after, output, Server, new_server, reply, answered, grown, byte_output, next, piece_output, after, end_output}
 use Rattle.hp_lines.proofs.Lines.{kept_answer}
 use Rattle.hp_lines.proofs.Kept.{begins_on}
 
 -- ---- pieces
 
-pub said-append : (d : Desk) (a b : List ℕ) → said d (a ++ b) ≡ said d a ++ said (after d a) b
-said-append d [] b = refl
-said-append d (x ∷ a) b = ap (λ (l : List ℕ). told d x ++ l) (said-append (next d x) a b) ∙ sym (append_assoc (told d x) (said (next d x) a) (said (after (next d x) a) b))
+pub output-append : (d : Server) (a b : List ℕ) → piece_output d (a ++ b) ≡ piece_output d a ++ piece_output (after d a) b
+output-append d [] b = refl
+output-append d (x ∷ a) b = ap (λ (l : List ℕ). byte_output d x ++ l) (output-append (next d x) a b) ∙ sym (append_assoc (byte_output d x) (piece_output (next d x) a) (piece_output (after (next d x) a) b))
 
-pub after-append : (d : Desk) (a b : List ℕ) → after d (a ++ b) ≡ after (after d a) b
+pub after-append : (d : Server) (a b : List ℕ) → after d (a ++ b) ≡ after (after d a) b
 after-append d [] b = refl
 after-append d (x ∷ a) b = after-append (next d x) a b
 
 -- ---- lines
 
--- all that is said of bytes up to the end
-abbrev pub in_all : Desk → List ℕ → List ℕ
-in_all d xs = said d xs ++ said_at_end (after d xs)
+-- all that is written for bytes up to the end
+abbrev pub in_all : Server → List ℕ → List ℕ
+in_all d xs = piece_output d xs ++ end_output (after d xs)
 
-abbrev pub stage_in_all : Desk → List ℕ → Stage
+abbrev pub stage_in_all : Server → List ℕ → Stage
 stage_in_all d xs = let e = after d xs in stage_after e.with_tree e.stage (begun e.line)
 
-pub in_all-append : (d : Desk) (a b : List ℕ) → in_all d (a ++ b) ≡ said d a ++ in_all (after d a) b
+pub in_all-append : (d : Server) (a b : List ℕ) → in_all d (a ++ b) ≡ piece_output d a ++ in_all (after d a) b
 in_all-append d a b =
-    ap (λ (e : Desk). said d (a ++ b) ++ said_at_end e) (after-append d a b)
-    ∙ ap (λ (l : List ℕ). l ++ said_at_end (after (after d a) b)) (said-append d a b)
-    ∙ append_assoc (said d a) (said (after d a) b) (said_at_end (after (after d a) b))
+    ap (λ (e : Server). piece_output d (a ++ b) ++ end_output e) (after-append d a b)
+    ∙ ap (λ (l : List ℕ). l ++ end_output (after (after d a) b)) (output-append d a b)
+    ∙ append_assoc (piece_output d a) (piece_output (after d a) b) (end_output (after (after d a) b))
 
--- a desk that keeps so much of a line as tells whether it is too long
-abbrev at : Bool → Stage → Line → Desk
+-- a server that keeps as much of a line as shows whether it is too long
+abbrev at : Bool → Stage → Line → Server
 at with_tree stage line = record { with_tree = with_tree; stage = stage; line = take 1048577 line }
 
 answered_kept : (with_tree : Bool) (stage : Stage) (line : Line) → answered (at with_tree stage line) ≡ at with_tree (answer with_tree stage line).stage []
@@ -68,15 +68,15 @@ grown_kept : (with_tree : Bool) (stage : Stage) (line : Line) (x : ℕ) → grow
 unfolding kept_by
 grown_kept with_tree stage line x = ap (λ (l : Line). record { with_tree = with_tree; stage = stage; line = l }) (one_more 1048576 line x)
 
-said_of_begun : (with_tree : Bool) (stage : Stage) (line : Line) → said_at_end (at with_tree stage line) ≡ answers with_tree stage (begun line)
-said_of_begun with_tree stage [] = refl
-said_of_begun with_tree stage (x ∷ line) = ap (λ (l : List ℕ). l ++ []) (reply_kept with_tree stage (x ∷ line))
+output_of_begun : (with_tree : Bool) (stage : Stage) (line : Line) → end_output (at with_tree stage line) ≡ answers with_tree stage (begun line)
+output_of_begun with_tree stage [] = refl
+output_of_begun with_tree stage (x ∷ line) = ap (λ (l : List ℕ). l ++ []) (reply_kept with_tree stage (x ∷ line))
 
 -- by whether a byte ends the line
 by_end : (b : Bool) (with_tree : Bool) (stage : Stage) (line : Line) (x : ℕ) (xs : List ℕ)
-    → (reply (at with_tree stage line) ++ said (answered (at with_tree stage line)) xs) ++ said_at_end (after (answered (at with_tree stage line)) xs) ≡ answers with_tree stage (line ∷ lines_from [] xs)
+    → (reply (at with_tree stage line) ++ piece_output (answered (at with_tree stage line)) xs) ++ end_output (after (answered (at with_tree stage line)) xs) ≡ answers with_tree stage (line ∷ lines_from [] xs)
     → in_all (grown (at with_tree stage line) x) xs ≡ answers with_tree stage (lines_from (line ++ x ∷ []) xs)
-    → (cond b (reply (at with_tree stage line)) [] ++ said (cond b (answered (at with_tree stage line)) (grown (at with_tree stage line) x)) xs) ++ said_at_end (after (cond b (answered (at with_tree stage line)) (grown (at with_tree stage line) x)) xs)
+    → (cond b (reply (at with_tree stage line)) [] ++ piece_output (cond b (answered (at with_tree stage line)) (grown (at with_tree stage line) x)) xs) ++ end_output (after (cond b (answered (at with_tree stage line)) (grown (at with_tree stage line) x)) xs)
     ≡ answers with_tree stage (cond b (line ∷ lines_from [] xs) (lines_from (line ++ x ∷ []) xs))
 by_end true with_tree stage line x xs ends goes_on = ends
 by_end false with_tree stage line x xs ends goes_on = goes_on
@@ -89,19 +89,19 @@ stage_by_end true with_tree stage line x xs ends goes_on = ends
 stage_by_end false with_tree stage line x xs ends goes_on = goes_on
 
 pub in_all_from : (with_tree : Bool) (stage : Stage) (line : Line) (xs : List ℕ) → in_all (at with_tree stage line) xs ≡ answers with_tree stage (lines_from line xs)
-in_all_from with_tree stage line [] = said_of_begun with_tree stage line
+in_all_from with_tree stage line [] = output_of_begun with_tree stage line
 in_all_from with_tree stage line (x ∷ xs) =
     let d = at with_tree stage line in
     let a = answer with_tree stage line in
     by_end (x == 10) with_tree stage line x xs
-    (append_assoc (reply d) (said (answered d) xs) (said_at_end (after (answered d) xs))
+    (append_assoc (reply d) (piece_output (answered d) xs) (end_output (after (answered d) xs))
     ∙ ap (λ (l : List ℕ). l ++ in_all (answered d) xs) (reply_kept with_tree stage line)
-    ∙ ap (λ (e : Desk). (a.body ++ a.last) ++ in_all e xs) (answered_kept with_tree stage line)
+    ∙ ap (λ (e : Server). (a.body ++ a.last) ++ in_all e xs) (answered_kept with_tree stage line)
     ∙ ap (λ (l : List ℕ). (a.body ++ a.last) ++ l) (in_all_from with_tree a.stage [] xs))
-    (ap (λ (e : Desk). in_all e xs) (grown_kept with_tree stage line x) ∙ in_all_from with_tree stage (line ++ x ∷ []) xs)
+    (ap (λ (e : Server). in_all e xs) (grown_kept with_tree stage line x) ∙ in_all_from with_tree stage (line ++ x ∷ []) xs)
 
--- all that is said of an input is what is answered to its lines
-pub in_all_of : (with_tree : Bool) (input : List ℕ) → in_all (new_desk with_tree) input ≡ output with_tree input
+-- what is written for an input is the answers to its lines
+pub in_all_of : (with_tree : Bool) (input : List ℕ) → in_all (new_server with_tree) input ≡ output with_tree input
 in_all_of with_tree input = in_all_from with_tree unopened [] input
 
 -- ---- the stage in the end
@@ -115,14 +115,14 @@ stage_from with_tree stage line [] = stage_of_begun with_tree stage line
 stage_from with_tree stage line (x ∷ xs) =
     let d = at with_tree stage line in
     stage_by_end (x == 10) with_tree stage line x xs
-    (ap (λ (e : Desk). stage_in_all e xs) (answered_kept with_tree stage line) ∙ stage_from with_tree (answer with_tree stage line).stage [] xs)
-    (ap (λ (e : Desk). stage_in_all e xs) (grown_kept with_tree stage line x) ∙ stage_from with_tree stage (line ++ x ∷ []) xs)
+    (ap (λ (e : Server). stage_in_all e xs) (answered_kept with_tree stage line) ∙ stage_from with_tree (answer with_tree stage line).stage [] xs)
+    (ap (λ (e : Server). stage_in_all e xs) (grown_kept with_tree stage line x) ∙ stage_from with_tree stage (line ++ x ∷ []) xs)
 
-pub stage_of : (with_tree : Bool) (input : List ℕ) → stage_in_all (new_desk with_tree) input ≡ stage_after with_tree unopened (lines_of input)
+pub stage_of : (with_tree : Bool) (input : List ℕ) → stage_in_all (new_server with_tree) input ≡ stage_after with_tree unopened (lines_of input)
 stage_of with_tree input = stage_from with_tree unopened [] input
 
-pub stage-append : (d : Desk) (a b : List ℕ) → stage_in_all d (a ++ b) ≡ stage_in_all (after d a) b
-stage-append d a b = ap (λ (e : Desk). stage_after e.with_tree e.stage (begun e.line)) (after-append d a b)
+pub stage-append : (d : Server) (a b : List ℕ) → stage_in_all d (a ++ b) ≡ stage_in_all (after d a) b
+stage-append d a b = ap (λ (e : Server). stage_after e.with_tree e.stage (begun e.line)) (after-append d a b)
 
 -- ---- after a refused script
 
@@ -134,8 +134,8 @@ pub closed_stage : (with_tree : Bool) (ls : List Line) → stage_after with_tree
 closed_stage with_tree [] = refl
 closed_stage with_tree (l ∷ ls) = closed_stage with_tree ls
 
--- a desk that was closed
-abbrev shut : Bool → Line → Desk
+-- a server that was closed
+abbrev shut : Bool → Line → Server
 shut with_tree line = record { with_tree = with_tree; stage = closed; line = line }
 
 shut_by : (b : Bool) (with_tree : Bool) (line : Line) (x : ℕ) → cond b (answered (shut with_tree line)) (grown (shut with_tree line) x) ≡ shut with_tree (cond b [] (kept_with line x))
@@ -146,22 +146,22 @@ silent_by : (b : Bool) (with_tree : Bool) (line : Line) → cond b (reply (shut 
 silent_by true with_tree line = refl
 silent_by false with_tree line = refl
 
-shut_says : (with_tree : Bool) (line : Line) (xs : List ℕ) → in_all (shut with_tree line) xs ≡ []
-shut_says with_tree line [] = closed_answers with_tree (begun line)
-shut_says with_tree line (x ∷ xs) =
+shut_writes : (with_tree : Bool) (line : Line) (xs : List ℕ) → in_all (shut with_tree line) xs ≡ []
+shut_writes with_tree line [] = closed_answers with_tree (begun line)
+shut_writes with_tree line (x ∷ xs) =
     let d = shut with_tree line in
-    ap (λ (l : List ℕ). (l ++ said (next d x) xs) ++ said_at_end (after (next d x) xs)) (silent_by (x == 10) with_tree line)
-    ∙ ap (λ (e : Desk). in_all e xs) (shut_by (x == 10) with_tree line x)
-    ∙ shut_says with_tree (cond (x == 10) [] (kept_with line x)) xs
+    ap (λ (l : List ℕ). (l ++ piece_output (next d x) xs) ++ end_output (after (next d x) xs)) (silent_by (x == 10) with_tree line)
+    ∙ ap (λ (e : Server). in_all e xs) (shut_by (x == 10) with_tree line x)
+    ∙ shut_writes with_tree (cond (x == 10) [] (kept_with line x)) xs
 
 shut_stays : (with_tree : Bool) (line : Line) (xs : List ℕ) → stage_in_all (shut with_tree line) xs ≡ closed
 shut_stays with_tree line [] = closed_stage with_tree (begun line)
 shut_stays with_tree line (x ∷ xs) =
-    ap (λ (e : Desk). stage_in_all e xs) (shut_by (x == 10) with_tree line x) ∙ shut_stays with_tree (cond (x == 10) [] (kept_with line x)) xs
+    ap (λ (e : Server). stage_in_all e xs) (shut_by (x == 10) with_tree line x) ∙ shut_stays with_tree (cond (x == 10) [] (kept_with line x)) xs
 
--- nothing more is said of an input whose script was refused
-pub closed_says : (d : Desk) (xs : List ℕ) → d.stage ≡ closed → in_all d xs ≡ []
-closed_says d xs is = ap (λ stage. in_all (record { with_tree = d.with_tree; stage = stage; line = d.line }) xs) is ∙ shut_says d.with_tree d.line xs
+-- nothing more is written for an input whose script was refused
+pub closed_writes : (d : Server) (xs : List ℕ) → d.stage ≡ closed → in_all d xs ≡ []
+closed_writes d xs is = ap (λ stage. in_all (record { with_tree = d.with_tree; stage = stage; line = d.line }) xs) is ∙ shut_writes d.with_tree d.line xs
 
-pub closed_stays : (d : Desk) (xs : List ℕ) → d.stage ≡ closed → stage_in_all d xs ≡ closed
+pub closed_stays : (d : Server) (xs : List ℕ) → d.stage ≡ closed → stage_in_all d xs ≡ closed
 closed_stays d xs is = ap (λ stage. stage_in_all (record { with_tree = d.with_tree; stage = stage; line = d.line }) xs) is ∙ shut_stays d.with_tree d.line xs

@@ -1,6 +1,6 @@
 use Rattle.std.proofs.Common.{◌∙◌, subst, List, ℕ}
 use Rattle.hp_report.specs.Device.{Begins}
-use Rattle.hp_live.proofs.desk.Desk.reply.Goals as goal
+use Rattle.hp_live.proofs.server.Server.reply.Goals as goal
 
 pub returns-in_err-write_text-clause-begins :
     goal.returns-in_err-write_text-clause-begins
