@@ -24,7 +24,8 @@ pub fn final_state(
     store: &Store,
     units: &[UnitReport],
 ) -> Result<(Objects, Vec<RuleStatus>), AllocError>
-    ensures { IfOk result (λ ends.
+    ensures objects { IfOk result (λ ends. ends.0 ≡ replay_units [] (map model.unit_report units.now)) }
+    ensures state { IfOk result (λ ends.
         AreFinal (model.library lib.now) (cells_in store.now) (map model.unit_report units.now)
         ends.0 (map model.status ends.1.items)) }
 {

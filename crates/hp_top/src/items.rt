@@ -82,6 +82,7 @@ impl Items {
     pub fn whole(self) -> Result<Vec<UnitReport>, AllocError>
         ensures all { IfOk result (λ units. units ≡ self.reports) }
         ensures unstopped { OnOk result (self.stopped ≡ None) }
+        ensures stopped { OnErr result (IsSome self.stopped) }
     {
         match self.stopped {
             Some(error) => Err(error),
