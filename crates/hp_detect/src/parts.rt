@@ -1,6 +1,6 @@
 //! Occurrences made from others.
 
-ghost use Rattle.std.specs.Prelude.{◌≡◌, ◌++◌, map, option_map, IfOk};
+ghost use Rattle.std.specs.Prelude.{◌≡◌, ◌++◌, map, option_map, IfOk, Some};
 ghost use Rattle.hp_model.specs.Events as model;
 ghost use Rattle.hp_model.specs.Occurrences.{primitive_occurrence};
 ghost use Rattle.hp_value.specs.Mapped.{primitive, occurrence};
@@ -29,13 +29,13 @@ pub fn joined(
         option_map occurrence o
         ≡ model.joined (option_map (λ f. occurrence f.now) first.entry) (option_map occurrence second)) }
 {
-    let (Some(first), Some(second)) = (first, second) else {
-        return Ok(None);
-    };
-    Ok(Some(Occurrence {
-        parts: followed(alloc, &first.parts, second.parts)?,
-        count: first.count.saturating_add(second.count),
-    }))
+    match (first, second) {
+        (Some(first), Some(second)) => {
+            let count = first.count.saturating_add(second.count);
+            ended(alloc, first, second, count)
+        }
+        _ => Ok(None),
+    }
 }
 
 /// An occurrence of a closure: the gathered parts followed by the end's, with the gathered count.
@@ -48,13 +48,25 @@ pub fn closed(
         option_map occurrence o
         ≡ model.closed (option_map (λ g. occurrence g.now) gathered.entry) (option_map occurrence end)) }
 {
-    let (Some(gathered), Some(end)) = (gathered, end) else {
-        return Ok(None);
-    };
-    Ok(Some(Occurrence {
-        parts: followed(alloc, &gathered.parts, end.parts)?,
-        count: gathered.count,
-    }))
+    match (gathered, end) {
+        (Some(gathered), Some(end)) => ended(alloc, gathered, end, gathered.count),
+        _ => Ok(None),
+    }
+}
+
+/// The parts of an occurrence followed by those of another, with this count.
+fn ended(
+    alloc: Global,
+    first: &Occurrence,
+    last: Occurrence,
+    count: u64,
+) -> Result<Option<Occurrence>, AllocError>
+    ensures { IfOk result (λ o.
+        option_map occurrence o
+        ≡ Some (record { parts = (occurrence first.now).parts ++ (occurrence last).parts; count = count })) }
+{
+    let parts = followed(alloc, &first.parts, last.parts)?;
+    Ok(Some(Occurrence { parts, count }))
 }
 
 /// What a closure has gathered after a step at which its end and its body may have occurred: the parts of the body's

@@ -7,52 +7,55 @@ use std::process::Abort;
 use std::sync::Arc;
 use std::test::Fail;
 
-/// An event in postfix notation: a letter is a signal's name, `|` a disjunction, `;` a sequence, `*` a closure.
+/// An event in postfix notation: a word is a signal's name, `|` a disjunction, `;` a sequence, `*` a closure.
 fn event(alloc: Global, postfix: &str) -> Result<Arc<EventExpr>, AllocError> {
     let mut stack = Vec::new(alloc);
-    for letter in postfix.chars() {
-        let made = if "|;*".contains(letter) {
-            let second = Box::new(alloc, stack.pop().unwrap_or(NO_EVENT))?;
-            let first = Box::new(alloc, stack.pop().unwrap_or(NO_EVENT))?;
-            composite(letter, first, second)
-        } else {
-            let mut name = String::new(alloc);
-            name.push(letter)?;
-            EventExpr::One(Pattern::Signal(name))
-        };
-        stack.push(made)?;
+    for word in postfix.split_whitespace() {
+        put_word(alloc, &mut stack, word)?;
     }
     Ok(Arc::new(alloc, stack.pop().unwrap_or(NO_EVENT))?)
 }
 
+fn put_word(alloc: Global, stack: &mut Vec<EventExpr>, word: &str) -> Result<(), AllocError> {
+    let made = match word {
+        "|" | ";" | "*" => {
+            let second = popped(alloc, stack)?;
+            composite(word, popped(alloc, stack)?, second)
+        }
+        _ => EventExpr::One(Pattern::Signal(String::from_str(alloc, word)?)),
+    };
+    stack.push(made)?;
+    Ok(())
+}
+
+fn popped(alloc: Global, stack: &mut Vec<EventExpr>) -> Result<Box<EventExpr>, AllocError> {
+    Ok(Box::new(alloc, stack.pop().unwrap_or(NO_EVENT))?)
+}
+
 const NO_EVENT: EventExpr = EventExpr::One(Pattern::Commit);
 
-fn composite(letter: char, first: Box<EventExpr>, second: Box<EventExpr>) -> EventExpr {
-    match letter {
-        '|' => EventExpr::Or(first, second),
-        ';' => EventExpr::Seq(first, second),
+fn composite(word: &str, first: Box<EventExpr>, second: Box<EventExpr>) -> EventExpr {
+    match word {
+        "|" => EventExpr::Or(first, second),
+        ";" => EventExpr::Seq(first, second),
         _ => EventExpr::Closure(first, second),
     }
 }
 
 /// A signal of this name with one argument.
-fn signal(alloc: Global, name: char, argument: i64) -> Result<Prim, AllocError> {
-    let mut text = String::new(alloc);
-    text.push(name)?;
-    Ok(Prim::Signal {
-        name: text,
-        args: vec![in alloc; Value::Int(argument)]?,
-    })
+fn signal(alloc: Global, name: &str, argument: i64) -> Result<Prim, AllocError> {
+    let name = String::from_str(alloc, name)?;
+    let args = vec![in alloc; Value::Int(argument)]?;
+    Ok(Prim::Signal { name, args })
 }
 
-/// The signals of a text such as `a1 b2`: each a name and a digit.
+/// The signals of a text such as `a1 b2`: each a name of one letter and a digit.
 fn signals(alloc: Global, words: &str) -> Result<Vec<Prim>, AllocError> {
     let mut all = Vec::new(alloc);
     for word in words.split_whitespace() {
-        let mut letters = word.chars();
-        if let (Some(name), Some(digit)) = (letters.next(), letters.next()) {
-            let argument = digit.to_digit(10).unwrap_or(0);
-            all.push(signal(alloc, name, i64::from(argument))?)?;
+        if let Some((name, digit)) = word.split_at_checked(1) {
+            let argument = digit.parse::<i64>().unwrap_or(0);
+            all.push(signal(alloc, name, argument)?)?;
         }
     }
     Ok(all)
@@ -110,77 +113,120 @@ fn answers(alloc: Global, postfix: &str, words: &str) -> Result<String, AllocErr
     Ok(text)
 }
 
+fn assert_answers(
+    rt: &impl Abort,
+    alloc: Global,
+    postfix: &str,
+    words: &str,
+    wanted: &str,
+) -> Result<(), AllocError> {
+    let found = answers(alloc, postfix, words)?;
+    assert_eq!(rt; found.as_str(), wanted, "{postfix} along {words}");
+    Ok(())
+}
+
 #[test]
 fn events_occur_as_worked_out_by_hand(rt: HostRuntime) -> Result<(), Fail> {
     let cases = [
         // A disjunction occurs once where both arms do, with the parts of the first.
-        ("aa|", "a1 b2 a3", "1:a1 - 1:a3"),
-        ("aab;|", "a1 b2 a3 b4 b5", "1:a1 2:a1b2 1:a3 2:a3b4 -"),
+        ("a a |", "a1 b2 a3", "1:a1 - 1:a3"),
+        ("a a b ; |", "a1 b2 a3 b4 b5", "1:a1 2:a1b2 1:a3 2:a3b4 -"),
         // A sequence takes the oldest occurrence that isn't taken yet, and only an earlier one.
-        ("ab;", "b0 a1 a2 b3 b4 b5", "- - - 2:a1b3 2:a2b4 -"),
-        ("aa;", "a1 a2 a3", "- 2:a1a2 2:a2a3"),
-        ("abc;;", "b1 a2 b3 c4 c5", "- - - 3:a2b1c4 -"),
+        ("a b ;", "b0 a1 a2 b3 b4 b5", "- - - 2:a1b3 2:a2b4 -"),
+        ("a a ;", "a1 a2 a3", "- 2:a1a2 2:a2a3"),
+        ("a b c ; ;", "b1 a2 b3 c4 c5", "- - - 3:a2b1c4 -"),
         // A closure occurs once, at its end. It begins again after each end, even one at which it didn't occur.
-        ("at*", "a7 a8 t0 t0", "- - 2:a8t0 -"),
+        ("a t *", "a7 a8 t0 t0", "- - 2:a8t0 -"),
         (
-            "at*",
+            "a t *",
             "t0 a1 t2 t3 a4 a5 a6 t7",
             "- - 1:a1t2 - - - - 3:a6t7",
         ),
-        ("aa*", "a1 a2 a3", "- - -"),
+        ("a a *", "a1 a2 a3", "- - -"),
         // A closure's count is the sum of the counts of its bodies, without the end's.
-        ("ab;t*", "a1 b2 a3 b4 t5", "- - - - 4:a3b4t5"),
-        ("at*b;", "a1 a2 t0 b0", "- - - 3:a2t0b0"),
-        ("ab;ab*;", "a1 b2 a3 b4", "- - - 3:a1b2a3b4"),
+        ("a b ; t *", "a1 b2 a3 b4 t5", "- - - - 4:a3b4t5"),
+        ("a t * b ;", "a1 a2 t0 b0", "- - - 3:a2t0b0"),
+        ("a b ; a b * ;", "a1 b2 a3 b4", "- - - 3:a1b2a3b4"),
     ];
     for (postfix, words, wanted) in cases {
-        let found = answers(rt.alloc(), postfix, words)?;
-        assert_eq!(rt; found.as_str(), wanted, "{postfix} along {words}");
+        assert_answers(&rt, rt.alloc(), postfix, words, wanted)?;
+    }
+    Ok(())
+}
+
+fn walk(alloc: Global, detector: &mut Detector, signals: &[Prim]) -> Result<(), AllocError> {
+    for prim in signals {
+        let _ = detector.step(alloc, prim)?;
     }
     Ok(())
 }
 
 /// A detector of the event after these signals.
 fn stepped(alloc: Global, expr: &Arc<EventExpr>, words: &str) -> Result<Detector, AllocError> {
+    let signals = signals(alloc, words)?;
     let mut detector = Detector::fresh(alloc, expr)?;
-    for prim in &signals(alloc, words)? {
-        let _ = detector.step(alloc, prim)?;
-    }
+    walk(alloc, &mut detector, &signals)?;
     Ok(detector)
+}
+
+/// Whether two detectors of the event are equal after these and those signals.
+fn are_equal(
+    rt: &impl Abort,
+    alloc: Global,
+    postfix: &str,
+    words: &str,
+    others: &str,
+) -> Result<bool, AllocError> {
+    let expr = event(alloc, postfix)?;
+    let detector = stepped(alloc, &expr, words)?;
+    let other = stepped(alloc, &expr, others)?;
+    assert_equals_copy(rt, &detector)?;
+    Ok(detector == other)
+}
+
+fn assert_equals_copy(rt: &impl Abort, detector: &Detector) -> Result<(), AllocError> {
+    let copy = detector.clone()?;
+    assert!(rt; *detector == copy);
+    Ok(())
 }
 
 #[test]
 fn detectors_are_equal_if_they_know_the_same(rt: HostRuntime) -> Result<(), Fail> {
-    let alloc = rt.alloc();
     let cases = [
-        ("ab;", "a1 b2 a5", "a5", true),
-        ("ab;", "a1 b2 a5", "a4", false),
-        ("ab;", "a1 b2 a5", "a1 a5", false),
-        ("ab;", "a1 b2 b3", "", true),
-        ("at*", "a1 t2 a3", "t0 a3", true),
-        ("at*", "a1 t2 a3", "a1 a3", false),
-        ("ab|", "a1 b2 a3", "", true),
+        ("a b ;", "a1 b2 a5", "a5", true),
+        ("a b ;", "a1 b2 a5", "a4", false),
+        ("a b ;", "a1 b2 a5", "a1 a5", false),
+        ("a b ;", "a1 b2 b3", "", true),
+        ("a t *", "a1 t2 a3", "t0 a3", true),
+        ("a t *", "a1 t2 a3", "a1 a3", false),
+        ("a b |", "a1 b2 a3", "", true),
     ];
     for (postfix, words, others, wanted) in cases {
-        let expr = event(alloc, postfix)?;
-        let detector = stepped(alloc, &expr, words)?;
-        let same = detector == stepped(alloc, &expr, others)?;
+        let same = are_equal(&rt, rt.alloc(), postfix, words, others)?;
         assert_eq!(rt; same, wanted, "{postfix} along {words} and {others}");
-        assert!(rt; detector == detector.clone()?);
     }
+    Ok(())
+}
+
+fn mentions(alloc: Global, expr: &EventExpr, name: &str) -> Result<bool, AllocError> {
+    let prim = signal(alloc, name, 2)?;
+    Ok(expr.mentions(&prim))
+}
+
+fn assert_mentions(rt: &impl Abort, alloc: Global, expr: &EventExpr) -> Result<(), AllocError> {
+    assert!(rt; mentions(alloc, expr, "b")?);
+    assert!(rt; !mentions(alloc, expr, "c")?);
     Ok(())
 }
 
 #[test]
 fn an_event_says_if_it_looks_back_and_what_it_mentions(rt: HostRuntime) -> Result<(), Fail> {
-    let alloc = rt.alloc();
-    let pure = event(alloc, "ab|")?;
+    let pure = event(rt.alloc(), "a b |")?;
+    let sequence = event(rt.alloc(), "a b ;")?;
     assert!(rt; is_pure(&pure));
-    assert!(rt; pure.mentions(&signal(alloc, 'b', 2)?));
-    assert!(rt; !pure.mentions(&signal(alloc, 'c', 3)?));
-    let sequence = event(alloc, "ab;")?;
     assert!(rt; !is_pure(&sequence));
     assert!(rt; *pure != *sequence);
+    assert_mentions(&rt, rt.alloc(), &pure)?;
     Ok(())
 }
 
@@ -220,29 +266,87 @@ fn last_answer(
 /// the next one answers as if it had not been.
 #[test]
 fn refused_steps_change_nothing(rt: HostRuntime) -> Result<(), Fail> {
+    let expr = event(rt.alloc(), "a b ; t * c ;")?;
     let signals = signals(rt.alloc(), "a1 b2 a3 b4 t5 a6 c7")?;
-    let mut detector = stepped(rt.alloc(), &event(rt.alloc(), "ab;t*c;")?, "")?;
+    let mut detector = Detector::fresh(rt.alloc(), &expr)?;
     let last = last_answer(&rt, rt.alloc(), &mut detector, &signals)?;
-    assert_eq!(rt; shown(rt.alloc(), &last)?.as_str(), "5:a3b4t5c7");
+    assert_shown(&rt, rt.alloc(), &last, "5:a3b4t5c7")?;
+    Ok(())
+}
+
+/// Goes on from what is known by a signal, and gives the answer.
+fn step_on(
+    alloc: Global,
+    expr: &EventExpr,
+    known: &mut Knowledge,
+    prim: &Prim,
+) -> Result<Option<Occurrence>, AllocError> {
+    let (answer, next) = known.step(alloc, expr, prim)?;
+    *known = next;
+    Ok(answer)
+}
+
+/// Goes on by a signal that changes what is known, and gives the answer.
+fn learn(
+    rt: &impl Abort,
+    alloc: Global,
+    expr: &EventExpr,
+    known: &mut Knowledge,
+    prim: &Prim,
+) -> Result<Option<Occurrence>, AllocError> {
+    let before = known.clone()?;
+    let answer = step_on(alloc, expr, known, prim)?;
+    assert!(rt; before != *known);
+    Ok(answer)
+}
+
+/// What an event that knows nothing answers last along these signals.
+fn last_learnt(
+    rt: &impl Abort,
+    alloc: Global,
+    expr: &EventExpr,
+    signals: &[Prim],
+) -> Result<Option<Occurrence>, AllocError> {
+    let mut known = Knowledge::fresh(alloc, expr)?;
+    let mut last = None;
+    for prim in signals {
+        last = learn(rt, alloc, expr, &mut known, prim)?;
+    }
+    Ok(last)
+}
+
+fn assert_shown(
+    rt: &impl Abort,
+    alloc: Global,
+    answer: &Option<Occurrence>,
+    wanted: &str,
+) -> Result<(), AllocError> {
+    let text = shown(alloc, answer)?;
+    assert_eq!(rt; text.as_str(), wanted);
     Ok(())
 }
 
 /// Knowledge steps as a detector of the event does.
 #[test]
 fn knowledge_steps_as_a_detector_does(rt: HostRuntime) -> Result<(), Fail> {
-    let alloc = rt.alloc();
-    let expr = event(alloc, "ab;")?;
-    let mut known = Knowledge::fresh(alloc, &expr)?;
+    let expr = event(rt.alloc(), "a b ;")?;
+    let signals = signals(rt.alloc(), "a1 a2 b3")?;
+    let last = last_learnt(&rt, rt.alloc(), &expr, &signals)?;
+    assert_shown(&rt, rt.alloc(), &last, "2:a1b3")?;
+    let known = Knowledge::fresh(rt.alloc(), &expr)?;
     assert!(rt; known == known.clone()?);
-    let mut last = None;
-    for prim in &signals(alloc, "a1 a2 b3")? {
-        let (answer, next) = known.step(alloc, &expr, prim)?;
-        assert!(rt; known != next);
-        last = answer;
-        known = next;
-    }
-    assert_eq!(rt; shown(alloc, &last)?.as_str(), "2:a1b3");
     Ok(())
+}
+
+fn step_by(
+    alloc: Global,
+    expr: &EventExpr,
+    known: &mut Knowledge,
+    name: &str,
+    argument: i64,
+) -> Result<Option<Occurrence>, AllocError> {
+    let prim = signal(alloc, name, argument)?;
+    step_on(alloc, expr, known, &prim)
 }
 
 /// What is known after further signals `a` with these arguments, in order. In a sequence each waits for a `b`.
@@ -255,10 +359,21 @@ fn waiting(
 ) -> Result<Knowledge, AllocError> {
     let mut known = before.clone()?;
     for argument in first..end {
-        let (_, next) = known.step(alloc, expr, &signal(alloc, 'a', argument)?)?;
-        known = next;
+        drop(step_by(alloc, expr, &mut known, "a", argument)?);
     }
     Ok(known)
+}
+
+/// Whether a further `b` takes the `a` with this argument.
+fn takes(
+    alloc: Global,
+    expr: &EventExpr,
+    known: &mut Knowledge,
+    argument: i64,
+) -> Result<bool, AllocError> {
+    let answer = step_by(alloc, expr, known, "b", 0)?;
+    let wanted = format!(in alloc; "2:a{argument}b0")?;
+    Ok(shown(alloc, &answer)? == wanted)
 }
 
 /// What is known after a `b` for each of these arguments, and whether each took the `a` with its argument, in order.
@@ -272,51 +387,102 @@ fn taken(
     let mut known = before.clone()?;
     let mut in_order = true;
     for argument in first..end {
-        let (answer, next) = known.step(alloc, expr, &signal(alloc, 'b', 0)?)?;
-        let wanted = format!(in alloc; "2:a{argument}b0")?;
-        in_order = in_order && shown(alloc, &answer)? == wanted;
-        known = next;
+        in_order &= takes(alloc, expr, &mut known, argument)?;
     }
     Ok((known, in_order))
+}
+
+fn take_all(
+    rt: &impl Abort,
+    alloc: Global,
+    expr: &EventExpr,
+    none: &Knowledge,
+    former: &Knowledge,
+) -> Result<(), AllocError> {
+    let (left, in_order) = taken(alloc, expr, former, 0, 3000)?;
+    assert!(rt; in_order);
+    assert!(rt; left == *none);
+    Ok(())
 }
 
 /// Everything that waits is taken, the oldest first, and what was known before stays the same.
 #[test]
 fn many_wait_and_are_taken_in_order(rt: HostRuntime) -> Result<(), Fail> {
-    let alloc = rt.alloc();
-    let expr = event(alloc, "ab;")?;
-    let none = Knowledge::fresh(alloc, &expr)?;
-    let former = waiting(alloc, &expr, &none, 0, 3000)?;
-    let (left, in_order) = taken(alloc, &expr, &former, 0, 3000)?;
-    assert!(rt; in_order);
-    assert!(rt; left == none);
-    assert!(rt; former == waiting(alloc, &expr, &none, 0, 3000)?);
-    let (_, again) = taken(alloc, &expr, &former, 0, 3000)?;
-    assert!(rt; again);
+    let expr = event(rt.alloc(), "a b ;")?;
+    let none = Knowledge::fresh(rt.alloc(), &expr)?;
+    let former = waiting(rt.alloc(), &expr, &none, 0, 3000)?;
+    take_all(&rt, rt.alloc(), &expr, &none, &former)?;
+    assert!(rt; former == waiting(rt.alloc(), &expr, &none, 0, 3000)?);
+    take_all(&rt, rt.alloc(), &expr, &none, &former)?;
     Ok(())
+}
+
+/// More wait than the known ones: those from a first argument on.
+fn compare_longer(
+    rt: &impl Abort,
+    alloc: Global,
+    expr: &EventExpr,
+    none: &Knowledge,
+    known: &Knowledge,
+    first: i64,
+) -> Result<(), AllocError> {
+    let longer = waiting(alloc, expr, none, first, 100)?;
+    assert!(rt; *known != longer);
+    compare_same(rt, alloc, expr, known, &longer, first)
+}
+
+/// Once as many are taken as wait longer, the same wait as the known ones.
+fn compare_same(
+    rt: &impl Abort,
+    alloc: Global,
+    expr: &EventExpr,
+    known: &Knowledge,
+    longer: &Knowledge,
+    first: i64,
+) -> Result<(), AllocError> {
+    let (same, _) = taken(alloc, expr, longer, first, 0)?;
+    assert!(rt; *known == same);
+    compare_shorter(rt, alloc, expr, known, &same)
+}
+
+/// All of the known ones wait but the first, and then one more.
+fn compare_shorter(
+    rt: &impl Abort,
+    alloc: Global,
+    expr: &EventExpr,
+    known: &Knowledge,
+    same: &Knowledge,
+) -> Result<(), AllocError> {
+    let (shorter, _) = taken(alloc, expr, same, 0, 1)?;
+    assert!(rt; *known != shorter);
+    let moved = waiting(alloc, expr, &shorter, 100, 101)?;
+    assert!(rt; *known != moved);
+    Ok(())
+}
+
+/// A hundred wait, one of which has the argument -1 instead of its own.
+fn with_one_changed(
+    alloc: Global,
+    expr: &EventExpr,
+    none: &Knowledge,
+    changed: i64,
+) -> Result<Knowledge, AllocError> {
+    let start = waiting(alloc, expr, none, 0, changed)?;
+    let other = waiting(alloc, expr, &start, -1, 0)?;
+    waiting(alloc, expr, &other, changed.wrapping_add(1), 100)
 }
 
 /// Queues are equal if the same items wait, however many preceded them, and unequal otherwise.
 #[test]
 fn queues_are_compared_by_what_waits(rt: HostRuntime) -> Result<(), Fail> {
-    let alloc = rt.alloc();
-    let expr = event(alloc, "ab;")?;
-    let none = Knowledge::fresh(alloc, &expr)?;
-    let known = waiting(alloc, &expr, &none, 0, 100)?;
-    for more in [1, 3, 8, 13, 100] {
-        let longer = waiting(alloc, &expr, &none, -more, 100)?;
-        assert!(rt; known != longer);
-        let (same, _) = taken(alloc, &expr, &longer, -more, 0)?;
-        assert!(rt; known == same);
-        let (shorter, _) = taken(alloc, &expr, &same, 0, 1)?;
-        assert!(rt; known != shorter);
-        assert!(rt; known != waiting(alloc, &expr, &shorter, 100, 101)?);
+    let expr = event(rt.alloc(), "a b ;")?;
+    let none = Knowledge::fresh(rt.alloc(), &expr)?;
+    let known = waiting(rt.alloc(), &expr, &none, 0, 100)?;
+    for first in [-1, -3, -8, -13, -100] {
+        compare_longer(&rt, rt.alloc(), &expr, &none, &known, first)?;
     }
     for changed in [0, 7, 50, 99] {
-        let start = waiting(alloc, &expr, &none, 0, changed)?;
-        let other = waiting(alloc, &expr, &start, -1, 0)?;
-        let rest = waiting(alloc, &expr, &other, changed + 1, 100)?;
-        assert!(rt; known != rest);
+        assert!(rt; known != with_one_changed(rt.alloc(), &expr, &none, changed)?);
     }
     Ok(())
 }

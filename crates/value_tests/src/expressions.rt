@@ -1,78 +1,55 @@
 //! Values of expressions, worked out by hand, and the public functions without faults.
 
 use crate::fixtures::{account, row};
+use crate::postfix::expression;
 use hp_value::{
-    Answer, Arithmetic, Cause, ClassDef, Comparison, Env, Expr, Field, Halt, KeyedRow, Kind,
-    ObjectList, Occurrence, Prim, Row, Value,
+    Answer, Arithmetic, Cause, Comparison, Env, Expr, Field, Halt, KeyedRow, Kind, ObjectList,
+    Occurrence, Prim, Row, Value,
 };
 use std::alloc::{AllocError, Global};
 use std::process::Abort;
 use std::sync::Arc;
 use std::test::Fail;
 
-fn int(z: i64) -> Expr {
-    Expr::literal(Value::Int(z))
-}
-
-fn truth(b: bool) -> Expr {
-    Expr::literal(Value::Bool(b))
-}
-
 fn text(alloc: Global, s: &str) -> Result<Value, AllocError> {
     Ok(Value::Text(String::from_str(alloc, s)?))
+}
+
+fn int(z: i64) -> Result<Value, Halt> {
+    Ok(Value::Int(z))
+}
+
+fn truth(b: bool) -> Result<Value, Halt> {
+    Ok(Value::Bool(b))
 }
 
 fn fault(cause: Cause) -> Result<Value, Halt> {
     Err(Halt::Cause(cause))
 }
 
-fn operator(alloc: Global, op: Arithmetic, a: Expr, b: Expr) -> Result<Expr, AllocError> {
-    let a = Box::new(alloc, a)?;
-    let b = Box::new(alloc, b)?;
-    Ok(Expr::Arithmetic(op, a, b))
+fn shows(rt: &impl Abort, alloc: Global, env: &Env<'_>, e: &Expr, want: Result<Value, Halt>) {
+    assert_eq!(rt; e.eval(alloc, env), want);
 }
 
-fn comparison(alloc: Global, op: Comparison, a: Expr, b: Expr) -> Result<Expr, AllocError> {
-    let a = Box::new(alloc, a)?;
-    let b = Box::new(alloc, b)?;
-    Ok(Expr::Comparison(op, a, b))
-}
-
-fn both(alloc: Global, a: Expr, b: Expr) -> Result<Expr, AllocError> {
-    let a = Box::new(alloc, a)?;
-    let b = Box::new(alloc, b)?;
-    Ok(Expr::And(a, b))
-}
-
-fn either(alloc: Global, a: Expr, b: Expr) -> Result<Expr, AllocError> {
-    let a = Box::new(alloc, a)?;
-    let b = Box::new(alloc, b)?;
-    Ok(Expr::Or(a, b))
-}
-
-fn one_by_zero(alloc: Global) -> Result<Expr, AllocError> {
-    operator(alloc, Arithmetic::Quotient, int(1), int(0))
-}
-
-fn shows<R: Abort>(
-    rt: &R,
+/// The expression, which is in postfix notation, has this value.
+fn reads(
+    rt: &impl Abort,
     alloc: Global,
     env: &Env<'_>,
-    e: Result<Expr, AllocError>,
+    postfix: &str,
     want: Result<Value, Halt>,
 ) -> Result<(), AllocError> {
-    let e = e?;
-    assert_eq!(rt; e.eval(alloc, env), want);
+    let e = expression(alloc, postfix)?;
+    shows(rt, alloc, env, &e, want);
     Ok(())
 }
 
-fn alone<R: Abort>(
-    rt: &R,
-    alloc: Global,
-    e: Result<Expr, AllocError>,
-    want: Result<Value, Halt>,
-) -> Result<(), AllocError> {
-    shows(rt, alloc, &Env::new(None, &[]), e, want)
+fn is_fault(rt: &impl Abort, alloc: Global, postfix: &str, cause: Cause) -> Result<(), AllocError> {
+    reads(rt, alloc, &Env::new(None, &[]), postfix, fault(cause))
+}
+
+fn is_truth(rt: &impl Abort, alloc: Global, postfix: &str, b: bool) -> Result<(), AllocError> {
+    reads(rt, alloc, &Env::new(None, &[]), postfix, truth(b))
 }
 
 #[test]
@@ -106,94 +83,99 @@ fn arithmetic_overflows_outside_64_bits_and_divides_by_no_zero(rt: HostRuntime) 
 // Operands are evaluated before their kinds are tested, and kinds are tested before the result.
 #[test]
 fn operands_are_evaluated_before_their_kinds_are_tested(rt: HostRuntime) -> Result<(), Fail> {
-    let alloc = rt.alloc();
-    let zero = Cause::DivideByZero;
-    let e = operator(alloc, Arithmetic::Plus, truth(true), one_by_zero(alloc)?);
-    alone(&rt, alloc, e, fault(zero))?;
-    let e = operator(alloc, Arithmetic::Quotient, truth(true), int(0));
-    alone(&rt, alloc, e, fault(Cause::Kind))?;
-    let e = comparison(alloc, Comparison::Less, truth(true), one_by_zero(alloc)?);
-    alone(&rt, alloc, e, fault(zero))?;
-    let e = comparison(alloc, Comparison::Less, truth(false), truth(true));
-    alone(&rt, alloc, e, fault(Cause::Kind))?;
-    let e = Ok(Expr::Negated(Box::new(alloc, int(i64::MIN))?));
-    alone(&rt, alloc, e, fault(Cause::Overflow))?;
-    let e = Ok(Expr::Not(Box::new(alloc, int(1))?));
-    alone(&rt, alloc, e, fault(Cause::Kind))?;
+    for (postfix, cause) in [
+        ("true 1 0 / +", Cause::DivideByZero),
+        ("true 0 /", Cause::Kind),
+        ("true 1 0 / <", Cause::DivideByZero),
+        ("false true <", Cause::Kind),
+        ("-9223372036854775808 negated", Cause::Overflow),
+        ("1 not", Cause::Kind),
+    ] {
+        is_fault(&rt, rt.alloc(), postfix, cause)?;
+    }
     Ok(())
 }
 
 #[test]
 fn and_and_or_evaluate_the_second_operand_only_if_it_matters(rt: HostRuntime) -> Result<(), Fail> {
-    let alloc = rt.alloc();
-    let e = both(alloc, truth(false), one_by_zero(alloc)?);
-    alone(&rt, alloc, e, Ok(Value::Bool(false)))?;
-    let e = both(alloc, truth(true), one_by_zero(alloc)?);
-    alone(&rt, alloc, e, fault(Cause::DivideByZero))?;
-    let e = either(alloc, truth(true), one_by_zero(alloc)?);
-    alone(&rt, alloc, e, Ok(Value::Bool(true)))?;
-    let e = either(alloc, truth(false), one_by_zero(alloc)?);
-    alone(&rt, alloc, e, fault(Cause::DivideByZero))?;
-    let e = either(alloc, truth(false), int(1));
-    alone(&rt, alloc, e, fault(Cause::Kind))?;
+    is_truth(&rt, rt.alloc(), "false 1 0 / and", false)?;
+    is_fault(&rt, rt.alloc(), "true 1 0 / and", Cause::DivideByZero)?;
+    is_truth(&rt, rt.alloc(), "true 1 0 / or", true)?;
+    is_fault(&rt, rt.alloc(), "false 1 0 / or", Cause::DivideByZero)?;
+    is_fault(&rt, rt.alloc(), "false 1 or", Cause::Kind)?;
+    Ok(())
+}
+
+fn assert_less(rt: &impl Abort, alloc: Global, s: &str, t: &str) -> Result<(), AllocError> {
+    let v = text(alloc, s)?;
+    let w = text(alloc, t)?;
+    assert_eq!(rt; Comparison::Less.compare(&v, &w), Ok(true), "{s} and {t}");
+    assert_eq!(rt;
+        Comparison::AtMost.compare(&w, &v),
+        Ok(false),
+        "{s} and {t}"
+    );
     Ok(())
 }
 
 // In UTF-8 the first byte of é is above that of each letter, and a prefix precedes a longer text.
 #[test]
 fn texts_are_ordered_by_their_bytes(rt: HostRuntime) -> Result<(), Fail> {
-    for (s, t) in [("Z", "a"), ("z", "é"), ("", "a"), ("ab", "abc")] {
-        let v = text(rt.alloc(), s)?;
-        let w = text(rt.alloc(), t)?;
-        assert_eq!(rt; Comparison::Less.compare(&v, &w), Ok(true), "{s} and {t}");
-        assert_eq!(rt;
-            Comparison::AtMost.compare(&w, &v),
-            Ok(false),
-            "{s} and {t}"
-        );
-    }
+    assert_less(&rt, rt.alloc(), "Z", "a")?;
+    assert_less(&rt, rt.alloc(), "z", "é")?;
+    assert_less(&rt, rt.alloc(), "", "a")?;
+    assert_less(&rt, rt.alloc(), "ab", "abc")?;
     Ok(())
 }
 
-// The rows of `stock` have the fields `name` and `held`.
-fn stock_class(alloc: Global) -> Result<ClassDef, AllocError> {
-    let mut fields = Vec::new(alloc);
-    fields.push(Field {
-        name: String::from_str(alloc, "name")?,
-        kind: Kind::Text,
-    })?;
-    fields.push(Field {
-        name: String::from_str(alloc, "held")?,
-        kind: Kind::Int,
-    })?;
-    Ok(ClassDef {
-        name: String::from_str(alloc, "stock")?,
-        fields: Arc::new(alloc, fields)?,
-    })
+fn field(alloc: Global, name: &str, kind: Kind) -> Result<Field, AllocError> {
+    let name = String::from_str(alloc, name)?;
+    Ok(Field { name, kind })
 }
 
-fn stock(alloc: Global, name: &str, held: i64) -> Result<Row, AllocError> {
-    let class = stock_class(alloc)?;
+// The fields `name` and `held`.
+fn stock_fields(alloc: Global) -> Result<Arc<Vec<Field>>, AllocError> {
+    let mut fields = Vec::new(alloc);
+    fields.push(field(alloc, "name", Kind::Text)?)?;
+    fields.push(field(alloc, "held", Kind::Int)?)?;
+    Ok(Arc::new(alloc, fields)?)
+}
+
+fn stock_values(alloc: Global, name: &str, held: i64) -> Result<Vec<Value>, AllocError> {
     let mut values = Vec::new(alloc);
     values.push(text(alloc, name)?)?;
     values.push(Value::Int(held))?;
-    Row::new(alloc, &class.fields, values)
+    Ok(values)
+}
+
+fn stock(alloc: Global, name: &str, held: i64) -> Result<Row, AllocError> {
+    let fields = stock_fields(alloc)?;
+    Row::new(alloc, &fields, stock_values(alloc, name, held)?)
+}
+
+fn alarm(alloc: Global) -> Result<Prim, AllocError> {
+    let args = vec![in alloc; text(alloc, "low")?]?;
+    let name = String::from_str(alloc, "alarm")?;
+    Ok(Prim::Signal { name, args })
+}
+
+fn sale(alloc: Global) -> Result<Prim, AllocError> {
+    let old = stock(alloc, "bolt", 7)?;
+    let new = stock(alloc, "bolt", 5)?;
+    Ok(Prim::Update {
+        class: 0,
+        key: -4,
+        old,
+        new,
+    })
 }
 
 // A signal, a moment outside the range of `i64`, and an update; the count is out of range too.
 fn three_parts(alloc: Global) -> Result<Occurrence, AllocError> {
-    let mut args = Vec::new(alloc);
-    args.push(text(alloc, "low")?)?;
-    let name = String::from_str(alloc, "alarm")?;
     let mut parts = Vec::new(alloc);
-    parts.push(Prim::Signal { name, args })?;
+    parts.push(alarm(alloc)?)?;
     parts.push(Prim::Time(9_223_372_036_854_775_808))?;
-    parts.push(Prim::Update {
-        class: 0,
-        key: -4,
-        old: stock(alloc, "bolt", 7)?,
-        new: stock(alloc, "bolt", 5)?,
-    })?;
+    parts.push(sale(alloc)?)?;
     Ok(Occurrence {
         parts,
         count: 9_223_372_036_854_775_808,
@@ -210,98 +192,93 @@ fn old_field(alloc: Global, part: u16, field: &str) -> Result<Expr, AllocError> 
     Ok(Expr::OldField { part, field })
 }
 
-fn new_is<R: Abort>(
-    rt: &R,
+fn new_is(
+    rt: &impl Abort,
     alloc: Global,
     env: &Env<'_>,
     part: u16,
     field: &str,
     want: Result<Value, Halt>,
 ) -> Result<(), AllocError> {
-    shows(rt, alloc, env, new_field(alloc, part, field), want)
+    let e = new_field(alloc, part, field)?;
+    shows(rt, alloc, env, &e, want);
+    Ok(())
 }
 
-fn part_values<R: Abort>(rt: &R, alloc: Global, env: &Env<'_>) -> Result<(), AllocError> {
-    new_is(rt, alloc, env, 2, "held", Ok(Value::Int(5)))?;
+fn field_values(rt: &impl Abort, alloc: Global, env: &Env<'_>) -> Result<(), AllocError> {
+    new_is(rt, alloc, env, 2, "held", int(5))?;
     new_is(rt, alloc, env, 2, "price", fault(Cause::Kind))?;
     new_is(rt, alloc, env, 0, "held", fault(Cause::NoParameter))?;
     new_is(rt, alloc, env, 3, "held", fault(Cause::NoParameter))?;
-    let old = old_field(alloc, 2, "held");
-    shows(rt, alloc, env, old, Ok(Value::Int(7)))?;
-    let key = Expr::KeyIn { part: 2 };
-    shows(rt, alloc, env, Ok(key), Ok(Value::Int(-4)))
+    let old = old_field(alloc, 2, "held")?;
+    shows(rt, alloc, env, &old, int(7));
+    Ok(())
 }
 
-fn other_values<R: Abort>(rt: &R, alloc: Global, env: &Env<'_>) -> Result<(), AllocError> {
-    let e = Expr::Argument { part: 0, place: 0 };
-    shows(rt, alloc, env, Ok(e), Ok(text(alloc, "low")?))?;
-    let e = Expr::Argument { part: 0, place: 1 };
-    shows(rt, alloc, env, Ok(e), fault(Cause::NoParameter))?;
+fn other_values(rt: &impl Abort, alloc: Global, env: &Env<'_>) -> Result<(), AllocError> {
+    let low = text(alloc, "low")?;
+    let argument = Expr::Argument { part: 0, place: 0 };
+    shows(rt, alloc, env, &argument, Ok(low));
+    let argument = Expr::Argument { part: 0, place: 1 };
+    shows(rt, alloc, env, &argument, fault(Cause::NoParameter));
+    shows(rt, alloc, env, &Expr::KeyIn { part: 2 }, int(-4));
     let time = Expr::TimeOf { part: 1 };
-    shows(rt, alloc, env, Ok(time), fault(Cause::Overflow))?;
-    shows(rt, alloc, env, Ok(Expr::Count), fault(Cause::Overflow))
+    shows(rt, alloc, env, &time, fault(Cause::Overflow));
+    shows(rt, alloc, env, &Expr::Count, fault(Cause::Overflow));
+    Ok(())
 }
 
 #[test]
 fn expressions_read_the_parts_of_an_occurrence(rt: HostRuntime) -> Result<(), Fail> {
     let occurrence = three_parts(rt.alloc())?;
     let env = Env::new(Some(&occurrence), &[]);
-    part_values(&rt, rt.alloc(), &env)?;
+    field_values(&rt, rt.alloc(), &env)?;
     other_values(&rt, rt.alloc(), &env)?;
-    alone(&rt, rt.alloc(), Ok(Expr::Count), fault(Cause::NoParameter))?;
+    let env = Env::new(None, &[]);
+    shows(
+        &rt,
+        rt.alloc(),
+        &env,
+        &Expr::Count,
+        fault(Cause::NoParameter),
+    );
     assert!(rt; occurrence.clone()? == occurrence);
     Ok(())
 }
 
-fn answer(alloc: Global, name: &str, key: i64) -> Result<Answer, AllocError> {
+// An answer named s, with a row for each of some keys.
+fn answer(alloc: Global, keys: &[i64]) -> Result<Answer, AllocError> {
     let mut rows = Vec::new(alloc);
-    rows.push(KeyedRow {
-        key,
-        row: stock(alloc, "nut", key)?,
-    })?;
-    Ok(Answer {
-        name: String::from_str(alloc, name)?,
-        rows,
-    })
+    for key in keys {
+        let row = stock(alloc, "nut", *key)?;
+        rows.push(KeyedRow { key: *key, row })?;
+    }
+    let name = String::from_str(alloc, "s")?;
+    Ok(Answer { name, rows })
 }
 
 // The second answer hides the first, and the third is empty.
 fn kept(alloc: Global) -> Result<Vec<Answer>, AllocError> {
     let mut kept = Vec::new(alloc);
-    kept.push(answer(alloc, "s", 1)?)?;
-    kept.push(answer(alloc, "s", 2)?)?;
-    kept.push(Answer {
-        name: String::from_str(alloc, "s")?,
-        rows: Vec::new(alloc),
-    })?;
+    kept.push(answer(alloc, &[1])?)?;
+    kept.push(answer(alloc, &[2])?)?;
+    kept.push(answer(alloc, &[])?)?;
     Ok(kept)
 }
 
-fn key_of(alloc: Global, variable: &str) -> Result<Expr, AllocError> {
-    let variable = String::from_str(alloc, variable)?;
-    Ok(Expr::KeyOf { variable })
-}
-
-fn field_of(alloc: Global, variable: &str, field: &str) -> Result<Expr, AllocError> {
-    let variable = String::from_str(alloc, variable)?;
-    let field = String::from_str(alloc, field)?;
-    Ok(Expr::FieldOf { variable, field })
-}
-
-fn named_values<R: Abort>(
-    rt: &R,
+fn named_values(
+    rt: &impl Abort,
     alloc: Global,
     env: &Env<'_>,
     row: &Row,
 ) -> Result<(), AllocError> {
-    shows(rt, alloc, env, key_of(alloc, "s"), Ok(Value::Int(2)))?;
+    reads(rt, alloc, env, "s.key", int(2))?;
     let inner = env.bound("s", 4, row);
-    shows(rt, alloc, &inner, key_of(alloc, "s"), Ok(Value::Int(4)))?;
+    reads(rt, alloc, &inner, "s.key", int(4))?;
     let other = env.bound("t", 5, row);
-    shows(rt, alloc, &other, key_of(alloc, "s"), Ok(Value::Int(2)))?;
-    let held = field_of(alloc, "t", "held");
-    shows(rt, alloc, &other, held, Ok(Value::Int(9)))?;
-    shows(rt, alloc, &other, key_of(alloc, "u"), fault(Cause::Kind))
+    reads(rt, alloc, &other, "s.key", int(2))?;
+    reads(rt, alloc, &other, "t.held", int(9))?;
+    reads(rt, alloc, &other, "u.key", fault(Cause::Kind))
 }
 
 #[test]
@@ -312,21 +289,26 @@ fn a_name_means_its_innermost_row(rt: HostRuntime) -> Result<(), Fail> {
     Ok(())
 }
 
-#[test]
-fn a_row_has_the_fields_of_its_class(rt: HostRuntime) -> Result<(), Fail> {
-    let row = stock(rt.alloc(), "bolt", 7)?;
+fn change_held(rt: &impl Abort, alloc: Global, row: &Row) -> Result<(), AllocError> {
+    let next = row.with_values(alloc, stock_values(alloc, "bolt", 5)?)?;
+    assert!(rt; next != *row);
+    let anew = stock(alloc, "bolt", 5)?;
+    assert!(rt; next == anew, "another list of fields");
+    Ok(())
+}
+
+fn assert_fields(rt: &impl Abort, row: &Row) {
     assert!(rt; row.len() == 2 && row.get(2).is_none());
     assert!(rt; matches!(row.get(1), Some(("held", Value::Int(7)))));
     assert!(rt; row.field("stock").is_err());
-    let mut values = Vec::new(rt.alloc());
-    values.push(text(rt.alloc(), "bolt")?)?;
-    values.push(Value::Int(5))?;
-    let next = row.with_values(rt.alloc(), values)?;
-    assert!(rt;
-        next == stock(rt.alloc(), "bolt", 5)?,
-        "another list of fields"
-    );
-    assert!(rt; next != row && row == row.clone()?);
+}
+
+#[test]
+fn a_row_has_the_fields_of_its_class(rt: HostRuntime) -> Result<(), Fail> {
+    let row = stock(rt.alloc(), "bolt", 7)?;
+    assert_fields(&rt, &row);
+    change_held(&rt, rt.alloc(), &row)?;
+    assert!(rt; row == row.clone()?);
     Ok(())
 }
 
@@ -383,18 +365,10 @@ fn lists_of_objects_are_equal_if_their_rows_are(rt: HostRuntime) -> Result<(), F
 // If an allocation is refused, the value is the same or there is none; it is never another value or a cause.
 #[test]
 fn a_refused_allocation_gives_no_other_value(rt: HostRuntime) -> Result<(), Fail> {
-    let alloc = rt.alloc();
-    let row = stock(alloc, "bolt", 7)?;
-    let outer = Env::new(None, &[]);
-    let env = outer.bound("s", 1, &row);
-    let name = field_of(alloc, "s", "name")?;
-    let same = comparison(
-        alloc,
-        Comparison::Equal,
-        name,
-        Expr::literal(text(alloc, "bolt")?),
-    )?;
-    let found = same.eval(alloc, &env);
+    let row = stock(rt.alloc(), "bolt", 7)?;
+    let same = expression(rt.alloc(), "s.name 'bolt =")?;
+    let env = Env::new(None, &[]);
+    let found = same.eval(rt.alloc(), &env.bound("s", 1, &row));
     assert!(rt; found == Ok(Value::Bool(true)) || found == Err(Halt::Memory));
     Ok(())
 }

@@ -1,7 +1,8 @@
-//! Accounts in a plain map, expressions over them, and what a query finds.
+//! Accounts in a plain map, queries for them, and what a query finds.
 
+use crate::postfix::expression;
 use hp_query::{PlainObjects, Query};
-use hp_value::{Cause, ClassNo, Comparison, Expr, Field, Halt, Key, KeyedRow, Kind, Row, Value};
+use hp_value::{Cause, ClassNo, Field, Halt, Key, KeyedRow, Kind, Row, Value};
 use std::alloc::{AllocError, Global};
 use std::process::Abort;
 use std::sync::Arc;
@@ -23,51 +24,16 @@ pub fn account(alloc: Global, balance: i64) -> Result<Row, AllocError> {
     row(alloc, "bal", Value::Int(balance))
 }
 
-pub fn number(alloc: Global, z: i64) -> Result<Box<Expr>, AllocError> {
-    Ok(Box::new(alloc, Expr::literal(Value::Int(z)))?)
-}
-
-pub fn balance_of(alloc: Global, variable: &str) -> Result<Box<Expr>, AllocError> {
-    let field = Expr::FieldOf {
-        variable: text(alloc, variable)?,
-        field: text(alloc, "bal")?,
-    };
-    Ok(Box::new(alloc, field)?)
-}
-
-pub fn key_of(alloc: Global, variable: &str) -> Result<Box<Expr>, AllocError> {
-    let variable = text(alloc, variable)?;
-    Ok(Box::new(alloc, Expr::KeyOf { variable })?)
-}
-
-pub fn compared(
-    alloc: Global,
-    left: Box<Expr>,
-    how: Comparison,
-    right: Box<Expr>,
-) -> Result<Box<Expr>, AllocError> {
-    Ok(Box::new(alloc, Expr::Comparison(how, left, right))?)
-}
-
-pub fn both(alloc: Global, first: Box<Expr>, second: Box<Expr>) -> Result<Box<Expr>, AllocError> {
-    Ok(Box::new(alloc, Expr::And(first, second))?)
-}
-
-/// The row's balance is above a number.
-pub fn is_above(alloc: Global, variable: &str, z: i64) -> Result<Box<Expr>, AllocError> {
-    let balance = balance_of(alloc, variable)?;
-    let limit = number(alloc, z)?;
-    compared(alloc, balance, Comparison::Greater, limit)
-}
-
 pub fn query(
     alloc: Global,
     name: &str,
     class: ClassNo,
-    predicate: Box<Expr>,
+    predicate: &str,
 ) -> Result<Query, AllocError> {
+    let predicate = expression(alloc, predicate)?;
+    let name = text(alloc, name)?;
     Ok(Query {
-        name: text(alloc, name)?,
+        name,
         class,
         predicate,
     })

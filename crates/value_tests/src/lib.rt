@@ -12,6 +12,8 @@ mod parts;
 #[cfg(test)]
 mod patterns;
 #[cfg(test)]
+mod postfix;
+#[cfg(test)]
 mod queries;
 #[cfg(test)]
 mod trees;

@@ -1,14 +1,9 @@
 //! Queries that begin by asking for a part of a class, with a look that finds parts and with one that doesn't.
 
-use crate::fixtures::{
-    account, accounts, assert_fault, assert_keys, balance_of, both, compared, key_of, number, row,
-    text,
-};
+use crate::fixtures::{account, accounts, assert_fault, assert_keys, row, text};
+use crate::postfix::expression;
 use hp_query::{Look, PlainObjects, selected_rows};
-use hp_value::{
-    Arithmetic, Attribute, Cause, ClassNo, ClassPart, Comparison, Env, Expr, Halt, Key, KeyedRow,
-    ObjectList, Row, Value,
-};
+use hp_value::{Cause, ClassNo, ClassPart, Env, Expr, Halt, Key, KeyedRow, ObjectList, Row, Value};
 use std::alloc::{AllocError, Global};
 use std::process::Abort;
 use std::sync::Arc;
@@ -115,6 +110,18 @@ impl Looks {
         rt: &impl Abort,
         alloc: Global,
         env: &Env,
+        predicate: &str,
+        keys: &[Key],
+    ) -> Result<Option<usize>, Halt> {
+        let predicate = expression(alloc, predicate)?;
+        self.assert_both(rt, alloc, env, &predicate, keys)
+    }
+
+    fn assert_both(
+        &mut self,
+        rt: &impl Abort,
+        alloc: Global,
+        env: &Env,
         predicate: &Expr,
         keys: &[Key],
     ) -> Result<Option<usize>, Halt> {
@@ -126,22 +133,24 @@ impl Looks {
         Ok(self.parts.found)
     }
 
-    /// Each comparison of x's attribute with a value has its answer, with the attribute on either side.
-    fn assert_cases(
+    /// The same where no other name has a row.
+    fn assert_alone(
         &mut self,
         rt: &impl Abort,
         alloc: Global,
-        attribute: Attribute<'_>,
-        value: &Value,
-        cases: &[Case],
-    ) -> Result<(), Halt> {
-        let env = Env::new(None, &[]);
-        for case in cases {
-            for right in [false, true] {
-                let asked = case.asked(alloc, attribute, value, right)?;
-                let found = self.assert_rows(rt, alloc, &env, &asked, case.keys)?;
-                assert_eq!(rt; found, case.found);
-            }
+        predicate: &str,
+        keys: &[Key],
+    ) -> Result<Option<usize>, Halt> {
+        self.assert_rows(rt, alloc, &Env::new(None, &[]), predicate, keys)
+    }
+
+    /// Each comparison has its answer, with either side first.
+    fn assert_cases(&mut self, rt: &impl Abort, alloc: Global, cases: &[Case]) -> Result<(), Halt> {
+        for (one, other, keys, wanted) in cases {
+            let found = self.assert_alone(rt, alloc, one, keys)?;
+            assert_eq!(rt; found, *wanted, "{one}");
+            let found = self.assert_alone(rt, alloc, other, keys)?;
+            assert_eq!(rt; found, *wanted, "{other}");
         }
         Ok(())
     }
@@ -151,297 +160,213 @@ impl Looks {
         &mut self,
         rt: &impl Abort,
         alloc: Global,
-        env: &Env,
-        predicate: &Expr,
+        predicate: &str,
         cause: Cause,
-    ) {
-        let found = selected_rows(alloc, "x", 0, predicate, env, &mut self.plain);
+    ) -> Result<(), AllocError> {
+        let predicate = expression(alloc, predicate)?;
+        let env = Env::new(None, &[]);
+        let found = selected_rows(alloc, "x", 0, &predicate, &env, &mut self.plain);
         assert_fault(rt, found, cause);
         self.parts.found = None;
-        let found = selected_rows(alloc, "x", 0, predicate, env, &mut self.parts);
+        let found = selected_rows(alloc, "x", 0, &predicate, &env, &mut self.parts);
         assert_fault(rt, found, cause);
         assert!(rt; self.parts.found.is_none());
+        Ok(())
     }
-}
 
-// The comparison with its sides swapped.
-fn changed(how: Comparison) -> Comparison {
-    match how {
-        Comparison::Less => Comparison::Greater,
-        Comparison::AtMost => Comparison::AtLeast,
-        Comparison::Greater => Comparison::Less,
-        Comparison::AtLeast => Comparison::AtMost,
-        other => other,
-    }
-}
-
-// A comparison of an attribute with a value: the keys of its answer, and the number of objects in the part, if one is
-// asked for.
-#[derive(Clone, Copy)]
-struct Case {
-    how: Comparison,
-    keys: &'static [Key],
-    found: Option<usize>,
-}
-
-impl Case {
-    // The comparison of x's attribute, which may be on the right side, with a value.
-    fn asked(
-        &self,
+    /// No object of class 2, which has none, is found with parts.
+    fn assert_nowhere(
+        &mut self,
+        rt: &impl Abort,
         alloc: Global,
-        attribute: Attribute<'_>,
-        value: &Value,
-        right: bool,
-    ) -> Result<Box<Expr>, AllocError> {
-        let own = match attribute {
-            Attribute::Key => key_of(alloc, "x")?,
-            Attribute::Field(_) => balance_of(alloc, "x")?,
-        };
-        let value = Box::new(alloc, Expr::literal(value.clone()?))?;
-        either_way(alloc, own, self.how, value, right)
+        predicate: &str,
+    ) -> Result<(), Halt> {
+        let predicate = expression(alloc, predicate)?;
+        let env = Env::new(None, &[]);
+        let rows = selected_rows(alloc, "x", 2, &predicate, &env, &mut self.parts)?;
+        assert_keys(rt, &rows, &[]);
+        Ok(())
     }
 }
 
-fn made(how: Comparison, keys: &'static [Key], found: Option<usize>) -> Case {
-    Case { how, keys, found }
-}
+// A comparison, the same one turned, the keys of its answer, and the number of objects in the part, if one is asked for.
+type Case = (&'static str, &'static str, &'static [Key], Option<usize>);
 
-// The accounts whose keys compare this way with 2. A query for one key asks for no part.
-fn by_key() -> [Case; 6] {
-    [
-        made(Comparison::Equal, &[2], None),
-        made(Comparison::Unequal, &[-20, -3, 10], None),
-        made(Comparison::Less, &[-20, -3], Some(3)),
-        made(Comparison::AtMost, &[-20, -3, 2], Some(3)),
-        made(Comparison::Greater, &[10], Some(2)),
-        made(Comparison::AtLeast, &[2, 10], Some(2)),
-    ]
-}
+// A query for one key asks for no part.
+const BY_KEY: [Case; 6] = [
+    ("x.key 2 =", "2 x.key =", &[2], None),
+    ("x.key 2 !=", "2 x.key !=", &[-20, -3, 10], None),
+    ("x.key 2 <", "2 x.key >", &[-20, -3], Some(3)),
+    ("x.key 2 <=", "2 x.key >=", &[-20, -3, 2], Some(3)),
+    ("x.key 2 >", "2 x.key <", &[10], Some(2)),
+    ("x.key 2 >=", "2 x.key <=", &[2, 10], Some(2)),
+];
 
-// The accounts whose balances, 5, 0, 3 and 4, compare this way with 3.
-fn by_balance() -> [Case; 6] {
-    [
-        made(Comparison::Equal, &[2], Some(1)),
-        made(Comparison::Unequal, &[-20, -3, 10], None),
-        made(Comparison::Less, &[-3], Some(2)),
-        made(Comparison::AtMost, &[-3, 2], Some(2)),
-        made(Comparison::Greater, &[-20, 10], Some(3)),
-        made(Comparison::AtLeast, &[-20, 2, 10], Some(3)),
-    ]
-}
-
-// The comparison, with the attribute on either side.
-fn either_way(
-    alloc: Global,
-    attribute: Box<Expr>,
-    how: Comparison,
-    other: Box<Expr>,
-    right: bool,
-) -> Result<Box<Expr>, AllocError> {
-    if right {
-        return compared(alloc, other, changed(how), attribute);
-    }
-    compared(alloc, attribute, how, other)
-}
+// The balances are 5, 0, 3 and 4.
+const BY_BALANCE: [Case; 6] = [
+    ("x.bal 3 =", "3 x.bal =", &[2], Some(1)),
+    ("x.bal 3 !=", "3 x.bal !=", &[-20, -3, 10], None),
+    ("x.bal 3 <", "3 x.bal >", &[-3], Some(2)),
+    ("x.bal 3 <=", "3 x.bal >=", &[-3, 2], Some(2)),
+    ("x.bal 3 >", "3 x.bal <", &[-20, 10], Some(3)),
+    ("x.bal 3 >=", "3 x.bal <=", &[-20, 2, 10], Some(3)),
+];
 
 #[test]
 fn each_comparison_of_a_key_finds_its_rows(rt: HostRuntime) -> Result<(), Fail> {
     let mut looks = Looks::new(rt.alloc())?;
-    let two = Value::Int(2);
-    looks.assert_cases(&rt, rt.alloc(), Attribute::Key, &two, &by_key())?;
+    looks.assert_cases(&rt, rt.alloc(), &BY_KEY)?;
     Ok(())
 }
 
 #[test]
 fn each_comparison_of_a_field_finds_its_rows(rt: HostRuntime) -> Result<(), Fail> {
     let mut looks = Looks::new(rt.alloc())?;
-    let three = Value::Int(3);
-    looks.assert_cases(
-        &rt,
-        rt.alloc(),
-        Attribute::Field("bal"),
-        &three,
-        &by_balance(),
-    )?;
+    looks.assert_cases(&rt, rt.alloc(), &BY_BALANCE)?;
     Ok(())
 }
 
 // What follows the comparison is evaluated on the part alone: elsewhere it would have a fault.
 #[test]
 fn what_follows_a_comparison_is_evaluated_on_the_part_alone(rt: HostRuntime) -> Result<(), Fail> {
-    let alloc = rt.alloc();
-    let mut looks = Looks::new(alloc)?;
-    let env = Env::new(None, &[]);
-    let low = compared(
-        alloc,
-        number(alloc, 3)?,
-        Comparison::AtMost,
-        balance_of(alloc, "x")?,
-    )?;
-    let high = compared(
-        alloc,
-        balance_of(alloc, "x")?,
-        Comparison::Less,
-        number(alloc, 5)?,
-    )?;
-    let asked = both(alloc, both(alloc, low, high)?, is_quotient_positive(alloc)?)?;
-    let found = looks.assert_rows(&rt, alloc, &env, &asked, &[2, 10])?;
+    let mut looks = Looks::new(rt.alloc())?;
+    let asked = "3 x.bal <= x.bal 5 < and 7 x.bal / 0 > and";
+    let found = looks.assert_alone(&rt, rt.alloc(), asked, &[2, 10])?;
     assert_eq!(rt; found, Some(3));
     Ok(())
 }
 
-// 7 / bal > 0, which has a fault if the balance is 0.
-fn is_quotient_positive(alloc: Global) -> Result<Box<Expr>, AllocError> {
-    let quotient = Expr::Arithmetic(
-        Arithmetic::Quotient,
-        number(alloc, 7)?,
-        balance_of(alloc, "x")?,
-    );
-    let quotient = Box::new(alloc, quotient)?;
-    compared(alloc, quotient, Comparison::Greater, number(alloc, 0)?)
-}
-
 // The field is below 3.
-fn is_poor(alloc: Global) -> Result<Box<Expr>, AllocError> {
-    compared(
-        alloc,
-        balance_of(alloc, "x")?,
-        Comparison::Less,
-        number(alloc, 3)?,
-    )
+const IS_POOR: &str = "x.bal 3 <";
+
+// The accounts and one more, which has a text in place of a balance, or another field.
+fn with_one_more(alloc: Global, field: &str, value: Value) -> Result<Looks, AllocError> {
+    let more = row(alloc, field, value)?;
+    let mut looks = Looks::new(alloc)?;
+    looks.put(alloc, 0, 11, &more)?;
+    Ok(looks)
 }
 
 #[test]
 fn a_row_that_lacks_the_field_is_a_fault(rt: HostRuntime) -> Result<(), Fail> {
-    let alloc = rt.alloc();
-    let mut looks = Looks::new(alloc)?;
-    let env = Env::new(None, &[]);
-    let other = row(alloc, "other", Value::Int(1))?;
-    looks.put(alloc, 0, 11, &other)?;
-    let poor = is_poor(alloc)?;
-    looks.assert_faulty(&rt, alloc, &env, &poor, Cause::Kind);
+    let mut looks = with_one_more(rt.alloc(), "other", Value::Int(1))?;
+    looks.assert_faulty(&rt, rt.alloc(), IS_POOR, Cause::Kind)?;
     Ok(())
+}
+
+fn assert_no_text(rt: &impl Abort, alloc: Global, looks: &mut Looks) -> Result<(), AllocError> {
+    looks.assert_faulty(rt, alloc, "x.bal 'much <", Cause::Kind)?;
+    looks.assert_faulty(rt, alloc, "'much x.bal >", Cause::Kind)
+}
+
+fn with_a_text(alloc: Global) -> Result<Looks, AllocError> {
+    let much = Value::Text(text(alloc, "much")?);
+    with_one_more(alloc, "bal", much)
 }
 
 #[test]
 fn a_value_of_another_kind_is_a_fault(rt: HostRuntime) -> Result<(), Fail> {
-    let alloc = rt.alloc();
-    let mut looks = Looks::new(alloc)?;
-    let env = Env::new(None, &[]);
-    for right in [false, true] {
-        let much = Box::new(alloc, Expr::literal(Value::Text(text(alloc, "much")?)))?;
-        let asked = either_way(
-            alloc,
-            balance_of(alloc, "x")?,
-            Comparison::Less,
-            much,
-            right,
-        )?;
-        looks.assert_faulty(&rt, alloc, &env, &asked, Cause::Kind);
-    }
-    let much = row(alloc, "bal", Value::Text(text(alloc, "much")?))?;
-    looks.put(alloc, 0, 11, &much)?;
-    let poor = is_poor(alloc)?;
-    looks.assert_faulty(&rt, alloc, &env, &poor, Cause::Kind);
+    assert_no_text(&rt, rt.alloc(), &mut Looks::new(rt.alloc())?)?;
+    let mut looks = with_a_text(rt.alloc())?;
+    looks.assert_faulty(&rt, rt.alloc(), IS_POOR, Cause::Kind)?;
     Ok(())
 }
 
-// A boolean isn't an integer or a text, so no part is asked for, and all rows are looked at.
-#[test]
-fn a_comparison_with_a_boolean_asks_for_no_part(rt: HostRuntime) -> Result<(), Fail> {
-    let alloc = rt.alloc();
-    let mut looks = Looks::new(alloc)?;
-    let env = Env::new(None, &[]);
-    let is = Box::new(alloc, Expr::literal(Value::Bool(true)))?;
-    let asked = compared(alloc, balance_of(alloc, "x")?, Comparison::Equal, is)?;
-    looks.assert_faulty(&rt, alloc, &env, &asked, Cause::Kind);
+// The balances become booleans.
+fn put_booleans(alloc: Global, looks: &mut Looks) -> Result<(), AllocError> {
     for key in [-20, -3, 2, 10] {
         let balance = row(alloc, "bal", Value::Bool(key > 0))?;
         looks.put(alloc, 0, key, &balance)?;
     }
-    let found = looks.assert_rows(&rt, alloc, &env, &asked, &[2, 10])?;
+    Ok(())
+}
+
+const IS_TRUE: &str = "x.bal true =";
+
+// A boolean isn't an integer or a text, so no part is asked for, and all rows are looked at.
+#[test]
+fn a_comparison_with_a_boolean_asks_for_no_part(rt: HostRuntime) -> Result<(), Fail> {
+    let mut looks = Looks::new(rt.alloc())?;
+    looks.assert_faulty(&rt, rt.alloc(), IS_TRUE, Cause::Kind)?;
+    put_booleans(rt.alloc(), &mut looks)?;
+    let found = looks.assert_alone(&rt, rt.alloc(), IS_TRUE, &[2, 10])?;
     assert_eq!(rt; found, None);
     Ok(())
 }
 
-#[test]
-fn a_part_by_texts_goes_by_their_bytes(rt: HostRuntime) -> Result<(), Fail> {
-    let alloc = rt.alloc();
-    let mut looks = Looks::new(alloc)?;
+// The balances become texts.
+fn put_texts(alloc: Global, looks: &mut Looks) -> Result<(), AllocError> {
     for (key, name) in [(-20, "b"), (-3, "a"), (2, "ab"), (10, "")] {
         let named = row(alloc, "bal", Value::Text(text(alloc, name)?))?;
         looks.put(alloc, 0, key, &named)?;
     }
-    let cases = [
-        made(Comparison::Equal, &[2], Some(1)),
-        made(Comparison::Less, &[-3, 10], Some(3)),
-        made(Comparison::AtMost, &[-3, 2, 10], Some(3)),
-        made(Comparison::Greater, &[-20], Some(2)),
-        made(Comparison::AtLeast, &[-20, 2], Some(2)),
-    ];
-    let name = Value::Text(text(alloc, "ab")?);
-    looks.assert_cases(&rt, alloc, Attribute::Field("bal"), &name, &cases)?;
+    Ok(())
+}
+
+const BY_TEXT: [Case; 5] = [
+    ("x.bal 'ab =", "'ab x.bal =", &[2], Some(1)),
+    ("x.bal 'ab <", "'ab x.bal >", &[-3, 10], Some(3)),
+    ("x.bal 'ab <=", "'ab x.bal >=", &[-3, 2, 10], Some(3)),
+    ("x.bal 'ab >", "'ab x.bal <", &[-20], Some(2)),
+    ("x.bal 'ab >=", "'ab x.bal <=", &[-20, 2], Some(2)),
+];
+
+#[test]
+fn a_part_by_texts_goes_by_their_bytes(rt: HostRuntime) -> Result<(), Fail> {
+    let mut looks = Looks::new(rt.alloc())?;
+    put_texts(rt.alloc(), &mut looks)?;
+    looks.assert_cases(&rt, rt.alloc(), &BY_TEXT)?;
     Ok(())
 }
 
 // A fault of the other side is one of the first row, if there is a row.
 #[test]
 fn a_fault_of_the_other_side_is_one_of_the_first_row(rt: HostRuntime) -> Result<(), Fail> {
-    let alloc = rt.alloc();
-    let mut looks = Looks::new(alloc)?;
-    let env = Env::new(None, &[]);
-    for right in [false, true] {
-        let unknown = Box::new(alloc, Expr::KeyIn { part: 0 })?;
-        let asked = either_way(
-            alloc,
-            balance_of(alloc, "x")?,
-            Comparison::Less,
-            unknown,
-            right,
-        )?;
-        looks.assert_faulty(&rt, alloc, &env, &asked, Cause::NoParameter);
-        let rows = selected_rows(alloc, "x", 2, &asked, &env, &mut looks.parts)?;
-        assert_keys(&rt, &rows, &[]);
+    let mut looks = Looks::new(rt.alloc())?;
+    for asked in ["x.bal key_in_0 <", "key_in_0 x.bal >"] {
+        looks.assert_faulty(&rt, rt.alloc(), asked, Cause::NoParameter)?;
+        looks.assert_nowhere(&rt, rt.alloc(), asked)?;
     }
     Ok(())
 }
 
 #[test]
 fn a_part_of_a_class_without_objects_is_empty(rt: HostRuntime) -> Result<(), Fail> {
-    let alloc = rt.alloc();
-    let mut looks = Looks::new(alloc)?;
-    let env = Env::new(None, &[]);
-    let poor = is_poor(alloc)?;
-    let rows = selected_rows(alloc, "x", 2, &poor, &env, &mut looks.parts)?;
-    assert_keys(&rt, &rows, &[]);
+    let mut looks = Looks::new(rt.alloc())?;
+    looks.assert_nowhere(&rt, rt.alloc(), IS_POOR)?;
     assert_eq!(rt; looks.parts.found, Some(0));
+    Ok(())
+}
+
+fn assert_hidden(
+    rt: &impl Abort,
+    alloc: Global,
+    looks: &mut Looks,
+    outer: &Row,
+) -> Result<(), Halt> {
+    let env = Env::new(None, &[]);
+    let hidden = env.bound("x", 1, outer);
+    for own in ["x.bal x.key <", "x.key x.bal >"] {
+        assert_eq!(rt; looks.assert_alone(rt, alloc, own, &[10])?, None);
+        assert_eq!(rt; looks.assert_rows(rt, alloc, &hidden, own, &[10])?, None);
+    }
+    let found = looks.assert_rows(rt, alloc, &hidden, IS_POOR, &[-3])?;
+    assert_eq!(rt; found, None);
     Ok(())
 }
 
 // The other side names the row itself, even if an outer name means another row: no part is asked for.
 #[test]
 fn the_name_of_the_row_hides_an_outer_one(rt: HostRuntime) -> Result<(), Fail> {
-    let alloc = rt.alloc();
-    let mut looks = Looks::new(alloc)?;
-    let outer = account(alloc, 100)?;
-    let env = Env::new(None, &[]);
-    for right in [false, true] {
-        let balance = balance_of(alloc, "x")?;
-        let own = either_way(alloc, balance, Comparison::Less, key_of(alloc, "x")?, right)?;
-        let found = looks.assert_rows(&rt, alloc, &env, &own, &[10])?;
-        assert_eq!(rt; found, None);
-        let found = looks.assert_rows(&rt, alloc, &env.bound("x", 1, &outer), &own, &[10])?;
-        assert_eq!(rt; found, None);
-    }
-    let poor = is_poor(alloc)?;
-    let found = looks.assert_rows(&rt, alloc, &env.bound("x", 1, &outer), &poor, &[-3])?;
-    assert_eq!(rt; found, None);
+    let mut looks = Looks::new(rt.alloc())?;
+    let outer = account(rt.alloc(), 100)?;
+    assert_hidden(&rt, rt.alloc(), &mut looks, &outer)?;
 
     // Another row's balance serves as a number does.
-    let other = balance_of(alloc, "y")?;
-    let asked = compared(alloc, balance_of(alloc, "x")?, Comparison::Less, other)?;
-    let four = account(alloc, 4)?;
-    let found = looks.assert_rows(&rt, alloc, &env.bound("y", 1, &four), &asked, &[-3, 2])?;
+    let four = account(rt.alloc(), 4)?;
+    let env = Env::new(None, &[]);
+    let env = env.bound("y", 1, &four);
+    let found = looks.assert_rows(&rt, rt.alloc(), &env, "x.bal y.bal <", &[-3, 2])?;
     assert_eq!(rt; found, Some(3));
     Ok(())
 }

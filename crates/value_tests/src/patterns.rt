@@ -2,32 +2,54 @@
 
 use crate::fixtures::{account, text};
 use hp_event::{Pattern, Prim};
+use hp_value::{ClassNo, Key};
 use std::alloc::{AllocError, Global};
+use std::process::Abort;
 use std::test::Fail;
 
-fn occurrences(alloc: Global) -> Result<Vec<Prim>, AllocError> {
-    let (class, key) = (2, 7);
-    let mut all = Vec::new(alloc);
-    all.push(Prim::Create {
-        class,
-        key,
+const CLASS: ClassNo = 2;
+
+const KEY: Key = 7;
+
+fn created(alloc: Global) -> Result<Prim, AllocError> {
+    Ok(Prim::Create {
+        class: CLASS,
+        key: KEY,
         new: account(alloc, 1)?,
-    })?;
-    all.push(Prim::Update {
-        class,
-        key,
+    })
+}
+
+fn updated(alloc: Global) -> Result<Prim, AllocError> {
+    let old = account(alloc, 1)?;
+    Ok(Prim::Update {
+        class: CLASS,
+        key: KEY,
+        new: old.clone()?,
+        old,
+    })
+}
+
+fn deleted(alloc: Global) -> Result<Prim, AllocError> {
+    Ok(Prim::Delete {
+        class: CLASS,
+        key: KEY,
         old: account(alloc, 1)?,
-        new: account(alloc, 1)?,
-    })?;
-    all.push(Prim::Delete {
-        class,
-        key,
-        old: account(alloc, 1)?,
-    })?;
-    all.push(Prim::Signal {
+    })
+}
+
+fn signalled(alloc: Global) -> Result<Prim, AllocError> {
+    Ok(Prim::Signal {
         name: text(alloc, "go")?,
         args: Vec::new(alloc),
-    })?;
+    })
+}
+
+fn occurrences(alloc: Global) -> Result<Vec<Prim>, AllocError> {
+    let mut all = Vec::new(alloc);
+    all.push(created(alloc)?)?;
+    all.push(updated(alloc)?)?;
+    all.push(deleted(alloc)?)?;
+    all.push(signalled(alloc)?)?;
     all.push(Prim::Commit)?;
     all.push(Prim::Time(25))?;
     Ok(all)
@@ -42,26 +64,34 @@ fn matched(alloc: Global, pattern: &Pattern, all: &[Prim]) -> Result<String, All
     Ok(found)
 }
 
+fn expect(
+    rt: &impl Abort,
+    alloc: Global,
+    all: &[Prim],
+    pattern: Pattern,
+    wanted: &str,
+) -> Result<(), AllocError> {
+    let found = matched(alloc, &pattern, all)?;
+    assert_eq!(rt; found.as_str(), wanted, "{pattern:?}");
+    let copy = pattern.clone()?;
+    assert_eq!(rt; copy, pattern);
+    Ok(())
+}
+
 #[test]
 fn each_pattern_matches_its_own(rt: HostRuntime) -> Result<(), Fail> {
-    let alloc = rt.alloc();
-    let all = occurrences(alloc)?;
-    let cases = [
-        (Pattern::Create(2), "100000"),
-        (Pattern::Create(3), "000000"),
-        (Pattern::Update(2), "010000"),
-        (Pattern::Delete(2), "001000"),
-        (Pattern::Signal(text(alloc, "go")?), "000100"),
-        (Pattern::Signal(text(alloc, "stop")?), "000000"),
-        (Pattern::Commit, "000010"),
-        (Pattern::At(25), "000001"),
-        (Pattern::At(24), "000000"),
-    ];
-    for (pattern, wanted) in &cases {
-        let found = matched(alloc, pattern, &all)?;
-        assert_eq!(rt; found.as_str(), *wanted, "{pattern:?}");
-        assert_eq!(rt; pattern.clone()?, *pattern);
-    }
+    let all = occurrences(rt.alloc())?;
+    expect(&rt, rt.alloc(), &all, Pattern::Create(2), "100000")?;
+    expect(&rt, rt.alloc(), &all, Pattern::Create(3), "000000")?;
+    expect(&rt, rt.alloc(), &all, Pattern::Update(2), "010000")?;
+    expect(&rt, rt.alloc(), &all, Pattern::Delete(2), "001000")?;
+    let go = Pattern::Signal(text(rt.alloc(), "go")?);
+    expect(&rt, rt.alloc(), &all, go, "000100")?;
+    let stop = Pattern::Signal(text(rt.alloc(), "stop")?);
+    expect(&rt, rt.alloc(), &all, stop, "000000")?;
+    expect(&rt, rt.alloc(), &all, Pattern::Commit, "000010")?;
+    expect(&rt, rt.alloc(), &all, Pattern::At(25), "000001")?;
+    expect(&rt, rt.alloc(), &all, Pattern::At(24), "000000")?;
     Ok(())
 }
 

@@ -1,147 +1,159 @@
 //! Answers over a plain map. The expected values are worked out by hand.
 
-use crate::fixtures::{
-    accounts, assert_fault, assert_keys, balance_of, both, compared, is_above, key_of, number, put,
-    query, row, text,
-};
+use crate::fixtures::{accounts, assert_fault, assert_keys, put, query, row, text};
+use crate::postfix::expression;
 use hp_query::{PlainObjects, Query, Verdict, answer, evaluate_condition, selected_rows};
-use hp_value::{
-    Answer, Arithmetic, Cause, Comparison, Env, Expr, Halt, Key, KeyedRow, Occurrence, Value,
-};
+use hp_value::{Answer, Cause, ClassNo, Env, Halt, Key, KeyedRow, Occurrence, Value};
 use std::alloc::{AllocError, Global};
 use std::process::Abort;
 use std::test::Fail;
 
-#[test]
-fn an_answer_has_the_rows_of_one_class_by_rising_keys(rt: HostRuntime) -> Result<(), Fail> {
-    let alloc = rt.alloc();
-    let mut objects = accounts(alloc)?;
-    let env = Env::new(None, &[]);
+// The rows of a class for which a predicate on x is true.
+fn selected(
+    alloc: Global,
+    objects: &mut PlainObjects,
+    class: ClassNo,
+    predicate: &str,
+) -> Result<Vec<KeyedRow>, Halt> {
+    let predicate = expression(alloc, predicate)?;
+    selected_rows(alloc, "x", class, &predicate, &Env::new(None, &[]), objects)
+}
 
-    let positive = query(alloc, "x", 0, is_above(alloc, "x", 0)?)?;
-    let rows = answer(alloc, &positive, &env, &mut objects)?;
-    assert_keys(&rt, &rows, &[-20, 2, 10]);
+fn assert_selected(
+    rt: &impl Abort,
+    alloc: Global,
+    objects: &mut PlainObjects,
+    class: ClassNo,
+    predicate: &str,
+    keys: &[Key],
+) -> Result<(), Halt> {
+    let rows = selected(alloc, objects, class, predicate)?;
+    assert_keys(rt, &rows, keys);
+    Ok(())
+}
+
+// The answer of a query for the rows of a class, named x, for which a predicate is true.
+fn answered(
+    alloc: Global,
+    objects: &mut PlainObjects,
+    class: ClassNo,
+    predicate: &str,
+) -> Result<Vec<KeyedRow>, Halt> {
+    let asked = query(alloc, "x", class, predicate)?;
+    answer(alloc, &asked, &Env::new(None, &[]), objects)
+}
+
+fn assert_positive(rt: &impl Abort, alloc: Global, objects: &mut PlainObjects) -> Result<(), Halt> {
+    let rows = answered(alloc, objects, 0, "x.bal 0 >")?;
+    assert_keys(rt, &rows, &[-20, 2, 10]);
     for r in &rows {
         assert!(rt; objects.get(0, r.key) == Some(&r.row));
     }
+    Ok(())
+}
 
-    let all = is_above(alloc, "y", -1)?;
-    let rows = selected_rows(alloc, "y", 0, &all, &env, &mut objects)?;
-    assert_keys(&rt, &rows, &[-20, -3, 2, 10]);
-    let rows = selected_rows(alloc, "y", 1, &all, &env, &mut objects)?;
-    assert_keys(&rt, &rows, &[2, 5]);
-    let rows = selected_rows(alloc, "y", 2, &all, &env, &mut objects)?;
-    assert_keys(&rt, &rows, &[]);
+#[test]
+fn an_answer_has_the_rows_of_one_class_by_rising_keys(rt: HostRuntime) -> Result<(), Fail> {
+    let mut objects = accounts(rt.alloc())?;
+    assert_positive(&rt, rt.alloc(), &mut objects)?;
+    let cases: [(ClassNo, &[Key]); 3] = [(0, &[-20, -3, 2, 10]), (1, &[2, 5]), (2, &[])];
+    for (class, keys) in cases {
+        assert_selected(&rt, rt.alloc(), &mut objects, class, "x.bal -1 >", keys)?;
+    }
+    Ok(())
+}
+
+// The accounts, of which the one with the key 2 has a text in place of a balance.
+fn accounts_and_a_text(alloc: Global) -> Result<PlainObjects, AllocError> {
+    let mut objects = accounts(alloc)?;
+    objects.insert(0, 2, row(alloc, "bal", Value::Text(text(alloc, "much")?))?)?;
+    Ok(objects)
+}
+
+// It is true at -20, divides by zero at -3, and meets a text at 2.
+const IS_A_HALF_OF_TEN: &str = "10 x.bal / 2 =";
+
+fn assert_faults_in_turn(
+    rt: &impl Abort,
+    alloc: Global,
+    objects: &mut PlainObjects,
+) -> Result<(), Halt> {
+    let found = answered(alloc, objects, 0, IS_A_HALF_OF_TEN);
+    assert_fault(rt, found, Cause::DivideByZero);
+    assert!(rt; objects.remove(0, -3).is_some());
+    assert_fault(
+        rt,
+        answered(alloc, objects, 0, IS_A_HALF_OF_TEN),
+        Cause::Kind,
+    );
+    assert!(rt; objects.remove(0, 2).is_some());
+    assert_keys(
+        rt,
+        &answered(alloc, objects, 0, IS_A_HALF_OF_TEN)?,
+        &[-20, 10],
+    );
     Ok(())
 }
 
 #[test]
 fn an_answer_is_the_first_fault_in_key_order(rt: HostRuntime) -> Result<(), Fail> {
-    let alloc = rt.alloc();
-    let mut objects = accounts(alloc)?;
-    let env = Env::new(None, &[]);
-    let named = row(alloc, "bal", Value::Text(text(alloc, "much")?))?;
-    objects.insert(0, 2, named)?;
-
-    // 10 / bal = 2 is true at -20, divides by zero at -3, and meets a text at 2.
-    let quotient = Expr::Arithmetic(
-        Arithmetic::Quotient,
-        number(alloc, 10)?,
-        balance_of(alloc, "x")?,
-    );
-    let predicate = compared(
-        alloc,
-        Box::new(alloc, quotient)?,
-        Comparison::Equal,
-        number(alloc, 2)?,
-    )?;
-    let asked = query(alloc, "x", 0, predicate)?;
-    assert_fault(
-        &rt,
-        answer(alloc, &asked, &env, &mut objects),
-        Cause::DivideByZero,
-    );
-
-    assert!(rt; objects.remove(0, -3).is_some());
-    assert_fault(&rt, answer(alloc, &asked, &env, &mut objects), Cause::Kind);
-
-    assert!(rt; objects.remove(0, 2).is_some());
-    let rows = answer(alloc, &asked, &env, &mut objects)?;
-    assert_keys(&rt, &rows, &[-20, 10]);
+    let mut objects = accounts_and_a_text(rt.alloc())?;
+    assert_faults_in_turn(&rt, rt.alloc(), &mut objects)?;
     Ok(())
 }
 
 #[test]
 fn a_predicate_that_is_no_boolean_is_a_fault(rt: HostRuntime) -> Result<(), Fail> {
-    let alloc = rt.alloc();
-    let mut objects = accounts(alloc)?;
-    let env = Env::new(None, &[]);
-    let asked = query(alloc, "x", 1, balance_of(alloc, "x")?)?;
-    assert_fault(&rt, answer(alloc, &asked, &env, &mut objects), Cause::Kind);
-    let nowhere = query(alloc, "x", 3, balance_of(alloc, "x")?)?;
-    let rows = answer(alloc, &nowhere, &env, &mut objects)?;
-    assert_keys(&rt, &rows, &[]);
+    let mut objects = accounts(rt.alloc())?;
+    assert_fault(
+        &rt,
+        answered(rt.alloc(), &mut objects, 1, "x.bal"),
+        Cause::Kind,
+    );
+    assert_keys(&rt, &answered(rt.alloc(), &mut objects, 3, "x.bal")?, &[]);
     Ok(())
 }
 
-// The row's key equals a value, with the key on either side.
-fn is_key(
-    alloc: Global,
-    variable: &str,
-    wanted: Box<Expr>,
-    turned: bool,
-) -> Result<Box<Expr>, AllocError> {
-    let key = key_of(alloc, variable)?;
-    if turned {
-        return compared(alloc, wanted, Comparison::Equal, key);
-    }
-    compared(alloc, key, Comparison::Equal, wanted)
-}
+// Rows with a key, on either side, whose balance is positive.
+const BY_KEY: [(&str, &[Key]); 6] = [
+    ("x.key 10 = x.bal 0 > and", &[10]),
+    ("10 x.key = x.bal 0 > and", &[10]),
+    ("x.key -3 = x.bal 0 > and", &[]),
+    ("-3 x.key = x.bal 0 > and", &[]),
+    ("x.key 3 = x.bal 0 > and", &[]),
+    ("3 x.key = x.bal 0 > and", &[]),
+];
 
-fn of_key(
-    alloc: Global,
-    objects: &mut PlainObjects,
-    wanted: i64,
-    turned: bool,
-) -> Result<Vec<KeyedRow>, Halt> {
-    let key = is_key(alloc, "x", number(alloc, wanted)?, turned)?;
-    let predicate = both(alloc, key, is_above(alloc, "x", 0)?)?;
-    selected_rows(alloc, "x", 0, &predicate, &Env::new(None, &[]), objects)
+fn assert_one_key(rt: &impl Abort, alloc: Global, objects: &mut PlainObjects) -> Result<(), Halt> {
+    for (predicate, keys) in &BY_KEY {
+        assert_selected(rt, alloc, objects, 0, predicate, keys)?;
+    }
+    Ok(())
 }
 
 // What follows the key is evaluated for its row alone: the row at 2 has a text, above which nothing is.
 #[test]
 fn a_query_for_one_key_tests_its_row_alone(rt: HostRuntime) -> Result<(), Fail> {
-    let alloc = rt.alloc();
-    let mut objects = accounts(alloc)?;
-    let named = row(alloc, "bal", Value::Text(text(alloc, "much")?))?;
-    objects.insert(0, 2, named)?;
-    for turned in [false, true] {
-        assert_keys(&rt, &of_key(alloc, &mut objects, 10, turned)?, &[10]);
-        assert_keys(&rt, &of_key(alloc, &mut objects, -3, turned)?, &[]);
-        assert_keys(&rt, &of_key(alloc, &mut objects, 3, turned)?, &[]);
-        assert_fault(&rt, of_key(alloc, &mut objects, 2, turned), Cause::Kind);
-    }
+    let mut objects = accounts_and_a_text(rt.alloc())?;
+    assert_one_key(&rt, rt.alloc(), &mut objects)?;
+    let found = selected(rt.alloc(), &mut objects, 0, "x.key 2 = x.bal 0 > and");
+    assert_fault(&rt, found, Cause::Kind);
+    let found = selected(rt.alloc(), &mut objects, 0, "2 x.key = x.bal 0 > and");
+    assert_fault(&rt, found, Cause::Kind);
     Ok(())
 }
 
 // A fault of the value compared with the key is a fault of the first row, if there is one.
 #[test]
 fn a_fault_of_the_key_is_one_of_the_first_row(rt: HostRuntime) -> Result<(), Fail> {
-    let alloc = rt.alloc();
-    let mut objects = accounts(alloc)?;
-    let env = Env::new(None, &[]);
-    let unknown = Expr::KeyIn { part: 0 };
-    let predicate = is_key(alloc, "x", Box::new(alloc, unknown)?, false)?;
-    let found = selected_rows(alloc, "x", 0, &predicate, &env, &mut objects);
+    let mut objects = accounts(rt.alloc())?;
+    let unknown = "x.key key_in_0 =";
+    let found = selected(rt.alloc(), &mut objects, 0, unknown);
     assert_fault(&rt, found, Cause::NoParameter);
-    let rows = selected_rows(alloc, "x", 2, &predicate, &env, &mut objects)?;
-    assert_keys(&rt, &rows, &[]);
-
+    assert_selected(&rt, rt.alloc(), &mut objects, 2, unknown, &[])?;
     // Each row's key equals its own key, so all rows are answers.
-    let own = is_key(alloc, "x", key_of(alloc, "x")?, false)?;
-    let rows = selected_rows(alloc, "x", 0, &own, &env, &mut objects)?;
-    assert_keys(&rt, &rows, &[-20, -3, 2, 10]);
+    let own = "x.key x.key =";
+    assert_selected(&rt, rt.alloc(), &mut objects, 0, own, &[-20, -3, 2, 10])?;
     Ok(())
 }
 
@@ -169,15 +181,9 @@ fn assert_answer(rt: &impl Abort, answer: Option<&Answer>, name: &str, wanted: &
 
 // x: -20, 2 and 10, the first of which has the balance 5; y: those of class 1 above it.
 fn two_queries(alloc: Global) -> Result<Vec<Query>, AllocError> {
-    let richer = compared(
-        alloc,
-        balance_of(alloc, "y")?,
-        Comparison::Greater,
-        balance_of(alloc, "x")?,
-    )?;
     let mut queries = Vec::new(alloc);
-    queries.push(query(alloc, "x", 0, is_above(alloc, "x", 0)?)?)?;
-    queries.push(query(alloc, "y", 1, richer)?)?;
+    queries.push(query(alloc, "x", 0, "x.bal 0 >")?)?;
+    queries.push(query(alloc, "y", 1, "y.bal x.bal >")?)?;
     Ok(queries)
 }
 
@@ -212,30 +218,34 @@ fn a_later_query_may_name_the_first_row_of_an_earlier_one(rt: HostRuntime) -> Re
     Ok(())
 }
 
+// The first has an empty answer while no balance is above 100, and the second has a fault.
+fn empty_and_faulty(alloc: Global) -> Result<Vec<Query>, AllocError> {
+    let mut queries = Vec::new(alloc);
+    queries.push(query(alloc, "x", 0, "x.bal 100 >")?)?;
+    queries.push(query(alloc, "y", 1, "y.bal")?)?;
+    Ok(queries)
+}
+
+fn assert_ends(
+    rt: &impl Abort,
+    alloc: Global,
+    queries: &[Query],
+    objects: &mut PlainObjects,
+) -> Result<(), AllocError> {
+    assert!(rt; matches!(verdict(alloc, &[], objects)?, Verdict::Satisfied(_)));
+    let found = verdict(alloc, queries, objects)?;
+    assert!(rt; matches!(found, Verdict::Unsatisfied));
+    put(alloc, objects, 0, 0, 101)?;
+    let found = verdict(alloc, queries, objects)?;
+    assert!(rt; matches!(found, Verdict::Faulty(Cause::Kind)));
+    Ok(())
+}
+
 #[test]
 fn a_condition_ends_at_its_first_empty_answer_or_fault(rt: HostRuntime) -> Result<(), Fail> {
-    let alloc = rt.alloc();
-    let mut objects = accounts(alloc)?;
-    assert!(rt; matches!(verdict(alloc, &[], &mut objects)?, Verdict::Satisfied(_)));
-
-    // The first empty answer ends the condition, before the fault of the second query.
-    let mut queries = Vec::new(alloc);
-    queries.push(query(alloc, "x", 0, is_above(alloc, "x", 100)?)?)?;
-    queries.push(query(alloc, "y", 1, balance_of(alloc, "y")?)?)?;
-    assert!(rt;
-        matches!(
-            verdict(alloc, &queries, &mut objects)?,
-            Verdict::Unsatisfied
-        )
-    );
-
-    put(alloc, &mut objects, 0, 0, 101)?;
-    assert!(rt;
-        matches!(
-            verdict(alloc, &queries, &mut objects)?,
-            Verdict::Faulty(Cause::Kind)
-        )
-    );
+    let queries = empty_and_faulty(rt.alloc())?;
+    let mut objects = accounts(rt.alloc())?;
+    assert_ends(&rt, rt.alloc(), &queries, &mut objects)?;
     Ok(())
 }
 
@@ -247,7 +257,7 @@ fn a_refused_allocation_is_reported(rt: HostRuntime) {
     let Ok(mut objects) = accounts(alloc) else {
         return;
     };
-    let Ok(predicate) = is_above(alloc, "x", 0) else {
+    let Ok(predicate) = expression(alloc, "x.bal 0 >") else {
         return;
     };
     let mut refused = 0u8;

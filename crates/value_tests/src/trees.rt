@@ -6,7 +6,8 @@ use hp_tree::{
     replay,
 };
 use hp_value::{Cause, ClassNo, Coupling, Key, RuleOperation, Value};
-use std::alloc::Global;
+use std::alloc::{AllocError, Global};
+use std::process::Abort;
 use std::test::Fail;
 
 /// The class `acct`, whose one field is `bal`.
@@ -46,11 +47,15 @@ fn up(alloc: Global, balance: i64, end: Ending, more: Option<Item>) -> Result<It
     }))
 }
 
-/// The tree of the depth limit: each update fires the rule again, and the third firing is too deep.
-fn depth_limit(alloc: Global) -> Result<Vec<Item>, Fail> {
+/// Three firings of the rule, one inside another, the third of which is too deep.
+fn three_firings(alloc: Global) -> Result<Item, Fail> {
     let third = up(alloc, 4, Ending::Aborted(Cause::Depth), None)?;
     let second = up(alloc, 3, Ending::Committed, Some(third))?;
-    let first = up(alloc, 2, Ending::Committed, Some(second))?;
+    up(alloc, 2, Ending::Committed, Some(second))
+}
+
+/// The tree of the depth limit: each update fires the rule again.
+fn depth_limit(alloc: Global) -> Result<Vec<Item>, Fail> {
     let mut tree = Vec::new(alloc);
     tree.push(Item::Operation(Operation::OnRule {
         operation: RuleOperation::Install,
@@ -58,7 +63,7 @@ fn depth_limit(alloc: Global) -> Result<Vec<Item>, Fail> {
     }))?;
     tree.push(Item::Operation(create(alloc, 1, 0)?))?;
     tree.push(Item::Operation(update(alloc, 1, 1)?))?;
-    tree.push(first)?;
+    tree.push(three_firings(alloc)?)?;
     Ok(tree)
 }
 
@@ -67,38 +72,55 @@ fn balance(objects: &Objects, key: Key) -> Option<i64> {
     objects.get(ACCT, key)?.field("bal").ok()?.as_int().ok()
 }
 
-#[test]
-fn a_replay_leaves_out_the_firing_that_is_too_deep(rt: HostRuntime) -> Result<(), Fail> {
-    let tree = depth_limit(rt.alloc())?;
-    let objects = replay(Objects::new(rt.alloc()), &tree)?;
-    assert_eq!(rt; objects.len(), 1);
-    assert!(rt; !objects.is_empty());
-    assert_eq!(rt; balance(&objects, 1), Some(3));
-    for (name, _) in objects.iter() {
-        assert_eq!(rt; (name.class, name.key), (ACCT, 1));
+/// There are objects of the class `acct` with these keys, and no others.
+fn assert_keys(rt: &impl Abort, objects: &Objects, wanted: &[Key]) {
+    assert_eq!(rt; objects.len(), wanted.len());
+    for ((name, _), key) in objects.iter().zip(wanted) {
+        assert_eq!(rt; (name.class, name.key), (ACCT, *key));
     }
-    Ok(())
+}
+
+/// The objects after the tree of the depth limit.
+fn limited(alloc: Global) -> Result<Objects, Fail> {
+    let tree = depth_limit(alloc)?;
+    Ok(replay(Objects::new(alloc), &tree)?)
 }
 
 #[test]
-fn a_replay_goes_over_the_objects_before_it(rt: HostRuntime) -> Result<(), Fail> {
-    let mut objects = Objects::new(rt.alloc());
+fn a_replay_leaves_out_the_firing_that_is_too_deep(rt: HostRuntime) -> Result<(), Fail> {
+    let objects = limited(rt.alloc())?;
+    assert_keys(&rt, &objects, &[1]);
+    assert!(rt; !objects.is_empty());
+    assert_eq!(rt; balance(&objects, 1), Some(3));
+    Ok(())
+}
+
+/// Objects -20 and -3, and one more that is removed again.
+fn two_accounts(alloc: Global) -> Result<Objects, AllocError> {
+    let mut objects = Objects::new(alloc);
     for (key, balance) in [(-20, 1), (-3, 2), (2, 3)] {
-        objects.insert(ACCT, key, account(rt.alloc(), balance)?)?;
+        objects.insert(ACCT, key, account(alloc, balance)?)?;
     }
     objects.remove(ACCT, 2);
-    let mut tree = Vec::new(rt.alloc());
+    Ok(objects)
+}
+
+/// A tree that deletes object -20 and creates object 10.
+fn delete_and_create(alloc: Global) -> Result<Vec<Item>, Fail> {
+    let mut tree = Vec::new(alloc);
     tree.push(Item::Operation(Operation::Delete {
         class: ACCT,
         key: -20,
     }))?;
-    tree.push(Item::Operation(create(rt.alloc(), 10, 4)?))?;
-    let objects = replay(objects, &tree)?;
-    let mut keys = Vec::new(rt.alloc());
-    for (name, _) in objects.iter() {
-        keys.push(name.key)?;
-    }
-    assert_eq!(rt; keys.as_slice(), [-3, 10].as_slice());
+    tree.push(Item::Operation(create(alloc, 10, 4)?))?;
+    Ok(tree)
+}
+
+#[test]
+fn a_replay_goes_over_the_objects_before_it(rt: HostRuntime) -> Result<(), Fail> {
+    let tree = delete_and_create(rt.alloc())?;
+    let objects = replay(two_accounts(rt.alloc())?, &tree)?;
+    assert_keys(&rt, &objects, &[-3, 10]);
     assert_eq!(rt; balance(&objects, -3), Some(2));
     assert_eq!(rt; balance(&objects, 10), Some(4));
     Ok(())

@@ -57,13 +57,17 @@ fn attempt(
         task,
         reads,
         layer,
-        outcome: Outcome {
-            end: None,
-            queued: Vec::new(alloc),
-            detached: Vec::new(alloc),
-            tree: Vec::new(alloc),
-        },
+        outcome: no_outcome(alloc),
     })
+}
+
+fn no_outcome(alloc: Global) -> Outcome {
+    Outcome {
+        end: None,
+        queued: Vec::new(alloc),
+        detached: Vec::new(alloc),
+        tree: Vec::new(alloc),
+    }
 }
 
 // Settles the task of a rule at a depth by an attempt.
@@ -308,12 +312,15 @@ fn settled_front(
     let tasks = tasks(alloc)?;
     let tried = attempts(alloc, view, places)?;
     let (outcomes, left) = settle_front(alloc, view, &tasks, tried, stop_at_veto)?;
-    let first = match left.front() {
+    Ok((outcomes.len(), left.len(), first_rule(&left)))
+}
+
+fn first_rule(left: &Attempts) -> Option<Option<RuleNo>> {
+    match left.front() {
         Some(Some(attempt)) => Some(Some(attempt.task.rule)),
         Some(None) => Some(None),
         None => None,
-    };
-    Ok((outcomes.len(), left.len(), first))
+    }
 }
 
 // Settles the front of a bank: the counts, and the balances that three attempts set.

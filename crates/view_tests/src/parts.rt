@@ -101,6 +101,11 @@ fn ask_through_layers(rt: &impl Abort, alloc: Global, store: &Store) -> Result<(
     Ok(())
 }
 
+fn ask_after_folding(rt: &impl Abort, alloc: Global, store: &mut Store) -> Result<(), Fail> {
+    write(alloc, store, &[], &[90])?;
+    expect(rt, alloc, store, &by_key(Some(80), None), &[81])
+}
+
 fn ask_before_and_after_folding(
     rt: &impl Abort,
     alloc: Global,
@@ -110,8 +115,7 @@ fn ask_before_and_after_folding(
     write_nine_layers(alloc, store)?;
     ask_through_layers(rt, alloc, store)?;
     drop(before);
-    write(alloc, store, &[], &[90])?;
-    expect(rt, alloc, store, &by_key(Some(80), None), &[81])
+    ask_after_folding(rt, alloc, store)
 }
 
 #[test]
@@ -194,22 +198,36 @@ fn ask_by_balance(rt: &impl Abort, alloc: Global, store: &Store) -> Result<(), F
     expect(rt, alloc, store, &by_balance(4, 2), &[])
 }
 
+/// The store of ten, with an index of a field.
+fn indexed_store(alloc: Global, field: &str) -> Result<Store, AllocError> {
+    let mut store = store_of_ten(alloc)?;
+    store.keep_index(alloc, CLASS, field)?;
+    Ok(store)
+}
+
+fn change_and_ask(rt: &impl Abort, alloc: Global, store: &mut Store) -> Result<(), Fail> {
+    change_balances(alloc, store)?;
+    ask_by_balance(rt, alloc, store)
+}
+
 #[test]
 fn a_part_by_a_field_is_found_in_the_base(rt: HostRuntime) -> Result<(), Fail> {
-    let mut store = store_of_ten(rt.alloc())?;
-    store.keep_index(rt.alloc(), CLASS, "bal")?;
-    change_balances(rt.alloc(), &mut store)?;
-    ask_by_balance(&rt, rt.alloc(), &store)
+    let mut store = indexed_store(rt.alloc(), "bal")?;
+    change_and_ask(&rt, rt.alloc(), &mut store)
+}
+
+fn index_later(rt: &impl Abort, alloc: Global, store: &mut Store) -> Result<(), Fail> {
+    change_balances(alloc, store)?;
+    store.keep_index(alloc, CLASS, "bal")?;
+    store.keep_index(alloc, CLASS, "bal")?;
+    ask_by_balance(rt, alloc, store)
 }
 
 /// The index is made of what the store has by then.
 #[test]
 fn an_index_is_made_later(rt: HostRuntime) -> Result<(), Fail> {
     let mut store = store_of_ten(rt.alloc())?;
-    change_balances(rt.alloc(), &mut store)?;
-    store.keep_index(rt.alloc(), CLASS, "bal")?;
-    store.keep_index(rt.alloc(), CLASS, "bal")?;
-    ask_by_balance(&rt, rt.alloc(), &store)
+    index_later(&rt, rt.alloc(), &mut store)
 }
 
 fn ask_without(rt: &impl Abort, alloc: Global, store: &Store) -> Result<(), Fail> {
@@ -220,21 +238,27 @@ fn ask_without(rt: &impl Abort, alloc: Global, store: &Store) -> Result<(), Fail
 
 #[test]
 fn without_an_index_no_part_is_found(rt: HostRuntime) -> Result<(), Fail> {
-    let mut store = store_of_ten(rt.alloc())?;
-    store.keep_index(rt.alloc(), CLASS, "name")?;
+    let store = indexed_store(rt.alloc(), "name")?;
     ask_without(&rt, rt.alloc(), &store)
+}
+
+fn index_while_shared(rt: &impl Abort, alloc: Global, store: &mut Store) -> Result<(), Fail> {
+    let _before = store.snapshot()?;
+    store.keep_index(alloc, CLASS, "bal")?;
+    ask_without(rt, alloc, store)
+}
+
+fn index_alone(rt: &impl Abort, alloc: Global, store: &mut Store) -> Result<(), Fail> {
+    store.keep_index(alloc, CLASS, "bal")?;
+    expect(rt, alloc, store, &by_balance(2, 3), &[20, 30])
 }
 
 /// While somebody holds the base, no index of it is made.
 #[test]
 fn a_shared_base_gets_no_index(rt: HostRuntime) -> Result<(), Fail> {
     let mut store = store_of_ten(rt.alloc())?;
-    let before = store.snapshot()?;
-    store.keep_index(rt.alloc(), CLASS, "bal")?;
-    ask_without(&rt, rt.alloc(), &store)?;
-    drop(before);
-    store.keep_index(rt.alloc(), CLASS, "bal")?;
-    expect(&rt, rt.alloc(), &store, &by_balance(2, 3), &[20, 30])
+    index_while_shared(&rt, rt.alloc(), &mut store)?;
+    index_alone(&rt, rt.alloc(), &mut store)
 }
 
 fn ask_balances_through_layers(
@@ -242,47 +266,68 @@ fn ask_balances_through_layers(
     alloc: Global,
     store: &mut Store,
 ) -> Result<(), Fail> {
-    let before = store.snapshot()?;
     write_nine_layers(alloc, store)?;
     expect(rt, alloc, store, &by_balance(2, 4), &[21, 31, 41])?;
     change_balances(alloc, store)?;
-    expect(rt, alloc, store, &by_balance(2, 4), &[21, 26, 31, 41, 70])?;
-    drop(before);
+    expect(rt, alloc, store, &by_balance(2, 4), &[21, 26, 31, 41, 70])
+}
+
+fn ask_balances_after_folding(
+    rt: &impl Abort,
+    alloc: Global,
+    store: &mut Store,
+) -> Result<(), Fail> {
     write(alloc, store, &[], &[31])?;
     expect(rt, alloc, store, &by_balance(2, 4), &[21, 26, 41, 70])
 }
 
 #[test]
 fn a_part_by_a_field_is_found_through_layers(rt: HostRuntime) -> Result<(), Fail> {
-    let mut store = store_of_ten(rt.alloc())?;
-    store.keep_index(rt.alloc(), CLASS, "bal")?;
-    ask_balances_through_layers(&rt, rt.alloc(), &mut store)
+    let mut store = indexed_store(rt.alloc(), "bal")?;
+    let before = store.snapshot()?;
+    ask_balances_through_layers(&rt, rt.alloc(), &mut store)?;
+    drop(before);
+    ask_balances_after_folding(&rt, rt.alloc(), &mut store)
+}
+
+fn set_in(alloc: Global, writes: &mut Layer, key: Key, value: i64) -> Result<(), AllocError> {
+    drop(writes.insert(object(key), Some(balance(alloc, value)?))?);
+    Ok(())
+}
+
+/// Changes a layer that has an index.
+fn write_long(alloc: Global, writes: &mut Layer) -> Result<(), AllocError> {
+    writes.keep_index(alloc, CLASS, "bal")?;
+    set_in(alloc, writes, 7, 50)?;
+    drop(writes.insert(object(49), None)?);
+    drop(writes.insert(object(51), None)?);
+    drop(writes.remove(object(51)));
+    Ok(())
 }
 
 /// A layer of many changes has an index of its own, which its later changes go into.
-fn ask_a_long_layer(rt: &impl Abort, alloc: Global, store: &Store) -> Result<(), Fail> {
-    let mut writes = many(alloc, 100)?;
-    writes.keep_index(alloc, CLASS, "bal")?;
-    let _ = writes.insert(object(7), Some(balance(alloc, 50)?))?;
-    let _ = writes.insert(object(49), None)?;
-    let _ = writes.insert(object(51), None)?;
-    let _ = writes.remove(object(51));
-    let snapshot = store.snapshot()?;
-    assert!(rt; finds(alloc, &snapshot, &writes, &by_balance(49, 51), &[7, 50])?);
-    let _ = writes.insert(object(7), Some(balance(alloc, 7)?))?;
-    assert!(rt; finds(alloc, &snapshot, &writes, &by_balance(49, 51), &[50])?);
+fn ask_a_long_layer(
+    rt: &impl Abort,
+    alloc: Global,
+    snapshot: &Snapshot,
+    writes: &mut Layer,
+) -> Result<(), Fail> {
+    write_long(alloc, writes)?;
+    assert!(rt; finds(alloc, snapshot, writes, &by_balance(49, 51), &[7, 50])?);
+    set_in(alloc, writes, 7, 7)?;
+    assert!(rt; finds(alloc, snapshot, writes, &by_balance(49, 51), &[50])?);
     Ok(())
 }
 
 #[test]
 fn a_long_layer_is_asked_by_a_field(rt: HostRuntime) -> Result<(), Fail> {
-    let mut store = store_of_ten(rt.alloc())?;
-    store.keep_index(rt.alloc(), CLASS, "bal")?;
-    ask_a_long_layer(&rt, rt.alloc(), &store)
+    let snapshot = indexed_store(rt.alloc(), "bal")?.snapshot()?;
+    let mut writes = many(rt.alloc(), 100)?;
+    ask_a_long_layer(&rt, rt.alloc(), &snapshot, &mut writes)
 }
 
 /// Objects 1 to 5, which have names. Those of 3 and 4 begin with the same 40 bytes.
-fn store_of_names(alloc: Global) -> Result<Store, AllocError> {
+fn names(alloc: Global) -> Result<Layer, AllocError> {
     let mut layer = Layer::new(alloc);
     for (key, text) in [
         (1i64, "ann"),
@@ -291,8 +336,13 @@ fn store_of_names(alloc: Global) -> Result<Store, AllocError> {
         (4, "a name that is longer than forty bytes, two"),
         (5, ""),
     ] {
-        let _ = layer.insert(object(key), Some(name(alloc, text)?))?;
+        drop(layer.insert(object(key), Some(name(alloc, text)?))?);
     }
+    Ok(layer)
+}
+
+fn store_of_names(alloc: Global) -> Result<Store, AllocError> {
+    let layer = names(alloc)?;
     let mut store = Store::empty(alloc)?;
     store.keep_index(alloc, CLASS, "name")?;
     store.apply(alloc, Arc::new(alloc, layer)?)?;

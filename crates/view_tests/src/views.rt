@@ -5,7 +5,7 @@ ghost use Rattle.std.specs.Prelude.{◌≡◌, []};
 use crate::fixtures::{balance, balance_in, bank, changes, object, set, shown};
 use hp_query::{Query, answer};
 use hp_store::{Layer, Snapshot};
-use hp_value::{Cell, Comparison, Env, Expr, Key, KeyedRow, Value};
+use hp_value::{Cell, Comparison, Env, Expr, Key, KeyedRow, ObjectList, Value};
 use hp_view::{Found, Reads, Seen, View};
 use std::alloc::{AllocError, Global};
 use std::process::Abort;
@@ -134,12 +134,17 @@ fn assert_frozen(rt: &impl Abort, alloc: Global, frozen: &[Snapshot]) -> Result<
     Ok(())
 }
 
+fn freeze_twenty_times(rt: &impl Abort, alloc: Global, view: &mut View) -> Result<(), AllocError> {
+    let frozen = frozen_after_each_write(alloc, view)?;
+    assert_frozen(rt, alloc, &frozen)?;
+    assert_eq!(rt; view.keys(alloc, 0)?.len(), 23);
+    Ok(())
+}
+
 #[test]
 fn frozen_twenty_times_with_a_write_before_each(rt: HostRuntime) -> Result<(), Fail> {
     let mut view = bank(rt.alloc())?;
-    let frozen = frozen_after_each_write(rt.alloc(), &mut view)?;
-    assert_frozen(&rt, rt.alloc(), &frozen)?;
-    assert_eq!(rt; view.keys(rt.alloc(), 0)?.len(), 23);
+    freeze_twenty_times(&rt, rt.alloc(), &mut view)?;
     Ok(())
 }
 
@@ -167,18 +172,23 @@ fn assert_all(
     view: &mut View,
     wanted: &[(Key, i64)],
 ) -> Result<(), Fail> {
-    let rows = answer(alloc, &all_rows(alloc)?, &Env::new(None, &[]), view)?;
+    let asked = all_rows(alloc)?;
+    let rows = answer(alloc, &asked, &Env::new(None, &[]), view)?;
     assert_rows(rt, &rows, wanted);
     Ok(())
+}
+
+fn ask_after_the_keys(rt: &impl Abort, alloc: Global, view: &mut View) -> Result<(), Fail> {
+    view.read_keys(alloc, 0)?;
+    set(alloc, view, 2, 6)?;
+    assert_all(rt, alloc, view, &[(-3, 97), (2, 6), (10, 110)])
 }
 
 // Where the keys were read alone, each row is read by itself, and the row that the view wrote is no read.
 #[test]
 fn a_query_over_a_view(rt: HostRuntime) -> Result<(), Fail> {
     let mut view = bank(rt.alloc())?;
-    view.read_keys(rt.alloc(), 0)?;
-    set(rt.alloc(), &mut view, 2, 6)?;
-    assert_all(&rt, rt.alloc(), &mut view, &[(-3, 97), (2, 6), (10, 110)])?;
+    ask_after_the_keys(&rt, rt.alloc(), &mut view)?;
     let (reads, _) = view.into_parts();
     let wanted = [
         (Seen::Keys(0), None, 3),
@@ -190,20 +200,19 @@ fn a_query_over_a_view(rt: HostRuntime) -> Result<(), Fail> {
 }
 
 // Changes an object, makes two and deletes one.
-fn write_four(alloc: Global, view: &mut View) -> Result<(), AllocError> {
-    set(alloc, view, 2, 6)?;
-    set(alloc, view, -9, 6)?;
-    set(alloc, view, 7, 6)?;
-    view.cut(object(10))
+fn ask_after_four_writes(rt: &impl Abort, alloc: Global, view: &mut View) -> Result<(), Fail> {
+    for key in [2, -9, 7] {
+        set(alloc, view, key, 6)?;
+    }
+    view.cut(object(10))?;
+    assert_all(rt, alloc, view, &[(-9, 6), (-3, 97), (2, 6), (7, 6)])
 }
 
 // The class is one read, as it stands beneath the writes.
 #[test]
 fn a_class_that_was_written_is_read_as_a_whole(rt: HostRuntime) -> Result<(), Fail> {
     let mut view = bank(rt.alloc())?;
-    write_four(rt.alloc(), &mut view)?;
-    let all = [(-9, 6), (-3, 97), (2, 6), (7, 6)];
-    assert_all(&rt, rt.alloc(), &mut view, &all)?;
+    ask_after_four_writes(&rt, rt.alloc(), &mut view)?;
     let (reads, _) = view.into_parts();
     assert_reads(&rt, &reads, &[(Seen::Keys(0), None, 3)]);
     Ok(())
@@ -267,25 +276,41 @@ fn what_is_got_after_the_keys_alone_is_read(rt: HostRuntime) -> Result<(), Fail>
     Ok(())
 }
 
-// A query for the row of class 0 with a key.
-fn of_key(alloc: Global, key: Key) -> Result<Query, AllocError> {
+// The key of x is this one.
+fn is_key(alloc: Global, key: Key) -> Result<Box<Expr>, AllocError> {
     let variable = String::from_str(alloc, "x")?;
     let own = Box::new(alloc, Expr::KeyOf { variable })?;
     let wanted = Box::new(alloc, Expr::literal(Value::Int(key)))?;
-    let predicate = Expr::Comparison(Comparison::Equal, own, wanted);
+    Ok(Box::new(alloc, Expr::Comparison(Comparison::Equal, own, wanted))?)
+}
+
+// A query for the row of class 0 with a key.
+fn of_key(alloc: Global, key: Key) -> Result<Query, AllocError> {
+    let predicate = is_key(alloc, key)?;
+    let name = String::from_str(alloc, "x")?;
     Ok(Query {
-        name: String::from_str(alloc, "x")?,
+        name,
         class: 0,
-        predicate: Box::new(alloc, predicate)?,
+        predicate,
     })
 }
 
-fn look_at_two_keys(rt: &impl Abort, alloc: Global, view: &mut View) -> Result<(), Fail> {
-    let rows = answer(alloc, &of_key(alloc, 2)?, &Env::new(None, &[]), view)?;
-    assert_rows(rt, &rows, &[(2, 102)]);
-    let rows = answer(alloc, &of_key(alloc, 3)?, &Env::new(None, &[]), view)?;
-    assert_rows(rt, &rows, &[]);
+fn assert_of_key(
+    rt: &impl Abort,
+    alloc: Global,
+    view: &mut View,
+    key: Key,
+    wanted: &[(Key, i64)],
+) -> Result<(), Fail> {
+    let asked = of_key(alloc, key)?;
+    let rows = answer(alloc, &asked, &Env::new(None, &[]), view)?;
+    assert_rows(rt, &rows, wanted);
     Ok(())
+}
+
+fn look_at_two_keys(rt: &impl Abort, alloc: Global, view: &mut View) -> Result<(), Fail> {
+    assert_of_key(rt, alloc, view, 2, &[(2, 102)])?;
+    assert_of_key(rt, alloc, view, 3, &[])
 }
 
 #[test]
@@ -301,25 +326,32 @@ fn a_query_for_one_key_reads_one_cell(rt: HostRuntime) -> Result<(), Fail> {
     Ok(())
 }
 
-fn assert_whole(rt: &impl Abort, alloc: Global, view: &mut View) -> Result<(), Fail> {
-    let Some(all) = view.objects(alloc, 0)? else {
-        panic!(rt; "no list of the class");
-    };
-    assert!(rt; view.has_objects(0, &all));
+// The list is that of the view's class as the view stands.
+fn assert_whole(
+    rt: &impl Abort,
+    alloc: Global,
+    view: &mut View,
+    all: &ObjectList,
+) -> Result<(), AllocError> {
+    assert!(rt; view.has_objects(0, all));
     set(alloc, view, 2, 6)?;
-    assert!(rt; !view.has_objects(0, &all));
+    assert!(rt; !view.has_objects(0, all));
     assert!(rt; view.objects(alloc, 0)?.is_none());
     set(alloc, view, 2, 102)?;
-    assert!(rt; view.has_objects(0, &all));
+    assert!(rt; view.has_objects(0, all));
     view.cut(object(2))?;
-    assert!(rt; !view.has_objects(0, &all));
+    assert!(rt; !view.has_objects(0, all));
     Ok(())
 }
 
 #[test]
 fn the_objects_of_a_class_are_compared_row_by_row(rt: HostRuntime) -> Result<(), Fail> {
     let mut view = bank(rt.alloc())?;
-    assert_whole(&rt, rt.alloc(), &mut view)
+    let Some(all) = view.objects(rt.alloc(), 0)? else {
+        return Err(Fail::from("no list of the class"));
+    };
+    assert_whole(&rt, rt.alloc(), &mut view, &all)?;
+    Ok(())
 }
 
 /// A layer that writes two cells and empties one.
