@@ -19,7 +19,7 @@ ghost use Rattle.hp_ops.specs.Notified.{OnlySteps, Shares, StepsOn, condition_ta
 ghost use Rattle.hp_ops.specs.Reading.{ReadsMore};
 
 use crate::finding::find_status;
-use crate::steps::Steps;
+use crate::steps::DetectorSteps;
 use hp_detect::{EventExpr, Knowledge, is_pure, occurs_now};
 use hp_rule::{Library, Rule, Step, Task};
 use hp_store::{CellValue, Status};
@@ -62,7 +62,7 @@ pub(crate) fn notify_all(
 {
     let notice = Notice { prim, depth };
     let mut tasks = Vec::new(alloc);
-    let mut steps = Steps::Nothing;
+    let mut steps = DetectorSteps::Nothing;
     let mut shared = None;
     for number in lib.listed(prim) {
         if !lib.is_mentioned(*number, prim) {

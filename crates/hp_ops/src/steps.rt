@@ -16,13 +16,13 @@ use std::alloc::{AllocError, Global};
 ///
 /// There is mostly one. A layer is made for two or more.
 #[derive(Drop)]
-pub(crate) enum Steps {
+pub(crate) enum DetectorSteps {
     Nothing,
     One(RuleNo, Knowledge),
     Several(Layer),
 }
 
-impl Steps {
+impl DetectorSteps {
     /// The steps with one more, if the rule's detector was stepped.
     ///
     /// An error means that memory ran out.
@@ -31,24 +31,24 @@ impl Steps {
         alloc: Global,
         number: RuleNo,
         next: Option<Knowledge>,
-    ) -> Result<Steps, AllocError>
+    ) -> Result<DetectorSteps, AllocError>
         ensures { IfOk result (λ steps. changes (entries steps) ≡ with_step (changes (entries self)) number next) }
     {
         let Some(next) = next else {
             return Ok(self);
         };
         match self {
-            Steps::Nothing => Ok(Steps::One(number, next)),
-            Steps::One(first, known) => {
+            DetectorSteps::Nothing => Ok(DetectorSteps::One(number, next)),
+            DetectorSteps::One(first, known) => {
                 let mut layer = Layer::new(alloc);
                 layer.insert(Cell::Detector(first), Some(CellValue::Detector(known)))?;
                 layer.insert(Cell::Detector(number), Some(CellValue::Detector(next)))?;
-                Ok(Steps::Several(layer))
+                Ok(DetectorSteps::Several(layer))
             }
-            Steps::Several(layer) => {
+            DetectorSteps::Several(layer) => {
                 let mut more = layer;
                 more.insert(Cell::Detector(number), Some(CellValue::Detector(next)))?;
-                Ok(Steps::Several(more))
+                Ok(DetectorSteps::Several(more))
             }
         }
     }
@@ -62,11 +62,11 @@ impl Steps {
         ensures err { OnErr result (IsSame view.old view.new) }
     {
         match self {
-            Steps::Nothing => {}
-            Steps::One(number, next) => {
+            DetectorSteps::Nothing => {}
+            DetectorSteps::One(number, next) => {
                 view.put(Cell::Detector(number), CellValue::Detector(next))?;
             }
-            Steps::Several(layer) => view.take_in(&layer)?,
+            DetectorSteps::Several(layer) => view.take_in(&layer)?,
         }
         Ok(())
     }
