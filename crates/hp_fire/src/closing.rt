@@ -38,10 +38,7 @@ pub fn end_transaction(view: &mut View, mark: Mark, how: End) -> Result<(), Allo
             view.commit(mark);
             Ok(())
         }
-        End::Abort(_) | End::Veto(_) => {
-            view.abort(mark)?;
-            Ok(())
-        }
+        End::Abort(_) | End::Veto(_) => view.abort(mark),
     }
 }
 

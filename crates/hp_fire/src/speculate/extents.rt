@@ -33,11 +33,22 @@ pub(crate) fn frozen(
     tasks: &[Task],
     view: &View,
 ) -> Result<Snapshot, AllocError> {
+    let classes = asked_classes(alloc, lib, tasks)?;
     let mut snapshot = view.freeze(alloc)?;
-    for class in asked_classes(alloc, lib, tasks)? {
-        snapshot.keep_objects(alloc, class)?;
-    }
+    keep_lists(alloc, &classes, &mut snapshot)?;
     Ok(snapshot)
+}
+
+// Lists these classes in a snapshot.
+fn keep_lists(
+    alloc: Global,
+    classes: &[ClassNo],
+    snapshot: &mut Snapshot,
+) -> Result<(), AllocError> {
+    for class in classes {
+        snapshot.keep_objects(alloc, *class)?;
+    }
+    Ok(())
 }
 
 // The classes that the conditions of these tasks ask for, without duplicates.

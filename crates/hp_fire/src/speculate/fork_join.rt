@@ -1,7 +1,8 @@
 //! Calls on threads of their own.
 
-ghost use Rattle.std.specs.Prelude.{[], ◌∷◌, IfOk, IfSome, IsSome};
+ghost use Rattle.std.specs.Prelude.{[], ◌∷◌, ◌++◌, ◌≡◌, Some, Ok, IfOk, IsSome, IfSome};
 ghost use denote.Param.Send.{IsSync, IsSend};
+ghost use Rattle.std.specs.Global.{Vec};
 ghost use Rattle.std.specs.Fork.{AcceptsJobs};
 ghost use Rattle.std.specs.Fork.Halves.{GivesFor};
 
@@ -37,21 +38,14 @@ pub(crate) fn on_threads<
     ensures jobs { IfOk result.0 (λ results. GivesFor F.Fn f.now jobs.items results.items) }
     ensures besides { H.step besides.old result.1 besides.new }
 {
-    let Some(last) = jobs.pop() else {
-        let mut nothing = || {};
-        let (own, ()) = thread::join_mut(rt, besides, &mut nothing);
-        return (Ok(Vec::new(alloc)), own);
+    let Some(job) = jobs.pop() else {
+        return (Ok(Vec::new(alloc)), alone(rt, besides));
     };
-    let mut last = Some(last);
+    let mut job = Some(job);
     let mut apart = || -> X
-        requires { IsSync F.row × IsSend J.row × IsSend X.row × IsSome last × IfSome last (F.pre f.now) }
-        ensures { IfSome last.entry (λ job. GivesFor F.Fn f.entry.now (job ∷ []) (result ∷ [])) }
-    {
-        let Some(job) = last.take() else {
-            unreachable!();
-        };
-        f(job)
-    };
+        requires { IsSync F.row × IsSend J.row × IsSend X.row × IsSome job × IfSome job (F.pre f.now) }
+        ensures { IfSome job.entry (λ j. GivesFor F.Fn f.entry.now (j ∷ []) (result ∷ [])) }
+    { f(taken(&mut job)) };
     let mut rest = || -> (Result<Vec<X>, AllocError>, Y)
         requires { AcceptsJobs F.Fn f.now jobs.items × H.pre besides.now × IsSend H.row × IsSend Y.row }
         ensures { IfOk result.0 (λ results. GivesFor F.Fn f.entry.now jobs.entry.items results.items)
@@ -65,12 +59,37 @@ pub(crate) fn on_threads<
             besides,
         )
     };
-    let (result, (before, own)) = thread::join_mut(rt, &mut apart, &mut rest);
-    let Ok(mut results) = before else {
-        return (Err(AllocError), own);
+    let (last, (results, own)) = thread::join_mut(rt, &mut apart, &mut rest);
+    (with_last(results, last), own)
+}
+
+// Calls a function on a thread of its own.
+fn alone<R: Threads, Y: Send + Drop, H: FnMut() -> Y + Send>(rt: &R, besides: &mut H) -> Y
+    requires { H.pre besides.old }
+    ensures { H.step besides.old result besides.new }
+{
+    let mut nothing = || {};
+    let (own, ()) = thread::join_mut(rt, besides, &mut nothing);
+    own
+}
+
+/// Takes what an option has.
+pub(crate) fn taken<J: Drop>(job: &mut Option<J>) -> J
+    requires { IsSome job.old }
+    ensures { job.old ≡ Some result }
+{
+    let Some(job) = job.take() else {
+        unreachable!();
     };
-    match results.push(result) {
-        Ok(()) => (Ok(results), own),
-        Err(_) => (Err(AllocError), own),
-    }
+    job
+}
+
+// Results with one more at their end.
+fn with_last<X: Drop>(results: Result<Vec<X>, AllocError>, last: X) -> Result<Vec<X>, AllocError>
+    ensures { IfOk result (λ all. (before : Vec X) × (results ≡ Ok before)
+        × (all.items ≡ before.items ++ last ∷ [])) }
+{
+    let mut all = results?;
+    all.push(last)?;
+    Ok(all)
 }

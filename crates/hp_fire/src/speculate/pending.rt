@@ -116,9 +116,16 @@ impl Pending {
             return;
         }
         self.set_cost(place, cost);
-        let left = place - settled;
-        if left < self.attempts.len() {
-            self.attempts[left] = Some(attempt);
+        self.set_attempt(place - settled, attempt);
+    }
+
+    // Stores the attempt at a task that isn't settled; such tasks are numbered from 0.
+    fn set_attempt(&mut self, number: usize, attempt: Attempt)
+        ensures { (library : ModelLibrary) → AreSound library self.old.attempts.items
+            → IsSound library (attempt_of attempt) → AreSound library self.new.attempts.items }
+    {
+        if number < self.attempts.len() {
+            self.attempts[number] = Some(attempt);
         }
     }
 

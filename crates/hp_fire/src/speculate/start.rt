@@ -30,7 +30,6 @@ pub(crate) struct Plan<'a> {
 }
 
 /// A wave that is ready to start.
-#[derive(Drop)]
 pub(crate) struct Start<'a> {
     /// What all workers share.
     pub(crate) wave: Wave<'a>,

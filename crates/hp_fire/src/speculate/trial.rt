@@ -12,7 +12,7 @@ ghost use Rattle.hp_fire.specs.Groups.{AreSoundTries, IsAcceptedWithin, IsWave, 
 
 use crate::attempting::attempt_on;
 use crate::speculate::channel::Receiver;
-use crate::speculate::fork_join::on_threads;
+use crate::speculate::fork_join::{on_threads, taken};
 use crate::speculate::gate::Gate;
 use crate::speculate::past::Effort;
 use crate::speculate::pending::Tried;
@@ -95,12 +95,7 @@ impl<
             ensures comes { OnOk result (ComesInWave (library self.entry.now.lib.now) wave.entry.now
                 view.entry.now progress.entry.now view.exit.now progress.exit.now) }
             ensures channels { AreOf (library self.entry.now.lib.now) receivers.exit.now.items }
-        {
-            let Some(seat) = seat.take() else {
-                unreachable!();
-            };
-            self.try_as_owner(wave, seat, view, progress, receivers)
-        };
+        { self.try_as_owner(wave, taken(&mut seat), view, progress, receivers) };
         let worker = |job| -> Vec<Tried>
             requires { IsSync R.row × IsSync G.row × IsSync F.row × IsWave wave.now
                 × IsJob (library self.now.lib.now) wave.now.board.deal job

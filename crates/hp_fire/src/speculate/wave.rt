@@ -1,11 +1,11 @@
 //! Waves: workers and the owner of a group try the tasks that aren't settled, all at once.
 
-ghost use Rattle.std.specs.Prelude.{All, IfOk};
+ghost use Rattle.std.specs.Prelude.{All, IfOk, OnOk};
 ghost use Rattle.rtrb.specs.Ring.{sent};
 ghost use Rattle.hp_model.specs.Rules.{Library as ModelLibrary};
 ghost use Rattle.hp_model.specs.Soundness.{IsSound};
 ghost use Rattle.hp_rule.specs.Mapped.{library};
-ghost use Rattle.hp_board.specs.Deal.{IsSeatOf};
+ghost use Rattle.hp_board.specs.Deal.{Deal, IsSeatOf};
 ghost use Rattle.hp_attempt.specs.Mapped.{attempt as attempt_of};
 ghost use Rattle.hp_fire.specs.Channels.{IsOf};
 ghost use Rattle.hp_fire.specs.Groups.{AreSoundTries, IsJob, AreOf};
@@ -72,11 +72,31 @@ pub(crate) fn jobs_for<'a>(
     let mut jobs = Vec::new(alloc);
     let mut receivers = Vec::new(alloc);
     for seat in seats {
-        let (sender, receiver) = channel(alloc, lib)?;
-        jobs.push(Job { seat, sender })?;
-        receivers.push(receiver)?;
+        add_job(alloc, lib, seat, &mut jobs, &mut receivers)?;
     }
     Ok((jobs, receivers))
+}
+
+// Adds a job for a seat, and the owner's end of its channel.
+fn add_job<'a>(
+    alloc: Global,
+    lib: &'a Library,
+    seat: Seat,
+    jobs: &mut Vec<Job<'a>>,
+    receivers: &mut Vec<Receiver<'a>>,
+) -> Result<(), AllocError>
+    ensures jobs { OnOk result ((deal : Deal) → IsSeatOf deal seat
+        → All (IsJob (library lib.entry.now) deal) jobs.old.items
+        → All (IsJob (library lib.entry.now) deal) jobs.new.items) }
+    ensures receivers { OnOk result (AreOf (library lib.entry.now) receivers.old.items
+        → AreOf (library lib.entry.now) receivers.new.items) }
+{
+    jobs.reserve(1)?;
+    receivers.reserve(1)?;
+    let (sender, receiver) = channel(alloc, lib)?;
+    jobs.push_reserved(Job { seat, sender });
+    receivers.push_reserved(receiver);
+    Ok(())
 }
 
 /// What the kept attempts wrote. The list is empty if no attempt is kept.
