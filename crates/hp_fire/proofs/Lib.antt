@@ -1,5 +1,6 @@
 mod Attempts
 mod Coming
+mod Counted
 mod Decisions
 mod Helping
 mod OneLibrary
