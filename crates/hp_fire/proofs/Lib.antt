@@ -1,6 +1,5 @@
 mod Attempts
 mod Coming
-mod Counted
 mod Decisions
 mod Helping
 mod OneLibrary

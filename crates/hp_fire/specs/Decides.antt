@@ -1,5 +1,5 @@
 -- What remains of a firing.
-use Rattle.std.specs.Prelude.{List, map}
+use Rattle.std.specs.Prelude.{List}
 use Rattle.hp_model.specs.Rules.{Library}
 use Rattle.hp_model.specs.State.{State}
 use Rattle.hp_model.specs.Conditions.{Answers, Verdict, verdict}
@@ -8,15 +8,13 @@ use Rattle.hp_model.specs.Firing.{Firing, level_at, task_environment, decide, ru
 use Rattle.hp_model.specs.Cells.{Read, Changes}
 use Rattle.hp_model.specs.Soundness.{FiringAnswer}
 use Rattle.hp_model.specs.Answers.{FaithfulFiring, Finds}
-use Rattle.hp_model.specs.Rules.{Query, rule_at}
+use Rattle.hp_model.specs.Rules.{rule_at}
 use Rattle.hp_model.proofs.Faithful.{Grows}
 use Rattle.hp_value.specs.declared.env.Answer.{Answer}
 use Rattle.hp_value.specs.Mapped.{answers}
 use Rattle.hp_tree.specs.Mapped.{what}
 use Rattle.hp_attempt.specs.Mapped.{firing}
-use Rattle.hp_query.specs.Looks.{AsksEach}
 use Rattle.hp_view.specs.Seeing.{Seeing, written, GoesOn, OnlyReads}
-use Rattle.hp_view.specs.Looks.{AsksOf}
 use Rattle.hp_fire.specs.declared.deciding.Decision.{Decision}
 use Rattle.hp_fire.specs.declared.deciding.Decision.TheVariants.{Over, Acts}
 use Rattle.hp_fire.specs.declared.deciding.Found.{Found}
@@ -51,7 +49,3 @@ Follows library t v d = (view : Seeing) → DecidesFor library (decide v (level_
 pub record FindsVerdict (library : Library) (t : Task) (old new : Seeing) (v : Verdict) : Type 0 where
   pub only : OnlyReads old new
   pub finds : Finds library (λ S. verdict S.objects (task_environment t) (rule_at library t.rule).condition) new.reads (written new) v
-
--- of the classes of the condition's queries and of their parts were reads made, and no others
-abbrev pub AsksOfCondition : Library → Task → Seeing → Seeing → Type 0
-AsksOfCondition library t old new = AsksEach AsksOf (map (λ (q : Query). q.class) (rule_at library t.rule).condition) old new

@@ -13,7 +13,7 @@ ghost use Rattle.hp_rule.specs.declared.stmt.Stmt.{size-Stmt};
 ghost use Rattle.hp_rule.specs.Mapped.{body_in, library, task as task_of};
 ghost use Rattle.hp_tree.specs.Mapped.{what as what_of, condition as condition_end};
 ghost use Rattle.hp_attempt.specs.Mapped.{firing};
-ghost use Rattle.hp_fire.specs.Decides.{Decides, FindsVerdict, AsksOfCondition, Follows, found_in};
+ghost use Rattle.hp_fire.specs.Decides.{Decides, FindsVerdict, Follows, found_in};
 ghost use Rattle.hp_fire.specs.Weights.{deepest};
 ghost use denote.Param.Weighed.{most};
 
@@ -89,9 +89,8 @@ impl<R> Engine<'_, R> {
 
     /// The verdict on the condition of a task's rule.
     fn condition_verdict(&self, view: &mut View, task: &Task) -> Result<Verdict, AllocError>
-        ensures finds { let t = task_of task.now in
+        ensures { let t = task_of task.now in
             IfOk result (λ v. FindsVerdict (library self.now.lib.now) t view.old view.new (verdict_of v)) }
-        ensures asks { AsksOfCondition (library self.now.lib.now) (task_of task.now) view.old view.new }
     {
         let queries = condition_of(self.lib, task.rule);
         let mut look = Counting::new(view);

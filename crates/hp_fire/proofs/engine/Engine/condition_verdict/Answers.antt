@@ -10,8 +10,8 @@ use Rattle.hp_ops.proofs.Worlds.{finds_world}
 use Rattle.hp_fire.specs.Decides.{FindsVerdict}
 use Rattle.hp_fire.proofs.engine.Engine.condition_verdict.Goals as goal
 
-pub returns-clause-finds : goal.returns-clause-finds
-returns-clause-finds g c =
+pub returns : goal.returns
+returns g c =
     let lib = library c.args.self.now.lib.now in
     let t = task c.args.task.now in
     let found = query.verdict c.in_ok-verdict.verdict in
