@@ -66,8 +66,9 @@ UNPROVED = re.compile(
 UNREAD = re.compile(r"is not in scope|has no field|is no name|operand is missing|expected the end|cannot continue")
 NO_SUCH_NAME = re.compile(r"has no field|is not in scope|has no `|was not admitted")
 
-# A line that says that a function's proof wasn't begun: no contract was tried.
+# A line that says that a function has no proof: since no search found one, or since none was begun.
 NO_PROOF = re.compile(r"fn \S+: no proof: ")
+SEARCHED = re.compile(NO_PROOF.pattern + r"expected answers in \S+; `search` did not prove `")
 
 SIGNALS = (signal.SIGINT, signal.SIGTERM, signal.SIGHUP)
 
@@ -398,10 +399,13 @@ def came_to(status, lines, changed):
     shown = complaints(lines) + [line for line in lines if UNPROVED.match(line) and not COMPLAINT.match(line)]
     if shown:
         return REFUSED, shown[0]
+    searched = [line for line in lines if SEARCHED.match(line)]
+    if searched:
+        return REFUSED, searched[0]
     told = [line for line in lines if COMPLAINT.match(line)]
     if told:
         return BY_NAME, told[0]
-    # (as where the borrow checker doesn't cover the function)
+    # (as where the borrow checker doesn't cover the function: no contract was tried)
     return BAD, next((line for line in lines if NO_PROOF.match(line)), lines[-1])
 
 

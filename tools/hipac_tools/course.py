@@ -394,8 +394,8 @@ class Course:
             try:
                 self._task(task)
             except Aborting as aborting:
-                for younger in tasks[place + 1:]:
-                    self._drop(younger, VETO, aborting.stop.firing)
+                for later in tasks[place + 1:]:
+                    self._drop(later, VETO, aborting.stop.firing)
                 raise
 
     def _task(self, task: Task) -> None:

@@ -381,7 +381,7 @@ class SilenceTest(WhyCase):
         self.assertIn("At signal go [] (at /rules/0/5/0) it was triggered, but tell would have been too deep (A7).",
                       self.answer(of, 1, "tell"))
 
-    def test_an_elder_sibling_vetoed(self):
+    def test_an_earlier_sibling_vetoed(self):
         rules = [simple("stop", ["signal", "go"], action=[["veto"]]), self.TELL]
         self.says(script(rules, install("stop", "tell"), [GO]), 2, [
             "rule tell was triggered once in unit 2, and was dropped",

@@ -44,10 +44,10 @@ fn run(
 }
 
 #[test]
-fn an_elders_effect_is_seen_by_a_younger(rt: HostRuntime) -> Result<(), Fail> {
+fn a_predecessors_effect_is_seen_by_a_later_sibling(rt: HostRuntime) -> Result<(), Fail> {
     let alloc = rt.alloc();
-    for (is_elder, made) in [(true, Some(30)), (false, None)] {
-        let seen = run(&rt, alloc, enriching(alloc, is_elder), going(alloc), 0)?;
+    for (is_first, made) in [(true, Some(30)), (false, None)] {
+        let seen = run(&rt, alloc, enriching(alloc, is_first), going(alloc), 0)?;
         assert_eq!(rt; seen.end, End::Done);
         assert_eq!(rt; seen.balances, (Some(10), Some(200), made, None, None));
     }
@@ -254,7 +254,7 @@ fn lists(alloc: Global) -> Result<Rule, AllocError> {
     on_rich(alloc, "lists", for_each(alloc)?)
 }
 
-fn listing(alloc: Global) -> Result<Library, CheckError> {
+fn library_that_lists(alloc: Global) -> Result<Library, CheckError> {
     let lists = lists(alloc);
     library(alloc, lists, idles(alloc, "idle", Coupling::Deferred))
 }
@@ -262,7 +262,13 @@ fn listing(alloc: Global) -> Result<Library, CheckError> {
 #[test]
 fn for_binds_the_kept_rows(rt: HostRuntime) -> Result<(), Fail> {
     let alloc = rt.alloc();
-    let seen = run(&rt, alloc, listing(alloc), setting(alloc, 2, 25), 0)?;
+    let seen = run(
+        &rt,
+        alloc,
+        library_that_lists(alloc),
+        setting(alloc, 2, 25),
+        0,
+    )?;
     assert_eq!(rt; seen.balances, (Some(10), Some(0), None, None, None));
     assert_eq!(rt; seen.inside, (Some(25), None, None));
     Ok(())
@@ -312,7 +318,7 @@ fn fire(
 #[test]
 fn an_unsatisfied_condition_has_no_action(rt: HostRuntime) -> Result<(), Fail> {
     let alloc = rt.alloc();
-    let (end, node, balances) = fire(&rt, alloc, listing(alloc))?;
+    let (end, node, balances) = fire(&rt, alloc, library_that_lists(alloc))?;
     assert_eq!(rt; end, None);
     assert_eq!(rt; balances, (Some(10), Some(20), None, None, None));
     let what = What::Fire {

@@ -267,10 +267,10 @@ fn makes_if_rich(alloc: Global) -> Result<Rule, AllocError> {
     on_rich(alloc, "makes", alone(alloc, make(alloc, 3, 30)?)?)
 }
 
-pub fn enriching(alloc: Global, is_elder: bool) -> Result<Library, CheckError> {
+pub fn enriching(alloc: Global, is_first: bool) -> Result<Library, CheckError> {
     let enriches = enriches(alloc);
     let makes = makes_if_rich(alloc);
-    if is_elder {
+    if is_first {
         library(alloc, enriches, makes)
     } else {
         library(alloc, makes, enriches)

@@ -88,7 +88,7 @@ fn attempts_that_touch_different_objects_are_all_accepted(rt: HostRuntime) -> Re
     Ok(())
 }
 
-// The second asks for rich accounts, and the first makes one: its attempt stays until it is made anew.
+// The second asks for rich accounts, and the first makes one: its attempt stays until it is made again.
 #[test]
 fn an_attempt_that_missed_a_predecessors_effect_stays(rt: HostRuntime) -> Result<(), Fail> {
     let alloc = rt.alloc();

@@ -183,7 +183,7 @@ fn bank(alloc: Global, accounts: &[(Key, i64)]) -> Result<View, Halt> {
 // and the number of waves; and the balances after it.
 type Gave = ((usize, usize, usize), Balances);
 
-// By at most so many workers, with a gate.
+// With at most this many workers, and a gate.
 fn by<G>(width: usize, gate: &G) -> Setup<'_, G> {
     Setup {
         stops: true,

@@ -137,7 +137,7 @@ module _ (states : States) (stops : Bool) (library : Library) (tasks : List Task
   step_stands : (e : Event) (m : Machine) (b : Bool) → is_enabled m e ≡ b → IfEnabled b (IsLawfulEventFor states stops library tasks attempts S m e) → Stands m → Stands (cond b (effect m e) m)
   step_stands e m false is h inv = inv
   step_stands (draw w) m true is h inv = record { as_many = inv.as_many; one = inv.one; now = inv.now; each_posted = inv.each_posted }
-  step_stands (look w i elders) m true is h inv = record { as_many = inv.as_many; one = inv.one; now = inv.now; each_posted = inv.each_posted }
+  step_stands (look w i predecessors) m true is h inv = record { as_many = inv.as_many; one = inv.one; now = inv.now; each_posted = inv.each_posted }
   step_stands (post w i layer) m true is h inv =
       record {
         as_many = length-set m.posted i (Some layer) ∙ inv.as_many;

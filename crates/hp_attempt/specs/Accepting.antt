@@ -18,10 +18,10 @@ LeadsFor states library t base layer =
 -- what makes an enabled event lawful for the class, given an attempt of each task that is posted
 abbrev pub IsLawfulEventFor : States → (stops : Bool) → Library → List Task → (attempts : ℕ → Attempt) → State → Machine → Event → Type 0
 IsLawfulEventFor states stops library tasks attempts S m (draw w) = ⊤
-IsLawfulEventFor states stops library tasks attempts S m (look w i elders) = ⊤
+IsLawfulEventFor states stops library tasks attempts S m (look w i predecessors) = ⊤
 IsLawfulEventFor states stops library tasks attempts S m (post w i layer) =
     IsSoundFor states library (attempts i) × (slice_get tasks i ≡ Some (attempts i).task) × ((attempts i).layer ≡ layer)
-    × ((elders : List ℕ) → seen_at m i ≡ Some elders → Holds (start_of m i elders) (attempts i).reads)
+    × ((predecessors : List ℕ) → seen_at m i ≡ Some predecessors → Holds (start_of m i predecessors) (attempts i).reads)
 IsLawfulEventFor states stops library tasks attempts S m (accept i) =
     Holds (cells_now m) (attempts i).reads × MayGoOn stops library tasks S i
 IsLawfulEventFor states stops library tasks attempts S m (rerun i layer) =

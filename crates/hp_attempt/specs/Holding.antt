@@ -33,7 +33,7 @@ pub record FirstFailed (base : Cells) (reads : List Read) (seen : Seen) : Type 0
   pub fails : IsTold base first → ⊥
   pub looked : IsReadOf seen first
 
--- what was told in a view is read by it: it is told under the view's writes wherever the view's reads hold
+-- if a read holds in the old view, it holds under the new view's writes wherever the new view's reads hold
 abbrev pub IsReadAgain : Seeing → Seeing → Read → Type 0
 IsReadAgain old new r = IsTold (now_in old) r → (base : Cells) → Holds base new.reads → IsTold (over base (written new)) r
 

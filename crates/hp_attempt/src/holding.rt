@@ -15,7 +15,7 @@ use hp_view::{Found, Reads, Seen, View};
 /// keys, or the objects with their rows where it was read as a whole, and each part of a class its objects with their
 /// rows.
 ///
-/// Nothing is recorded, and no memory is taken.
+/// Nothing is recorded or allocated.
 pub fn holds(reads: &Reads, view: &View) -> bool
     ensures { IsTrue result ↔ Holds (now_in view.now) reads.now }
 {
@@ -24,7 +24,7 @@ pub fn holds(reads: &Reads, view: &View) -> bool
 
 /// The first of some reads that doesn't hold in a view's cells: where it looked. None where all of them hold.
 ///
-/// Nothing is recorded, and no memory is taken.
+/// Nothing is recorded or allocated.
 pub fn first_failed<'a>(reads: &'a Reads, view: &View) -> Option<&'a Seen>
     ensures none { IsTrue (is_none result) ↔ Holds (now_in view.now) reads.now }
     ensures some { IfSome result (λ seen. FirstFailed (now_in view.now) reads.now seen.now) }

@@ -37,7 +37,7 @@ pub enum Settled {
 /// What an accepted attempt read is then read by the view, and what it wrote is written over the view's writes, so that
 /// the view is as if the task had fired on it.
 ///
-/// A rejection takes no memory. An error means that memory ran out as the attempt was accepted; the view is then as
+/// A rejection allocates nothing. An error means that memory ran out as the attempt was accepted; the view is then as
 /// before.
 pub fn settle(
     alloc: Global,
@@ -93,7 +93,7 @@ fn take_in(alloc: Global, view: &mut View, attempt: &Attempt) -> Result<(), Allo
     Ok(())
 }
 
-// Whether an attempt may stand for the firing of this task on the view. It takes no memory.
+// Whether an attempt may stand for the firing of this task on the view. It allocates nothing.
 fn may_stand(attempt: &Attempt, view: &View, task: &Task) -> bool
     ensures { IsTrue result
         ↔ ((task_of attempt.now.task ≡ task_of task.now) × Holds (now_in view.now) attempt.now.reads) }

@@ -16,10 +16,10 @@ use Rattle.hp_board.specs.GroupFields.{settled_layer, settled_layers, AreSettled
 use Rattle.hp_board.proofs.Settlings.{settled_len, settled_none, settled_at, settled_fit, settles, keeps}
 
 module _ {T : Type 0} (a : Inside T) (g : GroupView T) (is : view_of a ≡ g) where
-  pub looks : (i : ℕ) (elders : Vec ℕ Global) → view_of (record a { seen = with_item a.seen i (Some elders) }) ≡ record g { seen = set g.seen i (Some elders.items) }
-  looks i elders =
-      subst (λ (v : GroupView T). view_of (record a { seen = with_item a.seen i (Some elders) }) ≡ record v { seen = set v.seen i (Some elders.items) }) is
-      (λ k. record (view_of a) { seen = map-set (option_map (λ (v : Vec ℕ Global). v.items)) a.seen.items i (Some elders) k })
+  pub looks : (i : ℕ) (predecessors : Vec ℕ Global) → view_of (record a { seen = with_item a.seen i (Some predecessors) }) ≡ record g { seen = set g.seen i (Some predecessors.items) }
+  looks i predecessors =
+      subst (λ (v : GroupView T). view_of (record a { seen = with_item a.seen i (Some predecessors) }) ≡ record v { seen = set v.seen i (Some predecessors.items) }) is
+      (λ k. record (view_of a) { seen = map-set (option_map (λ (v : Vec ℕ Global). v.items)) a.seen.items i (Some predecessors) k })
 
   module _ (h : IsGroup a) where
     pub posts_view : (i : ℕ) (x : T) → posted_at g i ≡ None → view_of (record a { posted = with_item a.posted i (Some x) }) ≡ record g { posted = set g.posted i (Some x) }

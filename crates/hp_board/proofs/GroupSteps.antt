@@ -49,8 +49,8 @@ module _ {T : Type 0} (g : GroupView T) (base : Cells) (changes : T → Changes)
   draws : (w : ℕ) → machine base changes (record g { drawn = g.drawn ++ w ∷ [] }) ≡ M.effect (machine base changes g) (M.draw w)
   draws w = refl
 
-  looks : (w i : ℕ) (elders : List ℕ) → machine base changes (record g { seen = set g.seen i (Some elders) }) ≡ M.effect (machine base changes g) (M.look w i elders)
-  looks w i elders = refl
+  looks : (w i : ℕ) (predecessors : List ℕ) → machine base changes (record g { seen = set g.seen i (Some predecessors) }) ≡ M.effect (machine base changes g) (M.look w i predecessors)
+  looks w i predecessors = refl
 
   posts : (w i : ℕ) (x : T) → machine base changes (record g { posted = set g.posted i (Some x) }) ≡ M.effect (machine base changes g) (M.post w i (changes x))
   posts w i x k = record (machine base changes g) { posted = map-set (option_map changes) g.posted i (Some x) k }
@@ -86,8 +86,8 @@ module _ {T : Type 0} (g : GroupView T) (e : Event T) (b : Bool) (tells : (base 
     pub draw_ready : (w : ℕ) → e ≡ Draw w → length g.drawn < length g.posted
     draw_ready w is = let h : nat_lt (length g.drawn) (length g.posted) ≡ true = ap (nat_lt (length g.drawn)) (sym (length-map g.posted (option_map (λ _. no_changes)))) ∙ passed (Draw w) is in grind (arith, nat_tests)
 
-    pub look_ready : (w i : ℕ) (elders : Vec ℕ Global) → e ≡ Look w i elders → i < length g.drawn
-    look_ready w i elders is = let h : nat_lt i (length g.drawn) ≡ true = both-left _ _ (both-left (is_drawn g w i) _ (passed (Look w i elders) is)) in grind (arith, nat_tests)
+    pub look_ready : (w i : ℕ) (predecessors : Vec ℕ Global) → e ≡ Look w i predecessors → i < length g.drawn
+    look_ready w i predecessors is = let h : nat_lt i (length g.drawn) ≡ true = both-left _ _ (both-left (is_drawn g w i) _ (passed (Look w i predecessors) is)) in grind (arith, nat_tests)
 
     pub post_drawn : (w i : ℕ) (x : T) → e ≡ Post w i x → i < length g.drawn
     post_drawn w i x is = let h : nat_lt i (length g.drawn) ≡ true = both-left _ _ (both-left (is_drawn g w i) _ (passed (Post w i x) is)) in grind (arith, nat_tests)
@@ -122,8 +122,8 @@ module _ {T : Type 0} (g : GroupView T) (e : Event T) (b : Bool) (tells : (base 
       pub draw_lands : (w : ℕ) → e ≡ Draw w → next ≡ record g { drawn = g.drawn ++ w ∷ [] } → machine base changes next ≡ M.step m (event changes e)
       draw_lands w is to = lands_as (Draw w) is (ap (machine base changes) to ∙ draws g base changes w)
 
-      pub look_lands : (w i : ℕ) (elders : Vec ℕ Global) → e ≡ Look w i elders → next ≡ record g { seen = set g.seen i (Some elders.items) } → machine base changes next ≡ M.step m (event changes e)
-      look_lands w i elders is to = lands_as (Look w i elders) is (ap (machine base changes) to ∙ looks g base changes w i elders.items)
+      pub look_lands : (w i : ℕ) (predecessors : Vec ℕ Global) → e ≡ Look w i predecessors → next ≡ record g { seen = set g.seen i (Some predecessors.items) } → machine base changes next ≡ M.step m (event changes e)
+      look_lands w i predecessors is to = lands_as (Look w i predecessors) is (ap (machine base changes) to ∙ looks g base changes w i predecessors.items)
 
       pub post_lands : (w i : ℕ) (x : T) → e ≡ Post w i x → next ≡ record g { posted = set g.posted i (Some x) } → machine base changes next ≡ M.step m (event changes e)
       post_lands w i x is to = lands_as (Post w i x) is (ap (machine base changes) to ∙ posts g base changes w i x)

@@ -7,7 +7,7 @@ use Rattle.std.specs.Option.{option_flatten}
 pub record GroupView (T : Type 0) : Type 0 where
   -- the worker that drew each task, in the order of the tasks
   pub drawn : List ℕ
-  -- for each task: the elders whose layers it started from, if it was looked at, and the layer posted
+  -- for each task: the predecessors whose layers it started from, if it was looked at, and the layer posted
   pub seen : List (Option (List ℕ))
   pub posted : List (Option T)
   -- the layers settled so far, the first task's first

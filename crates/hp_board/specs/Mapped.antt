@@ -15,7 +15,7 @@ machine base changes g = record { base = base; drawn = g.drawn; seen = g.seen; p
 -- the event, with layers read as changes by this function
 abbrev pub event : {T : Type 0} → (T → Changes) → Event T → M.Event
 event changes (Draw worker) = M.draw worker
-event changes (Look worker task elders) = M.look worker task elders.items
+event changes (Look worker task predecessors) = M.look worker task predecessors.items
 event changes (Post worker task layer) = M.post worker task (changes layer)
 event changes (Accept task) = M.accept task
 event changes (Rerun task layer) = M.rerun task (changes layer)

@@ -21,14 +21,14 @@ pub enum Event<T> {
     Draw {
         worker: usize,
     },
-    /// The worker looks at a task, and sees what these elders, earlier tasks, have posted. The task starts from the
-    /// base with their layers over it, in task order.
+    /// The worker looks at a task, and sees what these predecessors of it, earlier tasks, have posted. The task starts
+    /// from the base with their layers over it, in task order.
     ///
-    /// Enabled if the worker has drawn the task and not looked at it, and each of the elders is posted.
+    /// Enabled if the worker has drawn the task and not looked at it, and each predecessor is posted.
     Look {
         worker: usize,
         task: usize,
-        elders: Vec<usize>,
+        predecessors: Vec<usize>,
     },
     /// The worker posts the layer of a task.
     ///
@@ -111,8 +111,8 @@ impl<T: Drop> Group<T> {
             Event::Look {
                 worker,
                 task,
-                elders,
-            } => self.can_look(*worker, *task, elders.as_slice()),
+                predecessors,
+            } => self.can_look(*worker, *task, predecessors.as_slice()),
             Event::Post {
                 worker,
                 task,
@@ -137,8 +137,8 @@ impl<T: Drop> Group<T> {
             Event::Look {
                 worker: _,
                 task,
-                elders,
-            } => self.look(task, elders),
+                predecessors,
+            } => self.look(task, predecessors),
             Event::Post {
                 worker: _,
                 task,
@@ -168,11 +168,11 @@ impl<T: Drop> Group<T> {
         self.drawn.push_reserved(worker);
     }
 
-    fn look(&mut self, task: usize, elders: Vec<usize>)
+    fn look(&mut self, task: usize, predecessors: Vec<usize>)
         requires { task < length self.old.drawn }
-        ensures { self.new ≡ record self.old { seen = slice_set self.old.seen task (Some elders.items) } }
+        ensures { self.new ≡ record self.old { seen = slice_set self.old.seen task (Some predecessors.items) } }
     {
-        self.seen[task] = Some(elders);
+        self.seen[task] = Some(predecessors);
     }
 
     fn post(&mut self, task: usize, layer: T)
@@ -198,21 +198,21 @@ impl<T: Drop> Group<T> {
         self.settlings.push_reserved(Settling::Reran(layer));
     }
 
-    // The worker has drawn the task and not looked at it, and these elders are posted.
-    fn can_look(&self, worker: usize, task: usize, elders: &[usize]) -> bool
+    // The worker has drawn the task and not looked at it, and these predecessors are posted.
+    fn can_look(&self, worker: usize, task: usize, predecessors: &[usize]) -> bool
         ensures { result ≡ (is_drawn self.now worker task && (not (is_some (seen_at self.now task))
-            && list_all (λ j. nat_lt j task && is_some (posted_at self.now j)) elders.now)) }
+            && list_all (λ j. nat_lt j task && is_some (posted_at self.now j)) predecessors.now)) }
     {
         self.is_drawn_by(worker, task)
             && !self.is_looked_at(task)
-            && self.are_posted_predecessors(task, elders)
+            && self.are_posted_predecessors(task, predecessors)
     }
 
     // Each of these tasks precedes the task and is posted.
-    fn are_posted_predecessors(&self, task: usize, elders: &[usize]) -> bool
-        ensures { result ≡ list_all (λ j. nat_lt j task && is_some (posted_at self.now j)) elders.now }
+    fn are_posted_predecessors(&self, task: usize, predecessors: &[usize]) -> bool
+        ensures { result ≡ list_all (λ j. nat_lt j task && is_some (posted_at self.now j)) predecessors.now }
     {
-        elders.iter().all(|j| *j < task && self.is_posted(*j))
+        predecessors.iter().all(|j| *j < task && self.is_posted(*j))
     }
 
     // The worker has drawn the task and looked at it, and nothing is posted for it.

@@ -22,7 +22,7 @@ use Rattle.hp_lines.specs.Lines.{Line}
 use Rattle.hp_lines.specs.Live.{RuleBase, new_base, Stage, unopened, up, closed, Answer, ran, opening_answer, later_answer, answer, stage_after}
 use Rattle.hp_lines.specs.Journal.{item_in, item_for, value_if, body_if, accepted, accepted_bodies, opened_by, IsJournal, Replays, AcceptedLinesReplay}
 use Rattle.hp_lines.proofs.Anywhere.{unit_goes}
-use Rattle.hp_lines.proofs.Said.{closed_stage}
+use Rattle.hp_lines.proofs.Pieces.{closed_stage}
 
 -- ---- units, and then more units
 

@@ -1,6 +1,6 @@
 pub mod Kept
 pub mod Lines
-pub mod Said
+pub mod Pieces
 pub mod Anywhere
 pub mod Journal
 pub mod Sessions

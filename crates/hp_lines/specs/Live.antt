@@ -88,40 +88,40 @@ output with_tree input = answers with_tree unopened (lines_of input)
 -- ---- the same, byte by byte
 
 -- whether trees are wanted, the stage, and the beginning of the next line
-pub record Desk : Type 0 where
+pub record Server : Type 0 where
   pub with_tree : Bool
   pub stage : Stage
   pub line : Line
 
-abbrev pub new_desk : (with_tree : Bool) → Desk
-new_desk with_tree = record { with_tree = with_tree; stage = unopened; line = [] }
+abbrev pub new_server : (with_tree : Bool) → Server
+new_server with_tree = record { with_tree = with_tree; stage = unopened; line = [] }
 
--- the answer to the kept line, and the desk after it
-abbrev pub reply : Desk → Bytes
-reply d = let a = answer d.with_tree d.stage d.line in a.body ++ a.last
+-- the answer to the kept line, and the server after it
+abbrev pub reply : Server → Bytes
+reply s = let a = answer s.with_tree s.stage s.line in a.body ++ a.last
 
-abbrev pub answered : Desk → Desk
-answered d = record { with_tree = d.with_tree; stage = (answer d.with_tree d.stage d.line).stage; line = [] }
+abbrev pub answered : Server → Server
+answered s = record { with_tree = s.with_tree; stage = (answer s.with_tree s.stage s.line).stage; line = [] }
 
-abbrev pub grown : Desk → ℕ → Desk
-grown d x = record { with_tree = d.with_tree; stage = d.stage; line = kept_with d.line x }
+abbrev pub grown : Server → ℕ → Server
+grown s x = record { with_tree = s.with_tree; stage = s.stage; line = kept_with s.line x }
 
 -- what is written after one more byte: the answer, if the byte ends a line
-abbrev pub told : Desk → ℕ → Bytes
-told d x = if x == 10 then reply d else []
+abbrev pub byte_output : Server → ℕ → Bytes
+byte_output s x = if x == 10 then reply s else []
 
-abbrev pub next : Desk → ℕ → Desk
-next d x = if x == 10 then answered d else grown d x
+abbrev pub next : Server → ℕ → Server
+next s x = if x == 10 then answered s else grown s x
 
 -- what is written after a piece of input: the answers to the lines that end in it
-abbrev pub said : Desk → List ℕ → Bytes
-said d [] = []
-said d (x ∷ xs) = told d x ++ said (next d x) xs
+abbrev pub piece_output : Server → List ℕ → Bytes
+piece_output s [] = []
+piece_output s (x ∷ xs) = byte_output s x ++ piece_output (next s x) xs
 
-abbrev pub after : Desk → List ℕ → Desk
-after d [] = d
-after d (x ∷ xs) = after (next d x) xs
+abbrev pub after : Server → List ℕ → Server
+after s [] = s
+after s (x ∷ xs) = after (next s x) xs
 
 -- what is written at the end of the input: the answer to a last line without a line feed
-abbrev pub said_at_end : Desk → Bytes
-said_at_end d = answers d.with_tree d.stage (begun d.line)
+abbrev pub end_output : Server → Bytes
+end_output s = answers s.with_tree s.stage (begun s.line)

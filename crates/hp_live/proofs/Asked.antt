@@ -12,8 +12,8 @@ use Rattle.hp_lines.specs.Live as L
 use Rattle.hp_live.specs.Kept.{StandsFor, IsStage, Answers}
 use Rattle.hp_live.specs.Running.{ran_base}
 use Rattle.hp_live.specs.declared.base.RuleBase.{RuleBase}
-use Rattle.hp_live.specs.declared.desk.Stage.{Stage}
-use Rattle.hp_live.specs.declared.desk.Stage.TheVariants.{Up}
+use Rattle.hp_live.specs.declared.server.Stage.{Stage}
+use Rattle.hp_live.specs.declared.server.Stage.TheVariants.{Up}
 
 -- a line is read with what is kept as with what that stands for
 pub asked_of : (kept : RuleBase) (base : L.RuleBase) (line : List ℕ) (r : Decoded Request) → StandsFor kept base → request_of (library kept.library.value) kept.clock line ≡ r → request_of base.library base.clock line ≡ r

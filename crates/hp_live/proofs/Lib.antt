@@ -1,3 +1,3 @@
 pub mod Bases
-pub mod Told
+pub mod Fed
 pub mod Asked

@@ -10,9 +10,9 @@ use Rattle.hp_rule.specs.Mapped.{library}
 use Rattle.hp_store.specs.Stack.{cells_in}
 use Rattle.hp_lines.specs.Live as L
 use Rattle.hp_live.specs.declared.base.RuleBase.{RuleBase}
-use Rattle.hp_live.specs.declared.desk.Stage.{Stage}
-use Rattle.hp_live.specs.declared.desk.Stage.TheVariants.{Unopened, Up, Closed}
-use Rattle.hp_live.specs.declared.desk.Desk.{Desk}
+use Rattle.hp_live.specs.declared.server.Stage.{Stage}
+use Rattle.hp_live.specs.declared.server.Stage.TheVariants.{Unopened, Up, Closed}
+use Rattle.hp_live.specs.declared.server.Server.{Server}
 
 -- a rule base with the same library, clock and number of units, whose state has the cells of the store and the objects
 pub record StandsFor (kept : RuleBase) (base : L.RuleBase) : Type 0 where
@@ -29,10 +29,10 @@ IsStage (Up kept) (L.up base) = StandsFor kept base
 IsStage Closed L.closed = ⊤
 IsStage s t = ⊥
 
-pub record IsDesk (kept : Desk) (d : L.Desk) : Type 0 where
-  pub tree_is : kept.options.tree ≡ d.with_tree
-  pub stage_is : IsStage kept.stage d.stage
-  pub line_is : kept.line.items ≡ d.line
+pub record IsServer (kept : Server) (s : L.Server) : Type 0 where
+  pub tree_is : kept.options.tree ≡ s.with_tree
+  pub stage_is : IsStage kept.stage s.stage
+  pub line_is : kept.line.items ≡ s.line
 
 -- the text is the answer, and the kept stage stands for the next one
 pub record Answers (text : String Global) (kept : Stage) (a : L.Answer) : Type 0 where
@@ -40,13 +40,13 @@ pub record Answers (text : String Global) (kept : Stage) (a : L.Answer) : Type 0
   pub stage_is : IsStage kept a.stage
 
 -- the answers to all that was read were written, and the script wasn't refused
-abbrev pub WasTold : (left rest : Option (List ℕ)) → (old new : Option (List ℕ)) → L.Desk → Type 0
-WasTold left rest old new d = (bytes : List ℕ) × Consumes left rest bytes × Appends old new (L.said d bytes) × ((L.after d bytes).stage ≢ L.closed)
+abbrev pub AllAnswered : (left rest : Option (List ℕ)) → (old new : Option (List ℕ)) → L.Server → Type 0
+AllAnswered left rest old new s = (bytes : List ℕ) × Consumes left rest bytes × Appends old new (L.piece_output s bytes) × ((L.after s bytes).stage ≢ L.closed)
 
 -- bytes were read only as long as the script wasn't refused: they are some that leave it so, and one piece more
-pub record StopsAtRefusal (left rest : Option (List ℕ)) (d : L.Desk) : Type 0 where
+pub record StopsAtRefusal (left rest : Option (List ℕ)) (s : L.Server) : Type 0 where
   pub before : List ℕ
   pub piece : List ℕ
   pub taken : Consumes left rest (before ++ piece)
   pub short : length piece ≤ 4096
-  pub unrefused : (L.after d before).stage ≢ L.closed
+  pub unrefused : (L.after s before).stage ≢ L.closed

@@ -5,11 +5,11 @@
 #![tactic(auto)]
 
 mod base;
-mod desk;
 mod options;
+mod server;
 mod serving;
 
-pub use desk::Desk;
 pub use hp_report::{Fault, Status, exit_code};
 pub use options::Options;
+pub use server::Server;
 pub use serving::serve;

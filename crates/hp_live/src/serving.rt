@@ -4,11 +4,11 @@ ghost use Rattle.std.specs.Prelude.{◌≡◌, ◌↔◌, OnOk, IfOk, IfSome, tr
 ghost use Rattle.std.specs.Io.KnownBytes.{Appends};
 ghost use Rattle.hp_report.specs.Device.{Begins};
 ghost use Rattle.hp_lines.specs.Live as L;
-ghost use Rattle.hp_live.specs.Kept.{WasTold, StopsAtRefusal};
+ghost use Rattle.hp_live.specs.Kept.{AllAnswered, StopsAtRefusal};
 ghost use Rattle.hp_live.specs.Ends.{status_of};
 
-use crate::desk::Desk;
 use crate::options::Options;
+use crate::server::Server;
 use hp_report::{Fault, Sink, Source, Status};
 use std::alloc::Global;
 use std::thread::Threads;
@@ -40,28 +40,28 @@ pub fn serve<T: Threads + Sync, R: Source, W: Sink>(
 
     // After a failed read, all lines that were complete before it have been answered: no answer is held back. The
     // script wasn't refused by then.
-    ensures at_once { result ≡ Err Fault.Read → WasTold (R.remaining reader.old) (R.remaining reader.new)
-        (W.contents writer.old) (W.contents writer.new) (L.new_desk options.tree) }
+    ensures at_once { result ≡ Err Fault.Read → AllAnswered (R.remaining reader.old) (R.remaining reader.new)
+        (W.contents writer.old) (W.contents writer.new) (L.new_server options.tree) }
 
     // It reads on only while the script isn't refused, in pieces of at most 4096 bytes.
-    ensures stops { StopsAtRefusal (R.remaining reader.old) (R.remaining reader.new) (L.new_desk options.tree) }
+    ensures stops { StopsAtRefusal (R.remaining reader.old) (R.remaining reader.new) (L.new_server options.tree) }
 
     // It returns a fault of a device exactly if a call has failed.
     ensures read { result ≡ Err Fault.Read ↔ (R.has_failed reader.new ≡ true) }
     ensures write { result ≡ Err Fault.Write ↔ (W.has_failed writer.new ≡ true) }
 {
-    let mut desk = Desk::new(alloc, options);
+    let mut server = Server::new(alloc, options);
     let mut buf = [0u8; 4096];
     for _ in 0..u64::MAX {
-        if let Status::Refused = desk.status() {
+        if let Status::Refused = server.status() {
             return Ok(Status::Refused);
         }
         match reader.read(&mut buf) {
             Ok(0) => {
-                desk.finish(rt, alloc, writer)?;
-                return Ok(desk.status());
+                server.finish(rt, alloc, writer)?;
+                return Ok(server.status());
             }
-            Ok(count) => desk.feed(rt, alloc, writer, &buf[..count])?,
+            Ok(count) => server.feed(rt, alloc, writer, &buf[..count])?,
             Err(_) => return Err(Fault::Read),
         }
     }

@@ -1,6 +1,10 @@
 -- What notifying rules of an occurrence gives, on a view.
-use Rattle.std.proofs.Common.{arith, ◌≡◌, refl, ap, ap₂, sym, ◌∙◌, subst, ℕ, suc, ◌+◌, ◌<◌, ◌≤◌, true, false, cond, List, [], ◌∷◌, ◌++◌, map, filter, length, length-append, take, drop, get_or, append-nil, append_assoc, Option, Some, None}
-use Rattle.std.specs.Prelude.{option_map, option_to_list, slice_get}
+use Rattle.std.proofs.Common.{arith, ◌≡◌, refl, ap, ap₂, sym, ◌∙◌, subst, ℕ, ℤ, suc, ◌+◌, ◌<◌, ◌≤◌, true, false, cond, List, [], ◌∷◌, ◌++◌, map, filter, length, length-append, take, drop, get_or, append-nil, append_assoc, Option, Some, None}
+use Rattle.std.specs.Prelude.{◌==◌, ◌||◌, option_map, option_to_list, slice_get}
+use Rattle.std.specs.Option.{option_or}
+use Rattle.std.proofs.Math.Bool.{or-false}
+use Rattle.std.proofs.lemmas.Bool.{or_parts}
+use Rattle.std.proofs.lemmas.List.Folds.{list_any-append}
 use Rattle.std.proofs.lemmas.List.{map-append, take_all, take-append-drop}
 use Rattle.std.proofs.lemmas.List.Elements.{filter-append, filter_more}
 use Rattle.std.proofs.Math.Seq.{take-append_seam, get_or-append_seam}
@@ -8,75 +12,112 @@ use Rattle.hp_model.specs.Occurrences.{Primitive, History, Occurrence}
 use Rattle.hp_model.specs.Events.{Event, is_pure, occurrence_of}
 use Rattle.hp_model.specs.Knowledge.{Knowledge}
 use Rattle.hp_model.specs.Rules.{Rule, Library, rule_at}
-use Rattle.hp_model.specs.State.{Status, enabled}
+use Rattle.hp_model.specs.State.{Status, enabled, extended}
 use Rattle.hp_model.specs.Tree.{Task}
-use Rattle.hp_model.specs.Cells.{object_cell, rule_cell, detector_cell, CellValue, knowledge_value, Cells, Changes, over, with_change, Holds}
-use Rattle.hp_model.specs.Firing.{level_at, triggered_by}
+use Rattle.hp_model.specs.Cells.{Cell, object_cell, rule_cell, detector_cell, CellValue, knowledge_value, Cells, Changes, no_changes, changed, over, with_change, Holds}
+use Rattle.hp_model.specs.Firing.{level_at, triggered, triggered_by}
+use Rattle.hp_model.specs.Soundness.{Faithful}
 use Rattle.hp_model.specs.Mentions.{mentioning}
+use Rattle.hp_model.proofs.BridgesCells.{stacked, stacked-with_change, with_change-apart}
 use Rattle.hp_model.proofs.BridgesReads.{status_at, knowledge_at}
 use Rattle.hp_model.proofs.Faithful.{Grows, Grows-then, held_before}
 use Rattle.hp_model.proofs.FaithfulFirings.{AreAt}
 use Rattle.hp_model.proofs.Hearing.{is_in, mentioned_once, Heard, heard_none, heard_idle, heard_nowhere, heard_pure, heard_stepped, faithful_heard}
-use Rattle.hp_store.specs.Changes.{changes}
+use Rattle.hp_store.specs.Changes.{Entries, changes}
+use Rattle.hp_rule.specs.declared.task.Task.{Task as RustTask}
+use Rattle.hp_rule.specs.Mapped.{task as task_of}
 use Rattle.hp_rule.specs.Mentions.{is_mentioned}
-use Rattle.hp_view.specs.Seeing.{Seeing, written, now_in, OnlyReads, GoesOn, Shows, Writes}
-use Rattle.hp_ops.specs.Notified.{GoesOnePlace, OnlySteps, StepsOn, NotifiedEnabled, Notified, AllNotified, condition_task, at_depth}
+use Rattle.hp_view.specs.Seeing.{Seeing, written, now_in, OnlyReads, IsSame, Shows, TakesIn}
+use Rattle.hp_ops.specs.Reading.{ReadsMore}
+use Rattle.hp_ops.specs.Notified.{GoesOnePlace, LeaveOut, OnlySteps, StepsOn, NotifiedEnabled, Notified, AllNotified, condition_task, at_depth, with_step}
 use Rattle.hp_ops.proofs.Worlds.{shown_now}
 use Rattle.hp_ops.proofs.Ruling.{past_end}
 
 grows_only : {v w : Seeing} → OnlyReads v w → Grows v.reads w.reads
 grows_only only = record { others = only.reads.0; are = only.reads.1 }
 
-grows_on : {v w : Seeing} → GoesOn v w → Grows v.reads w.reads
-grows_on on = record { others = on.reads.0; are = on.reads.1 }
-
 -- ---- what is written
 
-pub steps_none : {v w : Seeing} → OnlyReads v w → OnlySteps v w
-steps_none only = record {
-  objects = λ class key. ap (λ es. changes es (object_cell class key)) only.writes;
-  rules = λ n. ap (λ es. changes es (rule_cell n)) only.writes;
+-- no read, and one after another
+pub only_none : (v : Seeing) → OnlyReads v v
+only_none v = record { base = refl; reads = ([], sym (append-nil v.reads)); writes = refl; undo = refl }
+
+pub only_then : {v w z : Seeing} → OnlyReads v w → OnlyReads w z → OnlyReads v z
+only_then {v} one two = record {
+  base = two.base ∙ one.base;
+  reads = (one.reads.0 ++ two.reads.0, two.reads.1 ∙ ap (λ rs. rs ++ two.reads.0) one.reads.1 ∙ append_assoc v.reads one.reads.0 two.reads.0);
+  writes = two.writes ∙ one.writes;
+  undo = two.undo ∙ one.undo;
 }
 
-pub steps_then : {v w z : Seeing} → OnlySteps v w → OnlySteps w z → OnlySteps v z
-steps_then one two = record { objects = λ class key. two.objects class key ∙ one.objects class key; rules = λ n. two.rules n ∙ one.rules n }
+-- where memory runs out: before the steps are written, or while they are
+pub reads_alone : {v w : Seeing} → OnlyReads v w → ReadsMore v w
+reads_alone only = record { base = only.base; reads = only.reads; changes = ap changes only.writes; undo = only.undo }
 
-pub steps_on : {event : Event} {p : Primitive} {n : ℕ} {v z : Seeing} {o : Option Occurrence} → StepsOn event p n v z o → OnlySteps v z
-steps_on stepped = record {
-  objects = λ class key. ap (λ (c : Changes). c (object_cell class key)) stepped.writes;
-  rules = λ n. ap (λ (c : Changes). c (rule_cell n)) stepped.writes;
+pub reads_then_same : {v w z : Seeing} → OnlyReads v w → IsSame w z → ReadsMore v z
+reads_then_same only same = record {
+  base = same.base ∙ only.base;
+  reads = (only.reads.0, same.reads ∙ only.reads.1);
+  changes = same.changes ∙ ap changes only.writes;
+  undo = same.undo ∙ only.undo;
 }
+
+-- changes of detectors' cells alone
+pub record AreSteps (steps : Changes) : Type 0 where
+  pub objects : (class : ℕ) → (key : ℤ) → steps (object_cell class key) ≡ None
+  pub rules : (n : ℕ) → steps (rule_cell n) ≡ None
+
+step_more : {steps : Changes} (n : ℕ) (next : Option Knowledge) → AreSteps steps → AreSteps (with_step steps n next)
+step_more n None are = are
+step_more n (Some next) are = record { objects = are.objects; rules = are.rules }
+
+pub steps_written : {v w z : Seeing} {steps : Entries} → OnlyReads v w → AreSteps (changes steps) → TakesIn w z steps → OnlySteps v z
+steps_written {v} {w} {z} {steps} only are takes = record {
+  objects = λ class key. at (object_cell class key) (are.objects class key);
+  rules = λ n. at (rule_cell n) (are.rules n);
+}
+  where
+    at : (cell : Cell) → changes steps cell ≡ None → written z cell ≡ written v cell
+    at cell none =
+        ap (λ (c : Changes). c cell) takes.changes
+        ∙ ap (λ c. option_or c (written w cell)) none
+        ∙ ap (λ es. changes es cell) only.writes
+
+-- a cell that the steps don't name
+beside : (base : Cells) (below steps : Changes) (cell : Cell) → steps cell ≡ None → over base (stacked below steps) cell ≡ over base below cell
+beside base below steps cell none = ap (λ c. changed (base cell) (option_or c (below cell))) none
 
 -- ---- one detector
 
-pub detector_stepped : {event : Event} {p : Primitive} {n : ℕ} {v w z : Seeing} {o : Option Occurrence} (found : Option CellValue) (next : Knowledge)
+pub detector_stepped : {event : Event} {p : Primitive} {n : ℕ} {v w : Seeing} {o : Option Occurrence} (found : Option CellValue) (next : Knowledge)
     → OnlyReads v w → Shows w (detector_cell n) (now_in v (detector_cell n)) → found ≡ now_in w (detector_cell n) → GoesOnePlace event p found o next
-    → Writes w z (detector_cell n) (Some (knowledge_value next)) → StepsOn event p n v z o
-detector_stepped {n = n} {v} {w} found next only shows is steps writes = record {
+    → StepsOn event p n w o next
+detector_stepped found next only shows is steps = record {
   found = found;
-  next = next;
-  shows = λ base held.
-      ap (λ es. over base (changes es) (detector_cell n)) (sym only.writes)
-      ∙ shown_now only shows base (subst (Holds base) writes.reads held) ∙ sym is;
+  shows = λ base held. shown_now only shows base held ∙ sym is;
   steps = steps;
-  writes = writes.changes ∙ ap (λ es. with_change (changes es) (detector_cell n) (Some (Some (knowledge_value next)))) only.writes;
 }
 
 -- ---- one enabled rule
 
 module _ (library : Library) (p : Primitive) (n : ℕ) (rule : Rule) (at : rule_at library n ≡ rule) where
-  pub hears_pure : (v : Seeing) (o : Option Occurrence) → is_pure rule.event ≡ true → ((past : History) → o ≡ occurrence_of rule.event (p ∷ past)) → NotifiedEnabled library p n v v o
+  pub hears_pure : (v : Seeing) (o : Option Occurrence) → is_pure rule.event ≡ true → ((past : History) → o ≡ occurrence_of rule.event (p ∷ past)) → NotifiedEnabled library p n v v o None
   hears_pure v o pure occurs = record {
-    extends = λ depth ns reads before tasks apart grows shows so_far.
-        heard_pure (level_at library depth) p n o (ap (λ (r : Rule). is_pure r.event) at ∙ pure) (λ past. occurs past ∙ ap (λ (r : Rule). occurrence_of r.event (p ∷ past)) (sym at)) grows so_far shows;
+    extends = λ depth ns reads before steps tasks apart out grows shows so_far.
+        heard_pure (level_at library depth) p n o (ap (λ (r : Rule). is_pure r.event) at ∙ pure) (λ past. occurs past ∙ ap (λ (r : Rule). occurrence_of r.event (p ∷ past)) (sym at)) grows so_far
+        (λ base held. ap status_at (beside base (written v) steps (rule_cell n) out.status) ∙ shows base held);
   }
 
-  pub hears_stepped : (v z : Seeing) (o : Option Occurrence) → is_pure rule.event ≡ false → GoesOn v z → StepsOn rule.event p n v z o → NotifiedEnabled library p n v z o
-  hears_stepped v z o impure on stepped = record {
-    extends = λ depth ns reads before tasks apart grows shows so_far.
-        let s : StepsOn (rule_at library n).event p n v z o = subst (λ (r : Rule). StepsOn r.event p n v z o) (sym at) stepped in
-        heard_stepped (level_at library depth) p n {detector = s.found} o (knowledge_at s.found) s.next (ap (λ (r : Rule). is_pure r.event) at ∙ impure) apart refl s.steps
-        (Grows-then grows (grows_on on)) so_far (λ base held. shows base (held_before (grows_on on) base held)) s.shows s.writes;
+  pub hears_stepped : (v z : Seeing) (o : Option Occurrence) (next : Knowledge) → is_pure rule.event ≡ false → OnlyReads v z → StepsOn rule.event p n z o next → NotifiedEnabled library p n v z o (Some next)
+  hears_stepped v z o next impure only stepped = record {
+    extends = λ depth ns reads before steps tasks apart out grows shows so_far.
+        let s : StepsOn (rule_at library n).event p n z o next = subst (λ (r : Rule). StepsOn r.event p n z o next) (sym at) stepped in
+        heard_stepped (level_at library depth) p n {detector = s.found} o (knowledge_at s.found) next (ap (λ (r : Rule). is_pure r.event) at ∙ impure) apart refl s.steps
+        (Grows-then grows (grows_only only)) so_far
+        (λ base held. ap status_at (beside base (written v) steps (rule_cell n) out.status) ∙ shows base (held_before (grows_only only) base held))
+        (λ base held. beside base (written v) steps (detector_cell n) out.detector ∙ ap (λ es. over base (changes es) (detector_cell n)) (sym only.writes) ∙ s.shows base held)
+        (stacked-with_change (written z) steps (detector_cell n) (Some (knowledge_value next))
+        ∙ ap (λ es. with_change (stacked (changes es) steps) (detector_cell n) (Some (Some (knowledge_value next)))) only.writes);
   }
 
 -- ---- one rule
@@ -87,21 +128,25 @@ ShowsStatus w n s = (base : Cells) → Holds base w.reads → status_at (over ba
 
 module _ (library : Library) (p : Primitive) (n : ℕ) (v w : Seeing) (s : Status) (only : OnlyReads v w) (shows : ShowsStatus w n s) where
   -- with the writes before the read of the status
-  before_read : {depth : ℕ} {ns : List ℕ} {before : Changes} {tasks : List Task} → Heard (level_at library depth) p ns v.reads before (written v) tasks
-      → Heard (level_at library depth) p ns v.reads before (written w) tasks
-  before_read {depth} {ns} {before} {tasks} so_far = subst (λ es. Heard (level_at library depth) p ns v.reads before (changes es) tasks) (sym only.writes) so_far
+  before_read : {depth : ℕ} {ns : List ℕ} {before : Changes} (steps : Changes) {tasks : List Task} → Heard (level_at library depth) p ns v.reads before (stacked (written v) steps) tasks
+      → Heard (level_at library depth) p ns v.reads before (stacked (written w) steps) tasks
+  before_read {depth} {ns} {before} steps {tasks} so_far = subst (λ es. Heard (level_at library depth) p ns v.reads before (stacked (changes es) steps) tasks) (sym only.writes) so_far
 
-  pub tells_idle : (s ≡ enabled → ⊥) → Notified library p n v w None
+  -- and with the steps over them
+  shows_beside : (steps : Changes) → LeaveOut n steps → (base : Cells) → Holds base w.reads → status_at (over base (stacked (written w) steps) (rule_cell n)) ≡ s
+  shows_beside steps out base held = ap status_at (beside base (written w) steps (rule_cell n) out.status) ∙ shows base held
+
+  pub tells_idle : (s ≡ enabled → ⊥) → Notified library p n v w None None
   tells_idle idle = record {
-    extends = λ depth ns before tasks apart so_far.
-        subst (Heard (level_at library depth) p (ns ++ n ∷ []) w.reads before (written w)) (sym (append-nil tasks))
-        (heard_idle (level_at library depth) p n s idle (grows_only only) (before_read so_far) shows);
+    extends = λ depth ns before steps tasks apart out so_far.
+        subst (Heard (level_at library depth) p (ns ++ n ∷ []) w.reads before (stacked (written w) steps)) (sym (append-nil tasks))
+        (heard_idle (level_at library depth) p n s idle (grows_only only) (before_read steps so_far) (shows_beside steps out));
   }
 
-  pub tells_nowhere : s ≡ enabled → slice_get library.rules n ≡ None → Notified library p n v w None
+  pub tells_nowhere : s ≡ enabled → slice_get library.rules n ≡ None → Notified library p n v w None None
   tells_nowhere is none = record {
-    extends = λ depth ns before tasks apart so_far.
-        heard_nowhere (level_at library depth) p n (past_end library.rules n none) (grows_only only) (before_read so_far) (λ base held. shows base held ∙ is);
+    extends = λ depth ns before steps tasks apart out so_far.
+        heard_nowhere (level_at library depth) p n (past_end library.rules n none) (grows_only only) (before_read steps so_far) (λ base held. shows_beside steps out base held ∙ is);
   }
 
   task_then : (rule : Rule) (d depth : ℕ) (o : Option Occurrence) (task : Option Task) → task ≡ option_map (condition_task n rule.event_coupling d) o
@@ -112,38 +157,55 @@ module _ (library : Library) (p : Primitive) (n : ℕ) (v w : Seeing) (s : Statu
       by None = refl
       by (Some x) = refl
 
-  pub tells_enabled : (z : Seeing) (d : ℕ) (o : Option Occurrence) (task : Option Task) → s ≡ enabled → task ≡ option_map (condition_task n (rule_at library n).event_coupling d) o
-      → NotifiedEnabled library p n w z o → Notified library p n v z task
-  tells_enabled z d o task is made notified = record {
-    extends = λ depth ns before tasks apart so_far.
-        subst (λ t. Heard (level_at library depth) p (ns ++ n ∷ []) z.reads before (written z) (tasks ++ option_to_list t)) (sym (task_then (rule_at library n) d depth o task made))
-        (notified.extends depth ns v.reads before tasks apart (grows_only only) (λ base held. shows base held ∙ is) (before_read so_far));
+  pub tells_enabled : (z : Seeing) (d : ℕ) (o : Option Occurrence) (task : Option Task) (next : Option Knowledge) → s ≡ enabled → task ≡ option_map (condition_task n (rule_at library n).event_coupling d) o
+      → NotifiedEnabled library p n w z o next → Notified library p n v z task next
+  tells_enabled z d o task next is made notified = record {
+    extends = λ depth ns before steps tasks apart out so_far.
+        subst (λ t. Heard (level_at library depth) p (ns ++ n ∷ []) z.reads before (stacked (written z) (with_step steps n next)) (tasks ++ option_to_list t)) (sym (task_then (rule_at library n) d depth o task made))
+        (notified.extends depth ns v.reads before steps tasks apart out (grows_only only) (λ base held. shows base held ∙ is) (before_read steps so_far));
   }
 
 -- ---- all rules
 
--- the rules of a list have been notified
-pub record HaveHeard (library : Library) (p : Primitive) (ns : List ℕ) (old new : Seeing) (tasks : List Task) : Type 0 where
-  pub heard : (depth : ℕ) → Heard (level_at library depth) p ns new.reads (written old) (written new) (map (at_depth (suc depth)) tasks)
+-- the rules of a list have been notified, and these are the steps of their detectors
+pub record HaveHeard (library : Library) (p : Primitive) (ns : List ℕ) (old new : Seeing) (steps : Changes) (tasks : List Task) : Type 0 where
+  pub heard : (depth : ℕ) → Heard (level_at library depth) p ns new.reads (written old) (stacked (written new) steps) (map (at_depth (suc depth)) tasks)
+  pub are_steps : AreSteps steps
+  pub others : (m : ℕ) → is_in m ns ≡ false → steps (detector_cell m) ≡ None
+
+-- a rule that isn't in a longer list
+out_of_more : (m n : ℕ) (ns : List ℕ) → is_in m (ns ++ n ∷ []) ≡ false → (is_in m ns ≡ false) × ((n == m) ≡ false)
+out_of_more m n ns out =
+    or_parts (is_in m ns) (n == m) (sym (list_any-append (λ k. k == m) ns (n ∷ []) ∙ ap (λ b. is_in m ns || b) (or-false (n == m))) ∙ out)
 
 module _ (library : Library) (p : Primitive) where
-  pub none_heard : (v : Seeing) → HaveHeard library p [] v v []
-  none_heard v = record { heard = λ depth. heard_none (level_at library depth) p v.reads (written v) }
+  pub none_heard : (v : Seeing) → HaveHeard library p [] v v no_changes []
+  none_heard v = record {
+    heard = λ depth. heard_none (level_at library depth) p v.reads (written v);
+    are_steps = record { objects = λ class key. refl; rules = λ n. refl };
+    others = λ m out. refl;
+  }
 
   map_option : (f : Task → Task) (t : Option Task) → map f (option_to_list t) ≡ option_to_list (option_map f t)
   map_option f None = refl
   map_option f (Some t) = refl
 
-  more_heard : (ns : List ℕ) (n : ℕ) {v w z : Seeing} {tasks : List Task} {task : Option Task} → is_in n ns ≡ false → HaveHeard library p ns v w tasks → Notified library p n w z task
-      → HaveHeard library p (ns ++ n ∷ []) v z (tasks ++ option_to_list task)
-  more_heard ns n {v} {w} {z} {tasks} {task} apart so_far notified = record {
+  more_heard : (ns : List ℕ) (n : ℕ) {v w z : Seeing} {steps : Changes} {tasks : List Task} {task : Option Task} {next : Option Knowledge} → is_in n ns ≡ false
+      → HaveHeard library p ns v w steps tasks → Notified library p n w z task next → HaveHeard library p (ns ++ n ∷ []) v z (with_step steps n next) (tasks ++ option_to_list task)
+  more_heard ns n {v} {w} {z} {steps} {tasks} {task} {next} apart so_far notified = record {
     heard = λ depth.
-        subst (Heard (level_at library depth) p (ns ++ n ∷ []) z.reads (written v) (written z)) (made depth)
-        (notified.extends depth ns (written v) (map (at_depth (suc depth)) tasks) apart (so_far.heard depth));
+        subst (Heard (level_at library depth) p (ns ++ n ∷ []) z.reads (written v) (stacked (written z) (with_step steps n next))) (made depth)
+        (notified.extends depth ns (written v) steps (map (at_depth (suc depth)) tasks) apart (record { status = so_far.are_steps.rules n; detector = so_far.others n apart }) (so_far.heard depth));
+    are_steps = step_more n next so_far.are_steps;
+    others = λ m out. let both = out_of_more m n ns out in still m next both.1 (so_far.others m both.0);
   }
     where
       made : (depth : ℕ) → map (at_depth (suc depth)) tasks ++ option_to_list (option_map (at_depth (suc depth)) task) ≡ map (at_depth (suc depth)) (tasks ++ option_to_list task)
       made depth = ap (λ ts. map (at_depth (suc depth)) tasks ++ ts) (sym (map_option (at_depth (suc depth)) task)) ∙ sym (map-append (at_depth (suc depth)) tasks (option_to_list task))
+
+      still : (m : ℕ) (next : Option Knowledge) → (n == m) ≡ false → steps (detector_cell m) ≡ None → with_step steps n next (detector_cell m) ≡ None
+      still m None out none = none
+      still m (Some k) out none = with_change-apart steps (detector_cell n) (Some (Some (knowledge_value k))) (detector_cell m) out ∙ none
 
   -- a mentioned rule doesn't also precede its position in the list
   apart_before : (before : List ℕ) (n : ℕ) (rest : List ℕ) → before ++ n ∷ rest ≡ mentioning library p → is_in n before ≡ false
@@ -162,10 +224,10 @@ module _ (library : Library) (p : Primitive) (ns : List ℕ) where
   mentioned_among i = filter (is_mentioned library.rules p) (take i ns)
 
   module _ (all : filter (is_mentioned library.rules p) ns ≡ mentioning library p) where
-    pub told_listed : (i n : ℕ) {v w z : Seeing} {tasks : List Task} {task : Option Task} → i < length ns → n ≡ get_or ns i 0 → is_mentioned library.rules p n ≡ true
-        → HaveHeard library p (mentioned_among i) v w tasks → Notified library p n w z task → HaveHeard library p (mentioned_among (i + 1)) v z (tasks ++ option_to_list task)
-    told_listed i n {v} {w} {z} {tasks} {task} below is mentioned so_far notified =
-        subst (λ ms. HaveHeard library p ms v z (tasks ++ option_to_list task)) (sym one_more)
+    pub told_listed : (i n : ℕ) {v w z : Seeing} {steps : Changes} {tasks : List Task} {task : Option Task} {next : Option Knowledge} → i < length ns → n ≡ get_or ns i 0 → is_mentioned library.rules p n ≡ true
+        → HaveHeard library p (mentioned_among i) v w steps tasks → Notified library p n w z task next → HaveHeard library p (mentioned_among (i + 1)) v z (with_step steps n next) (tasks ++ option_to_list task)
+    told_listed i n {v} {w} {z} {steps} {tasks} {task} {next} below is mentioned so_far notified =
+        subst (λ ms. HaveHeard library p ms v z (with_step steps n next) (tasks ++ option_to_list task)) (sym one_more)
         (more_heard library p (mentioned_among i) n (apart_before library p (mentioned_among i) n rest (sym split ∙ all)) so_far notified)
       where
         rest : List ℕ
@@ -184,16 +246,27 @@ module _ (library : Library) (p : Primitive) (ns : List ℕ) where
             ∙ ap (λ ms. ms ++ rest) one_more
             ∙ append_assoc (mentioned_among i) (n ∷ []) rest
 
-    pub all_listed : (i : ℕ) {v w : Seeing} {tasks : List Task} → length ns ≤ i → HaveHeard library p (mentioned_among i) v w tasks → AllNotified library p v w tasks
-    all_listed i past so_far = record {
-      heard = λ depth. faithful_heard (level_at library depth) p (ap (filter (is_mentioned library.rules p)) (take_all i ns past) ∙ all) (so_far.heard depth);
+    -- the steps of all of them are written
+    pub all_listed : (i : ℕ) {v w z : Seeing} {steps : Entries} {tasks : List Task} → length ns ≤ i → HaveHeard library p (mentioned_among i) v w (changes steps) tasks → TakesIn w z steps → AllNotified library p v z tasks
+    all_listed i {v} {w} {z} {steps} {tasks} past so_far takes = record {
+      heard = λ depth.
+          subst (λ reads. Faithful library (λ S. triggered (level_at library depth) (extended p S)) (extended p) reads (written v) (written z) (map (at_depth (suc depth)) tasks)) (sym takes.reads)
+          (subst (λ now. Faithful library (λ S. triggered (level_at library depth) (extended p S)) (extended p) w.reads (written v) now (map (at_depth (suc depth)) tasks)) (sym takes.changes)
+          (faithful_heard (level_at library depth) p (ap (filter (is_mentioned library.rules p)) (take_all i ns past) ∙ all) (so_far.heard depth)));
     }
 
 -- ---- depths
 
-pub depth_push : (d : ℕ) (ts : List Task) (t : Task) → AreAt d ts → t.depth ≡ d → AreAt d (ts ++ t ∷ [])
-depth_push d [] t at is = (is, tt)
-depth_push d (u ∷ ts) t at is = (at.0, depth_push d ts t at.1 is)
+pub depth_more : (d : ℕ) (ts : List RustTask) (t : Option RustTask) → AreAt d (map task_of ts) → ((u : RustTask) → t ≡ Some u → u.depth ≡ d) → AreAt d (map task_of (ts ++ option_to_list t))
+depth_more d [] None at is = tt
+depth_more d [] (Some t) at is = (is t refl, tt)
+depth_more d (u ∷ ts) t at is = (at.0, depth_more d ts t at.1 is)
+
+-- tasks with one more, if there is one
+pub tasks_more : (ts : List RustTask) (t : Option RustTask) → map task_of ts ++ option_to_list (option_map task_of t) ≡ map task_of (ts ++ option_to_list t)
+tasks_more [] None = refl
+tasks_more [] (Some t) = refl
+tasks_more (u ∷ ts) t = ap (λ us. task_of u ∷ us) (tasks_more ts t)
 
 -- tasks that stand at a depth already
 pub same_depth : (d : ℕ) (ts : List Task) → AreAt d ts → map (at_depth d) ts ≡ ts

@@ -1,5 +1,5 @@
 -- What notifying rules of an occurrence promises.
-use Rattle.std.specs.Prelude.{◌≡◌, ℕ, ℤ, suc, List, [], ◌∷◌, ◌++◌, map, false, Option, Some, IfSome, option_map, option_to_list}
+use Rattle.std.specs.Prelude.{◌≡◌, ℕ, ℤ, suc, List, [], ◌∷◌, ◌++◌, map, false, Option, Some, None, IfSome, option_map, option_to_list}
 use Rattle.hp_model.specs.Occurrences.{Primitive, History, Occurrence, primitive_occurrence}
 use Rattle.hp_model.specs.Events.{Event, occurrence_of}
 use Rattle.hp_model.specs.Knowledge.{Knowledge, knowledge}
@@ -9,6 +9,7 @@ use Rattle.hp_model.specs.Tree.{Task, condition_step}
 use Rattle.hp_model.specs.Cells.{object_cell, rule_cell, detector_cell, CellValue, knowledge_value, Cells, Changes, over, with_change, Read, Holds}
 use Rattle.hp_model.specs.Firing.{level_at, triggered, triggered_by}
 use Rattle.hp_model.specs.Soundness.{Faithful}
+use Rattle.hp_model.proofs.BridgesCells.{stacked}
 use Rattle.hp_model.proofs.BridgesReads.{status_at, knowledge_at}
 use Rattle.hp_model.proofs.Faithful.{Grows}
 use Rattle.hp_model.proofs.Hearing.{is_in, Heard}
@@ -26,13 +27,21 @@ at_depth depth t = record { rule = t.rule; step = t.step; place = t.place; depth
 abbrev pub GoesOnePlace : Event → Primitive → Option CellValue → Option Occurrence → Knowledge → Type 0
 GoesOnePlace event p value o next = (past : History) → knowledge_at value ≡ Some (knowledge event past) → (o ≡ occurrence_of event (p ∷ past)) × (next ≡ knowledge event (p ∷ past))
 
--- a detector's cell was read, and stepped
-pub record StepsOn (event : Event) (p : Primitive) (n : ℕ) (old new : Seeing) (o : Option Occurrence) : Type 0 where
+-- a detector's cell was read, and this is its step
+pub record StepsOn (event : Event) (p : Primitive) (n : ℕ) (now : Seeing) (o : Option Occurrence) (next : Knowledge) : Type 0 where
   pub found : Option CellValue
-  pub next : Knowledge
-  pub shows : (base : Cells) → Holds base new.reads → over base (written old) (detector_cell n) ≡ found
+  pub shows : (base : Cells) → Holds base now.reads → over base (written now) (detector_cell n) ≡ found
   pub steps : GoesOnePlace event p found o next
-  pub writes : written new ≡ with_change (written old) (detector_cell n) (Some (Some (knowledge_value next)))
+
+-- the steps with one more, if the detector was stepped
+abbrev pub with_step : Changes → ℕ → Option Knowledge → Changes
+with_step steps n None = steps
+with_step steps n (Some next) = with_change steps (detector_cell n) (Some (Some (knowledge_value next)))
+
+-- they name neither this rule's status nor its detector
+pub record LeaveOut (n : ℕ) (steps : Changes) : Type 0 where
+  pub status : steps (rule_cell n) ≡ None
+  pub detector : steps (detector_cell n) ≡ None
 
 -- nothing was written but detectors
 pub record OnlySteps (old new : Seeing) : Type 0 where
@@ -43,17 +52,18 @@ pub record OnlySteps (old new : Seeing) : Type 0 where
 abbrev pub Shares : Primitive → Option Occurrence → Type 0
 Shares p shared = IfSome shared (λ o. o ≡ primitive_occurrence p)
 
--- this enabled rule has been notified, after any others, and its event occurs so
-pub record NotifiedEnabled (library : Library) (p : Primitive) (n : ℕ) (old new : Seeing) (o : Option Occurrence) : Type 0 where
-  pub extends : (depth : ℕ) (ns : List ℕ) (reads : List Read) (before : Changes) (tasks : List Task) → is_in n ns ≡ false → Grows reads old.reads
+-- this enabled rule has been notified, after any others, whose steps aren't written, and its event occurs so
+pub record NotifiedEnabled (library : Library) (p : Primitive) (n : ℕ) (old new : Seeing) (o : Option Occurrence) (next : Option Knowledge) : Type 0 where
+  pub extends : (depth : ℕ) (ns : List ℕ) (reads : List Read) (before steps : Changes) (tasks : List Task) → is_in n ns ≡ false → LeaveOut n steps → Grows reads old.reads
       → ((base : Cells) → Holds base old.reads → status_at (over base (written old) (rule_cell n)) ≡ enabled)
-      → Heard (level_at library depth) p ns reads before (written old) tasks
-      → Heard (level_at library depth) p (ns ++ n ∷ []) new.reads before (written new) (tasks ++ option_to_list (option_map (triggered_by (level_at library depth) n (rule_at library n)) o))
+      → Heard (level_at library depth) p ns reads before (stacked (written old) steps) tasks
+      → Heard (level_at library depth) p (ns ++ n ∷ []) new.reads before (stacked (written new) (with_step steps n next)) (tasks ++ option_to_list (option_map (triggered_by (level_at library depth) n (rule_at library n)) o))
 
--- this rule has been notified, after any others, and this is its task, in a transaction of any depth
-pub record Notified (library : Library) (p : Primitive) (n : ℕ) (old new : Seeing) (task : Option Task) : Type 0 where
-  pub extends : (depth : ℕ) (ns : List ℕ) (before : Changes) (tasks : List Task) → is_in n ns ≡ false → Heard (level_at library depth) p ns old.reads before (written old) tasks
-      → Heard (level_at library depth) p (ns ++ n ∷ []) new.reads before (written new) (tasks ++ option_to_list (option_map (at_depth (suc depth)) task))
+-- this rule has been notified, after any others, and these are its task, in a transaction of any depth, and its step
+pub record Notified (library : Library) (p : Primitive) (n : ℕ) (old new : Seeing) (task : Option Task) (next : Option Knowledge) : Type 0 where
+  pub extends : (depth : ℕ) (ns : List ℕ) (before steps : Changes) (tasks : List Task) → is_in n ns ≡ false → LeaveOut n steps
+      → Heard (level_at library depth) p ns old.reads before (stacked (written old) steps) tasks
+      → Heard (level_at library depth) p (ns ++ n ∷ []) new.reads before (stacked (written new) (with_step steps n next)) (tasks ++ option_to_list (option_map (at_depth (suc depth)) task))
 
 -- all rules that the occurrence concerns have been notified, and these are the tasks, in a transaction of any depth
 pub record AllNotified (library : Library) (p : Primitive) (old new : Seeing) (tasks : List Task) : Type 0 where

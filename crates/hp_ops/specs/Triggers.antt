@@ -16,7 +16,7 @@ use Rattle.hp_value.specs.Mapped.{cause}
 use Rattle.hp_rule.specs.declared.task.Task.{Task as RustTask}
 use Rattle.hp_rule.specs.Mapped.{task}
 use Rattle.hp_view.specs.Seeing.{Seeing, written}
-use Rattle.hp_ops.specs.Notified.{OnlySteps}
+use Rattle.hp_ops.specs.Reading.{ReadsMore}
 
 -- all rules that the occurrence concerns have been notified, and these are the tasks of those that it triggers
 pub record IsTriggered (library : Library) (depth : ℕ) (p : Primitive) (old new : Seeing) (tasks : List Task) : Type 0 where
@@ -26,11 +26,11 @@ pub record IsTriggered (library : Library) (depth : ℕ) (p : Primitive) (old ne
   pub within : (t : Task) (ts : List Task) → tasks ≡ t ∷ ts → depth < library.depth_limit
 
 -- the tasks that a signal triggers, or the cause for which it aborts the transaction around it; if memory ran out,
--- nothing is written but detectors
+-- nothing is written
 abbrev pub Triggers : Library → ℕ → Primitive → Seeing → Seeing → Result (Vec RustTask) Halt → Type 0
 Triggers library depth p old new (Ok tasks) = IsTriggered library depth p old new (map task tasks.items)
 Triggers library depth p old new (Err (ByCause c)) = FaithfulWork library (signal_in (level_at library depth) p) new.reads (written old) (written new) (ended (abort_by (cause c)))
-Triggers library depth p old new (Err Memory) = OnlySteps old new
+Triggers library depth p old new (Err Memory) = ReadsMore old new
 
 -- a rule that exists is fired without an occurrence, and this is its task
 pub record IsFired (library : Library) (depth n : ℕ) (now : Seeing) (t : Task) : Type 0 where

@@ -10,6 +10,7 @@ mod objects;
 mod rows;
 mod rules;
 mod signals;
+mod steps;
 
 pub use finding::{find_object, find_status};
 pub use objects::{create, delete, update};

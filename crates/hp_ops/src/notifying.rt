@@ -1,6 +1,7 @@
 //! Notifies rules of an occurrence.
 
-ghost use Rattle.std.specs.Prelude.{◌≡◌, ◌↔◌, [], ◌∷◌, ◌++◌, true, Some, IsTrue, IfOk, OnOk, OnErr, map, option_map};
+ghost use Rattle.std.specs.Prelude.{◌≡◌, ◌↔◌, ◌∷◌, ◌++◌, true, Some, IsTrue, IfOk, OnOk, OnErr};
+ghost use Rattle.std.specs.Prelude.{map, option_map, option_to_list};
 ghost use Rattle.hp_model.specs.Events.{is_pure as model_is_pure, occurrence_of as model_occurrence};
 ghost use Rattle.hp_model.specs.Occurrences.{History};
 ghost use Rattle.hp_model.specs.Rules.{Library as ModelLibrary, rule_at};
@@ -15,8 +16,10 @@ ghost use Rattle.hp_view.specs.Seeing.{GoesOn, OnlyReads};
 ghost use Rattle.hp_ops.specs.Performs.{status_of};
 ghost use Rattle.hp_ops.specs.Notified.{AllNotified, GoesOnePlace, Notified, NotifiedEnabled};
 ghost use Rattle.hp_ops.specs.Notified.{OnlySteps, Shares, StepsOn, condition_task};
+ghost use Rattle.hp_ops.specs.Reading.{ReadsMore};
 
 use crate::finding::find_status;
+use crate::steps::DetectorSteps;
 use hp_detect::{EventExpr, Knowledge, is_pure, occurs_now};
 use hp_rule::{Library, Rule, Step, Task};
 use hp_store::{CellValue, Status};
@@ -32,10 +35,17 @@ struct Notice<'a> {
     depth: u8,
 }
 
+/// What a rule makes of an occurrence: its task, if it is enabled and its event occurs, and what its detector knows
+/// next, if it is stepped.
+struct Heard {
+    task: Option<Task>,
+    next: Option<Knowledge>,
+}
+
 /// Notifies all rules that an occurrence concerns. The answer is the tasks, of depth `depth`, of the enabled rules
 /// whose event occurs, in rule order.
 ///
-/// Nothing is written but detectors. After an error some of the rules may have been notified.
+/// Nothing is written but detectors. They are written last and all at once, so that after an error nothing is written.
 pub(crate) fn notify_all(
     alloc: Global,
     view: &mut View,
@@ -47,26 +57,32 @@ pub(crate) fn notify_all(
         AllNotified (library lib.now) (primitive prim.now) view.old view.new (map task_of tasks.items)) }
     ensures depth { IfOk result (λ tasks. AreAt depth (map task_of tasks.items)) }
     ensures writes { OnlySteps view.old view.new }
+    ensures err { OnErr result (ReadsMore view.old view.new) }
     ensures goes_on { GoesOn view.old view.new }
 {
     let notice = Notice { prim, depth };
     let mut tasks = Vec::new(alloc);
+    let mut steps = DetectorSteps::Nothing;
     let mut shared = None;
     for number in lib.listed(prim) {
         if !lib.is_mentioned(*number, prim) {
             continue;
         }
-        if let Some(task) = notify(alloc, view, lib, *number, &notice, &mut shared)? {
-            add(&mut tasks, task)?;
-        }
+        let Heard { task, next } = notify(alloc, view, lib, *number, &notice, &mut shared)?;
+        steps = steps.and(alloc, *number, next)?;
+        add(&mut tasks, task)?;
     }
+    steps.write(view)?;
     Ok(tasks)
 }
 
-/// Appends a task. The first one reserves space for itself alone, since there is mostly one.
-fn add(tasks: &mut Vec<Task>, task: Task) -> Result<(), AllocError>
-    ensures { OnOk result (tasks.new.items ≡ tasks.old.items ++ task ∷ []) }
+/// Appends a task, if there is one. The first one reserves space for itself alone, since there is mostly one.
+fn add(tasks: &mut Vec<Task>, task: Option<Task>) -> Result<(), AllocError>
+    ensures { OnOk result (tasks.new.items ≡ tasks.old.items ++ option_to_list task) }
 {
+    let Some(task) = task else {
+        return Ok(());
+    };
     if tasks.is_empty() {
         tasks.reserve_exact(1)?;
     }
@@ -74,10 +90,10 @@ fn add(tasks: &mut Vec<Task>, task: Task) -> Result<(), AllocError>
     Ok(())
 }
 
-/// Notifies a rule. The answer is its task, of the notice's depth, if the rule is enabled and its event occurs.
+/// Notifies a rule. The answer is its task, of the notice's depth, if the rule is enabled and its event occurs, and the
+/// step of its detector, which isn't written.
 ///
-/// Rules whose events don't look back share one occurrence, which is made for the first of them. After an error the
-/// rule's detector is as before.
+/// Rules whose events don't look back share one occurrence, which is made for the first of them.
 fn notify(
     alloc: Global,
     view: &mut View,
@@ -85,27 +101,38 @@ fn notify(
     number: RuleNo,
     notice: &Notice<'_>,
     shared: &mut Option<Arc<Occurrence>>,
-) -> Result<Option<Task>, AllocError>
+) -> Result<Heard, AllocError>
     requires shared { Shares (primitive notice.now.prim.now) (option_map (λ o. occurrence_of o.value) shared.old) }
     ensures shared { Shares (primitive notice.now.prim.now) (option_map (λ o. occurrence_of o.value) shared.new) }
-    ensures notified { IfOk result (λ task.
-        Notified (library lib.now) (primitive notice.now.prim.now) number view.old view.new (option_map task_of task)) }
-    ensures depth { IfOk result (λ task. (t : AnyTask) → task ≡ Some t → t.depth ≡ notice.now.depth) }
-    ensures err { OnErr result (OnlyReads view.old view.new) }
-    ensures writes { OnlySteps view.old view.new }
+    ensures notified { IfOk result (λ heard.
+        Notified (library lib.now) (primitive notice.now.prim.now) number view.old view.new
+        (option_map task_of heard.task) heard.next) }
+    ensures depth { IfOk result (λ heard. (t : AnyTask) → heard.task ≡ Some t → t.depth ≡ notice.now.depth) }
+    ensures only { OnlyReads view.old view.new }
     ensures goes_on { GoesOn view.old view.new }
 {
     let status = find_status(view, number)?;
     if !is_enabled(status) {
-        return Ok(None);
+        return Ok(Heard {
+            task: None,
+            next: None,
+        });
     }
     let Some(rule) = lib.rule(number) else {
-        return Ok(None);
+        return Ok(Heard {
+            task: None,
+            next: None,
+        });
     };
-    let Some(occurrence) = notify_enabled(alloc, view, number, rule, notice.prim, shared)? else {
-        return Ok(None);
+    let (made, next) = notify_enabled(alloc, view, number, rule, notice.prim, shared)?;
+    let Some(occurrence) = made else {
+        return Ok(Heard { task: None, next });
     };
-    Ok(Some(new_task(number, rule.ec, notice.depth, occurrence)))
+    let task = new_task(number, rule.ec, notice.depth, occurrence);
+    Ok(Heard {
+        task: Some(task),
+        next,
+    })
 }
 
 fn is_enabled(status: Option<Status>) -> bool
@@ -114,9 +141,8 @@ fn is_enabled(status: Option<Status>) -> bool
     matches!(status, Some(Status::Enabled))
 }
 
-/// Notifies an enabled rule of an occurrence. The answer is the occurrence of the rule's event, if it occurs.
-///
-/// After an error the detector is as before.
+/// Notifies an enabled rule of an occurrence. The answer is the occurrence of the rule's event, if it occurs, and what
+/// its detector knows next, if the event looks back.
 fn notify_enabled(
     alloc: Global,
     view: &mut View,
@@ -124,22 +150,22 @@ fn notify_enabled(
     rule: &Rule,
     prim: &Prim,
     shared: &mut Option<Arc<Occurrence>>,
-) -> Result<Option<Arc<Occurrence>>, AllocError>
+) -> Result<(Option<Arc<Occurrence>>, Option<Knowledge>), AllocError>
     requires shared { Shares (primitive prim.now) (option_map (λ o. occurrence_of o.value) shared.old) }
     ensures shared { Shares (primitive prim.now) (option_map (λ o. occurrence_of o.value) shared.new) }
-    ensures notified { IfOk result (λ o. (lib : ModelLibrary) →
+    ensures notified { IfOk result (λ r. (lib : ModelLibrary) →
         rule_at lib number ≡ rule_of rule.now →
-        NotifiedEnabled lib (primitive prim.now) number view.old view.new (option_map (λ a. occurrence_of a.value) o)) }
-    ensures err { OnErr result (OnlyReads view.old view.new) }
-    ensures writes { OnlySteps view.old view.new }
+        NotifiedEnabled lib (primitive prim.now) number view.old view.new
+        (option_map (λ a. occurrence_of a.value) r.0) r.1) }
+    ensures only { OnlyReads view.old view.new }
     ensures goes_on { GoesOn view.old view.new }
 {
     if is_pure(&rule.event) {
         let occurrence = share(alloc, &rule.event, prim, shared)?;
-        return Ok(occurrence);
+        return Ok((occurrence, None));
     }
-    let stepped = step_detector(alloc, view, number, &rule.event, prim)?;
-    Ok(stepped)
+    let (occurrence, next) = step_detector(alloc, view, number, &rule.event, prim)?;
+    Ok((occurrence, Some(next)))
 }
 
 /// The occurrence of an event that doesn't look back, if it occurs: the shared one, which is made here if it is the
@@ -171,30 +197,27 @@ fn share(
     Ok(Some(made))
 }
 
-/// Steps a rule's detector. The answer is the occurrence of its event, if it occurs.
+/// Steps a rule's detector. The answer is the occurrence of its event, if it occurs, and what the detector knows next.
 ///
-/// After an error the detector is as before.
+/// The detector's cell is read, and not written.
 fn step_detector(
     alloc: Global,
     view: &mut View,
     number: RuleNo,
     event: &EventExpr,
     prim: &Prim,
-) -> Result<Option<Arc<Occurrence>>, AllocError>
-    ensures steps { IfOk result (λ o.
-        StepsOn (event_of event.now) (primitive prim.now) number view.old view.new
-        (option_map (λ a. occurrence_of a.value) o)) }
-    ensures err { OnErr result (OnlyReads view.old view.new) }
-    ensures writes { OnlySteps view.old view.new }
+) -> Result<(Option<Arc<Occurrence>>, Knowledge), AllocError>
+    ensures steps { IfOk result (λ r.
+        StepsOn (event_of event.now) (primitive prim.now) number view.new
+        (option_map (λ a. occurrence_of a.value) r.0) r.1) }
+    ensures only { OnlyReads view.old view.new }
     ensures goes_on { GoesOn view.old view.new }
 {
     view.read(Cell::Detector(number))?;
     let known = view.peek(Cell::Detector(number));
     let (occurrence, next) = stepped(alloc, known, event, prim)?;
-    // Made before the detector is written, so that an error leaves the detector as it was.
     let made = to_share(alloc, occurrence)?;
-    view.put(Cell::Detector(number), CellValue::Detector(next))?;
-    Ok(made)
+    Ok((made, next))
 }
 
 /// Puts an occurrence, if there is one, into an `Arc` for tasks to share.

@@ -21,7 +21,7 @@ use std::sync::Arc;
 /// The answer is the tasks of those whose event occurs, in rule order.
 ///
 /// `Depth` means that a rule is triggered whose firing would exceed the depth limit. `Memory` means that memory ran
-/// out: some of the detectors may then have been stepped, and nothing else is written.
+/// out: nothing is then written, and no detector is stepped.
 pub fn trigger(
     alloc: Global,
     view: &mut View,

@@ -17,11 +17,11 @@ abbrev pub statuses : List RuleState → List Status
 statuses rules = map (λ (r : RuleState). r.status) rules
 
 -- these are the statuses of the rules in every ordered state that has the cells
-pub record AreStatuses (library : Library) (base : Cells) (told : List Status) : Type 0 where
-  pub from : (S : State) → IsOrdered library S → cells library S ≡ base → told ≡ statuses S.rules
+pub record AreStatuses (library : Library) (base : Cells) (listed : List Status) : Type 0 where
+  pub from : (S : State) → IsOrdered library S → cells library S ≡ base → listed ≡ statuses S.rules
 
 -- these are the objects, and the statuses of the rules, in every ordered state that has the cells and whose objects are
 -- those that the reports' trees replay to
-pub record AreFinal (library : Library) (base : Cells) (reports : List UnitReport) (objects : Objects) (told : List Status) : Type 0 where
+pub record AreFinal (library : Library) (base : Cells) (reports : List UnitReport) (objects : Objects) (listed : List Status) : Type 0 where
   pub objects_are : (S : State) → IsOrdered library S → cells library S ≡ base → S.objects ≡ replay_units [] reports → objects ≡ S.objects
-  pub statuses_are : AreStatuses library base told
+  pub statuses_are : AreStatuses library base listed

@@ -25,7 +25,7 @@ pub fn final_state(
     units: &[UnitReport],
 ) -> Result<(Objects, Vec<RuleStatus>), AllocError>
     ensures objects { IfOk result (λ ends. ends.0 ≡ replay_units [] (map model.unit_report units.now)) }
-    ensures final { IfOk result (λ ends.
+    ensures state { IfOk result (λ ends.
         AreFinal (model.library lib.now) (cells_in store.now) (map model.unit_report units.now)
         ends.0 (map model.status ends.1.items)) }
 {

@@ -48,7 +48,7 @@ pub enum CheckFault {
     Limit(Limit),
 }
 
-/// Why a check has not passed.
+/// Why a check failed.
 #[derive(Debug, Drop)]
 pub enum CheckError {
     /// What was checked is not well formed.
@@ -74,7 +74,7 @@ impl<T: Drop> From<AllocFailed<T>> for CheckError {
 }
 
 /// The fault of a part that doesn't have the required form.
-pub(crate) fn misshapen(alloc: Global, place: &Place<'_>) -> CheckError
+pub(crate) fn wrong_shape(alloc: Global, place: &Place<'_>) -> CheckError
     ensures { IsFault result (wrong_shape (steps place.now)) }
 {
     match place.path(alloc) {
@@ -84,7 +84,7 @@ pub(crate) fn misshapen(alloc: Global, place: &Place<'_>) -> CheckError
 }
 
 /// The fault of a name that isn't allowed here.
-pub(crate) fn misnamed(alloc: Global, place: &Place<'_>) -> CheckError
+pub(crate) fn bad_name(alloc: Global, place: &Place<'_>) -> CheckError
     ensures { IsFault result (bad_name (steps place.now)) }
 {
     match place.path(alloc) {
@@ -94,7 +94,7 @@ pub(crate) fn misnamed(alloc: Global, place: &Place<'_>) -> CheckError
 }
 
 /// The fault of an exceeded limit.
-pub(crate) fn beyond(exceeded: Limit) -> CheckError
+pub(crate) fn over_limit(exceeded: Limit) -> CheckError
     ensures { IsFault result (over_limit (limit exceeded)) }
 {
     CheckError::Fault(CheckFault::Limit(exceeded))

@@ -10,16 +10,16 @@ use Rattle.hp_script.specs.Forms.{scope_view}
 use Rattle.hp_rule.specs.declared.context.Context.{Context}
 use Rattle.hp_script.specs.declared.scope.Scope.{Scope}
 
--- the statement of a form, with at most so many levels of statements in it
+-- the statement of a form, with at most this many levels of statements in it
 abbrev pub form_here : Context Scope → (levels : ℕ) → StatementForm → Decoded Statement
 form_here c levels form =
     statement_from (scope_view c.scope) (statement_within (scope_view c.scope) levels) (names_in c.names) (steps c.place) form
 
--- the statement that a value is, of at most so many levels
+-- the statement that a value is, of at most this many levels
 abbrev pub statement_here : Context Scope → (levels : ℕ) → Data → Decoded Statement
 statement_here c levels d = statement_within (scope_view c.scope) levels (names_in c.names) (steps c.place) d
 
--- the statements of a body, each of at most so many levels
+-- the statements of a body, each of at most this many levels
 abbrev pub statements_here : Context Scope → (levels : ℕ) → Data → Decoded (List Statement)
 statements_here c levels d =
     statements_by (statement_within (scope_view c.scope) levels) (names_in c.names) (steps c.place) d

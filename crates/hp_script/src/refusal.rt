@@ -18,7 +18,7 @@ use std::error::Error;
 pub enum Refusal {
     /// The bytes are not a JSON text in UTF-8.
     S1,
-    /// A value has not the form that the grammar wants.
+    /// A value doesn't have the form that the grammar requires.
     S2(Vec<PathStep>),
     /// A number is not a signed 64-bit integer.
     S3(Vec<PathStep>),
@@ -59,7 +59,7 @@ impl<T: Drop> From<AllocFailed<T>> for DecodeError {
     }
 }
 
-/// The refusal of a value that has not the form that the grammar wants here.
+/// The refusal of a value that doesn't have the form that the grammar requires here.
 pub(crate) fn wrong_shape(alloc: Global, place: &Place<'_>) -> DecodeError
     ensures { IsRefusal result (wrong_shape (steps place.now)) }
 {
@@ -89,7 +89,7 @@ pub(crate) fn bad_name(alloc: Global, place: &Place<'_>) -> DecodeError
     }
 }
 
-/// What was found at a place, or the refusal of a value that has not the form that the grammar wants here.
+/// What was found at a place, or the refusal of a value that doesn't have the required form.
 pub(crate) fn shaped<T>(
     alloc: Global,
     place: &Place<'_>,

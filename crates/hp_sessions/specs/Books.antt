@@ -99,14 +99,14 @@ IsUnable b body (Refusal.HistoryFull n) = (rules.library body.library.value ≡ 
 IsUnable b body (Refusal.Stale entries cell) = ⊥
 IsUnable b body Refusal.NoMemory = MayCome b body
 
--- a refusal whose reason isn't a read of the unit; that of a full history tells how many units it has
+-- a refusal whose reason isn't a read of the unit; that of a full history has the number of its units
 abbrev pub IsNotStale : Refusal → Type 0
 IsNotStale Refusal.OtherLibrary = Unit {0}
 IsNotStale (Refusal.HistoryFull n) = n ≡ 100000
 IsNotStale (Refusal.Stale entries cell) = ⊥
 IsNotStale Refusal.NoMemory = Unit {0}
 
--- a token of this table that has seen so many entries at least; without one, none were seen
+-- a token of this table that has seen at least this many entries; without one, none were seen
 abbrev pub IsSeen : TableId → ℕ → Option (Seat Entry View) → Type 0
 IsSeen table last None = last ≡ 0
 IsSeen table last (Some t) = (t.table_id ≡ table) × (t.me.1 ≡ []) × (last ≤ length t.me.0.list)

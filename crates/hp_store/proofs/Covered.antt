@@ -26,7 +26,7 @@ use Rattle.hp_store.specs.Parts.{object_keys, bound_of, lies_between, Covers, is
 use Rattle.hp_store.proofs.Cells.{cell_cmp, int_at}
 use Rattle.hp_store.proofs.Entered.{Kept}
 use Rattle.hp_store.proofs.Keeping.{cells_shown}
-use Rattle.hp_store.proofs.Piled.{changes_in-more, over_or}
+use Rattle.hp_store.proofs.Layered.{changes_in-more, over_or}
 
 -- ---- an object outside the bounds
 

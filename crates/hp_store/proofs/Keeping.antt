@@ -9,7 +9,7 @@ use Rattle.hp_store.specs.Changes.{Entries, changes, changes_in}
 use Rattle.hp_store.specs.Kept.{AreKept}
 use Rattle.hp_store.specs.Stack.{Stack, cells_in}
 use Rattle.hp_store.specs.Tables.{base_cells, tables}
-use Rattle.hp_store.proofs.Piled.{over_or}
+use Rattle.hp_store.proofs.Layered.{over_or}
 use Rattle.hp_store.proofs.Stacked.{shown}
 
 -- one list more
@@ -34,5 +34,5 @@ kept_shown b new layers left layer lists kept same still have =
 -- with one layer more
 pub kept_over : (b new : Base) (layers pile : List Entries) (layer : Entries) (lists kept : List KeptList) → new ≡ b → ((q : Cell) → changes_in pile q ≡ option_or (changes layer q) (changes_in layers q))
     → ((base : Cells) → AreKept base lists → AreKept (over base (changes layer)) kept) → AreKept (over (base_cells b) (changes_in layers)) lists → AreKept (over (base_cells new) (changes_in pile)) kept
-kept_over b new layers pile layer lists kept same piled =
-    kept_shown b new layers pile layer lists kept (λ q. ap (λ x. changed (base_cells x q) (changes_in pile q)) same ∙ ap (changed (base_cells b q)) (piled q))
+kept_over b new layers pile layer lists kept same stacked =
+    kept_shown b new layers pile layer lists kept (λ q. ap (λ x. changed (base_cells x q) (changes_in pile q)) same ∙ ap (changed (base_cells b q)) (stacked q))

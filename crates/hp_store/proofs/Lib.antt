@@ -4,7 +4,7 @@ pub mod Merging
 pub mod Ranged
 pub mod Searching
 pub mod Based
-pub mod Piled
+pub mod Layered
 pub mod Held
 pub mod Stacked
 pub mod Listing
@@ -12,7 +12,7 @@ pub mod Wholes
 pub mod Overlaid
 pub mod Keeping
 pub mod Covered
-pub mod Told
+pub mod Agreed
 pub mod Picked
 pub mod Placed
 pub mod Indexed

@@ -19,7 +19,7 @@ use Rattle.hp_model.specs.Cells.{object_cell, Cells, belongs_in, ArePart}
 use Rattle.hp_value.specs.Mapped.{keys_of}
 use Rattle.hp_store.specs.Parts.{Covers, is_among, IsMember, with_member}
 use Rattle.hp_store.proofs.Cells.{int_at}
-use Rattle.hp_store.proofs.Told.{IsShown, shown_at}
+use Rattle.hp_store.proofs.Agreed.{IsShown, shown_at}
 
 -- ---- more keys
 

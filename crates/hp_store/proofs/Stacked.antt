@@ -11,7 +11,7 @@ use Rattle.hp_store.specs.declared.base.Base.{Base}
 use Rattle.hp_store.specs.Changes.{Entries, changes, changes_in}
 use Rattle.hp_store.specs.Mapped.{cell_value}
 use Rattle.hp_store.specs.Stack.{Stack, cells_in}
-use Rattle.hp_store.proofs.Piled.{over_or, changes_in-more, nothing_more}
+use Rattle.hp_store.proofs.Layered.{over_or, changes_in-more, nothing_more}
 use Rattle.hp_store.specs.Tables.{tables, table_at, entries_at, cells_at, base_cells}
 
 entries_of : (ts : List (BTreeMap ℤ CellValue)) (i : ℕ) → entries_at (map (λ t. t.entries) ts) i ≡ table_at ts i

@@ -37,7 +37,7 @@ bound_of (Some key) = Included key
 abbrev pub lies_between : (low high : Option ℤ) → ℤ → Bool
 lies_between low high key = range_contains int_cmp (bound_of low) (bound_of high) key
 
--- of an object whose key fails the test it can be told that it doesn't belong to the part
+-- an object whose key fails the test can be compared, and doesn't belong to the part
 abbrev pub Covers : (ℤ → Bool) → ClassPart → ℕ → Cells → Type 0
 Covers test p class cells = (key : ℤ) → test key ≡ false → belongs_in p key (cells (object_cell class key)) ≡ Ok false
 
@@ -55,8 +55,8 @@ says b (Ok a) = if a then b else not b
 says b (Err cause) = false
 
 -- an object belongs to the part exactly where its key is listed
-abbrev pub is_told : Cells → ClassPart → ℕ → List ℤ → ℤ → Bool
-is_told cells p class keys key = says (is_among keys key) (belongs_in p key (cells (object_cell class key)))
+abbrev pub agrees_at : Cells → ClassPart → ℕ → List ℤ → ℤ → Bool
+agrees_at cells p class keys key = says (is_among keys key) (belongs_in p key (cells (object_cell class key)))
 
 -- a cell holds this row
 abbrev pub holds_row : Row → Option Value → Bool
@@ -69,7 +69,7 @@ is_shown cells p class o = holds_row o.row (cells (object_cell class o.key)) && 
 
 -- ---- the objects of a part
 
--- what is told of an object: its row, if it belongs to the part
+-- what was found of an object: its row, if it belongs to the part
 abbrev pub IsMember : ClassPart → ℤ → Option Value → Option Row → Type 0
 IsMember p key v None = belongs_in p key v ≡ Ok false
 IsMember p key v (Some row) = (v ≡ Some (row_value row)) × (belongs p (record { key = key; row = row }) ≡ Ok true)

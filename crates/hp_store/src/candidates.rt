@@ -31,7 +31,7 @@ pub(crate) enum Candidates<'a> {
 }
 
 impl Candidates<'_> {
-    /// The next key. It takes no memory.
+    /// The next key. It allocates nothing.
     pub(crate) fn next(&mut self) -> Option<Key>
         ensures { MatchOption result (keys_left self.old ≡ []) (λ key. keys_left self.old ≡ key ∷ keys_left self.new) }
     {

@@ -22,7 +22,7 @@ use std::collections::{BTreeMap, BTreeSet};
 
 /// The places of a class's objects by a field. So those are found whose values lie between two bounds.
 ///
-/// It has to be complete only: who finds a key looks at the object.
+/// It only has to be complete: whoever finds a key in it looks at the object.
 #[derive(Debug, Drop)]
 pub(crate) struct Index {
     pub(crate) class: ClassNo,
@@ -52,7 +52,7 @@ impl Index {
     }
 
     /// Keys among which all objects of a part are, if this is the index of its field. None where a value is of another
-    /// kind than the part's bounds, so that it can't be told of it.
+    /// kind than the part's bounds, so that it can't be compared with them.
     pub(crate) fn candidates(&self, class: ClassNo, part: &ClassPart<'_>) -> Option<Candidates<'_>>
         ensures { IfSome result (λ keys. (cells : Cells) → IsComplete cells self.now →
             Covers (is_among (keys_left keys)) (mapped.class_part part.now) class cells) }

@@ -9,7 +9,8 @@ ghost use Rattle.hp_value.specs.Mapped as mapped;
 ghost use Rattle.hp_value.specs.Mapped.{keys_of, outcome};
 ghost use Rattle.hp_store.specs.Changes.{changes, changes_in};
 ghost use Rattle.hp_store.specs.Mapped as here;
-ghost use Rattle.hp_store.specs.Parts.{keys_left, Covers, is_told, is_shown, is_among, no_cells, IsMember, with_member};
+ghost use Rattle.hp_store.specs.Parts.{keys_left, Covers, agrees_at, is_shown, is_among, no_cells};
+ghost use Rattle.hp_store.specs.Parts.{IsMember, with_member};
 ghost use Rattle.hp_store.specs.Stack.{cells_in};
 
 use crate::candidates::Candidates;
@@ -22,7 +23,7 @@ use std::alloc::{AllocError, Global};
 
 impl Snapshot {
     /// The objects of a part of a class with their rows, by rising keys. None where they can't be found without a look
-    /// at all objects of the class, or where it can't be told of each object whether it belongs to the part.
+    /// at all objects of the class, or where an object can't be compared with the part's bounds.
     ///
     /// An error means that memory ran out.
     pub fn part(
@@ -59,7 +60,7 @@ impl Snapshot {
     }
 
     /// Whether these are the objects of a part of a class by rising keys, once a layer has been written over the cells.
-    /// It takes no memory.
+    /// It allocates nothing.
     pub fn has_part_over(
         &self,
         writes: &Layer,
@@ -74,7 +75,7 @@ impl Snapshot {
             return false;
         }
         self.shows_each(writes, class, part, objects)
-            && self.tells_each(writes, class, part, objects)
+            && self.agrees_on_all(writes, class, part, objects)
     }
 }
 
@@ -97,7 +98,8 @@ impl Snapshot {
         Ok(keys)
     }
 
-    // Those of the objects with some keys that belong to a part. None where it can't be told of one of them.
+    // Those of the objects with some keys that belong to a part. None where one of them can't be compared with its
+    // bounds.
     fn picked(
         &self,
         alloc: Global,
@@ -115,8 +117,8 @@ impl Snapshot {
     {
         let mut objects = Vec::new(alloc);
         for key in keys {
-            let told = self.member(writes, class, part, *key)?;
-            let Ok(member) = told else {
+            let tested = self.member(writes, class, part, *key)?;
+            let Ok(member) = tested else {
                 return Ok(None);
             };
             add_member(&mut objects, *key, member)?;
@@ -124,7 +126,7 @@ impl Snapshot {
         Ok(Some(objects))
     }
 
-    // The row of the object with a key, if it belongs to a part.
+    // The row of the object with a key, if it belongs to a part. The inner error is why it can't be compared.
     fn member(
         &self,
         writes: &Layer,
@@ -132,7 +134,7 @@ impl Snapshot {
         part: &ClassPart<'_>,
         key: Key,
     ) -> Result<Result<Option<Row>, Cause>, AllocError>
-        ensures { IfOk result (λ told. IfOk told (λ member.
+        ensures { IfOk result (λ tested. IfOk tested (λ member.
             IsMember (mapped.class_part part.now) key
             (over (cells_in self.now) (changes writes.now) (object_cell class key)) member)) }
     {
@@ -204,8 +206,8 @@ impl Snapshot {
         true
     }
 
-    // Whether an object belongs to the part exactly if it stands in the list.
-    fn is_told(
+    // Whether an object belongs to the part exactly if it is in the list.
+    fn agrees_at(
         &self,
         writes: &Layer,
         class: ClassNo,
@@ -214,7 +216,7 @@ impl Snapshot {
         key: Key,
     ) -> bool
         requires { IsStrictlySortedBy int_cmp (keys_of (map mapped.keyed_row objects.now)) }
-        ensures { result ≡ is_told (over (cells_in self.now) (changes writes.now)) (mapped.class_part part.now) class
+        ensures { result ≡ agrees_at (over (cells_in self.now) (changes writes.now)) (mapped.class_part part.now) class
             (keys_of (map mapped.keyed_row objects.now)) key }
     {
         match self.belongs(writes, class, part, key) {
@@ -224,7 +226,7 @@ impl Snapshot {
     }
 
     // The same of each of some keys.
-    fn tells(
+    fn agrees_on(
         &self,
         writes: &Layer,
         class: ClassNo,
@@ -233,19 +235,19 @@ impl Snapshot {
         mut keys: Candidates<'_>,
     ) -> bool
         requires { IsStrictlySortedBy int_cmp (keys_of (map mapped.keyed_row objects.now)) }
-        ensures { result ≡ list_all (is_told (over (cells_in self.now) (changes writes.now))
+        ensures { result ≡ list_all (agrees_at (over (cells_in self.now) (changes writes.now))
             (mapped.class_part part.now) class (keys_of (map mapped.keyed_row objects.now))) (keys_left keys.entry) }
     {
         while let Some(key) = keys.next() {
-            if !self.is_told(writes, class, part, objects, key) {
+            if !self.agrees_at(writes, class, part, objects, key) {
                 return false;
             }
         }
         true
     }
 
-    // The same of the objects that one of some layers names, as far as the part may have them.
-    fn tells_layers(
+    // The same of the objects that one of some layers names, as far as they may belong to the part.
+    fn agrees_on_layers(
         &self,
         writes: &Layer,
         class: ClassNo,
@@ -255,24 +257,24 @@ impl Snapshot {
     ) -> bool
         requires { IsStrictlySortedBy int_cmp (keys_of (map mapped.keyed_row objects.now)) }
         ensures covers { IsTrue result → Covers
-            (is_told (over (cells_in self.now) (changes writes.now)) (mapped.class_part part.now) class
+            (agrees_at (over (cells_in self.now) (changes writes.now)) (mapped.class_part part.now) class
             (keys_of (map mapped.keyed_row objects.now)))
             (mapped.class_part part.now) class (over no_cells (changes_in layers.now)) }
-        ensures always { ((key : ℤ) → is_told (over (cells_in self.now) (changes writes.now))
+        ensures always { ((key : ℤ) → agrees_at (over (cells_in self.now) (changes writes.now))
             (mapped.class_part part.now) class (keys_of (map mapped.keyed_row objects.now)) key ≡ true) →
             IsTrue result }
     {
         for shared in layers {
             let keys = shared.candidates(class, part);
-            if !self.tells(writes, class, part, objects, keys) {
+            if !self.agrees_on(writes, class, part, objects, keys) {
                 return false;
             }
         }
         true
     }
 
-    // The same of all objects of the class, as far as the part may have them.
-    fn tells_each(
+    // The same of all objects of the class, as far as they may belong to the part.
+    fn agrees_on_all(
         &self,
         writes: &Layer,
         class: ClassNo,
@@ -281,22 +283,22 @@ impl Snapshot {
     ) -> bool
         requires { IsStrictlySortedBy int_cmp (keys_of (map mapped.keyed_row objects.now)) }
         ensures covers { IsTrue result → Covers
-            (is_told (over (cells_in self.now) (changes writes.now)) (mapped.class_part part.now) class
+            (agrees_at (over (cells_in self.now) (changes writes.now)) (mapped.class_part part.now) class
             (keys_of (map mapped.keyed_row objects.now)))
             (mapped.class_part part.now) class (over (cells_in self.now) (changes writes.now)) }
-        ensures always { ((key : ℤ) → is_told (over (cells_in self.now) (changes writes.now))
+        ensures always { ((key : ℤ) → agrees_at (over (cells_in self.now) (changes writes.now))
             (mapped.class_part part.now) class (keys_of (map mapped.keyed_row objects.now)) key ≡ true) →
             IsTrue result }
     {
         let keys = self.base.candidates(class, part);
-        if !self.tells(writes, class, part, objects, keys) {
+        if !self.agrees_on(writes, class, part, objects, keys) {
             return false;
         }
-        if !self.tells_layers(writes, class, part, objects, &self.layers) {
+        if !self.agrees_on_layers(writes, class, part, objects, &self.layers) {
             return false;
         }
         let written = writes.candidates(class, part);
-        self.tells(writes, class, part, objects, written)
+        self.agrees_on(writes, class, part, objects, written)
     }
 }
 

@@ -15,7 +15,7 @@ ghost use Rattle.hp_store.specs.Places.{place_cmp, start, key_at, place_of, plac
 use crate::value::CellValue;
 use hp_value::{Bounds, Key, Row, Value};
 
-/// How many bytes of a text an index tells apart. Of texts that begin with the same ones it may name too many.
+/// How many bytes of a text an index compares. Among texts that begin with the same bytes it may name too many.
 const START: usize = 32;
 
 /// Where an index has an object: by its value in the field, and then by its key. Whole numbers come first, and texts

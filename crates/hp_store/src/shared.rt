@@ -120,46 +120,46 @@ pub(crate) fn copied(alloc: Global, layers: &[SharedLayer]) -> Result<Layers, Al
 /// the others into one, which has the base's indexes.
 ///
 /// An error means that memory ran out.
-pub(crate) fn piled(
+pub(crate) fn stacked(
     alloc: Global,
     layers: &[SharedLayer],
     layer: Arc<Layer>,
     indexes: &[Index],
 ) -> Result<Layers, AllocError>
     requires { length layers.now ≤ MOST_LAYERS }
-    ensures changes { IfOk result (λ pile. (q : ModelCell) →
-        changes_in pile.items q ≡ option_or (changes layer.value q) (changes_in layers.now q)) }
-    ensures most { IfOk result (λ pile. length pile.items ≤ MOST_LAYERS) }
+    ensures changes { IfOk result (λ stack. (q : ModelCell) →
+        changes_in stack.items q ≡ option_or (changes layer.value q) (changes_in layers.now q)) }
+    ensures most { IfOk result (λ stack. length stack.items ≤ MOST_LAYERS) }
 {
     if layer.is_empty() {
-        let pile = copied(alloc, layers)?;
-        return Ok(pile);
+        let stack = copied(alloc, layers)?;
+        return Ok(stack);
     }
     if layers.len() < MOST_LAYERS {
-        let pile = pushed(alloc, layers, layer)?;
-        return Ok(pile);
+        let stack = pushed(alloc, layers, layer)?;
+        return Ok(stack);
     }
     let (below, above) = layers.split_at(fold_from(layers, layer.len()));
     let mut all = folded(alloc, above)?;
     all.take_in(&layer)?;
     all.keep_indexes(alloc, indexes)?;
     let one = Arc::new(alloc, all)?;
-    let pile = pushed(alloc, below, one)?;
-    Ok(pile)
+    let stack = pushed(alloc, below, one)?;
+    Ok(stack)
 }
 
 // These layers and one more.
 fn pushed(alloc: Global, layers: &[SharedLayer], layer: Arc<Layer>) -> Result<Layers, AllocError>
-    ensures { IfOk result (λ pile. pile.items ≡ layers.now ++ layer.value ∷ []) }
+    ensures { IfOk result (λ stack. stack.items ≡ layers.now ++ layer.value ∷ []) }
 {
-    let mut pile = copied(alloc, layers)?;
-    pile.push(SharedLayer { layer: Some(layer) })?;
-    Ok(pile)
+    let mut stack = copied(alloc, layers)?;
+    stack.push(SharedLayer { layer: Some(layer) })?;
+    Ok(stack)
 }
 
-// Where the layers begin that are folded with a new one of so many changes: the newest, and below it each that has at
-// most twice the changes of those above it. So where a lower layer is folded it grows by half at least, and commits
-// stay cheap while somebody holds the base for good.
+// Where the layers begin that are folded with a new one of `added` changes: the newest, and below it each that has at
+// most twice the changes of those above it. So a lower layer that is folded grows by half at least, and commits stay
+// cheap even if the base is shared for good.
 fn fold_from(layers: &[SharedLayer], added: usize) -> usize
     requires { 0 < length layers.now }
     ensures { result < length layers.now }

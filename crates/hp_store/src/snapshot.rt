@@ -13,7 +13,7 @@ ghost use Rattle.hp_store.specs.Tables.{tables, base_cells};
 use crate::base::Base;
 use crate::kept::{KeptList, note_asked, still_asked, still_kept};
 use crate::layer::Layer;
-use crate::shared::{Layers, SharedLayer, copied, newest, piled};
+use crate::shared::{Layers, SharedLayer, copied, newest, stacked};
 use crate::value::CellValue;
 use hp_value::{Cell, ClassNo, Key, ObjectList, Row};
 use smallvec::SmallVec;
@@ -31,7 +31,7 @@ pub struct Snapshot {
     pub(crate) base: Arc<Base>,
     // The newest last.
     pub(crate) layers: Layers,
-    // Classes that were listed ahead, for all who start from the snapshot.
+    // Classes that were listed ahead, for all that start from the snapshot.
     lists: Vec<KeptList>,
     // Those of these classes that were asked for since one of their objects changed.
     asked: Vec<ClassNo>,
@@ -200,7 +200,7 @@ impl Snapshot {
         keep_index(alloc, &mut self.base, class, field)
     }
 
-    /// The objects of a class with their rows, if the list is kept. It takes no memory.
+    /// The objects of a class with their rows, if the list is kept. It allocates nothing.
     pub fn kept_objects(&self, class: ClassNo) -> Option<&Arc<ObjectList>>
         ensures { IfSome result (λ objects. AreObjects (cells_in self.now) class objects.now.value) }
     {
@@ -235,7 +235,7 @@ impl Snapshot {
         Ok(Some(objects))
     }
 
-    /// Whether these are the keys of a class's objects, in rising order. It takes no memory.
+    /// Whether these are the keys of a class's objects, in rising order. It allocates nothing.
     pub fn has_keys(&self, class: ClassNo, keys: &[Key]) -> bool
         ensures { IsTrue result ↔ AreKeys (cells_in self.now) class keys.now }
     {
@@ -243,7 +243,7 @@ impl Snapshot {
         self.has_keys_over(&nothing, class, keys)
     }
 
-    /// The same once a layer has been written over the cells. It takes no memory.
+    /// The same once a layer has been written over the cells. It allocates nothing.
     ///
     /// The time goes with the keys, those of the base's objects of the class and the layers' changes of them.
     pub fn has_keys_over(&self, writes: &Layer, class: ClassNo, keys: &[Key]) -> bool
@@ -264,7 +264,7 @@ impl Snapshot {
     {
         let lists = still_kept(alloc, &self.lists, &self.asked, &layer)?;
         let asked = still_asked(alloc, &self.asked, &layer)?;
-        let layers = piled(alloc, &self.layers, layer, &self.base.indexes)?;
+        let layers = stacked(alloc, &self.layers, layer, &self.base.indexes)?;
         Ok(Snapshot {
             base: Arc::try_clone(&self.base)?,
             layers,
@@ -286,7 +286,7 @@ impl Snapshot {
         }
         let lists = still_kept(alloc, &self.lists, &self.asked, &layer)?;
         let asked = still_asked(alloc, &self.asked, &layer)?;
-        self.layers = piled(alloc, &self.layers, layer, &self.base.indexes)?;
+        self.layers = stacked(alloc, &self.layers, layer, &self.base.indexes)?;
         self.lists = lists;
         self.asked = asked;
         settle(alloc, &mut self.base, &mut self.layers);

@@ -54,7 +54,7 @@ impl PartialEq for CellValue {
     /// Whether two cells hold the same: two rows with the same values under the same names, one status, or the same
     /// knowledge of a past.
     ///
-    /// It takes no memory.
+    /// It allocates nothing.
     fn eq(&self, other: &CellValue) -> bool
         ensures test { result ≡ held_same self.now other.now }
         ensures same { IsTrue result ↔ (cell_value self.now ≡ cell_value other.now) }

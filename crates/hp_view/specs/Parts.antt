@@ -1,4 +1,4 @@
--- Parts of a class: told apart, and the number by which one is looked up.
+-- Parts of a class: when two are the same, and the number by which one is looked up.
 use Rattle.std.specs.Prelude.{ℕ, Bool, true, false, ◌&&◌, Option, Some, None, bytes_eq, fold}
 use Rattle.std.specs.Hash as fed
 use Rattle.std.specs.Hash.DefaultHasher as sip

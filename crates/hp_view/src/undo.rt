@@ -122,7 +122,7 @@ pub(crate) fn take_back(
     Ok(())
 }
 
-// The same of a layer that nobody shares, the newest first. It takes no memory.
+// The same of a layer that nobody shares, the newest first. It allocates nothing.
 fn unwind(writes: &mut Layer, undo: &mut Vec<Replaced>, at: usize)
     requires within { at ≤ length undo.old.items }
     requires covered { AreCovered (map replaced undo.old.items) (changes writes.old) }

@@ -90,8 +90,8 @@ impl View {
     /// Reads a cell, whose value is then the one that `peek` gives.
     ///
     /// The read is recorded with what the snapshot holds, unless the cell was read before, by itself or with its whole
-    /// class, or the view's own writes cover it: then it takes no memory. An error means that memory ran out; the view
-    /// is then as before.
+    /// class, or the view's own writes cover it: then nothing is allocated. An error means that memory ran out; the
+    /// view is then as before.
     pub fn read(&mut self, cell: Cell) -> Result<(), AllocError>
         ensures reads { OnOk result (self.new ≡ record self.old { reads = read_cell self.old (mapped.cell cell) }) }
         ensures err { OnErr result (self.new ≡ self.old) }
@@ -113,7 +113,7 @@ impl View {
         Ok(())
     }
 
-    /// The value of a cell, or none where the cell is empty. Nothing is recorded, and no memory is taken.
+    /// The value of a cell, or none where the cell is empty. Nothing is recorded or allocated.
     pub fn peek(&self, cell: Cell) -> Option<&CellValue>
         ensures { option_map (λ v. cell_value v.now) result ≡ now_in self.now (mapped.cell cell) }
     {
@@ -422,8 +422,8 @@ impl View {
         Ok(())
     }
 
-    /// Whether these are the objects of a part of a class, by rising keys and with the rows that they have, and it can
-    /// be told of each other object that it doesn't belong to the part. Nothing is recorded, and no memory is taken.
+    /// Whether these are the objects of a part of a class, by rising keys and with the rows that they have. False also
+    /// where an object can't be compared with the part's bounds. Nothing is recorded or allocated.
     pub fn has_part(&self, class: ClassNo, part: &ClassPart<'_>, objects: &[KeyedRow]) -> bool
         ensures { IsTrue result ↔ ArePart (now_in self.now) class (mapped.class_part part.now)
             (map mapped.keyed_row objects.now) }
@@ -434,7 +434,7 @@ impl View {
     /// Reads a part of a class, whose objects are then those that `has_part` takes. The answer is no where nothing is
     /// read: the part can't be found without a look at all objects of the class, or it can't be recorded.
     ///
-    /// It is recorded as it stands beneath the view's own writes, unless it was read before: then it takes no memory.
+    /// It is recorded as it stands beneath the view's own writes, unless it was read before: then nothing is allocated.
     /// An error means that memory ran out; the view is then as before.
     pub fn read_part(
         &mut self,
@@ -528,8 +528,8 @@ impl View {
         }
     }
 
-    /// Whether these are all objects of a class, by rising keys and with the rows that they have. Nothing is recorded,
-    /// and no memory is taken.
+    /// Whether these are all objects of a class, by rising keys and with the rows that they have. Nothing is recorded
+    /// or allocated.
     pub fn has_objects(&self, class: ClassNo, objects: &ObjectList) -> bool
         ensures { IsTrue result ↔ AreObjects (now_in self.now) class objects.now }
     {
@@ -579,7 +579,7 @@ impl View {
         Ok(snapshot)
     }
 
-    /// Whether these are the keys of a class's objects, in rising order. Nothing is recorded, and no memory is taken.
+    /// Whether these are the keys of a class's objects, in rising order. Nothing is recorded or allocated.
     pub fn has_keys(&self, class: ClassNo, keys: &[Key]) -> bool
         ensures { IsTrue result ↔ AreKeys (now_in self.now) class keys.now }
     {

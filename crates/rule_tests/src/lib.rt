@@ -9,3 +9,5 @@ mod fixtures;
 mod libraries;
 #[cfg(test)]
 mod operations;
+#[cfg(test)]
+mod signals;

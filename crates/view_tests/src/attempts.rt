@@ -390,7 +390,7 @@ fn settle_or_not(rt: &impl Abort, alloc: Global, view: &mut View, wanted: &Task,
     }
 }
 
-// Run with each allocation refused in turn: where the call tells it, the cells are as before.
+// Run with each allocation refused in turn: where the call returns the error, the cells are as before.
 #[test]
 fn a_refused_allocation_is_reported(rt: HostRuntime) {
     let alloc = rt.alloc();

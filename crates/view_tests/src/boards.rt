@@ -147,7 +147,7 @@ fn a_group_settles_the_posted_layer(rt: HostRuntime) -> Result<(), Fail> {
     group.step(Event::Look {
         worker: 3,
         task: 0,
-        elders: Vec::new(alloc),
+        predecessors: Vec::new(alloc),
     });
     group.step(Event::Post {
         worker: 3,

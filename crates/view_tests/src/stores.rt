@@ -241,7 +241,7 @@ fn add(alloc: Global, store: &mut Store, layer: &Arc<Layer>) -> Result<(), Alloc
     store.apply(alloc, Arc::try_clone(layer)?)
 }
 
-/// Applies a layer until no growth is refused, and tells whether each refusal left the store as it was.
+/// Applies a layer until no growth is refused. The answer is whether each refusal left the store as it was.
 fn steadily(alloc: Global, store: &mut Store, layer: &Arc<Layer>) -> Result<bool, AllocError> {
     let before = store.keys(alloc, CLASS)?;
     if add(alloc, store, layer).is_ok() {

@@ -371,7 +371,7 @@ fn all_shown(view: &View) -> [Option<i64>; 4] {
     ]
 }
 
-// Run with each allocation refused in turn: the call tells it, and the cells are as before.
+// Run with each allocation refused in turn: the call returns the error, and the cells are as before.
 #[test]
 fn a_refused_allocation_is_reported(rt: HostRuntime) {
     let alloc = rt.alloc();

@@ -35,7 +35,7 @@ impl Effort {
 
 /// The cost of each rule's last firing.
 ///
-/// It decides where workers are worth starting, and nothing else: no report and no contract depends on it.
+/// It decides where workers are started, and nothing else: no report and no contract depends on it.
 #[derive(Drop)]
 pub struct Past {
     /// The work of the run's own thread.

@@ -1,5 +1,4 @@
-//! When workers are worth starting, and when they stop: the numbers, with the measurement behind each, and the
-//! decisions.
+//! When it pays to start workers, and when they stop: the numbers, with the measurement behind each, and the decisions.
 //!
 //! No report and no contract depends on any of it.
 
@@ -36,10 +35,10 @@ pub(crate) const POLLS: usize = 500;
 /// The capacity of a channel, in attempts.
 pub(crate) const ROOM: usize = 16;
 
-/// Whether workers are worth starting for these tasks, by the costs of their rules' last firings. A task whose rule
+/// Whether it pays to start workers for these tasks, by the costs of their rules' last firings. A task whose rule
 /// hasn't fired counts `mean`, the average cost of those that the owner has fired.
 ///
-/// The longest task is left out, since workers save nothing of its time.
+/// The longest task is left out, since workers save none of its time.
 pub(crate) fn do_workers_pay(past: &Past, tasks: &[Task], mean: u64) -> bool {
     let mut all = 0u64;
     let mut longest = 0u64;
@@ -54,14 +53,14 @@ pub(crate) fn do_workers_pay(past: &Past, tasks: &[Task], mean: u64) -> bool {
     false
 }
 
-/// Whether the owner asks again whether workers are worth starting, after it has fired `fired` tasks of a group alone:
+/// Whether the owner asks again whether it pays to start workers, after it has fired `fired` tasks of a group alone:
 /// after 0, 1, 2, 4, 8 and so on. So it goes through the tasks that are left only a few times.
 pub(crate) fn is_time_to_ask(fired: usize) -> bool {
     fired == 0 || fired.is_power_of_two()
 }
 
-/// Whether waves that were to try `tried` tasks were worth their work, where `kept` tasks were settled from attempts.
-/// In a group in full conflict they aren't: each settles one task.
+/// Whether waves that were to try `tried` tasks have paid, where `kept` tasks were settled from attempts. In a group in
+/// full conflict they don't: each settles one task.
 pub(crate) fn do_waves_pay(tried: usize, kept: usize) -> bool {
     tried <= kept.saturating_mul(KEPT)
 }

@@ -15,7 +15,7 @@ use hp_value::{RuleOperation, Value};
 use std::alloc::{AllocError, Global};
 use std::fmt::Write;
 
-/// An indent of so many spaces.
+/// An indent of this many spaces.
 fn put_indent(out: &mut String, indent: usize) -> Result<(), AllocError>
     ensures { OnOk result (Gains out.old out.new (replicate indent 32)) }
 {

@@ -7,7 +7,7 @@ ghost use Rattle.hp_rule.specs.Faults.{Passes};
 ghost use Rattle.hp_rule.specs.Places.{steps};
 
 use crate::check::name::{check_name, check_number};
-use crate::fault::{CheckError, Limit, beyond, misshapen};
+use crate::fault::{CheckError, Limit, over_limit, wrong_shape};
 use crate::place::Place;
 use hp_detect::EventExpr;
 use hp_event::Pattern;
@@ -26,7 +26,7 @@ fn check_pattern(
             check_number(alloc, &place.item(1), classes, *class)
         }
         Pattern::Signal(name) => check_name(alloc, &place.item(1), name.as_str()),
-        Pattern::Every { period, .. } if *period == 0 => Err(misshapen(alloc, &place.item(2))),
+        Pattern::Every { period, .. } if *period == 0 => Err(wrong_shape(alloc, &place.item(2))),
         Pattern::Every { .. } | Pattern::Commit | Pattern::At(_) => Ok(()),
     }
 }
@@ -44,7 +44,7 @@ pub(crate) fn check_event(
     ensures { Passes result (event_check classes levels (steps place.now) (event expr.now)) }
 {
     if levels == 0 {
-        return Err(beyond(Limit::Event));
+        return Err(over_limit(Limit::Event));
     }
     match expr {
         EventExpr::One(pattern) => check_pattern(alloc, place, classes, pattern),

@@ -8,7 +8,7 @@ ghost use Rattle.hp_rule.specs.Named.{names_in};
 ghost use Rattle.hp_rule.specs.Places.{steps};
 
 use crate::check::name::{check_limit, check_name, check_unless};
-use crate::fault::{CheckError, Limit, beyond};
+use crate::fault::{CheckError, Limit, over_limit};
 use crate::place::Place;
 use crate::row_names::RowNames;
 use hp_value::{Expr, Value};
@@ -66,7 +66,7 @@ fn check_levels(
     ensures { Passes result (expression_check (names_in names.now) levels (steps place.now) (expression expr.now)) }
 {
     if levels == 0 {
-        return Err(beyond(Limit::Expression));
+        return Err(over_limit(Limit::Expression));
     }
     let levels = levels - 1;
     match expr {

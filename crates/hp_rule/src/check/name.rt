@@ -7,7 +7,7 @@ ghost use Rattle.hp_model.specs.Checked.{name_check, name_unless, number_check, 
 ghost use Rattle.hp_rule.specs.Faults.{limit, Passes};
 ghost use Rattle.hp_rule.specs.Places.{steps};
 
-use crate::fault::{CheckError, Limit, beyond, misnamed, misshapen};
+use crate::fault::{CheckError, Limit, bad_name, over_limit, wrong_shape};
 use crate::place::Place;
 use std::alloc::Global;
 
@@ -39,7 +39,7 @@ pub(crate) fn check_name(alloc: Global, place: &Place<'_>, name: &str) -> Result
     if is_name(name) {
         Ok(())
     } else {
-        Err(misshapen(alloc, place))
+        Err(wrong_shape(alloc, place))
     }
 }
 
@@ -55,7 +55,7 @@ pub(crate) fn check_unless(
 {
     check_name(alloc, place, name)?;
     if refused {
-        return Err(misnamed(alloc, place));
+        return Err(bad_name(alloc, place));
     }
     Ok(())
 }
@@ -72,7 +72,7 @@ pub(crate) fn check_number(
     if (number as usize) < count {
         Ok(())
     } else {
-        Err(misnamed(alloc, place))
+        Err(bad_name(alloc, place))
     }
 }
 
@@ -81,7 +81,7 @@ pub(crate) fn check_limit(most: usize, limited: Limit, count: usize) -> Result<(
     ensures { Passes result (limit_check most (limit limited) count) }
 {
     if count > most {
-        return Err(beyond(limited));
+        return Err(over_limit(limited));
     }
     Ok(())
 }

@@ -12,7 +12,7 @@ ghost use Rattle.hp_rule.specs.Places.{steps};
 use crate::check::classes::has_field;
 use crate::check::expr::check_expr;
 use crate::check::name::check_unless;
-use crate::fault::{CheckError, misnamed};
+use crate::fault::{CheckError, bad_name};
 use crate::place::Place;
 use crate::row_names::RowNames;
 use crate::stmt::Assignment;
@@ -46,7 +46,7 @@ fn check_assigned(
 {
     check_unless(alloc, place, name, is_assigned(before, name))?;
     if !has_field(fields, name) {
-        return Err(misnamed(alloc, place));
+        return Err(bad_name(alloc, place));
     }
     Ok(())
 }

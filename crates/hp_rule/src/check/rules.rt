@@ -16,7 +16,7 @@ use crate::check::name::{check_limit, check_number, check_unless};
 use crate::check::scope::Scope;
 use crate::check::statement::check_whole_body;
 use crate::context::Context;
-use crate::fault::{CheckError, Limit, beyond};
+use crate::fault::{CheckError, Limit, over_limit};
 use crate::place::{Member, Place};
 use crate::row_names::{RowNames, is_query};
 use crate::rule::Rule;
@@ -156,7 +156,7 @@ fn check_depth(depth: u8) -> Result<(), CheckError>
     ensures { Passes result (depth_check depth) }
 {
     if depth == 0 || depth > MAX_DEPTH {
-        return Err(beyond(Limit::Depth));
+        return Err(over_limit(Limit::Depth));
     }
     Ok(())
 }

@@ -21,7 +21,7 @@ use crate::check::name::{check_limit, check_name, check_number, check_unless};
 use crate::check::pairs::check_pairs;
 use crate::check::scope::Scope;
 use crate::context::Context;
-use crate::fault::{CheckError, Limit, beyond, misnamed, misshapen};
+use crate::fault::{CheckError, Limit, bad_name, over_limit, wrong_shape};
 use crate::row_names::is_query;
 use crate::stmt::{Assignment, Stmt};
 use hp_value::{ClassNo, Expr, Field, RuleNo};
@@ -114,7 +114,7 @@ fn check_create(
     let fields = context.scope.fields_of(class);
     check_assignments(context, fields, pairs)?;
     if pairs.len() < fields.len() {
-        return Err(misnamed(context.alloc, &context.place.item(3)));
+        return Err(bad_name(context.alloc, &context.place.item(3)));
     }
     Ok(())
 }
@@ -189,7 +189,7 @@ fn check_veto(context: &Context<'_, Scope<'_>>, s: &Stmt) -> Result<(), CheckErr
     ensures { Passes result (veto_check (scope_of context.now.scope) (steps context.now.place) (statement s.now)) }
 {
     if is_veto(s) && !context.scope.in_action {
-        return Err(misshapen(context.alloc, &context.place));
+        return Err(wrong_shape(context.alloc, &context.place));
     }
     Ok(())
 }
@@ -340,7 +340,7 @@ fn check_statement(
 {
     check_veto(context, s)?;
     if levels == 0 {
-        return Err(beyond(Limit::Nesting));
+        return Err(over_limit(Limit::Nesting));
     }
     check_parts(context, levels - 1, s)
 }

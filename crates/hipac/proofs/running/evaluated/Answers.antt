@@ -34,5 +34,5 @@ returns g c =
     let final : AreFinal lib after reports c.in_ok-objects.objects (map status c.in_ok-objects.statuses.items) =
     subst (λ l. AreFinal l after reports c.in_ok-objects.objects (map status c.in_ok-objects.statuses.items)) (ap library c.deref-3.ensures)
     (subst (λ us. AreFinal (library c.deref-3.result.now) after (map unit_report us) c.in_ok-objects.objects (map status c.in_ok-objects.statuses.items)) c.deref-4.ensures.value
-    c.in_ok-objects.ensures.final) in
+    c.in_ok-objects.ensures.state) in
     λ with_tree. whole_text script before after reports c.in_ok-objects.objects c.in_ok-objects.statuses.items with_tree c.in_ok-store.ensures ran replayed all final

@@ -1,5 +1,5 @@
-use Rattle.hp_lines.proofs.Said.{said-append, after-append}
+use Rattle.hp_lines.proofs.Pieces.{output-append, after-append}
 use Rattle.hp_lines.proofs.laws.pieces_compose.Goals as goal
 
 pub returns : goal.returns
-returns c = λ d a b. (said-append d a b, after-append d a b)
+returns c = λ d a b. (output-append d a b, after-append d a b)

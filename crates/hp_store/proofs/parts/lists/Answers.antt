@@ -1,7 +1,7 @@
 use Rattle.std.proofs.Common.{rules, to_z, of_z, w64}
 use Rattle.std.proofs.lemmas.Int.{to_z-of_z}
 use Rattle.std.proofs.lemmas.List.Sorted.{answers_always}
-use Rattle.hp_store.proofs.Told.{key_listed}
+use Rattle.hp_store.proofs.Agreed.{key_listed}
 use Rattle.hp_store.proofs.parts.lists.Goals as goal
 
 -- the closure gives an object's key

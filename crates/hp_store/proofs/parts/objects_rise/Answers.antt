@@ -1,7 +1,7 @@
 use Rattle.std.proofs.Common.{◌≡◌, ◌-◌, get_or, rules, arith}
 use Rattle.std.specs.declared.cmp.Ordering.TheVariants.{Less}
 use Rattle.std.specs.Ordering.{int_cmp}
-use Rattle.hp_store.proofs.Told.{adjacent_rise, rising_at}
+use Rattle.hp_store.proofs.Agreed.{adjacent_rise, rising_at}
 use Rattle.hp_store.proofs.parts.objects_rise.Goals as goal
 
 pub returns-then-objects-i : goal.returns-then-objects-i

@@ -1,6 +1,6 @@
 use Rattle.std.proofs.Common.{ap, ◌∙◌}
 use Rattle.hp_store.specs.Changes.{changes}
-use Rattle.hp_store.proofs.Piled.{fold_more, nothing_more}
+use Rattle.hp_store.proofs.Layered.{fold_more, nothing_more}
 use Rattle.hp_store.proofs.shared.folded.Goals.{in-Some+in_ok-take_in, in_default}
 use Rattle.hp_store.proofs.shared.folded.Goals as goal
 

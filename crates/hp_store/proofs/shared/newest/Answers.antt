@@ -2,7 +2,7 @@ use Rattle.std.proofs.Common.{ap, sym, ◌∙◌}
 use Rattle.hp_value.specs.Mapped.{cell}
 use Rattle.hp_store.specs.Changes.{changes}
 use Rattle.hp_store.specs.Mapped.{change}
-use Rattle.hp_store.proofs.Piled.{newest_found, newest_next}
+use Rattle.hp_store.proofs.Layered.{newest_found, newest_next}
 use Rattle.hp_store.proofs.shared.newest.Goals as goal
 
 pub returns-in-Some-get : goal.returns-in-Some-get

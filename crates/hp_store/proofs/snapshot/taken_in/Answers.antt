@@ -3,7 +3,7 @@ use Rattle.hp_store.specs.Changes.{changes}
 use Rattle.hp_store.specs.declared.base.Base.{Base}
 use Rattle.hp_store.specs.Indexed.{AreComplete}
 use Rattle.hp_store.specs.Tables.{base_cells}
-use Rattle.hp_store.proofs.Piled.{unnamed_each}
+use Rattle.hp_store.proofs.Layered.{unnamed_each}
 use Rattle.hp_store.proofs.Stacked.{taken_more, taken_nothing}
 use Rattle.hp_store.proofs.snapshot.taken_in.Goals.{in-Some+in_ok-take_in, in_default}
 use Rattle.hp_store.proofs.snapshot.taken_in.Goals as goal

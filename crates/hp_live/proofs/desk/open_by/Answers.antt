@@ -1,8 +1,0 @@
-use Rattle.hp_script.specs.Mapped.{timed_script}
-use Rattle.hp_live.proofs.Asked.{answers_script}
-use Rattle.hp_live.proofs.desk.open_by.Goals as goal
-
-pub returns : goal.returns
-returns g c line read =
-    let stands = c.in_ok-base.ensures in
-    answers_script c.in_ok-text.text c.run.new.self c.args.options.tree line (timed_script c.args.script) read (c.in_ok-text.ensures.text _ stands) (c.in_ok-text.ensures.state _ stands)

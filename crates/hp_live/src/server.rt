@@ -1,0 +1,253 @@
+//! Answers lines one after another.
+
+ghost use Rattle.std.specs.Prelude.{◌≡◌, ◌≢◌, ◌↔◌, ◌++◌, List, ℕ, IfOk, OnOk, Ok, string_bytes, true, false};
+ghost use Rattle.std.specs.Io.KnownBytes.{Appends};
+ghost use Rattle.hp_report.specs.Device.{Begins};
+ghost use Rattle.hp_script.specs.Mapped.{timed_script};
+ghost use Rattle.hp_script.specs.Timed.{timed_script_of};
+ghost use Rattle.hp_lines.specs.Lines.{begun};
+ghost use Rattle.hp_lines.specs.Live as L;
+ghost use Rattle.hp_live.specs.Ends.{status_at};
+ghost use Rattle.hp_live.specs.Kept.{StandsFor, IsStage, IsServer, Answers};
+
+use crate::base::RuleBase;
+use crate::options::Options;
+use hp_report::{Fault, Sink, Status, write_text};
+use hp_script::{DecodeError, Request, Schedule, Script, decode, decode_request, refusal_text};
+use std::alloc::{AllocError, Global};
+use std::thread::Threads;
+
+/// The most bytes of a line that are kept: one more than a line may have shows that it is too long.
+const MOST_KEPT: usize = 1_048_577;
+
+/// The stage of a session.
+#[derive(Drop)]
+pub(crate) enum Stage {
+    /// No line has been read.
+    Unopened,
+    /// A rule base is up.
+    Up(RuleBase),
+    /// The script was refused, and nothing more is answered.
+    Closed,
+}
+
+/// Collects the bytes of lines and answers each line. It drops the reports of a line's units after the answer is
+/// written.
+#[derive(Drop)]
+pub struct Server {
+    pub(crate) options: Options,
+    pub(crate) stage: Stage,
+    pub(crate) line: Vec<u8>,
+}
+
+/// Runs the items of a script on a new rule base. The result is the answer and the next stage.
+fn open_by<T: Threads + Sync>(
+    rt: &T,
+    alloc: Global,
+    script: Script,
+    options: Options,
+) -> Result<(String, Stage), AllocError>
+    ensures { IfOk result (λ opened. (line : List ℕ) → timed_script_of line ≡ Ok (timed_script script) →
+        Answers opened.0 opened.1 (L.answer options.tree L.unopened line)) }
+{
+    let mut base = RuleBase::new(alloc, script.library, options.workers)?;
+    let schedule = Schedule {
+        units: script.items,
+        clock: script.clock,
+    };
+    let text = base.run(rt, alloc, schedule, options)?;
+    Ok((text, Stage::Up(base)))
+}
+
+/// Answers the first line. The result is the answer and the next stage.
+fn open<T: Threads + Sync>(
+    rt: &T,
+    alloc: Global,
+    line: &[u8],
+    options: Options,
+) -> Result<(String, Stage), AllocError>
+    ensures { IfOk result (λ opened. Answers opened.0 opened.1 (L.answer options.tree L.unopened line.now)) }
+{
+    match decode(alloc, line) {
+        Ok(script) => open_by(rt, alloc, script, options),
+        Err(DecodeError::Refused(refusal)) => Ok((refusal_text(alloc, &refusal)?, Stage::Closed)),
+        Err(DecodeError::Memory) => Err(AllocError),
+    }
+}
+
+/// Answers a later line. After an error some of its units may have run.
+fn answer_later<T: Threads + Sync>(
+    rt: &T,
+    alloc: Global,
+    base: &mut RuleBase,
+    line: &[u8],
+    options: Options,
+) -> Result<String, AllocError>
+    ensures { IfOk result (λ text. (now : L.RuleBase) →
+        StandsFor base.old now → Answers text (Stage.Up base.new) (L.answer options.tree (L.up now) line.now)) }
+{
+    match decode_request(alloc, &base.library, base.clock, line) {
+        Ok(Request::Item(schedule)) => base.run(rt, alloc, schedule, options),
+        Ok(Request::State) => base.shown(alloc),
+        Err(DecodeError::Refused(refusal)) => refusal_text(alloc, &refusal),
+        Err(DecodeError::Memory) => Err(AllocError),
+    }
+}
+
+/// Answers a line, and changes the stage. After an error some of what the line asks for may have happened.
+fn answer_at<T: Threads + Sync>(
+    rt: &T,
+    alloc: Global,
+    stage: &mut Stage,
+    line: &[u8],
+    options: Options,
+) -> Result<String, AllocError>
+    ensures { IfOk result (λ text. (now : L.Stage) →
+        IsStage stage.old now → Answers text stage.new (L.answer options.tree now line.now)) }
+{
+    match stage {
+        Stage::Unopened => {
+            let (text, opened) = open(rt, alloc, line, options)?;
+            *stage = opened;
+            Ok(text)
+        }
+        Stage::Up(base) => answer_later(rt, alloc, base, line, options),
+        Stage::Closed => Ok(String::new(alloc)),
+    }
+}
+
+impl Server {
+    /// A server before the first line.
+    pub fn new(alloc: Global, options: Options) -> Server
+        ensures { IsServer result (L.new_server options.tree) }
+    {
+        Server {
+            options,
+            stage: Stage::Unopened,
+            line: Vec::new(alloc),
+        }
+    }
+
+    /// The status of a run that ends at this point: `Refused` if the script was refused.
+    pub fn status(&self) -> Status
+        ensures { (s : L.Stage) → IsStage self.now.stage s → result ≡ status_at s }
+    {
+        match self.stage {
+            Stage::Unopened | Stage::Up(_) => Status::Reported,
+            Stage::Closed => Status::Refused,
+        }
+    }
+
+    /// Answers the collected line, and clears it for the next. After an error some of what the line asks for may have
+    /// happened.
+    fn answer<T: Threads + Sync>(&mut self, rt: &T, alloc: Global) -> Result<String, AllocError>
+        ensures text { IfOk result (λ text. (s : L.Server) → IsServer self.old s → string_bytes text ≡ L.reply s) }
+        ensures next { OnOk result ((s : L.Server) → IsServer self.old s → IsServer self.new (L.answered s)) }
+    {
+        let text = answer_at(rt, alloc, &mut self.stage, &self.line, self.options)?;
+        self.line.clear();
+        Ok(text)
+    }
+
+    /// Writes the answer to the collected line to a device.
+    pub(crate) fn reply<T: Threads + Sync, W: Sink>(
+        &mut self,
+        rt: &T,
+        alloc: Global,
+        writer: &mut W,
+    ) -> Result<(), Fault>
+        requires { W.has_failed writer.old ≡ false }
+        ensures output { OnOk result ((s : L.Server) →
+            IsServer self.old s → Appends (W.contents writer.old) (W.contents writer.new) (L.reply s)) }
+        ensures next { OnOk result ((s : L.Server) → IsServer self.old s → IsServer self.new (L.answered s)) }
+        ensures begins { (s : L.Server) →
+            IsServer self.old s → Begins (W.contents writer.old) (W.contents writer.new) (L.reply s) }
+        ensures write { result ≡ Err Fault.Write ↔ (W.has_failed writer.new ≡ true) }
+        ensures whole { OnOk result (W.has_failed writer.new ≡ false) }
+        ensures read { result ≢ Err Fault.Read }
+    {
+        let text = self.answer(rt, alloc)?;
+        write_text(writer, text.as_bytes())?;
+        Ok(())
+    }
+
+    /// Takes one more byte.
+    fn feed_byte<T: Threads + Sync, W: Sink>(
+        &mut self,
+        rt: &T,
+        alloc: Global,
+        writer: &mut W,
+        byte: u8,
+    ) -> Result<(), Fault>
+        requires { W.has_failed writer.old ≡ false }
+        ensures output { OnOk result ((s : L.Server) →
+            IsServer self.old s → Appends (W.contents writer.old) (W.contents writer.new) (L.byte_output s byte)) }
+        ensures next { OnOk result ((s : L.Server) → IsServer self.old s → IsServer self.new (L.next s byte)) }
+        ensures begins { (s : L.Server) →
+            IsServer self.old s → Begins (W.contents writer.old) (W.contents writer.new) (L.byte_output s byte) }
+        ensures write { result ≡ Err Fault.Write ↔ (W.has_failed writer.new ≡ true) }
+        ensures whole { OnOk result (W.has_failed writer.new ≡ false) }
+        ensures read { result ≢ Err Fault.Read }
+    {
+        if byte == b'\n' {
+            return self.reply(rt, alloc, writer);
+        }
+        if self.line.len() < MOST_KEPT {
+            self.line.push(byte)?;
+        }
+        Ok(())
+    }
+
+    /// Takes a piece of the input. When it returns `Ok`, all lines that are complete with the piece have been answered.
+    ///
+    /// The writer must not have failed before. After an error what was written is a prefix of these answers, and the
+    /// server can't be used further: some of what a line asks for may have happened without an answer.
+    pub fn feed<T: Threads + Sync, W: Sink>(
+        &mut self,
+        rt: &T,
+        alloc: Global,
+        writer: &mut W,
+        piece: &[u8],
+    ) -> Result<(), Fault>
+        requires { W.has_failed writer.old ≡ false }
+        ensures output { OnOk result ((s : L.Server) → IsServer self.old s →
+            Appends (W.contents writer.old) (W.contents writer.new) (L.piece_output s piece.now)) }
+        ensures next { OnOk result ((s : L.Server) → IsServer self.old s → IsServer self.new (L.after s piece.now)) }
+        ensures begins { (s : L.Server) →
+            IsServer self.old s → Begins (W.contents writer.old) (W.contents writer.new) (L.piece_output s piece.now) }
+        ensures write { result ≡ Err Fault.Write ↔ (W.has_failed writer.new ≡ true) }
+        ensures whole { OnOk result (W.has_failed writer.new ≡ false) }
+        ensures read { result ≢ Err Fault.Read }
+    {
+        for byte in piece {
+            self.feed_byte(rt, alloc, writer, *byte)?;
+        }
+        Ok(())
+    }
+
+    /// Takes the end of the input: answers a last line without a line feed.
+    ///
+    /// The writer must not have failed before. After an error what was written is a prefix of the answer.
+    pub fn finish<T: Threads + Sync, W: Sink>(
+        &mut self,
+        rt: &T,
+        alloc: Global,
+        writer: &mut W,
+    ) -> Result<(), Fault>
+        requires { W.has_failed writer.old ≡ false }
+        ensures output { OnOk result ((s : L.Server) →
+            IsServer self.old s → Appends (W.contents writer.old) (W.contents writer.new) (L.end_output s)) }
+        ensures stage { OnOk result ((s : L.Server) →
+            IsServer self.old s → IsStage self.new.stage (L.stage_after s.with_tree s.stage (begun s.line))) }
+        ensures begins { (s : L.Server) →
+            IsServer self.old s → Begins (W.contents writer.old) (W.contents writer.new) (L.end_output s) }
+        ensures write { result ≡ Err Fault.Write ↔ (W.has_failed writer.new ≡ true) }
+        ensures whole { OnOk result (W.has_failed writer.new ≡ false) }
+        ensures read { result ≢ Err Fault.Read }
+    {
+        if self.line.is_empty() {
+            return Ok(());
+        }
+        self.reply(rt, alloc, writer)
+    }
+}
