@@ -4,6 +4,7 @@ pub mod SelectLemmas
 mod CollectLemmas
 pub mod PlainLemmas
 pub mod VerdictLemmas
+mod TurnLemmas
 pub mod ByKeyLemmas
 pub mod PartLemmas
 pub mod AskedLemmas

@@ -36,7 +36,7 @@ with_answers-push env [] x r rs = refl
 with_answers-push env ((n, []) ∷ as') x r rs = with_answers-push env as' x r rs
 with_answers-push env ((n, q ∷ qs) ∷ as') x r rs = with_answers-push (bound n q env) as' x r rs
 
-split_at : {A : Type 0} (xs : List A) (i : ℕ) (x : A) → i < length xs → x ≡ get_or xs i x → drop i xs ≡ x ∷ drop (i + 1) xs
+pub split_at : {A : Type 0} (xs : List A) (i : ℕ) (x : A) → i < length xs → x ≡ get_or xs i x → drop i xs ≡ x ∷ drop (i + 1) xs
 split_at xs i x within is = rw add-one (drop-cons xs i x within ∙ ap (λ y. y ∷ drop (suc i) xs) (sym is))
 
 -- what `is_empty` tells of a list

@@ -4,7 +4,7 @@ ghost use Rattle.std.specs.Prelude.{◌≡◌, [], IfOk, Some, map};
 ghost use Rattle.hp_model.specs.State.{Objects};
 ghost use Rattle.hp_model.specs.Conditions as model;
 ghost use Rattle.hp_value.specs.Mapped as value;
-ghost use Rattle.hp_query.specs.Looks.{ObjectsRise};
+ghost use Rattle.hp_query.specs.Looks.{ObjectsRise, AsksEach};
 ghost use Rattle.hp_query.specs.Mapped as mapped;
 
 use crate::look::Look;
@@ -30,7 +30,8 @@ pub enum Verdict {
 /// choices: the queries are asked in order, up to the first empty answer or fault, and a later query may name an
 /// earlier one's first row. A condition without queries is satisfied.
 ///
-/// An error means that memory ran out. The look may then allow fewer worlds, and nothing else has changed.
+/// The look is asked about the queries' classes alone. An error means that memory ran out. The look may then allow
+/// fewer worlds, and nothing else has changed.
 pub fn evaluate_condition<L: Look>(
     alloc: Global,
     queries: &[Query],
@@ -38,6 +39,7 @@ pub fn evaluate_condition<L: Look>(
     look: &mut L,
 ) -> Result<Verdict, AllocError>
     ensures goes_on { L.goes_on look.old look.new }
+    ensures asks { AsksEach L.asks (map (λ q. q.class) queries.now) look.old look.new }
     ensures narrows { (world : Objects) → L.allows look.new world → L.allows look.old world }
     ensures verdict { IfOk result (λ found. (world : Objects) → ObjectsRise world → L.allows look.new world
         → mapped.verdict found

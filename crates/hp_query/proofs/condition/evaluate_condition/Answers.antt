@@ -4,6 +4,7 @@ use Rattle.hp_model.specs.Conditions as model
 use Rattle.hp_model.specs.Expressions.{Environment}
 use Rattle.hp_value.specs.Mapped as value
 use Rattle.hp_query.specs.Mapped as mapped
+use Rattle.hp_query.proofs.TurnLemmas.{left_at, left_next, left_unasked, asked_last}
 use Rattle.hp_query.proofs.VerdictLemmas.{Continues, continues_at, continues_past, continues_empty, continues_fault, continues_kept, continues_last, is_nothing, is_something}
 use Rattle.hp_query.proofs.condition.evaluate_condition.Goals as goal
 
@@ -30,6 +31,8 @@ returns-in-Err-Cause-clause-verdict g c = λ world rise allowed.
 pub loop-query-preserved : goal.loop-query-preserved
 loop-query-preserved g c = record {
   on = g.met.L.Look.goes_on_then c.args.look.now c.loop-query.look c.answer.new.look c.loop-query.invariant.on c.in-Ok.ensures.goes_on;
+  asked = left_next g.L.Look.asks c.query-item.result.class c.answer.new.look c.in-Ok.ensures.asks
+      (left_at g.L.Look.asks (λ q. q.class) c.args.queries.now c.loop-query.query-index c.query-item.result c.loop-query-test.true c.query-item.is c.loop-query.invariant.asked);
   continues = λ world rise allowed.
       let env : Environment = record { occurrence = Some (value.occurrence c.args.occurrence.now); rows = [] } in
       let next = continues_at mapped.query c.args.queries.now c.loop-query.query-index c.query-item.result (value.answers c.loop-query.answers.items) c.loop-query-test.true c.query-item.is (c.loop-query.invariant.continues world rise (c.in-Ok.ensures.narrows world allowed)) in
@@ -48,3 +51,31 @@ pub returns-clause-verdict : goal.returns-clause-verdict
 returns-clause-verdict g c = λ world rise allowed.
     continues_last (value.answers c.loop-query.answers.items)
     (continues_past mapped.query c.args.queries.now c.loop-query.query-index (value.answers c.loop-query.answers.items) c.loop-query-test.false (c.loop-query.invariant.continues world rise allowed))
+
+pub returns-then-is_empty-clause-asks : goal.returns-then-is_empty-clause-asks
+returns-then-is_empty-clause-asks g c =
+    asked_last g.L.Look.asks g.met.L.Look.asks_same (λ q. q.class) c.args.queries.now c.loop-query.query-index c.query-item.result (map (λ q. q.class) c.args.queries.now) c.args.look.now c.answer.new.look
+    c.loop-query-test.true c.query-item.is c.in-Ok.ensures.asks c.loop-query.invariant.asked
+
+pub returns-in_err-clone-in-Ok-clause-asks : goal.returns-in_err-clone-in-Ok-clause-asks
+returns-in_err-clone-in-Ok-clause-asks g c =
+    asked_last g.L.Look.asks g.met.L.Look.asks_same (λ q. q.class) c.args.queries.now c.loop-query.query-index c.query-item.result (map (λ q. q.class) c.args.queries.now) c.args.look.now c.answer.new.look
+    c.loop-query-test.true c.query-item.is c.in-Ok.ensures.asks c.loop-query.invariant.asked
+
+pub returns-in_err-push-in-Ok-clause-asks : goal.returns-in_err-push-in-Ok-clause-asks
+returns-in_err-push-in-Ok-clause-asks g c =
+    asked_last g.L.Look.asks g.met.L.Look.asks_same (λ q. q.class) c.args.queries.now c.loop-query.query-index c.query-item.result (map (λ q. q.class) c.args.queries.now) c.args.look.now c.answer.new.look
+    c.loop-query-test.true c.query-item.is c.in-Ok.ensures.asks c.loop-query.invariant.asked
+
+pub returns-in-Err-Cause-clause-asks : goal.returns-in-Err-Cause-clause-asks
+returns-in-Err-Cause-clause-asks g c =
+    asked_last g.L.Look.asks g.met.L.Look.asks_same (λ q. q.class) c.args.queries.now c.loop-query.query-index c.query-item.result (map (λ q. q.class) c.args.queries.now) c.args.look.now c.answer.new.look
+    c.loop-query-test.true c.query-item.is c.in-Err-Cause.ensures.asks c.loop-query.invariant.asked
+
+pub returns-in-Err-Memory-clause-asks : goal.returns-in-Err-Memory-clause-asks
+returns-in-Err-Memory-clause-asks g c =
+    asked_last g.L.Look.asks g.met.L.Look.asks_same (λ q. q.class) c.args.queries.now c.loop-query.query-index c.query-item.result (map (λ q. q.class) c.args.queries.now) c.args.look.now c.answer.new.look
+    c.loop-query-test.true c.query-item.is c.in-Err-Memory.ensures.asks c.loop-query.invariant.asked
+
+pub returns-clause-asks : goal.returns-clause-asks
+returns-clause-asks g c = left_unasked g.L.Look.asks g.met.L.Look.asks_same (map (λ q. q.class) c.args.queries.now) c.args.look.now c.loop-query.look c.loop-query.invariant.asked
