@@ -64,7 +64,7 @@ UNPROVED = re.compile(
 
 # The words of complaints of a text that can't be read, and of a proof that names what is not there.
 UNREAD = re.compile(r"is not in scope|has no field|is no name|operand is missing|expected the end|cannot continue")
-NO_SUCH_NAME = re.compile(r"has no field|is not in scope|has no `|was not admitted|which was rejected, w(as|ere) not checked")
+NO_SUCH_NAME = re.compile(r"has no field|is not in scope|has no `|was not admitted|which was rejected")
 
 # A line that says that a function has no proof: since no search found one, or since none was begun.
 NO_PROOF = re.compile(r"fn \S+: no proof: ")
