@@ -147,6 +147,17 @@ def backlog(size, signals=2000, before=1000):
     return Case(size, signals, script([], [rule], begin), script([], [rule], begin + body))
 
 
+# ---- rules whose detectors a signal steps
+
+def stepping(size, signals=20000, before=1000):
+    """Rules on one sequence: each signal steps all of their detectors, and each second one triggers all of them."""
+    event = ["seq", ["signal", "a"], ["signal", "b"]]
+    rules = [immediate(f"r{n}", event, [], [["emit", ["arg", 0, 0]]]) for n in range(size)]
+    both = ["tx", [["signal", "a", [0]], ["signal", "b", [0]]]]
+    begin = [["tx", installs(rules)]] + [both] * (before // 2)
+    return Case(size, signals, script([], rules, begin), script([], rules, begin + [both] * (signals // 2)))
+
+
 # ---- a handful of rules on one event
 
 def short_group(size, updates=2000):
@@ -178,6 +189,8 @@ TABLES = {
                 for name in CONDITIONS for n in (50, 5000, 15000)]),
     "backlog": ("a sequence, first parts that wait", "signal",
                 [lambda n=n: ("sequence", backlog(n)) for n in (500, 16000)]),
+    "steps": ("rules on one sequence, whose detectors each signal steps", "signal",
+              [lambda n=n: ("sequences", stepping(n)) for n in (1, 2, 4, 8)]),
     "groups": ("rules on one event", "update",
                [lambda n=n: ("short rules", short_group(n)) for n in (1, 2, 3, 4, 8, 9, 16)]),
     "scans": ("a class that each transaction scans, and one object of which it writes", "transaction",

@@ -62,7 +62,8 @@ UNPROVED = re.compile(
     r"(?:note: (?=.*: it is not proved that ))?(?:\./)?([^\s:]+):(\d+):\d+: (?:error: |it is not proved )"
 )
 
-# The words of complaints of a text that can't be read, and of a proof that names what is not there.
+# The words of complaints of a text that can't be read, and of a proof that names what is not there or needs another
+# proof that does.
 UNREAD = re.compile(r"is not in scope|has no field|is no name|operand is missing|expected the end|cannot continue")
 NO_SUCH_NAME = re.compile(r"has no field|is not in scope|has no `|was not admitted|which was rejected")
 
