@@ -11,7 +11,7 @@ use Rattle.hp_model.specs.Soundness.{firing_answer, Attempt}
 use Rattle.hp_model.proofs.BridgesCells.{stacked, over-over, Holds-front}
 use Rattle.hp_store.specs.Changes.{Entries, changes}
 use Rattle.hp_store.specs.Stack.{cells_in}
-use Rattle.hp_view.specs.Seeing.{Seeing, written, now_in, Shows, ShowsKeys, ShowsObjects, ShowsPart, ReadsPart, IsSame, TakesIn, OnlyReads, GoesOn, Restores, undone}
+use Rattle.hp_view.specs.Seeing.{Seeing, written, now_in, Shows, ShowsKeys, ShowsObjects, ShowsPart, ReadsPart, IsSame, TakesIn, OnlyReads, ReadsMore, GoesOn, Restores, undone}
 use Rattle.hp_view.specs.Looks.{only_reads_then}
 use Rattle.hp_view.proofs.Views.{GoesOn-then}
 use Rattle.hp_value.specs.declared.cell.Cell.{Cell as RustCell}
@@ -24,7 +24,7 @@ use Rattle.hp_view.specs.Mapped.{read}
 use Rattle.hp_view.specs.Adding.{AddsReads, IsOfClass, adds_then}
 use Rattle.hp_view.proofs.Adding.{adds_noted, adds_more}
 use Rattle.hp_attempt.specs.States.{States, LeadsToOne, IsSoundFor, FaithfulFiringFor}
-use Rattle.hp_attempt.specs.Holding.{IsReadOf, IsReadAgain, IsFor, IsForAny, IsAccepted, ReadsMore, Covers}
+use Rattle.hp_attempt.specs.Holding.{IsReadOf, IsReadAgain, IsFor, IsForAny, IsAccepted, Covers}
 
 -- ---- a view that only read
 
@@ -138,18 +138,6 @@ taken_written {layer = layer} taken = taken.takes.changes ∙ ap (λ w. stacked 
 
 pub taken_adds : {old new : Seeing} {reads : List Read} {layer : Entries} → IsAccepted old new reads layer → AddsReads (IsForAny (written old) reads) old.reads new.reads
 taken_adds {old} {reads = reads} taken = subst (AddsReads (IsForAny (written old) reads) old.reads) (sym taken.takes.reads) taken.adds
-
--- where memory runs out: the reads, or the writes
-pub refused_reads : {old new : Seeing} → OnlyReads old new → ReadsMore old new
-refused_reads only = record { base = only.base; reads = only.reads; changes = same_written only; undo = only.undo }
-
-pub refused_writes : {old mid new : Seeing} → OnlyReads old mid → IsSame mid new → ReadsMore old new
-refused_writes only same = record {
-  base = same.base ∙ only.base;
-  reads = (only.reads.0, same.reads ∙ only.reads.1);
-  changes = same.changes ∙ same_written only;
-  undo = same.undo ∙ only.undo;
-}
 
 -- a view that is the same goes on
 pub same_goes_on : {old new : Seeing} → IsSame old new → GoesOn old new

@@ -69,10 +69,3 @@ pub record IsAccepted (old new : Seeing) (reads : List Read) (layer : Entries) :
   pub adds : AddsReads (IsForAny (written old) reads) old.reads recorded.reads
   pub takes : TakesIn recorded new layer
   pub so_it_was : Holds (beneath new) new.reads
-
--- more may have been read, and nothing else has changed
-pub record ReadsMore (old new : Seeing) : Type 0 where
-  pub base : new.base ≡ old.base
-  pub reads : (more : List Read) × (new.reads ≡ old.reads ++ more)
-  pub changes : written new ≡ written old
-  pub undo : new.undo ≡ old.undo

@@ -11,10 +11,10 @@ ghost use Rattle.hp_rule.specs.Mapped.{task as task_of};
 ghost use Rattle.hp_store.specs.Changes.{changes};
 ghost use Rattle.hp_view.specs.Mapped.{read, class_read, part_found, objects_found};
 ghost use Rattle.hp_view.specs.Adding.{AddsReads};
-ghost use Rattle.hp_view.specs.Seeing.{beneath, now_in, written, IsSame, OnlyReads, GoesOn, Restores};
+ghost use Rattle.hp_view.specs.Seeing.{beneath, now_in, written, IsSame, OnlyReads, ReadsMore, GoesOn, Restores};
 ghost use Rattle.hp_attempt.specs.Mapped.{firing, attempt as attempt_of};
 ghost use Rattle.hp_attempt.specs.Fronts.{StandsFor};
-ghost use Rattle.hp_attempt.specs.Holding.{IsFor, IsForAny, IsReadAgain, IsAccepted, ReadsMore, Covers};
+ghost use Rattle.hp_attempt.specs.Holding.{IsFor, IsForAny, IsReadAgain, IsAccepted, Covers};
 
 use crate::holding::holds;
 use crate::outcome::Attempt;

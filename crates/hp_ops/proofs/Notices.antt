@@ -27,8 +27,7 @@ use Rattle.hp_store.specs.Changes.{Entries, changes}
 use Rattle.hp_rule.specs.declared.task.Task.{Task as RustTask}
 use Rattle.hp_rule.specs.Mapped.{task as task_of}
 use Rattle.hp_rule.specs.Mentions.{is_mentioned}
-use Rattle.hp_view.specs.Seeing.{Seeing, written, now_in, OnlyReads, IsSame, Shows, TakesIn}
-use Rattle.hp_ops.specs.Reading.{ReadsMore}
+use Rattle.hp_view.specs.Seeing.{Seeing, written, now_in, OnlyReads, ReadsMore, IsSame, Shows, TakesIn}
 use Rattle.hp_ops.specs.Notified.{GoesOnePlace, LeaveOut, OnlySteps, StepsOn, NotifiedEnabled, Notified, AllNotified, condition_task, at_depth, with_step}
 use Rattle.hp_ops.proofs.Worlds.{shown_now}
 use Rattle.hp_ops.proofs.Ruling.{past_end}
@@ -37,18 +36,6 @@ grows_only : {v w : Seeing} → OnlyReads v w → Grows v.reads w.reads
 grows_only only = record { others = only.reads.0; are = only.reads.1 }
 
 -- ---- what is written
-
--- no read, and one after another
-pub only_none : (v : Seeing) → OnlyReads v v
-only_none v = record { base = refl; reads = ([], sym (append-nil v.reads)); writes = refl; undo = refl }
-
-pub only_then : {v w z : Seeing} → OnlyReads v w → OnlyReads w z → OnlyReads v z
-only_then {v} one two = record {
-  base = two.base ∙ one.base;
-  reads = (one.reads.0 ++ two.reads.0, two.reads.1 ∙ ap (λ rs. rs ++ two.reads.0) one.reads.1 ∙ append_assoc v.reads one.reads.0 two.reads.0);
-  writes = two.writes ∙ one.writes;
-  undo = two.undo ∙ one.undo;
-}
 
 -- where memory runs out: before the steps are written, or while they are
 pub reads_alone : {v w : Seeing} → OnlyReads v w → ReadsMore v w

@@ -15,8 +15,7 @@ use Rattle.hp_value.specs.declared.halt.Halt.TheVariants.{Cause as ByCause, Memo
 use Rattle.hp_value.specs.Mapped.{cause}
 use Rattle.hp_rule.specs.declared.task.Task.{Task as RustTask}
 use Rattle.hp_rule.specs.Mapped.{task}
-use Rattle.hp_view.specs.Seeing.{Seeing, written}
-use Rattle.hp_ops.specs.Reading.{ReadsMore}
+use Rattle.hp_view.specs.Seeing.{Seeing, written, ReadsMore}
 
 -- all rules that the occurrence concerns have been notified, and these are the tasks of those that it triggers
 pub record IsTriggered (library : Library) (depth : ℕ) (p : Primitive) (old new : Seeing) (tasks : List Task) : Type 0 where

@@ -7,9 +7,10 @@ ghost use Rattle.hp_model.specs.Cells.{Cells, object_cell, rule_cell, over, Hold
 ghost use Rattle.hp_model.specs.Answers.{Finds};
 ghost use Rattle.hp_model.proofs.BridgesReads.{row_at, status_at};
 ghost use Rattle.hp_store.specs.Mapped.{cell_value};
+ghost use Rattle.hp_view.specs.Adding.{AddsReads};
 ghost use Rattle.hp_view.specs.Seeing.{written, read_cell, GoesOn, OnlyReads};
 ghost use Rattle.hp_ops.specs.Performs.{status_of};
-ghost use Rattle.hp_ops.specs.Reading.{AddsReads, IsReadOf};
+ghost use Rattle.hp_ops.specs.Reading.{IsReadOf};
 
 use hp_store::{CellValue, Status};
 use hp_value::{Cell, ClassNo, Key, Row, RuleNo};

@@ -12,11 +12,10 @@ ghost use Rattle.hp_detect.specs.Mapped.{event as event_of};
 ghost use Rattle.hp_store.specs.Mapped.{cell_value};
 ghost use Rattle.hp_rule.specs.declared.task.Task.{Task as AnyTask};
 ghost use Rattle.hp_rule.specs.Mapped.{library, rule as rule_of, task as task_of};
-ghost use Rattle.hp_view.specs.Seeing.{GoesOn, OnlyReads};
+ghost use Rattle.hp_view.specs.Seeing.{GoesOn, OnlyReads, ReadsMore};
 ghost use Rattle.hp_ops.specs.Performs.{status_of};
 ghost use Rattle.hp_ops.specs.Notified.{AllNotified, GoesOnePlace, Notified, NotifiedEnabled};
 ghost use Rattle.hp_ops.specs.Notified.{OnlySteps, Shares, StepsOn, condition_task};
-ghost use Rattle.hp_ops.specs.Reading.{ReadsMore};
 
 use crate::finding::find_status;
 use crate::steps::DetectorSteps;

@@ -5,10 +5,11 @@ ghost use Rattle.hp_model.specs.Rules.{Library};
 ghost use Rattle.hp_model.specs.Operations.{create_object, update_object, delete_object};
 ghost use Rattle.hp_model.specs.Cells.{object_cell};
 ghost use Rattle.hp_value.specs.Mapped.{primitive};
+ghost use Rattle.hp_view.specs.Adding.{AddsReads};
 ghost use Rattle.hp_view.specs.Seeing.{GoesOn, OnlyReads};
 ghost use Rattle.hp_ops.specs.Given.{given_in};
 ghost use Rattle.hp_ops.specs.Performs.{Performs};
-ghost use Rattle.hp_ops.specs.Reading.{AddsReads, IsReadOf};
+ghost use Rattle.hp_ops.specs.Reading.{IsReadOf};
 
 use crate::finding::find_object;
 use crate::rows::{Given, changed_row};

@@ -7,9 +7,10 @@ ghost use Rattle.hp_detect.specs.Mapped.{event as event_of};
 ghost use Rattle.hp_store.specs.Changes.{changes};
 ghost use Rattle.hp_store.specs.Mapped.{change};
 ghost use Rattle.hp_rule.specs.Mapped.{library, rule as rule_of, rule_operation};
+ghost use Rattle.hp_view.specs.Adding.{AddsReads};
 ghost use Rattle.hp_view.specs.Seeing.{GoesOn, Restores};
 ghost use Rattle.hp_ops.specs.Performs.{Performs, status_of, new_status, rule_changes, new_knowledge};
-ghost use Rattle.hp_ops.specs.Reading.{AddsReads, IsReadOf};
+ghost use Rattle.hp_ops.specs.Reading.{IsReadOf};
 
 use crate::finding::find_status;
 use hp_detect::{EventExpr, Knowledge, is_pure};

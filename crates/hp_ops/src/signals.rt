@@ -5,8 +5,9 @@ ghost use Rattle.hp_model.specs.Cells.{rule_cell};
 ghost use Rattle.hp_model.specs.Occurrences.{no_occurrence};
 ghost use Rattle.hp_value.specs.Mapped.{occurrence as occurrence_of, primitive};
 ghost use Rattle.hp_rule.specs.Mapped.{library};
+ghost use Rattle.hp_view.specs.Adding.{AddsReads};
 ghost use Rattle.hp_view.specs.Seeing.{GoesOn, OnlyReads};
-ghost use Rattle.hp_ops.specs.Reading.{AddsReads, IsReadOf};
+ghost use Rattle.hp_ops.specs.Reading.{IsReadOf};
 ghost use Rattle.hp_ops.specs.Triggers.{Triggers, Fires};
 
 use crate::finding::find_status;

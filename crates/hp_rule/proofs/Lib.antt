@@ -5,3 +5,4 @@ pub mod WellNamedLemmas
 pub mod Fitting
 pub mod Compared
 pub mod Told
+pub mod Known

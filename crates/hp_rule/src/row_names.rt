@@ -20,12 +20,7 @@ pub enum RowNames<'a> {
 pub(crate) fn is_query(queries: &[Query], name: &str) -> bool
     ensures { result ≡ is_known (query_names (map query queries.now)) name.now }
 {
-    for query in queries {
-        if query.name.as_str() == name {
-            return true;
-        }
-    }
-    false
+    queries.iter().any(|query| query.name.as_str() == name)
 }
 
 impl RowNames<'_> {

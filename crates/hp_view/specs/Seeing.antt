@@ -199,6 +199,13 @@ pub record OnlyReads (old new : Seeing) : Type 0 where
   pub writes : new.writes ≡ old.writes
   pub undo : new.undo ≡ old.undo
 
+-- the reads grew, and what the view shows stays the same
+pub record ReadsMore (old new : Seeing) : Type 0 where
+  pub base : new.base ≡ old.base
+  pub reads : (more : List Read) × (new.reads ≡ old.reads ++ more)
+  pub changes : written new ≡ written old
+  pub undo : new.undo ≡ old.undo
+
 -- a cell is read, if memory doesn't run out
 pub record ReadsCell (old new : Seeing) (cell : Cell) (done : Bool) : Type 0 where
   pub ok : done ≡ true → new ≡ record old { reads = read_cell old cell }

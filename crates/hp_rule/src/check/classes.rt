@@ -21,24 +21,14 @@ const MAX_FIELDS: usize = 32;
 pub(crate) fn has_field(fields: &[Field], name: &str) -> bool
     ensures { result ≡ is_known (field_names (map field fields.now)) name.now }
 {
-    for field in fields {
-        if field.name.as_str() == name {
-            return true;
-        }
-    }
-    false
+    fields.iter().any(|field| field.name.as_str() == name)
 }
 
 /// Whether a class has this name.
 fn has_class(classes: &[ClassDef], name: &str) -> bool
     ensures { result ≡ is_known (class_names (map class_def classes.now)) name.now }
 {
-    for class in classes {
-        if class.name.as_str() == name {
-            return true;
-        }
-    }
-    false
+    classes.iter().any(|class| class.name.as_str() == name)
 }
 
 #[tactic(auto, unfolding(hp_model::specs::Checked::field_definition_check))]

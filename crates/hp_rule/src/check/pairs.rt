@@ -23,12 +23,7 @@ use std::alloc::Global;
 fn is_assigned(pairs: &[Assignment], field: &str) -> bool
     ensures { result ≡ is_known (assigned_names (map assignment pairs.now)) field.now }
 {
-    for pair in pairs {
-        if pair.field.as_str() == field {
-            return true;
-        }
-    }
-    false
+    pairs.iter().any(|pair| pair.field.as_str() == field)
 }
 
 /// Checks that the field of an assignment is one of the class, and isn't set by an earlier one.

@@ -34,12 +34,7 @@ const MAX_DEPTH: u8 = 16;
 fn has_rule(rules: &[Rule], name: &str) -> bool
     ensures { result ≡ is_known (rule_names (map rule rules.now)) name.now }
 {
-    for rule in rules {
-        if rule.name.as_str() == name {
-            return true;
-        }
-    }
-    false
+    rules.iter().any(|rule| rule.name.as_str() == name)
 }
 
 #[tactic(auto, unfolding(hp_model::specs::Checked::head_check))]

@@ -1,6 +1,5 @@
 use Rattle.std.proofs.Common.{subst}
 use Rattle.hp_view.specs.Seeing.{TakesIn}
-use Rattle.hp_attempt.proofs.Taking.{refused_reads, refused_writes}
 use Rattle.hp_attempt.proofs.settling.take_in.Goals as goal
 
 pub returns-clause-ok : goal.returns-clause-ok

@@ -4,8 +4,9 @@ use Rattle.hp_model.specs.Cells.{object_cell}
 use Rattle.hp_model.specs.State.{find_object}
 use Rattle.hp_model.specs.Answers.{Finds}
 use Rattle.hp_view.specs.Seeing.{written}
-use Rattle.hp_ops.specs.Reading.{AddsReads, IsReadOf}
-use Rattle.hp_ops.proofs.Adding.{adds_in, adds_read}
+use Rattle.hp_view.specs.Adding.{AddsReads}
+use Rattle.hp_ops.specs.Reading.{IsReadOf}
+use Rattle.hp_ops.proofs.Adding.{adds_read}
 use Rattle.hp_ops.proofs.Worlds.{object_found}
 use Rattle.hp_ops.proofs.finding.find_object.Goals as goal
 
@@ -21,4 +22,4 @@ returns-clause-reads c =
     let fits : SFits w64 c.args.key = search rules in
     let back : to_z w64 (of_z w64 c.args.key) ≡ c.args.key = to_z-of_z w64 c.args.key fits in
     subst (λ k. AddsReads (IsReadOf (object_cell c.args.class k)) c.args.view.now.reads c.read.new.self.reads) back
-    (adds_in c.in_ok-read.ensures.reads (adds_read c.args.view.now (object_cell c.args.class (to_z w64 (of_z w64 c.args.key)))))
+    (adds_read (object_cell c.args.class (to_z w64 (of_z w64 c.args.key))) c.in_ok-read.ensures.reads)

@@ -6,9 +6,10 @@ use Rattle.hp_model.proofs.FaithfulFirings.{AreAt}
 use Rattle.hp_value.specs.Mapped.{primitive}
 use Rattle.hp_rule.specs.Mapped.{library, task as task_of}
 use Rattle.hp_rule.specs.Mentions.{is_mentioned}
+use Rattle.hp_view.specs.Looks.{only_reads_same, only_reads_then}
 use Rattle.hp_view.proofs.Views.{GoesOn-same, GoesOn-then}
 use Rattle.hp_ops.specs.Stepped.{entries}
-use Rattle.hp_ops.proofs.Notices.{HaveHeard, mentioned_among, none_heard, told_listed, all_listed, depth_more, tasks_more, only_none, only_then, reads_alone, reads_then_same, steps_written}
+use Rattle.hp_ops.proofs.Notices.{HaveHeard, mentioned_among, none_heard, told_listed, all_listed, depth_more, tasks_more, reads_alone, reads_then_same, steps_written}
 use Rattle.hp_ops.proofs.notifying.notify_all.Goals as goal
 
 pub loop-number-init : goal.loop-number-init
@@ -19,7 +20,7 @@ loop-number-init c =
       heard = subst (HaveHeard (library c.args.lib.now) (primitive c.args.prim.now) [] c.args.view.now c.args.view.now _) none (none_heard (library c.args.lib.now) (primitive c.args.prim.now) c.args.view.now);
       shared = tt;
       depth = subst (AreAt c.args.depth) none tt;
-      only = only_none c.args.view.now;
+      only = only_reads_same c.args.view.now;
       goes_on = GoesOn-same c.args.view.now;
     }
 
@@ -38,7 +39,7 @@ loop-number-preserved c =
           c.loop-number.invariant.heard c.in_ok-task.ensures.notified));
       shared = c.notify.ensures.shared;
       depth = subst (λ ts. AreAt c.args.depth (map task_of ts)) (sym c.in_ok-add.ensures) (depth_more c.args.depth c.loop-number.tasks.items c.in_ok-task.field-0.task c.loop-number.invariant.depth c.in_ok-task.ensures.depth);
-      only = only_then c.loop-number.invariant.only c.notify.ensures.only;
+      only = only_reads_then c.args.view.now c.loop-number.view c.notify.new.view c.loop-number.invariant.only c.notify.ensures.only;
       goes_on = GoesOn-then c.loop-number.invariant.goes_on c.notify.ensures.goes_on;
     }
 
@@ -49,7 +50,7 @@ returns-clause-heard c =
 
 -- where memory runs out
 pub returns-in_err-add-clause-err : goal.returns-in_err-add-clause-err
-returns-in_err-add-clause-err c = on_err c.from_residual-in_err-add.result _ (reads_alone (only_then c.loop-number.invariant.only c.notify.ensures.only))
+returns-in_err-add-clause-err c = on_err c.from_residual-in_err-add.result _ (reads_alone (only_reads_then c.args.view.now c.loop-number.view c.notify.new.view c.loop-number.invariant.only c.notify.ensures.only))
 
 pub returns-in_err-write-clause-err : goal.returns-in_err-write-clause-err
 returns-in_err-write-clause-err c = on_err c.from_residual-in_err-write.result _ (reads_then_same c.loop-number.invariant.only c.in_err-write.ensures.err)
