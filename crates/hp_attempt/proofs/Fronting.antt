@@ -220,11 +220,6 @@ takes_first t {old} {new} before after a b d is at stands takes = record {
 
 -- ---- why the front ends
 
--- no task is left
-pub longest_done : (v : Option ℕ) (now : Cells) (tasks : List Task) (left : List (Option Attempt)) → tasks ≡ [] → IsLongest v now tasks left
-longest_done (Some r) now tasks left none = tt
-longest_done None now tasks left none = subst (λ ts. StopsAt now ts left) (sym none) tt
-
 -- the first attempt that is left can't be accepted
 longest_stays : (v : Option ℕ) (now : Cells) (tasks ts : List Task) (t : Task) (left : List (Option Attempt)) → tasks ≡ t ∷ ts → Stays now t left → IsLongest v now tasks left
 longest_stays (Some r) now tasks ts t left next stays = tt

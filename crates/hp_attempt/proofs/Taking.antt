@@ -39,14 +39,6 @@ held_first {old} only base held = Holds-front base old.reads only.reads.0 (subst
 
 -- ---- the reads of an attempt, one by one
 
-pub read_is_of : (seen : Seen) (found : Found) → IsReadOf seen (read (seen, found))
-read_is_of (OfCell q) found = refl
-read_is_of (OfKeys n) (Value v) = refl
-read_is_of (OfKeys n) (Keys keys) = refl
-read_is_of (OfKeys n) (Objects objects) = refl
-read_is_of (OfKeys n) (Part part) = refl
-read_is_of (OfPart n number) found = refl
-
 pub again_cell : (old new : Seeing) (q : RustCell) (found : Found) → Shows new (cell q) (now_in old (cell q)) → IsReadAgain old new (read (OfCell q, found))
 again_cell old new q found shows = λ told base held. shows.everywhere base held ∙ told
 

@@ -90,13 +90,6 @@ module _ {T : Type 0} where
   abbrev pub fresh : Global × ℕ → Fact T
   fresh c = fact (cell_name c) None
 
-  pub more_fresh : (facts : List (Fact T)) (cells : List (Global × ℕ)) (i : ℕ) (f : Fact T) (cell : Global × ℕ) → facts ≡ map fresh (take i cells) → i < length cells → cell ≡ get_or cells i cell
-      → f ≡ fresh cell → facts ++ f ∷ [] ≡ map fresh (take (i + 1) cells)
-  more_fresh facts cells i f cell so in' at named =
-      let e : f ≡ fresh (get_or cells i cell) = named ∙ ap fresh at in
-      let t : take (i + 1) cells ≡ take i cells ++ get_or cells i cell ∷ [] = ap (λ k. take k cells) (add-one i) ∙ take-suc cells i cell in' in
-      (λ j. so j ++ e j ∷ []) ∙ (sym (map-append fresh (take i cells) (get_or cells i cell ∷ [])) ∙ sym (ap (map fresh) t))
-
   fresh_each : (cells : List (Global × ℕ)) → All (λ (f : Fact T). f.known ≡ None) (map fresh cells)
   fresh_each [] = All-nil (λ (f : Fact T). f.known ≡ None)
   fresh_each (c ∷ cells) = All-cons (λ (f : Fact T). f.known ≡ None) (fresh c) (map fresh cells) refl (fresh_each cells)

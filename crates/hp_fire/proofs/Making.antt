@@ -92,22 +92,6 @@ abbrev pub onto_values : List Value → Outcome (List Value) → Outcome (List V
 onto_values vs (Ok ws) = Ok (vs ++ ws)
 onto_values vs (Err c) = Err c
 
-pub onto_more : (vs : List Value) (v : Value) (env : Environment) (e : Expression) (es : List Expression) → Ok v ≡ value_of env e → onto_values (vs ++ v ∷ []) (values_of env es) ≡ onto_values vs (values_of env (e ∷ es))
-onto_more vs v env e es is =
-    by (values_of env es) ∙ ap (λ o. onto_values vs (o >>= λ x. values_of env es >>= λ xs. Ok (x ∷ xs))) is
-  where
-    by : (o : Outcome (List Value)) → onto_values (vs ++ v ∷ []) o ≡ onto_values vs (o >>= λ xs. Ok (v ∷ xs))
-    by (Ok ws) = ap Ok (append_assoc vs (v ∷ []) ws)
-    by (Err c) = refl
-
--- one of the values is a cause
-pub onto_cause : (vs : List Value) (c : Cause) (env : Environment) (e : Expression) (es : List Expression) → Err c ≡ value_of env e → onto_values vs (values_of env (e ∷ es)) ≡ Err c
-onto_cause vs c env e es is = sym (ap (λ o. onto_values vs (o >>= λ x. values_of env es >>= λ xs. Ok (x ∷ xs))) is)
-
-pub onto_none : (o : Outcome (List Value)) → onto_values [] o ≡ o
-onto_none (Ok ws) = refl
-onto_none (Err c) = refl
-
 -- ---- what statements find
 
 -- what holds in each world that a view allows
@@ -149,18 +133,6 @@ named_missing library env class key k v w is only finds = record {
   goes_on = GoesOn-only only;
   finds = record { from = λ base held S ordered at. named_is env class key k is None S (finds.from base held S ordered at) };
 }
-
-pub named_halt : (library : Library) (env : Environment) (class : ℕ) (key : Expression) (h : Halt) (v : Seeing) → Meets (λ (k : ℤ). k) (Err h) (integer_value env key)
-    → Looks {X = RustRow} keyed_row_of library (λ S. named_object S.objects env class key) v v (Err h)
-named_halt library env class key (ByCause c) v is = record {
-  only = only_reads_same v;
-  goes_on = GoesOn-only (only_reads_same v);
-  finds = record { from = λ base held S ordered at. ap (λ (o : Outcome ℤ). o >>= λ z. or_cause (find_object S.objects class z) missing >>= λ row. Ok (the_row z row)) (sym is) };
-}
-  where
-    the_row : ℤ → Row → KeyedRow
-    the_row z row = record { key = z; row = row }
-named_halt library env class key Memory v is = tt
 
 -- ---- statements without an event
 

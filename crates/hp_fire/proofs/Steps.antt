@@ -106,9 +106,6 @@ done_if (veto_by r) h = cc
 
 -- ---- one after another
 
-pub runs_then : {library : Library} (f g : Work) {v w z : Seeing} {a b : Answer} → a.end ≡ done → Runs library f v w a → Runs library g w z b → Runs library (λ S. then_do (f S) g) v z (followed a b)
-runs_then f g is_end r s = record { goes_on = GoesOn-then r.goes_on s.goes_on; faithful = faithful_then f g is_end (grows s.goes_on) r.faithful s.faithful }
-
 pub runs_signal : {library : Library} {level : Level} {work : Work} {v w z : Seeing} {p : Primitive} {a : Answer} → Made library level work v w p → Runs library (signal_in level p) w z a
     → Runs library work v z (followed (tells (without_detachments (operation_items p))) a)
 runs_signal made r = record { goes_on = GoesOn-then made.goes_on r.goes_on; faithful = made.then_signal (grows r.goes_on) r.faithful }
@@ -245,10 +242,6 @@ pub goes_unvetoed : (stops : Bool) (o : Option ℕ) → is_some o ≡ false → 
 goes_unvetoed true None h = refl
 goes_unvetoed true (Some r) h = cc
 goes_unvetoed false o h = refl
-
-pub goes_past : (stops : Bool) (o : Option ℕ) → stops ≡ false → goes_on stops o ≡ true
-goes_past true o h = cc
-goes_past false o h = refl
 
 module _ {library : Library} {stops : Bool} {whole : List Task} where
   pub group_starts : (v : Seeing) (so_far : List FiringAnswer) → so_far ≡ [] → GroupLoop library stops whole whole v v so_far

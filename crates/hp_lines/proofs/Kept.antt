@@ -4,10 +4,6 @@ use Rattle.std.proofs.KnownBytes.{Appends-nil, Appends-trans}
 use Rattle.std.specs.Io.KnownBytes.{Appends}
 use Rattle.hp_report.specs.Device.{Begins}
 
--- nothing went out
-pub begins_not : (a : Option (List ℕ)) (text : List ℕ) → Begins a a text
-begins_not a text = ([], text, refl, Appends-nil a)
-
 -- all of it went out
 pub begins_whole : (a b : Option (List ℕ)) (text : List ℕ) → Appends a b text → Begins a b text
 begins_whole a b text out = (text, [], sym (append-nil text), out)

@@ -24,9 +24,6 @@ pub record Fed (old new : Option (List ℕ)) (failed : Bool) (before now : Serve
   pub at : (d : L.Server) → IsServer before d → IsServer now (after d bytes)
   pub whole : failed ≡ false
 
-pub none_fed : (old : Option (List ℕ)) (failed : Bool) (server : Server) → failed ≡ false → Fed old old failed server server []
-none_fed old failed server whole = record { out = λ d is. Appends-nil old; at = λ d is. is; whole = whole }
-
 one_more : (xs : List ℕ) (i : ℕ) → i < length xs → take (i + 1) xs ≡ take i xs ++ slice_index_or xs i 0 ∷ []
 one_more xs i low =
     let one : i + 1 ≡ suc i = omega arith in
@@ -62,9 +59,6 @@ begins_piece old mid new was before now xs i fed begins low d here =
 
 -- ---- a whole run
 
-not_closed : L.unopened ≢ closed
-not_closed e = cc
-
 -- a run that doesn't end with the refusal of the script
 pub open_by : (s : L.Stage) (status : Status) → status ≢ Refused → status ≡ status_at s → s ≢ closed
 open_by s status isnt known shut = isnt (known ∙ ap status_at shut)
@@ -97,18 +91,6 @@ pub record Served (left rest : Option (List ℕ)) (lost : Bool) (old new : Optio
   pub at : IsServer now (after first bytes)
   pub whole : failed ≡ false
   pub stops : StopsAtRefusal left rest first
-
-pub none_served : (left old : Option (List ℕ)) (lost failed : Bool) (with_tree : Bool) (server : Server) → lost ≡ false → failed ≡ false → IsServer server (new_server with_tree)
-    → Served left left lost old old failed (new_server with_tree) server
-none_served left old lost failed with_tree server sound whole at = record {
-  bytes = [];
-  taken = Consumes-nil left;
-  sound = sound;
-  out = Appends-nil old;
-  at = at;
-  whole = whole;
-  stops = stops_whole left left (new_server with_tree) [] (Consumes-nil left) not_closed;
-}
 
 -- the same after one more read
 pub served_on : (left rest more : Option (List ℕ)) (lost gone : Bool) (old mid new : Option (List ℕ)) (was is : Bool) (first : L.Server) (now then : Server) (piece : List ℕ)

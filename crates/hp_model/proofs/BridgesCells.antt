@@ -49,14 +49,6 @@ same_turn (rule_cell m) (detector_cell n) = refl
 same_turn (detector_cell m) (object_cell d l) = refl
 same_turn (detector_cell m) (rule_cell n) = refl
 
--- the same, as std's equality test
-pub Decides-same_cell : (a b : Cell) → Decides (same_cell a b) (a ≡ b)
-Decides-same_cell a b = (exact_cell a b, λ e. subst (λ q. same_cell a q ≡ true) e (same_self a))
-
--- the test is false for distinct cells
-pub apart_cells : (a b : Cell) → (a ≡ b → ⊥) → same_cell a b ≡ false
-apart_cells a b apart = false_from_ne_true (same_cell a b) (λ h. apart (exact_cell a b h))
-
 -- ---- names
 
 nat_at : (a b : ℕ) → is_eq (nat_cmp a b) ≡ (a == b)
@@ -81,10 +73,6 @@ name_at class key name =
 abbrev pub stacked : (below above : Changes) → Changes
 stacked below above cell = option_or (above cell) (below cell)
 
--- a layer without changes changes nothing
-pub over-no_changes : (base : Cells) → over base no_changes ≡ base
-over-no_changes base = refl
-
 changed_twice : (o : Option CellValue) (x y : Option (Option CellValue)) → changed (changed o x) y ≡ changed o (option_or y x)
 changed_twice o x None = refl
 changed_twice o x (Some v) = refl
@@ -92,17 +80,6 @@ changed_twice o x (Some v) = refl
 -- two layers, one after another, are their stack
 pub over-over : (base : Cells) (below above : Changes) → over (over base below) above ≡ over base (stacked below above)
 over-over base below above i cell = changed_twice (base cell) (below cell) (above cell) i
-
--- no changes above, and none below
-pub stacked-no_changes : (layer : Changes) → stacked layer no_changes ≡ layer
-stacked-no_changes layer = refl
-
-or_none : (x : Option (Option CellValue)) → option_or x None ≡ x
-or_none None = refl
-or_none (Some v) = refl
-
-pub no_changes-stacked : (layer : Changes) → stacked no_changes layer ≡ layer
-no_changes-stacked layer i cell = or_none (layer cell) i
 
 choice_stacked : (b : Bool) (v : Option CellValue) (x y : Option (Option CellValue)) → option_or (if b then Some v else y) x ≡ (if b then Some v else option_or y x)
 choice_stacked true v x y = refl
@@ -136,15 +113,6 @@ with_change-same layer cell i q = by (same_cell cell q) refl i
     by true same = ap layer (exact_cell cell q same)
     by false apart = refl
 
--- changes of two cells, in either order
-pub with_change-swap : (layer : Changes) (a b : Cell) (x y : Option (Option CellValue)) → same_cell a b ≡ false → with_change (with_change layer a x) b y ≡ with_change (with_change layer b y) a x
-with_change-swap layer a b x y apart i q = by (same_cell a q) (same_cell b q) refl refl i
-  where
-    by : (s t : Bool) → same_cell a q ≡ s → same_cell b q ≡ t → (if t then y else (if s then x else layer q)) ≡ (if s then x else (if t then y else layer q))
-    by true true here there = absurd (true≢false (sym (ap₂ same_cell (exact_cell a q here) (exact_cell b q there) ∙ same_self q) ∙ apart))
-    by true false here there = refl
-    by false t here there = refl
-
 -- a cell that is changed again
 pub with_change-again : (layer : Changes) (cell : Cell) (x y : Option (Option CellValue)) → with_change (with_change layer cell x) cell y ≡ with_change layer cell y
 with_change-again layer cell x y i q = by (same_cell cell q) i
@@ -156,14 +124,6 @@ with_change-again layer cell x y i q = by (same_cell cell q) i
 -- a change that is changed back
 pub with_change-back : (layer : Changes) (cell : Cell) (x : Option (Option CellValue)) → with_change (with_change layer cell x) cell (layer cell) ≡ layer
 with_change-back layer cell x = with_change-again layer cell x (layer cell) ∙ with_change-same layer cell
-
--- writing the present value changes nothing
-pub over-same : (base : Cells) (layer : Changes) (cell : Cell) (v : Option CellValue) → over base layer cell ≡ v → over base (with_change layer cell (Some v)) ≡ over base layer
-over-same base layer cell v is i q = by (same_cell cell q) refl i
-  where
-    by : (b : Bool) → same_cell cell q ≡ b → changed (base q) (if b then Some v else layer q) ≡ over base layer q
-    by true same = sym is ∙ ap (over base layer) (exact_cell cell q same)
-    by false apart = refl
 
 -- ---- reads
 
@@ -179,22 +139,12 @@ AllTold-append : (base : Cells) (xs ys : List Read) → AllTold base xs → AllT
 AllTold-append base [] ys front back = back
 AllTold-append base (x ∷ xs) ys front back = (front.0, AllTold-append base xs ys front.1 back)
 
--- no reads, one, and a read before others
-pub Holds-nil : (base : Cells) → Holds base []
-Holds-nil base = record { told = tt }
-
 pub Holds-one : (base : Cells) (r : Read) → IsTold base r → Holds base (r ∷ [])
 Holds-one base r told = record { told = (told, tt) }
-
-pub Holds-cons : (base : Cells) (r : Read) (rs : List Read) → IsTold base r → Holds base rs → Holds base (r ∷ rs)
-Holds-cons base r rs told held = record { told = (told, held.told) }
 
 -- the first read, and the others
 pub Holds-head : {base : Cells} {r : Read} {rs : List Read} → Holds base (r ∷ rs) → IsTold base r
 Holds-head held = held.told.0
-
-pub Holds-tail : {base : Cells} {r : Read} {rs : List Read} → Holds base (r ∷ rs) → Holds base rs
-Holds-tail held = record { told = held.told.1 }
 
 -- reads that hold with more reads hold alone
 pub Holds-front : (base : Cells) (xs ys : List Read) → Holds base (xs ++ ys) → Holds base xs

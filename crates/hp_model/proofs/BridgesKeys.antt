@@ -97,17 +97,6 @@ keys_are_class_keys class objects keys rise rk has = same_keys keys (class_keys 
 
 -- ---- the keys of a state's cells
 
-some_mapped : (o : Option Row) → is_some o ≡ is_some (option_map row_value o)
-some_mapped None = refl
-some_mapped (Some row) = refl
-
--- the keys of a class's objects are the class's keys in the state's cells
-pub state_keys : (library : Library) (S : State) (class : ℕ) → IsOrdered library S → AreKeys (cells library S) class (class_keys class S.objects)
-state_keys library S class ordered = record {
-  rise = rising_keys class S.objects ordered.objects_rise;
-  has = λ key. has_keys class key S.objects ∙ some_mapped (find_object S.objects class key);
-}
-
 -- keys of the same class in the same cells
 pub one_list : {base : Cells} {class : ℕ} {xs ys : List ℤ} → AreKeys base class xs → AreKeys base class ys → xs ≡ ys
 one_list {base} {class} {xs} {ys} p q = same_keys xs ys p.rise q.rise (λ key. p.has key ∙ sym (q.has key))
@@ -126,28 +115,3 @@ rows_found class objects rise =
     each i d below =
         let o = slice_index_or objects i d in
         lookup_from_place (eq_by_cmp_equiv names_total) objects i o.0 o.1 (IsDistinct-from_sorted compare_names (names objects) rise) (slice_get-get_or objects i d below)
-
--- the row that is found at the key of the same index
-pub row_found : (class : ℕ) (objects : Objects) (i : ℕ) (key : ℤ) (r : KeyedRow) → ObjectsRise objects → i < length (rows_of class objects)
-    → find_object objects class (slice_index_or (class_keys class objects) i key) ≡ Some (slice_index_or (rows_of class objects) i r).row
-row_found class objects i key r rise below =
-    ap (find_object objects class) (get_or-map (λ (s : KeyedRow). s.key) (rows_of class objects) i r key below) ∙ rows_found class objects rise i r below
-
-found_again : (f : ℤ → Option Row) (rows : List KeyedRow) → All (λ (r : KeyedRow). f r.key ≡ Some r.row) rows
-    → filter_map (λ key. option_map (keyed key) (f key)) (map (λ (r : KeyedRow). r.key) rows) ≡ rows
-found_again f [] found = refl
-found_again f (r ∷ rs) found =
-    ap (λ (o : Option Row). cons_option (option_map (keyed r.key) o) (filter_map (λ key. option_map (keyed key) (f key)) (map (λ (s : KeyedRow). s.key) rs)))
-    (All-head (λ (s : KeyedRow). f s.key ≡ Some s.row) r rs found)
-    ∙ ap (λ l. r ∷ l) (found_again f rs (All-tail (λ (s : KeyedRow). f s.key ≡ Some s.row) r rs found))
-
--- the rows of the class are those that are found at its keys
-pub rows_from_keys : (class : ℕ) (objects : Objects) → ObjectsRise objects
-    → filter_map (λ key. option_map (keyed key) (find_object objects class key)) (class_keys class objects) ≡ rows_of class objects
-rows_from_keys class objects rise = found_again (find_object objects class) (rows_of class objects) (rows_found class objects rise)
-
--- the same for keys that a look at the state's cells gave
-pub rows_from_read : (library : Library) (S : State) (class : ℕ) (keys : List ℤ) → IsOrdered library S → AreKeys (cells library S) class keys
-    → filter_map (λ key. option_map (keyed key) (find_object S.objects class key)) keys ≡ rows_of class S.objects
-rows_from_read library S class keys ordered are =
-    ap (filter_map (λ key. option_map (keyed key) (find_object S.objects class key))) (one_list are (state_keys library S class ordered)) ∙ rows_from_keys class S.objects ordered.objects_rise

@@ -118,21 +118,6 @@ pub faithful_cause : {A : Type 0} (f : A → Work) {library : Library} {of : Sta
     → Finds library of reads writes (Err c) → FaithfulWork library (λ S. with_value (of S) f S) reads writes writes (ended (abort_by c))
 faithful_cause f {c = c} finds = work_found (λ o. with_value o f) finds (faithful_ends (abort_by c))
 
--- ---- writes
-
--- a write, with its items
-pub faithful_write : (to : State → State) (items : Items) {library : Library} {reads : List Read} {before after : Changes}
-    → ((base : Cells) → (S : State) → IsOrdered library S → cells library S ≡ over base before → cells library (to S) ≡ over base after)
-    → ((S : State) → IsOrdered library S → IsOrdered library (to S))
-    → FaithfulWork library (λ S. with_items items (to S)) reads before after (tells (without_detachments items))
-faithful_write to items changes keeps = record { from = λ base held S ordered is. record { answers = refl; reaches = changes base S ordered is; ordered = keeps S ordered } }
-
--- a write of one cell
-pub writes_cell : (to : State → State) (cell : Cell) (x : Option CellValue) (library : Library) (before after : Changes)
-    → after ≡ with_change before cell (Some x) → ((S : State) → IsOrdered library S → ChangesCell library S (to S) cell x)
-    → (base : Cells) → (S : State) → IsOrdered library S → cells library S ≡ over base before → cells library (to S) ≡ over base after
-writes_cell to cell x library before after writes changes base S ordered is = cells_changed library S (to S) cell x base before after (changes S ordered) writes is
-
 -- ---- one step after another
 
 pub faithful_then : (f g : Work) {library : Library} {reads more : List Read} {w0 w1 w2 : Changes} {a b : Answer} → a.end ≡ done → Grows reads more
@@ -165,10 +150,6 @@ faithful_halt f g {library} {reads} {before} {after} {a} halts p = record {
 pub faithful_as : (f g : Work) {library : Library} {reads : List Read} {before after : Changes} {a : Answer}
     → ((S : State) → g S ≡ f S) → FaithfulWork library f reads before after a → FaithfulWork library g reads before after a
 faithful_as f g {library} {reads} {before} {after} {a} same p = subst (λ h. FaithfulWork library h reads before after a) (λ i S. sym (same S) i) p
-
-pub faithful_answer : {A : Type 0} {library : Library} {given : State → A} {next : State → State} {reads : List Read} {before after : Changes} {a b : A}
-    → b ≡ a → Faithful library given next reads before after a → Faithful library given next reads before after b
-faithful_answer {library = library} {given} {next} {reads} {before} {after} same p = subst (λ x. Faithful library given next reads before after x) (sym same) p
 
 -- ---- work that ends as a nested transaction
 

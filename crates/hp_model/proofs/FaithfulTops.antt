@@ -153,9 +153,6 @@ module _ (library : Library) (whole : List Task) (w0 : Changes) where
 
 -- ---- cascades
 
-reports_of : Cascade → List TransactionReport
-reports_of c = cascade_answer c
-
 before_reports : (g : Generation) (c : Cascade) → cascade_answer (before_cascade g c) ≡ (generation_answer g).transactions ++ cascade_answer c
 before_reports g c = map-append transaction_report g.transactions (transactions_of c)
 

@@ -58,13 +58,6 @@ ContextFits library context = EnvironmentFits library context.environment × Ans
 -- ---- courses
 
 module _ (library : Library) where
-  -- nothing but a state
-  pub only_state : (S : State) (c : Course) → c.state ≡ S → c.queued ≡ [] → c.detached ≡ [] → IsFit library S → CourseFits library c
-  only_state S c same none none' fit = record {
-    state = subst (IsFit library) (sym same) fit;
-    queued = subst (TasksFit library) (sym none) tt;
-    detached = subst (DetachedFit library) (sym none') tt;
-  }
 
   pub ends_fits : (e : End) → WorkFits library (ends e)
   ends_fits e S fit = record { state = fit; queued = tt; detached = tt }

@@ -57,9 +57,6 @@ unheard (closure_event a t) p h apart =
 abbrev pub is_in : ℕ → List ℕ → Bool
 is_in n ns = list_any (λ m. m == n) ns
 
-in_self : (n : ℕ) → (n == n) ≡ true
-in_self n = (Decides-eqb n n).1 refl
-
 unlisted : (n k i : ℕ) (rules : List Rule) (p : Primitive) → is_in n (mentioning_from k rules p) ≡ false → n ≡ k + i → i < length rules → mentions (slice_index_or rules i no_rule).event p ≡ false
 unlisted n k i [] p apart is below = absurd (omega arith)
 unlisted n k i (rule ∷ rules) p apart is below = at i is below (mentions rule.event p) refl apart (λ j out e low. unlisted n (suc k) j rules p out e low)
@@ -81,18 +78,6 @@ other_number k n apart = by (k == n) refl
     by : (b : Bool) → (k == n) ≡ b → (k == n) ≡ false
     by true is = absurd (apart ((Decides-eqb k n).0 is))
     by false is = is
-
-all_above : (n k i : ℕ) (rules : List Rule) (p : Primitive) → n < k → is_in n (take i (mentioning_from k rules p)) ≡ false
-all_above n k zero [] p low = refl
-all_above n k (suc i) [] p low = refl
-all_above n k i (rule ∷ rules) p low = at i (mentions rule.event p) (λ j. all_above n (suc k) j rules p (omega arith))
-  where
-    at : (j : ℕ) (b : Bool) → ((j : ℕ) → is_in n (take j (mentioning_from (suc k) rules p)) ≡ false)
-        → is_in n (take j (if b then k ∷ mentioning_from (suc k) rules p else mentioning_from (suc k) rules p)) ≡ false
-    at zero true later = refl
-    at zero false later = later 0
-    at (suc j) true later = ap (λ b. b || is_in n (take j (mentioning_from (suc k) rules p))) (other_number k n (λ e. absurd (omega (arith, e, low)))) ∙ later j
-    at (suc j) false later = later (suc j)
 
 least : (k i : ℕ) (rules : List Rule) (p : Primitive) → i < length (mentioning_from k rules p) → k ≤ get_or (mentioning_from k rules p) i 0
 least k i [] p below = absurd (omega arith)

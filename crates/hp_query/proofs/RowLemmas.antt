@@ -165,12 +165,6 @@ pub same_keys : (xs ys : List ℤ) → IsStrictlySortedBy int_cmp xs → IsStric
 same_keys xs ys rise_x rise_y same =
     btree_set_from_contains int_cmp_total (record { keys = xs }) (record { keys = ys }) rise_x rise_y same exact_signed
 
--- keys in ascending order, in the list exactly if there is an object, are the class's
-pub one_list : (class : ℕ) (os : Objects) (ks : List ℤ) → ObjectsRise os → IsStrictlySortedBy int_cmp ks
-    → ((k : ℤ) → list_any (int_eq k) ks ≡ is_some (find_object os class k)) → ks ≡ class_keys class os
-one_list class os ks rise keys_rise has =
-    same_keys ks (class_keys class os) keys_rise (class_keys_rise class os rise) (λ k. has k ∙ sym (class_keys_has class k os))
-
 -- ---- the row with one key
 
 -- the object of a key, if it is there

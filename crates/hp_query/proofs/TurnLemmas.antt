@@ -8,8 +8,6 @@ pub record AsksLeft {A : Type 0} (asks : ℕ → A → A → Type 0) (all left :
   pub rest : (last : A) → AsksEach asks left now last → AsksEach asks all first last
 
 module _ {A : Type 0} (asks : ℕ → A → A → Type 0) where
-  pub left_first : (all : List ℕ) (first : A) → AsksLeft asks all all first first
-  left_first all first = record { rest = λ last each. each }
 
   asks_none : ((class : ℕ) (look : A) → asks class look look) → (left : List ℕ) (now : A) → AsksEach asks left now now
   asks_none same [] now = refl

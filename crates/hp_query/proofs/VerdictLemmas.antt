@@ -52,9 +52,6 @@ module _ (objects : Objects) (env : Environment) (queries : List Query) where
   pub record Continues (kept : Answers) (left : List Query) : Type 0 where
     pub same : after_answers kept (verdict objects (with_answers env kept) left) ≡ verdict objects env queries
 
-  pub continues_first : Continues [] queries
-  continues_first = record { same = refl }
-
 -- what is asked next, under the answers so far
 abbrev pub asked : Objects → Environment → Answers → Query → Outcome (List KeyedRow)
 asked objects env kept q = answer (with_answers env kept) q.name q.class q.predicate objects

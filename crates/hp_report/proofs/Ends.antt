@@ -19,9 +19,6 @@ told disabled = refl
 pub record AreSome (library : Library) (base : Cells) (place : ℕ) (front : List Status) : Type 0 where
   pub from : (S : State) → IsOrdered library S → cells library S ≡ base → front ++ drop place (statuses S.rules) ≡ statuses S.rules
 
-pub none_told : {library : Library} {base : Cells} → AreSome library base 0 []
-none_told = record { from = λ S ordered is. refl }
-
 count : (rules : List RuleState) → length (statuses rules) ≡ length rules
 count [] = refl
 count (r ∷ rules) = ap suc (count rules)

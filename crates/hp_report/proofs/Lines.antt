@@ -10,10 +10,6 @@ use Rattle.hp_model.specs.State.{RuleState}
 use Rattle.hp_model.specs.Values.{Name, Value, Row}
 use Rattle.hp_report.specs.Text.{spaced}
 
-escape_byte-escaped : (x : ℕ) → escape_byte x ≡ escaped x
-unfolding escape_byte
-escape_byte-escaped x = refl
-
 pub quoted_lem : (s : List ℕ) → json_quoted s ≡ quoted s
 unfolding escape_byte
 quoted_lem s = refl
@@ -22,15 +18,6 @@ quoted_lem s = refl
 pub spaced_words : (w : Bytes) (ws : List Bytes) → words (w ∷ ws) ≡ w ++ spaced ws
 spaced_words w [] = sym (append-nil w)
 spaced_words w (v ∷ vs) = ap (λ (l : Bytes). w ++ 32 ∷ l) (spaced_words v vs)
-
--- a line is its first word, the others with their spaces, and the line feed
-pub line_put : (w : Bytes) (us vs : List Bytes) (start first second third done : Bytes)
-    → first ≡ start ++ w → second ≡ first ++ spaced us → third ≡ second ++ spaced vs → done ≡ third ++ 10 ∷ [] → done ≡ start ++ line 0 (w ∷ (us ++ vs))
-line_put w us vs start first second third done a b c d =
-    let e : words (w ∷ (us ++ vs)) ≡ w ++ (spaced us ++ spaced vs) = spaced_words w (us ++ vs) ∙ ap (λ (l : Bytes). w ++ l) (flat_map-append (λ (v : Bytes). 32 ∷ v) us vs) in
-    let f : done ≡ ((start ++ w) ++ spaced us) ++ spaced vs ++ 10 ∷ [] = cc in
-    let g : ((start ++ w) ++ spaced us) ++ spaced vs ++ 10 ∷ [] ≡ start ++ ((w ++ (spaced us ++ spaced vs)) ++ 10 ∷ []) = simp append_assoc in
-    f ∙ g ∙ ap (λ (l : Bytes). start ++ (l ++ 10 ∷ [])) (sym e)
 
 -- no rule or no status is left: all lines are written
 pub rules_text_end : {A B : Type 0} (f : A → Rule) (g : B → RuleState) (xs : List A) (ys : List B) (out all : Bytes)

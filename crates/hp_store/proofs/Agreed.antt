@@ -41,9 +41,6 @@ saying b o is = ap (says b) is ∙ same b
     same true = refl
     same false = refl
 
-pub says_same : (a b : Bool) → (a ≡ b → says b (Ok a) ≡ true)
-says_same a b is = saying b (Ok a) (ap Ok is)
-
 -- ---- keys of a list that pass
 
 pub passed : (test : ℤ → Bool) (keys : List ℤ) (key : ℤ) → list_all test keys ≡ true → is_among keys key ≡ true → test key ≡ true

@@ -96,10 +96,6 @@ enters_more index new es left rest k v step kept entered have = record {
     by key [] was = last key (is_at (int_cmp key) k) refl
     by key (e ∷ done) was = choice key e done (by key done) (is_at (int_cmp key) e.0) was
 
-pub enters_each : (index : Index) (es left : List (ℤ × Held)) → left ≡ [] → Enters index es left → (key : ℤ) → IsIn index key (option_map cell_value (lookup (is_at (int_cmp key)) es))
-enters_each index es left none have key =
-    subst (λ l. IsIn index key (option_map cell_value (lookup (is_at (int_cmp key)) l))) (sym (have.are ∙ ap (λ l. have.done ++ l) none ∙ append-nil have.done)) (have.entered key)
-
 -- ---- the indexes of a base
 
 -- under the same cells

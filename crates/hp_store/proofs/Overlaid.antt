@@ -279,11 +279,3 @@ tells_first class layer found it rise entries is =
 
 pub tells_next : (class : ℕ) (layer : Entries) (it t : Entered) (d : Cell) (x : Option CellValue) → Tells class layer it → it ≡ (d, x) ∷ t → Tells class layer t
 tells_next class layer it t d x tells steps = let now : Tells class layer ((d, x) ∷ t) = subst (Tells class layer) steps tells in now.1
-
--- a change of an object to something else than a row
-pub names_other : (class : ℕ) (layer : Entries) (it t : Entered) (d : Cell) (x : Option CellValue) (of : ℕ) (key : ℤ) → Tells class layer it → it ≡ (d, x) ∷ t → d ≡ Object of key
-    → HoldsOther (change x) → (k : ℤ) × HoldsOther (over no_cells (changes layer) (object_cell class k))
-names_other class layer it t d x of key tells steps is other =
-    let now : Tells class layer ((d, x) ∷ t) = subst (Tells class layer) steps tells in
-    let said : changes layer (object_cell class key) ≡ Some (change x) = subst (λ c. TellsOne class layer c x) is now.0 in
-    (key, subst HoldsOther (sym (ap (changed None) said)) other)

@@ -27,9 +27,6 @@ pub record GenerationLeft (library : Library) (all left : List Task) (first now 
   pub goes_on : GoesOn first now
   pub completes : GenerationCompletes library all (written first) left now.reads (written now) so_far
 
-pub generation_none : (library : Library) (all : List Task) (v : Seeing) → GenerationLeft library all all v v (record { transactions = []; detached = [] })
-generation_none library all v = record { goes_on = GoesOn-same v; completes = record { by = λ more after g on p. p } }
-
 pub generation_next : {library : Library} {all : List Task} {t : Task} {ts : List Task} {first now new : Seeing} {so_far : GenerationAnswer} {a : TopAnswer}
     → GenerationLeft library all (t ∷ ts) first now so_far → RunsTop library (top library t.depth (task_work library t)) now new a
     → GenerationLeft library all ts first new (record { transactions = so_far.transactions ++ reported (Some t) a ∷ []; detached = so_far.detached ++ a.detached })
@@ -37,12 +34,6 @@ generation_next {library} {all} {first = first} p q = record {
   goes_on = GoesOn-then p.goes_on q.goes_on;
   completes = generation_more library all (written first) (grows q.goes_on) p.completes q.faithful;
 }
-
-pub generation_started : (library : Library) (all : List Task) (v : Seeing) (tops : List TopReport) (ds : List Detached) → tops ≡ [] → ds ≡ []
-    → GenerationLeft library all all v v (record { transactions = map top_report tops; detached = map detached ds })
-generation_started library all v tops ds no_tops no_ds =
-    subst (λ (x : List TopReport × List Detached). GenerationLeft library all all v v (record { transactions = map top_report x.0; detached = map detached x.1 }))
-    (λ i. (sym no_tops i, sym no_ds i)) (generation_none library all v)
 
 -- one more task has run
 pub generation_ran : {library : Library} {all : List Task} {first now new : Seeing} (t : RuleTask) (left rest : List RuleTask) (tops tops' : List TopReport) (ds ds' : List Detached) (one : Top)

@@ -13,18 +13,9 @@ use Rattle.hp_view.proofs.Wholes.{same_rows}
 use Rattle.hp_view.specs.Looks.{Allows}
 use Rattle.hp_query.proofs.PartLemmas.{part_picked}
 
-row_back : (o : Option Row) → row_at (option_map row_value o) ≡ o
-row_back None = refl
-row_back (Some row) = refl
-
 some_row : (o : Option Row) → is_some (option_map row_value o) ≡ is_some o
 some_row None = refl
 some_row (Some row) = refl
-
--- the row of an object that was read is the one in each world
-pub row_shown : {v : Seeing} {class : ℕ} {key : ℤ} {value : Option CellValue} → Shows v (object_cell class key) value → (world : Objects) → Allows v world → row_at value ≡ find_object world class key
-row_shown {v} {class} {key} {value} shows world allowed =
-    ap row_at (sym (shows.everywhere allowed.base allowed.held) ∙ allowed.objects class key) ∙ row_back (find_object world class key)
 
 -- the keys of a class that were read are those in each world
 pub keys_shown : {v : Seeing} {class : ℕ} {keys : List ℤ} → ShowsKeys v class keys → (world : Objects) → ObjectsRise world → Allows v world → keys ≡ class_keys class world

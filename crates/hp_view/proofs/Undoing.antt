@@ -57,9 +57,6 @@ undone-append : (xs ys : Undo) (w : Changes) → undone (xs ++ ys) w ≡ undone 
 undone-append [] ys w = refl
 undone-append (u ∷ xs) ys w = ap (λ c. with_change c u.0 u.1) (undone-append xs ys w)
 
-pub back_same : (us : Undo) (w : Changes) → AreCovered us w → CanGoBack us w us w
-back_same us w covered = record { covered = covered; writes = ([], sym (append-nil us), refl) }
-
 -- one write more
 pub back_more : {before after : Undo} {earlier later : Changes} (us : Undo) (w : Changes) (cell : Cell) (x : Option CellValue)
     → CanGoBack before earlier after later → w ≡ with_change later cell (Some x) → us ≡ after ++ (cell, later cell) ∷ [] → CanGoBack before earlier us w

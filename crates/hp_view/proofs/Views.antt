@@ -18,7 +18,3 @@ GoesOn-then {first} {second} {third} one two = record {
       let further : n ≤ length second.undo = omega arith in
       two.before n further ∙ one.before n within;
 }
-
--- where the reads hold, those before hold
-pub held_before : {old new : Seeing} → GoesOn old new → (base : Cells) → Holds base new.reads → Holds base old.reads
-held_before {old} {new} on base held = Holds-front base old.reads on.reads.0 (subst (Holds base) on.reads.1 held)
