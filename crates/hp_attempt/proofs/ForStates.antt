@@ -1,46 +1,15 @@
--- Attempts that are sound for a class of states, and how the firings for which they stand follow one another.
+-- How firings for which sound attempts stand follow one another, for a class of states.
 use Rattle.std.proofs.Common.{◌≡◌, refl, ap, ap₂, sym, ◌∙◌, subst, ℕ, Bool, true, false, List, [], ◌∷◌, ◌++◌, append-nil, append_assoc, Option, Some, None}
 use Rattle.hp_model.specs.Rules.{Library}
 use Rattle.hp_model.specs.State.{State}
 use Rattle.hp_model.specs.Tree.{Task}
 use Rattle.hp_model.specs.Firing.{Firing, Fire, Siblings, after_firing, siblings}
 use Rattle.hp_model.specs.Cells.{Changes, over, Read}
-use Rattle.hp_model.specs.Soundness.{FiringAnswer, Faithful, Attempt, IsSound}
+use Rattle.hp_model.specs.Soundness.{FiringAnswer}
 use Rattle.hp_model.specs.Answers.{SiblingsAnswer, siblings_answer}
 use Rattle.hp_model.proofs.Faithful.{Grows, Grows-same, Grows-then, held_before}
-use Rattle.hp_model.proofs.FaithfulFirings.{goes_on}
-use Rattle.hp_model.proofs.FitUnits.{fire_fits}
-use Rattle.hp_attempt.specs.States.{States, ordered_states, LeadsToOne, FaithfulFor, FaithfulFiringFor, FaithfulSiblingsFor, IsSoundFor, IsSoundForOrdered, IsSoundForFit}
-
--- ---- ordered states, and fit ones
-
-pub sound_as : {library : Library} {a : Attempt} → IsSound library a → IsSoundFor ordered_states library a
-sound_as sound = record { from = λ S ordered held. let leads = sound.from S ordered held in record { answers = leads.answers; reaches = leads.reaches; one = leads.ordered } }
-
-sound_of : {library : Library} {a : Attempt} → IsSoundFor ordered_states library a → IsSound library a
-sound_of sound = record { from = λ S ordered held. let leads = sound.from S ordered held in record { answers = leads.answers; reaches = leads.reaches; ordered = leads.one } }
-
-pub sound_for_ordered : IsSoundForOrdered
-sound_for_ordered library a = (sound_as, sound_of)
-
-pub sound_for_fit : IsSoundForFit
-sound_for_fit library a known carries sound = record {
-  from = λ S fit held.
-      let leads = sound.from S fit.ordered held in
-      record { answers = leads.answers; reaches = leads.reaches; one = (fire_fits library known S a.task fit carries).state };
-}
-
-pub faithful_of : {A : Type 0} {library : Library} {given : State → A} {next : State → State} {reads : List Read} {before after : Changes} {answer : A}
-    → FaithfulFor ordered_states library given next reads before after answer → Faithful library given next reads before after answer
-faithful_of p = record { from = λ base held S ordered is. let leads = p.from base held S ordered is in record { answers = leads.answers; reaches = leads.reaches; ordered = leads.one } }
-
--- ---- siblings
-
-went_on : (stops : Bool) (v : Option ℕ) (f : Firing) (rest : State → Siblings) → goes_on stops v ≡ true
-    → after_firing stops v f rest ≡ record { firings = f ∷ (rest f.state).firings; state = (rest f.state).state; vetoed_by = (rest f.state).vetoed_by }
-went_on true (Some r) f rest h = cc
-went_on true None f rest h = refl
-went_on false v f rest h = refl
+use Rattle.hp_model.proofs.FaithfulFirings.{goes_on, went_on}
+use Rattle.hp_model.specs.States.{States, LeadsToOne, FaithfulFiringFor, FaithfulSiblingsFor}
 
 module _ (states : States) (library : Library) (fire : Fire) where
   no_siblings : (stops : Bool) {reads : List Read} {writes : Changes} → FaithfulSiblingsFor states library (siblings fire stops []) reads writes writes (record { firings = []; vetoed_by = None })

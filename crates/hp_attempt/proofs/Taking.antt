@@ -23,7 +23,7 @@ use Rattle.hp_view.specs.declared.reads.Seen.TheVariants.{Cell as OfCell, Keys a
 use Rattle.hp_view.specs.Mapped.{read}
 use Rattle.hp_view.specs.Adding.{AddsReads, IsOfClass, adds_then}
 use Rattle.hp_view.proofs.Adding.{adds_noted, adds_more}
-use Rattle.hp_attempt.specs.States.{States, LeadsToOne, IsSoundFor, FaithfulFiringFor}
+use Rattle.hp_model.specs.States.{States, LeadsToOne, IsSoundFor, FaithfulFiringFor}
 use Rattle.hp_attempt.specs.Holding.{IsReadOf, IsReadAgain, IsFor, IsForAny, IsAccepted, Covers}
 
 -- ---- a view that only read

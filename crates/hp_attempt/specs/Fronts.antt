@@ -12,7 +12,7 @@ use Rattle.hp_store.specs.Changes.{changes}
 use Rattle.hp_view.specs.Adding.{AddsReads}
 use Rattle.hp_view.specs.Seeing.{Seeing, written, now_in, IsSame}
 use Rattle.hp_attempt.specs.Holding.{IsForAny}
-use Rattle.hp_attempt.specs.States.{States, IsSoundFor, FaithfulFiringFor, FaithfulSiblingsFor}
+use Rattle.hp_model.specs.States.{States, IsSoundFor, FaithfulFiringFor, FaithfulSiblingsFor}
 use Rattle.hp_attempt.specs.Mapped.{firing, attempt}
 use Rattle.hp_attempt.specs.declared.outcome.Outcome.{Outcome}
 use Rattle.hp_attempt.specs.declared.outcome.Attempt.{Attempt}

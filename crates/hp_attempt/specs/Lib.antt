@@ -1,5 +1,3 @@
 pub mod Mapped
 pub mod Holding
-pub mod States
 pub mod Fronts
-pub mod Accepting

@@ -5,7 +5,6 @@
 
 mod front;
 mod holding;
-pub mod laws;
 mod outcome;
 mod settling;
 

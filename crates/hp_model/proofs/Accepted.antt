@@ -1,17 +1,20 @@
--- A lawful run of a group leads to the cells of the serial firing of the settled tasks.
+-- A run of a group that is lawful for a class of states leads to the cells of the serial firing of the settled tasks.
 use Rattle.std.proofs.Common.{arith, ◌≡◌, refl, ap, sym, ◌∙◌, subst, ℕ, zero, suc, ◌<◌, List, [], ◌∷◌, ◌++◌, length, length-append, take, Option, None, Some, Bool, true, false, ◌&&◌, ◌⊎◌, inl, inr}
 use Rattle.std.proofs.lemmas.Bool.Decides.{nat_tests}
 use Rattle.std.proofs.lemmas.List.{length-set}
 use Rattle.std.specs.Prelude.{is_some, slice_get, slice_set, ◌==◌, nat_lt, cond, unwrap_or, replicate}
 use Rattle.std.specs.Option.{option_flatten}
 use Rattle.hp_model.specs.Rules.{Library}
-use Rattle.hp_model.specs.State.{State, IsOrdered}
+use Rattle.hp_model.specs.State.{State}
 use Rattle.hp_model.specs.Tree.{Task}
 use Rattle.hp_model.specs.Firing.{Firing, fire_task, siblings, Siblings, after_firing}
 use Rattle.hp_model.specs.Cells.{Cells, cells, Changes, over, Holds}
-use Rattle.hp_model.specs.Soundness.{Attempt, IsSound}
+use Rattle.hp_model.specs.Soundness.{Attempt}
+use Rattle.hp_model.specs.Groups.{Machine, Event, draw, look, post, accept, rerun, opening, posted_at, is_enabled, settling, effect, step, run, layered, cells_now, MayGoOn, IfEnabled, IsLawfulEvent, IsLawful, IsAccepted}
+use Rattle.hp_model.specs.States.{States, ordered_states, IsOneOf, IsSoundFor}
+use Rattle.hp_model.specs.Accepting.{LeadsFor, IsLawfulEventFor, IsLawfulFor, IsAcceptedFor}
 use Rattle.hp_model.proofs.Ordered.{fire_ordered}
-use Rattle.hp_model.specs.Groups.{IsAccepted, Machine, Event, draw, look, post, accept, rerun, opening, posted_at, is_enabled, settling, effect, step, run, layered, cells_now, MayGoOn, Leads, IsLawfulEvent, IfEnabled, IsLawful}
+use Rattle.hp_model.proofs.ForStates.{sound_as}
 
 both_true : (a b : Bool) → (a && b) ≡ true → (a ≡ true) × (b ≡ true)
 both_true true b h = (refl, h)
@@ -71,20 +74,20 @@ siblings_next false library (u ∷ us) t S k h = siblings_next false library us 
 
 -- ---- the invariant of a run
 
-module _ (stops : Bool) (library : Library) (tasks : List Task) (attempts : ℕ → Attempt) (S : State) where
-  -- the state after the first k tasks, one after another
+module _ (states : States) (stops : Bool) (library : Library) (tasks : List Task) (attempts : ℕ → Attempt) (S : State) where
+  -- the state after the first k tasks, one after the other
   abbrev pub state_after : ℕ → State
   state_after k = (siblings (fire_task library) stops (take k tasks) S).state
 
   -- the attempt of a posted task
   record Posted (i : ℕ) (layer : Changes) : Type 0 where
-    sound : IsSound library (attempts i)
+    sound : IsSoundFor states library (attempts i)
     of_task : slice_get tasks i ≡ Some (attempts i).task
     its_layer : (attempts i).layer ≡ layer
 
   record Stands (m : Machine) : Type 0 where
     as_many : length m.posted ≡ length tasks
-    ordered : IsOrdered library (state_after (length m.settled))
+    one : IsOneOf states library (state_after (length m.settled))
     now : cells_now m ≡ cells library (state_after (length m.settled))
     each_posted : (i : ℕ) (layer : Changes) → posted_at m i ≡ Some layer → Posted i layer
 
@@ -98,15 +101,15 @@ module _ (stops : Bool) (library : Library) (tasks : List Task) (attempts : ℕ 
 
   -- one more layer is settled: that of the next task
   settled_more : (m : Machine) (k : ℕ) (layer : Changes) (t : Task) → k ≡ length m.settled → slice_get tasks k ≡ Some t → MayGoOn stops library tasks S k
-      → cells library (fire_task library (state_after k) t).state ≡ over (cells_now m) layer → Stands m → Stands (settling m (Some layer))
-  settled_more m k layer t e of_task go leads inv =
+      → cells library (fire_task library (state_after k) t).state ≡ over (cells_now m) layer → IsOneOf states library (fire_task library (state_after k) t).state
+      → Stands m → Stands (settling m (Some layer))
+  settled_more m k layer t e of_task go leads one inv =
       let longer : length (m.settled ++ layer ∷ []) ≡ suc k = length-append m.settled (layer ∷ []) ∙ omega arith in
       let there : state_after (suc k) ≡ (fire_task library (state_after k) t).state = next_state k t of_task go in
       let there' : state_after (length (m.settled ++ layer ∷ [])) ≡ (fire_task library (state_after k) t).state = ap state_after longer ∙ there in
-      let fit_now : IsOrdered library (state_after k) = subst (λ n. IsOrdered library (state_after n)) (sym e) inv.ordered in
       record {
         as_many = inv.as_many;
-        ordered = subst (IsOrdered library) (sym there') (fire_ordered library (state_after k) t fit_now);
+        one = subst (IsOneOf states library) (sym there') one;
         now = layered-append m.base m.settled layer ∙ sym leads ∙ ap (cells library) (sym there');
         each_posted = inv.each_posted;
       }
@@ -118,29 +121,29 @@ module _ (stops : Bool) (library : Library) (tasks : List Task) (attempts : ℕ 
       let e : i ≡ length m.settled = equal_numbers i (length m.settled) h in
       let posted = inv.each_posted i layer is in
       let here : cells_now m ≡ cells library (state_after i) = inv.now ∙ ap (λ k. cells library (state_after k)) (sym e) in
-      let gives = posted.sound.from (state_after i) (subst (λ k. IsOrdered library (state_after k)) (sym e) inv.ordered) (subst (λ b. Holds b (attempts i).reads) here reads) in
+      let gives = posted.sound.from (state_after i) (subst (λ k. IsOneOf states library (state_after k)) (sym e) inv.one) (subst (λ b. Holds b (attempts i).reads) here reads) in
       settled_more m i layer (attempts i).task e posted.of_task go
-      (gives.reaches ∙ ap (λ (b : Cells). over b (attempts i).layer) (sym here) ∙ ap (over (cells_now m)) posted.its_layer) inv
+      (gives.reaches ∙ ap (λ (b : Cells). over b (attempts i).layer) (sym here) ∙ ap (over (cells_now m)) posted.its_layer) gives.one inv
 
   rerun_one : (m : Machine) (i : ℕ) (layer : Changes) → (i == length m.settled) ≡ true → nat_lt i (length m.posted) ≡ true
-      → ((t : Task) → slice_get tasks i ≡ Some t → Leads library t (cells_now m) layer) → MayGoOn stops library tasks S i → Stands m → Stands (settling m (Some layer))
+      → ((t : Task) → slice_get tasks i ≡ Some t → LeadsFor states library t (cells_now m) layer) → MayGoOn stops library tasks S i → Stands m → Stands (settling m (Some layer))
   rerun_one m i layer h low leads go inv =
       let e : i ≡ length m.settled = equal_numbers i (length m.settled) h in
       let few : i < length m.posted = below_number i (length m.posted) low in
       let few' : i < length tasks = subst (λ n. i < n) inv.as_many few in
       let found = some_at tasks i few' in
       let here : cells library (state_after i) ≡ cells_now m = ap (λ k. cells library (state_after k)) e ∙ sym inv.now in
-      settled_more m i layer found.0 e found.1 go
-      (leads found.0 found.1 (state_after i) (subst (λ k. IsOrdered library (state_after k)) (sym e) inv.ordered) here) inv
+      let gives = leads found.0 found.1 (state_after i) (subst (λ k. IsOneOf states library (state_after k)) (sym e) inv.one) here in
+      settled_more m i layer found.0 e found.1 go gives.0 gives.1 inv
 
-  step_stands : (e : Event) (m : Machine) (b : Bool) → is_enabled m e ≡ b → IfEnabled b (IsLawfulEvent stops library tasks attempts S m e) → Stands m → Stands (cond b (effect m e) m)
+  step_stands : (e : Event) (m : Machine) (b : Bool) → is_enabled m e ≡ b → IfEnabled b (IsLawfulEventFor states stops library tasks attempts S m e) → Stands m → Stands (cond b (effect m e) m)
   step_stands e m false is h inv = inv
-  step_stands (draw w) m true is h inv = record { as_many = inv.as_many; ordered = inv.ordered; now = inv.now; each_posted = inv.each_posted }
-  step_stands (look w i elders) m true is h inv = record { as_many = inv.as_many; ordered = inv.ordered; now = inv.now; each_posted = inv.each_posted }
+  step_stands (draw w) m true is h inv = record { as_many = inv.as_many; one = inv.one; now = inv.now; each_posted = inv.each_posted }
+  step_stands (look w i predecessors) m true is h inv = record { as_many = inv.as_many; one = inv.one; now = inv.now; each_posted = inv.each_posted }
   step_stands (post w i layer) m true is h inv =
       record {
         as_many = length-set m.posted i (Some layer) ∙ inv.as_many;
-        ordered = inv.ordered;
+        one = inv.one;
         now = inv.now;
         each_posted = λ j l p. elim (get_set m.posted i j layer l p) [
           | inl e ↦ subst (λ n. Posted n l) e.0 (record { sound = h.0; of_task = h.1; its_layer = h.2 ∙ e.1 })
@@ -154,7 +157,7 @@ module _ (stops : Bool) (library : Library) (tasks : List Task) (attempts : ℕ 
       let both = both_true (i == length m.settled) (nat_lt i (length m.posted)) is in
       rerun_one m i layer both.0 both.1 h.1 h.2 inv
 
-  run_stands : (es : List Event) (m : Machine) → IsLawful stops library tasks attempts S m es → Stands m → Stands (run m es)
+  run_stands : (es : List Event) (m : Machine) → IsLawfulFor states stops library tasks attempts S m es → Stands m → Stands (run m es)
   run_stands [] m h inv = inv
   run_stands (e ∷ es) m h inv = run_stands es (step m e) h.1 (step_stands e m (is_enabled m e) refl h.0 inv)
 
@@ -167,16 +170,38 @@ module _ (stops : Bool) (library : Library) (tasks : List Task) (attempts : ℕ 
   none_posted (suc n) zero layer h = cc
   none_posted (suc n) (suc i) layer h = none_posted n i layer h
 
-  pub accepted_from : (es : List Event) → IsOrdered library S → IsLawful stops library tasks attempts S (opening (cells library S) (length tasks)) es
-      → cells_now (run (opening (cells library S) (length tasks)) es) ≡ cells library (state_after (length (run (opening (cells library S) (length tasks)) es).settled))
-  accepted_from es ordered h =
-      let start : Stands (opening (cells library S) (length tasks)) = record {
+  accepted_from : (es : List Event) → IsOneOf states library S → IsLawfulFor states stops library tasks attempts S (opening (cells library S) (length tasks)) es
+      → Stands (run (opening (cells library S) (length tasks)) es)
+  accepted_from es one h =
+      run_stands es (opening (cells library S) (length tasks)) h
+      (record {
         as_many = length-nones (length tasks);
-        ordered = ordered;
+        one = one;
         now = refl;
         each_posted = λ i layer p. absurd (none_posted (length tasks) i layer p);
-      } in
-      (run_stands es (opening (cells library S) (length tasks)) h start).now
+      })
+
+pub accepted_for : (states : States) → IsAcceptedFor states
+accepted_for states stops library tasks attempts S es one h = let stands = accepted_from states stops library tasks attempts S es one h in (stands.now, stands.one)
+
+-- ---- ordered states
+
+if_lawful : (b : Bool) (P Q : Type 0) → (P → Q) → IfEnabled b P → IfEnabled b Q
+if_lawful true P Q then h = then h
+if_lawful false P Q then h = tt
+
+module _ (stops : Bool) (library : Library) (tasks : List Task) (attempts : ℕ → Attempt) (S : State) where
+  event_for : (m : Machine) (e : Event) → IsLawfulEvent stops library tasks attempts S m e → IsLawfulEventFor ordered_states stops library tasks attempts S m e
+  event_for m (draw w) h = tt
+  event_for m (look w i predecessors) h = tt
+  event_for m (post w i layer) h = (sound_as h.0, h.1, h.2, h.3)
+  event_for m (accept i) h = h
+  event_for m (rerun i layer) h = (h.0, (λ t of_task S' ordered here. (h.1 t of_task S' ordered here, fire_ordered library S' t ordered)), h.2)
+
+  run_for : (m : Machine) (es : List Event) → IsLawful stops library tasks attempts S m es → IsLawfulFor ordered_states stops library tasks attempts S m es
+  run_for m [] h = tt
+  run_for m (e ∷ es) h = (if_lawful (is_enabled m e) _ _ (event_for m e) h.0, run_for (step m e) es h.1)
 
 pub accepted : IsAccepted
-accepted stops library tasks attempts S es ordered h = accepted_from stops library tasks attempts S es ordered h
+accepted stops library tasks attempts S es ordered h =
+    (accepted_for ordered_states stops library tasks attempts S es ordered (run_for stops library tasks attempts S (opening (cells library S) (length tasks)) es h)).0

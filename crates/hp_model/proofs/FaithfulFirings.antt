@@ -70,7 +70,7 @@ goes_on true (Some r) = false
 goes_on true None = true
 goes_on false v = true
 
-went_on : (stops : Bool) (v : Option ℕ) (f : Firing) (rest : State → Siblings) → goes_on stops v ≡ true
+pub went_on : (stops : Bool) (v : Option ℕ) (f : Firing) (rest : State → Siblings) → goes_on stops v ≡ true
     → after_firing stops v f rest ≡ record { firings = f ∷ (rest f.state).firings; state = (rest f.state).state; vetoed_by = (rest f.state).vetoed_by }
 went_on true (Some r) f rest h = cc
 went_on true None f rest h = refl

@@ -9,6 +9,7 @@ pub mod Replayed
 pub mod Lawful
 pub mod Levels
 pub mod Places
+pub mod ForStates
 pub mod Accepted
 pub mod Detecting
 pub mod Ordered

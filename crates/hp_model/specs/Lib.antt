@@ -29,6 +29,8 @@ pub mod Mentions
 pub mod Operations
 pub mod Checked
 pub mod Groups
+pub mod States
+pub mod Accepting
 pub mod Ranges
 pub mod Sessions
 pub mod Laws

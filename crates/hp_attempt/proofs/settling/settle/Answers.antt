@@ -1,8 +1,8 @@
 use Rattle.std.proofs.Common.{refl}
 use Rattle.hp_attempt.specs.Mapped.{attempt}
 use Rattle.hp_rule.specs.Mapped.{task}
-use Rattle.hp_attempt.specs.States.{ordered_states}
-use Rattle.hp_attempt.proofs.ForStates.{sound_as, faithful_of}
+use Rattle.hp_model.specs.States.{ordered_states}
+use Rattle.hp_model.proofs.ForStates.{sound_as, faithful_of}
 use Rattle.hp_attempt.proofs.Taking.{stands_settled, taken_written, taken_adds, forgotten, same_goes_on, same_restores}
 use Rattle.hp_attempt.proofs.settling.settle.Goals as goal
 

@@ -7,7 +7,7 @@ use Rattle.hp_model.specs.Firing.{fire_task, siblings}
 use Rattle.hp_model.specs.Cells.{Cells, cells, Changes, over, Holds}
 use Rattle.hp_model.specs.Soundness.{Attempt}
 use Rattle.hp_model.specs.Groups.{Machine, Event, draw, look, post, accept, rerun, opening, seen_at, posted_at, is_enabled, step, run, cells_now, start_of, MayGoOn, IfEnabled}
-use Rattle.hp_attempt.specs.States.{States, IsOneOf, IsSoundFor}
+use Rattle.hp_model.specs.States.{States, IsOneOf, IsSoundFor}
 
 -- a task's layer that leads from some cells to those after its firing, and so from states of the class to such states
 abbrev pub LeadsFor : States → Library → Task → Cells → Changes → Type 0
