@@ -1,6 +1,6 @@
 //! A run, from the script's bytes to the report's bytes.
 
-ghost use Rattle.std.specs.Prelude.{◌≡◌, ◌≢◌, ◌↔◌, OnOk, IfOk, IfSome, Bool, true, false};
+ghost use Rattle.std.specs.Prelude.{◌≡◌, ◌≢◌, ◌↔◌, OnOk, IfOk, IfSome, Bool, take, true, false};
 ghost use Rattle.std.specs.Io.KnownBytes.{Appends};
 ghost use Rattle.hp_model.specs.Output.{text_of, output};
 ghost use Rattle.hp_model.specs.Report.{report_text};
@@ -10,7 +10,8 @@ ghost use Rattle.hp_script.specs.Mapped.{script as script_of_model};
 ghost use Rattle.hipac.specs.Ends.{status_of};
 
 use hp_report::{
-    Fault, Report, Sink, Source, Status, final_state, read_up_to, write_report, write_text,
+    Fault, ReadFault, Report, Sink, Source, Status, final_state, read_up_to, write_report,
+    write_text,
 };
 use hp_script::{DecodeError, Script, decode, refusal_text};
 use hp_top::{opening, run_items};
@@ -54,9 +55,18 @@ pub fn run<T: Threads + Sync, R: Source, W: Sink>(
     // If memory ran out, nothing was written.
     ensures memory { result ≡ Err Fault.NoMemory → writer.new ≡ writer.old }
 {
-    let input = read_up_to(alloc, reader, MOST_READ)?;
+    let input = read_script(alloc, reader)?;
     let status = respond(rt, alloc, input.as_slice(), writer, options)?;
     Ok(status)
+}
+
+/// Reads the bytes of a script up to the reader's end, or one byte more than the longest script has.
+fn read_script<R: Source>(alloc: Global, reader: &mut R) -> Result<Vec<u8>, ReadFault>
+    requires { R.has_failed reader.old ≡ false }
+    ensures bytes { IfOk result (λ input. IfSome (R.remaining reader.old) (λ all. input.items ≡ take 1048577 all)) }
+    ensures read { result ≡ Err ReadFault.Read ↔ (R.has_failed reader.new ≡ true) }
+{
+    read_up_to(alloc, reader, MOST_READ)
 }
 
 /// Writes the text that the definitions give for a script's bytes.
