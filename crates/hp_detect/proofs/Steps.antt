@@ -62,23 +62,23 @@ append-nil (x ∷ xs) = ap (λ ys. x ∷ ys) (append-nil xs)
 stepped_idle : (e : Event) (k : Knowledge) (p : Primitive) → mentions e p ≡ false → stepped e k p ≡ (None, k)
 stepped_idle (pattern_event pattern) k p h = ap (λ b. (if b then Some (primitive_occurrence p) else None, k)) h
 stepped_idle (or_event a b) (of_either k l) p h =
-    let quiet = neither (mentions a p) (mentions b p) h in
-    ap₂ either_step (stepped_idle a k p quiet.0) (stepped_idle b l p quiet.1)
+    let unmentioned = neither (mentions a p) (mentions b p) h in
+    ap₂ either_step (stepped_idle a k p unmentioned.0) (stepped_idle b l p unmentioned.1)
 stepped_idle (seq_event a b) (of_sequence k l w) p h =
-    let quiet = neither (mentions a p) (mentions b p) h in
-    ap₂ (sequence_step w) (stepped_idle a k p quiet.0) (stepped_idle b l p quiet.1)
+    let unmentioned = neither (mentions a p) (mentions b p) h in
+    ap₂ (sequence_step w) (stepped_idle a k p unmentioned.0) (stepped_idle b l p unmentioned.1)
     ∙ ap₂ (λ o v. (o, of_sequence k l v)) (joined_none (slice_get w 0)) (append-nil w)
 stepped_idle (closure_event a t) (of_closure k l u) p h =
-    let quiet = neither (mentions a p) (mentions t p) h in
-    ap₂ (closure_step u) (stepped_idle a k p quiet.0) (stepped_idle t l p quiet.1)
+    let unmentioned = neither (mentions a p) (mentions t p) h in
+    ap₂ (closure_step u) (stepped_idle a k p unmentioned.0) (stepped_idle t l p unmentioned.1)
     ∙ ap (λ o. (o, of_closure k l u)) (closed_none u)
 stepped_idle e k p h = refl
 
 pub unmentioned_occurs : (e : Event) (p : Primitive) (h : History) → mentions e p ≡ false → None ≡ occurrence_of e (p ∷ h)
-unmentioned_occurs e p h quiet = sym (ap (λ r. r.0) (stepped_idle e (knowledge e h) p quiet)) ∙ ap (λ r. r.0) (stepped_lem e (knowledge e h) p h refl)
+unmentioned_occurs e p h unmentioned = sym (ap (λ r. r.0) (stepped_idle e (knowledge e h) p unmentioned)) ∙ ap (λ r. r.0) (stepped_lem e (knowledge e h) p h refl)
 
 pub unmentioned_known : (e : Event) (p : Primitive) (h : History) → mentions e p ≡ false → knowledge e h ≡ knowledge e (p ∷ h)
-unmentioned_known e p h quiet = sym (ap (λ r. r.1) (stepped_idle e (knowledge e h) p quiet)) ∙ ap (λ r. r.1) (stepped_lem e (knowledge e h) p h refl)
+unmentioned_known e p h unmentioned = sym (ap (λ r. r.1) (stepped_idle e (knowledge e h) p unmentioned)) ∙ ap (λ r. r.1) (stepped_lem e (knowledge e h) p h refl)
 
 -- ---- pure events
 

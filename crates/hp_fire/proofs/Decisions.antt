@@ -9,7 +9,7 @@ use Rattle.hp_model.specs.Firing.{Firing, level_at, task_environment, action_tas
 use Rattle.hp_model.specs.Soundness.{FiringAnswer}
 use Rattle.hp_model.specs.Answers.{FaithfulFiring, Finds, handing_on}
 use Rattle.hp_model.proofs.Faithful.{finds_more}
-use Rattle.hp_model.proofs.FaithfulFirings.{faithful_quiet, faithful_deferring, faithful_condition}
+use Rattle.hp_model.proofs.FaithfulFirings.{faithful_idle, faithful_deferring, faithful_condition}
 use Rattle.hp_value.specs.declared.occurrence.Coupling.{Coupling as RustCoupling}
 use Rattle.hp_value.specs.declared.occurrence.Coupling.TheVariants.{Immediate, Deferred, Separate, Dependent, Exclusive}
 use Rattle.hp_value.specs.Mapped.{coupling}
@@ -52,13 +52,13 @@ pub unsatisfied_over : (library : Library) (t : Task) (o : FiringAnswer) (view :
     → RunsFiring library (decide unsatisfied (level_at library t.depth) t) view view o
 unsatisfied_over library t o view is =
     subst (RunsFiring library (decide unsatisfied (level_at library t.depth) t) view view) (sym is)
-    (record { goes_on = GoesOn-same view; faithful = faithful_quiet (fire_node t.rule t.place without_action) })
+    (record { goes_on = GoesOn-same view; faithful = faithful_idle (fire_node t.rule t.place without_action) })
 
 pub faulty_over : (library : Library) (t : Task) (c : Cause) (o : FiringAnswer) (view : Seeing) → o ≡ handing_on (fire_node t.rule t.place (with_fault c)) []
     → RunsFiring library (decide (faulty c) (level_at library t.depth) t) view view o
 faulty_over library t c o view is =
     subst (RunsFiring library (decide (faulty c) (level_at library t.depth) t) view view) (sym is)
-    (record { goes_on = GoesOn-same view; faithful = faithful_quiet (fire_node t.rule t.place (with_fault c)) })
+    (record { goes_on = GoesOn-same view; faithful = faithful_idle (fire_node t.rule t.place (with_fault c)) })
 
 -- the action is to run, by a verdict which was found by reads alone
 condition_acts : (library : Library) (t : Task) (v : Verdict) {old new : Seeing} {node : Node} {found : Answers} → t.step ≡ condition_step → OnlyReads old new

@@ -8,7 +8,7 @@ use Rattle.hp_model.specs.State.{State, extended}
 use Rattle.hp_model.specs.Conditions.{Answers, Verdict, verdict}
 use Rattle.hp_model.specs.Tree.{condition_step, Task, no_items, node, append, Node, committed, without_detachments}
 use Rattle.hp_model.specs.Transactions.{End, done, abort_by, veto_by, Course, closed_by, placed, detached_of}
-use Rattle.hp_model.specs.Firing.{Firing, Fire, Siblings, after_firing, siblings, queued_by, detached_by, items_of, end_of, course_of, Level, triggered, start, signal_in, veto_of, firing_with, quiet, task_environment, action_course, run_action, deferring, decide, take_step, level_at, fire_task}
+use Rattle.hp_model.specs.Firing.{Firing, Fire, Siblings, after_firing, siblings, queued_by, detached_by, items_of, end_of, course_of, Level, triggered, start, signal_in, veto_of, firing_with, idle, task_environment, action_course, run_action, deferring, decide, take_step, level_at, fire_task}
 use Rattle.hp_model.specs.Cells.{Changes, over, Read}
 use Rattle.hp_model.specs.Soundness.{Answer, answer_of, FiringAnswer, firing_answer, LeadsTo, Faithful}
 use Rattle.hp_model.specs.Answers.{FaithfulWork, FaithfulFiring, SiblingsAnswer, siblings_answer, FaithfulSiblings, Finds, ended, placing, followed, kept, closing_action, handing_on, queued_in, detached_in, items_in, group_answer}
@@ -17,8 +17,8 @@ use Rattle.hp_model.proofs.Faithful.{Grows, Grows-same, Grows-then, held_before,
 
 -- ---- firings
 
-pub faithful_quiet : (what : Node) {library : Library} {reads : List Read} {writes : Changes} → FaithfulFiring library (quiet what) reads writes writes (handing_on what [])
-faithful_quiet what = record { from = λ base held S ordered is. record { answers = refl; reaches = is; ordered = ordered } }
+pub faithful_idle : (what : Node) {library : Library} {reads : List Read} {writes : Changes} → FaithfulFiring library (idle what) reads writes writes (handing_on what [])
+faithful_idle what = record { from = λ base held S ordered is. record { answers = refl; reaches = is; ordered = ordered } }
 
 pub faithful_deferring : (what : Node) (ts : List Task) {library : Library} {reads : List Read} {writes : Changes}
     → FaithfulFiring library (λ S. deferring what (placed ts S)) reads writes writes (handing_on what ts)

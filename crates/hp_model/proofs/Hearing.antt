@@ -331,11 +331,11 @@ module _ (level : Level) (p : Primitive) where
     from = λ base held S ordered is.
         let h = so_far.from base (held_before grows base held) S ordered is in
         let status = status_then n grows so_far shows base held S ordered is in
-        let quiet = nothing_heard (rule_at level.library n) p (cells level.library S (detector_cell n)) (detector-cells-idle level.library S n (λ e. idle (sym status ∙ e))) in
+        let unheard = nothing_heard (rule_at level.library n) p (cells level.library S (detector_cell n)) (detector-cells-idle level.library S n (λ e. idle (sym status ∙ e))) in
         let no_task : task_for level p (cells level.library S) n ≡ None =
         task_of_state level p S n s status
         ∙ not_enabled s idle (rule_at level.library n) (advance (rule_at level.library n).event (known_by (rule_at level.library n).event (cells level.library S (detector_cell n))) p).0 in (
-          h.0 ∙ sym (told-silent level.library p n ns (cells level.library S) quiet),
+          h.0 ∙ sym (told-silent level.library p n ns (cells level.library S) unheard),
           sym (append-nil tasks) ∙ one_task (cells level.library S) n ns tasks None h.1 no_task,
         );
   }
@@ -367,13 +367,13 @@ module _ (level : Level) (p : Primitive) where
         let h = so_far.from base (held_before grows base held) S ordered is in
         let status = status_then n grows so_far shows base held S ordered is in
         let rule = rule_at level.library n in
-        let quiet = nothing_heard rule p (cells level.library S (detector_cell n)) (detector-cells-pure level.library S n pure) in
+        let unheard = nothing_heard rule p (cells level.library S (detector_cell n)) (detector-cells-pure level.library S n pure) in
         let task : task_for level p (cells level.library S) n ≡ option_map (triggered_by level n rule) o =
         task_of_state level p S n enabled status
         ∙ ap (λ k. option_map (triggered_by level n rule) (advance rule.event k p).0) (known-cells level.library S n status)
         ∙ ap (λ (a : Option Occurrence × Knowledge). option_map (triggered_by level n rule) a.0) (advance_lem rule.event p (rule_state S n).past)
         ∙ ap (option_map (triggered_by level n rule)) (sym (occurs (rule_state S n).past)) in (
-          h.0 ∙ sym (told-silent level.library p n ns (cells level.library S) quiet),
+          h.0 ∙ sym (told-silent level.library p n ns (cells level.library S) unheard),
           one_task (cells level.library S) n ns tasks (option_map (triggered_by level n rule) o) h.1 task,
         );
   }

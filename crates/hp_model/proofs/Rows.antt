@@ -61,18 +61,18 @@ unfolding digits
 largest_number = refl
 
 -- a sibling sees what an earlier one did: (10 + 1) * 2
-abbrev pub elder_script : Script
-elder_script =
+abbrev pub predecessor_script : Script
+predecessor_script =
     script (acct_class ∷ []) 8
     (on (codes "inc") (plus_one 1 then empty)
     ∷ on (codes "dbl") (with_object (codes "x") 0 (number 1) (set_acct 1 (arithmetic times (field_of (codes "x") (codes "bal")) (number 2)) then empty) then empty)
     ∷ [])
     (transaction (installs 0 then installs 1 then acct 1 10 then go then empty) ∷ [])
 
-pub elders_effect_is_seen : text_of elder_script
+pub predecessors_effect_is_seen : text_of predecessor_script
     ≡ lines (codes "unit 1 committed" ∷ codes "final" ∷ codes "object acct 1 bal=22" ∷ codes "rule inc enabled" ∷ codes "rule dbl enabled" ∷ codes "end" ∷ [])
 unfolding digits
-elders_effect_is_seen = refl
+predecessors_effect_is_seen = refl
 
 -- an object that an earlier sibling created satisfies a later one's condition
 abbrev pub phantom_script : Script

@@ -14,7 +14,7 @@ pub record Machine : Type 0 where
   pub base : Cells
   -- the worker that drew each task; tasks are drawn in order
   pub drawn : List ℕ
-  -- for each task: the elders, earlier tasks, whose layers it started from, if it was looked at; and the layer posted
+  -- for each task: its predecessors, earlier tasks, whose layers it started from, if it was looked at; its posted layer
   pub seen : List (Option (List ℕ))
   pub posted : List (Option Changes)
   -- the layers settled so far, the first task's first
@@ -22,7 +22,7 @@ pub record Machine : Type 0 where
 
 pub data Event : Type 0 where
   draw : (worker : ℕ) → Event
-  look : (worker task : ℕ) → (elders : List ℕ) → Event
+  look : (worker task : ℕ) → (predecessors : List ℕ) → Event
   post : (worker task : ℕ) → Changes → Event
   accept : (task : ℕ) → Event
   rerun : (task : ℕ) → Changes → Event
@@ -42,8 +42,8 @@ posted_at m i = option_flatten (slice_get m.posted i)
 
 abbrev pub is_enabled : Machine → Event → Bool
 is_enabled m (draw w) = nat_lt (length m.drawn) (length m.posted)
-is_enabled m (look w i elders) =
-    is_drawn_by m w i && (not (is_some (seen_at m i)) && list_all (λ j. nat_lt j i && is_some (posted_at m j)) elders)
+is_enabled m (look w i predecessors) =
+    is_drawn_by m w i && (not (is_some (seen_at m i)) && list_all (λ j. nat_lt j i && is_some (posted_at m j)) predecessors)
 is_enabled m (post w i layer) = is_drawn_by m w i && (is_some (seen_at m i) && not (is_some (posted_at m i)))
 is_enabled m (accept i) = (i == length m.settled) && is_some (posted_at m i)
 is_enabled m (rerun i layer) = (i == length m.settled) && nat_lt i (length m.posted)
@@ -54,7 +54,7 @@ settling m (Some layer) = record m { settled = m.settled ++ layer ∷ [] }
 
 abbrev pub effect : Machine → Event → Machine
 effect m (draw w) = record m { drawn = m.drawn ++ w ∷ [] }
-effect m (look w i elders) = record m { seen = slice_set m.seen i (Some elders) }
+effect m (look w i predecessors) = record m { seen = slice_set m.seen i (Some predecessors) }
 effect m (post w i layer) = record m { posted = slice_set m.posted i (Some layer) }
 effect m (accept i) = settling m (posted_at m i)
 effect m (rerun i layer) = settling m (Some layer)
@@ -75,14 +75,14 @@ layered base (l ∷ ls) = layered (over base l) ls
 abbrev pub cells_now : Machine → Cells
 cells_now m = layered m.base m.settled
 
--- the layers of the seen elders, in task order
+-- the layers of the seen predecessors, in task order
 abbrev pub layers_seen : Machine → ℕ → List ℕ → List Changes
-layers_seen m i elders =
-    filter_map (λ j. option_flatten (then_some (list_any (λ k. k == j) elders) (posted_at m j))) (range_with_len 0 i)
+layers_seen m i predecessors =
+    filter_map (λ j. option_flatten (then_some (list_any (λ k. k == j) predecessors) (posted_at m j))) (range_with_len 0 i)
 
 -- the start of a task: the base with those layers over it
 abbrev pub start_of : Machine → ℕ → List ℕ → Cells
-start_of m i elders = layered m.base (layers_seen m i elders)
+start_of m i predecessors = layered m.base (layers_seen m i predecessors)
 
 -- no task before this one was vetoed, if a veto stops the group
 abbrev pub MayGoOn : (stops : Bool) → Library → List Task → State → ℕ → Type 0
@@ -97,10 +97,10 @@ Leads library t base layer =
 -- the condition that makes an enabled event lawful, for an attempt at each posted task
 abbrev pub IsLawfulEvent : (stops : Bool) → Library → List Task → (attempts : ℕ → Attempt) → State → Machine → Event → Type 0
 IsLawfulEvent stops library tasks attempts S m (draw w) = ⊤
-IsLawfulEvent stops library tasks attempts S m (look w i elders) = ⊤
+IsLawfulEvent stops library tasks attempts S m (look w i predecessors) = ⊤
 IsLawfulEvent stops library tasks attempts S m (post w i layer) =
     IsSound library (attempts i) × (slice_get tasks i ≡ Some (attempts i).task) × ((attempts i).layer ≡ layer)
-    × ((elders : List ℕ) → seen_at m i ≡ Some elders → Holds (start_of m i elders) (attempts i).reads)
+    × ((predecessors : List ℕ) → seen_at m i ≡ Some predecessors → Holds (start_of m i predecessors) (attempts i).reads)
 IsLawfulEvent stops library tasks attempts S m (accept i) =
     Holds (cells_now m) (attempts i).reads × MayGoOn stops library tasks S i
 IsLawfulEvent stops library tasks attempts S m (rerun i layer) =

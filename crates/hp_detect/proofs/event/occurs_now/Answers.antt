@@ -8,8 +8,8 @@ use Rattle.hp_detect.proofs.event.occurs_now.Goals as goal
 
 pub returns-then-not-mentions : goal.returns-then-not-mentions
 returns-then-not-mentions c = λ past.
-    let quiet : model.mentions (event c.args.expr.now) (primitive c.args.prim.now) ≡ false = search rules in
-    unmentioned_occurs (event c.args.expr.now) (primitive c.args.prim.now) past quiet
+    let unmentioned : model.mentions (event c.args.expr.now) (primitive c.args.prim.now) ≡ false = search rules in
+    unmentioned_occurs (event c.args.expr.now) (primitive c.args.prim.now) past unmentioned
 
 pub returns : goal.returns
 returns c = λ past.

@@ -8,8 +8,8 @@ use Rattle.hp_ops.proofs.notifying.share.Goals as goal
 
 pub returns-then-not-mentions-clause-occurs : goal.returns-then-not-mentions-clause-occurs
 returns-then-not-mentions-clause-occurs c = λ past.
-    let quiet : mentions (event_of c.args.event.now) (primitive c.args.prim.now) ≡ false = search rules in
-    unmentioned_occurs (event_of c.args.event.now) (primitive c.args.prim.now) past quiet
+    let unmentioned : mentions (event_of c.args.event.now) (primitive c.args.prim.now) ≡ false = search rules in
+    unmentioned_occurs (event_of c.args.event.now) (primitive c.args.prim.now) past unmentioned
 
 pub returns-in-Some-clause-occurs : goal.returns-in-Some-clause-occurs
 returns-in-Some-clause-occurs c = λ past.

@@ -11,13 +11,13 @@ use Rattle.hp_detect.proofs.detector.Detector.step.Goals as goal
 
 pub returns-then-not-mentions-clause-answers : goal.returns-then-not-mentions-clause-answers
 returns-then-not-mentions-clause-answers c = λ past knows.
-    let quiet : model.mentions c.args.self.now.event (primitive c.args.prim.now) ≡ false = search rules in
-    unmentioned_occurs c.args.self.now.event (primitive c.args.prim.now) past quiet
+    let unmentioned : model.mentions c.args.self.now.event (primitive c.args.prim.now) ≡ false = search rules in
+    unmentioned_occurs c.args.self.now.event (primitive c.args.prim.now) past unmentioned
 
 pub returns-then-not-mentions-clause-learns : goal.returns-then-not-mentions-clause-learns
 returns-then-not-mentions-clause-learns c = λ past knows.
-    let quiet : model.mentions c.args.self.now.event (primitive c.args.prim.now) ≡ false = search rules in
-    knows ∙ unmentioned_known c.args.self.now.event (primitive c.args.prim.now) past quiet
+    let unmentioned : model.mentions c.args.self.now.event (primitive c.args.prim.now) ≡ false = search rules in
+    knows ∙ unmentioned_known c.args.self.now.event (primitive c.args.prim.now) past unmentioned
 
 pub returns-in_default-clause-answers : goal.returns-in_default-clause-answers
 returns-in_default-clause-answers c = λ past knows.
