@@ -5,7 +5,7 @@ use Rattle.hp_model.specs.Rules.{Library}
 use Rattle.hp_model.specs.Tree.{Task}
 use Rattle.hp_model.specs.Values.{KeyedRow}
 use Rattle.hp_model.specs.ClassParts.{ClassPart}
-use Rattle.hp_model.specs.Cells.{Cells, cells, Changes, object_cell, belongs_in, over, Read, cell_read, keys_read, objects_read, part_read, IsTold, AllTold, Holds, AreKeys, AreObjects, ArePart}
+use Rattle.hp_model.specs.Cells.{Cells, cells, Changes, object_cell, belongs_in, over, Read, cell_read, keys_read, objects_read, part_read, ReadHolds, ReadsHold, Holds, AreKeys, AreObjects, ArePart}
 use Rattle.hp_model.specs.Firing.{fire_task}
 use Rattle.hp_model.specs.Soundness.{firing_answer, Attempt}
 use Rattle.hp_model.proofs.BridgesCells.{stacked, over-over, Holds-front}
@@ -71,28 +71,28 @@ where_ok (Err e) more promise = tt
 pub record Recorded (first now : Seeing) (rest all : List Read) : Type 0 where
   pub only : OnlyReads first now
   pub on : GoesOn first now
-  pub left : AllTold (now_in first) rest
-  pub covers : (base : Cells) → Holds base now.reads → AllTold (over base (written now)) rest → AllTold (over base (written now)) all
+  pub left : ReadsHold (now_in first) rest
+  pub covers : (base : Cells) → Holds base now.reads → ReadsHold (over base (written now)) rest → ReadsHold (over base (written now)) all
 
 pub record_more : {first old new : Seeing} {left rest all : List Read} (r : Read) → left ≡ r ∷ rest
-    → OnlyReads first old → GoesOn first old → AllTold (now_in first) left → ((base : Cells) → Holds base old.reads → AllTold (over base (written old)) left → AllTold (over base (written old)) all)
+    → OnlyReads first old → GoesOn first old → ReadsHold (now_in first) left → ((base : Cells) → Holds base old.reads → ReadsHold (over base (written old)) left → ReadsHold (over base (written old)) all)
     → OnlyReads old new → GoesOn old new → IsReadAgain old new r → Recorded first new rest all
 record_more {first} {old} {new} {left} {rest} {all} r is only on told covers only' on' again =
-    let both : AllTold (now_in first) (r ∷ rest) = subst (AllTold (now_in first)) is told in
+    let both : ReadsHold (now_in first) (r ∷ rest) = subst (ReadsHold (now_in first)) is told in
     let same : written new ≡ written old = same_written only' in
     record {
       only = only_reads_then first old new only only';
       on = GoesOn-then on on';
       left = both.1;
       covers = λ base held others.
-          let here = again (subst (λ c. IsTold c r) (sym (same_now only)) both.0) base held in
-          let whole : AllTold (over base (written old)) left = subst (AllTold (over base (written old))) (sym is) (subst (λ w. AllTold (over base w) (r ∷ rest)) same (here, others)) in
-          subst (λ w. AllTold (over base w) all) (sym same) (covers base (held_first only' base held) whole);
+          let here = again (subst (λ c. ReadHolds c r) (sym (same_now only)) both.0) base held in
+          let whole : ReadsHold (over base (written old)) left = subst (ReadsHold (over base (written old))) (sym is) (subst (λ w. ReadsHold (over base w) (r ∷ rest)) same (here, others)) in
+          subst (λ w. ReadsHold (over base w) all) (sym same) (covers base (held_first only' base held) whole);
     }
 
 -- all of them are read
-pub covers_all : {v : Seeing} {left all : List Read} → left ≡ [] → ((base : Cells) → Holds base v.reads → AllTold (over base (written v)) left → AllTold (over base (written v)) all) → Covers v all
-covers_all {v} none covers = record { everywhere = λ base held. record { told = covers base held (subst (AllTold (over base (written v))) (sym none) tt) } }
+pub covers_all : {v : Seeing} {left all : List Read} → left ≡ [] → ((base : Cells) → Holds base v.reads → ReadsHold (over base (written v)) left → ReadsHold (over base (written v)) all) → Covers v all
+covers_all {v} none covers = record { everywhere = λ base held. record { each = covers base held (subst (ReadsHold (over base (written v))) (sym none) tt) } }
 
 -- ---- the reads that are added
 

@@ -1,6 +1,6 @@
 -- Reads that hold, and the first that doesn't.
 use Rattle.std.specs.Prelude.{◌≡◌, List, [], ◌∷◌, ◌++◌, None, ◌⊎◌}
-use Rattle.hp_model.specs.Cells.{Cells, Changes, over, Read, cell_read, keys_read, objects_read, part_read, IsTold, Holds}
+use Rattle.hp_model.specs.Cells.{Cells, Changes, over, Read, cell_read, keys_read, objects_read, part_read, ReadHolds, Holds}
 use Rattle.hp_value.specs.Mapped.{cell}
 use Rattle.hp_view.specs.declared.reads.Seen.{Seen}
 use Rattle.hp_view.specs.declared.reads.Seen.TheVariants.{Cell as OfCell, Keys as OfKeys, Part as OfPart}
@@ -30,12 +30,12 @@ pub record FirstFailed (base : Cells) (reads : List Read) (seen : Seen) : Type 0
   pub first : Read
   pub split : reads ≡ before ++ first ∷ after
   pub held : Holds base before
-  pub fails : IsTold base first → ⊥
+  pub fails : ReadHolds base first → ⊥
   pub looked : IsReadOf seen first
 
 -- if a read holds in the old view, it holds under the new view's writes wherever the new view's reads hold
 abbrev pub IsReadAgain : Seeing → Seeing → Read → Type 0
-IsReadAgain old new r = IsTold (now_in old) r → (base : Cells) → Holds base new.reads → IsTold (over base (written new)) r
+IsReadAgain old new r = ReadHolds (now_in old) r → (base : Cells) → Holds base new.reads → ReadHolds (over base (written new)) r
 
 -- wherever the view's reads hold, these hold under its writes
 pub record Covers (v : Seeing) (reads : List Read) : Type 0 where

@@ -1,7 +1,7 @@
 //! Whether what was read still holds.
 
 ghost use Rattle.std.specs.Prelude.{◌≡◌, ◌↔◌, IsTrue, IfSome, option_map, is_none};
-ghost use Rattle.hp_model.specs.Cells.{Holds, IsTold};
+ghost use Rattle.hp_model.specs.Cells.{Holds, ReadHolds};
 ghost use Rattle.hp_store.specs.Mapped.{cell_value};
 ghost use Rattle.hp_view.specs.Mapped.{read, class_read};
 ghost use Rattle.hp_view.specs.Seeing.{now_in};
@@ -39,7 +39,7 @@ pub fn first_failed<'a>(reads: &'a Reads, view: &View) -> Option<&'a Seen>
 
 // Whether this is found in a view's cells.
 fn read_holds(view: &View, seen: &Seen, found: &Found) -> bool
-    ensures { IsTrue result ↔ IsTold (now_in view.now) (read (seen.now, found.now)) }
+    ensures { IsTrue result ↔ ReadHolds (now_in view.now) (read (seen.now, found.now)) }
 {
     match seen {
         Seen::Cell(cell) => are_same(view.peek(*cell), found.value()),
@@ -50,7 +50,7 @@ fn read_holds(view: &View, seen: &Seen, found: &Found) -> bool
 
 // Whether this is found in a class, in a view's cells.
 fn class_read_holds(view: &View, class: ClassNo, found: &Found) -> bool
-    ensures { IsTrue result ↔ IsTold (now_in view.now) (class_read class found.now) }
+    ensures { IsTrue result ↔ ReadHolds (now_in view.now) (class_read class found.now) }
 {
     match found {
         Found::Objects(objects) => view.has_objects(class, objects),

@@ -13,7 +13,7 @@ use Rattle.std.proofs.lemmas.Bool.Decides.{same_from_decides, Decides-eqb, Decid
 use Rattle.std.proofs.lemmas.Cmp.{nat_eq_equiv, int_eq_equiv, nat_cmp_total, tied_itself}
 use Rattle.std.proofs.lemmas.Map.Lookups.{exact_unsigned}
 use Rattle.hp_model.specs.State.{ObjectName, compare_names, object_name}
-use Rattle.hp_model.specs.Cells.{Cell, object_cell, rule_cell, detector_cell, CellValue, Cells, Changes, no_changes, changed, over, same_cell, with_change, Read, IsTold, AllTold, Holds}
+use Rattle.hp_model.specs.Cells.{Cell, object_cell, rule_cell, detector_cell, CellValue, Cells, Changes, no_changes, changed, over, same_cell, with_change, Read, ReadHolds, ReadsHold, Holds}
 
 -- ---- which cells are the same
 
@@ -127,39 +127,39 @@ with_change-back layer cell x = with_change-again layer cell x (layer cell) ∙ 
 
 -- ---- reads
 
-AllTold-front : (base : Cells) (xs ys : List Read) → AllTold base (xs ++ ys) → AllTold base xs
-AllTold-front base [] ys told = tt
-AllTold-front base (x ∷ xs) ys told = (told.0, AllTold-front base xs ys told.1)
+ReadsHold-front : (base : Cells) (xs ys : List Read) → ReadsHold base (xs ++ ys) → ReadsHold base xs
+ReadsHold-front base [] ys told = tt
+ReadsHold-front base (x ∷ xs) ys told = (told.0, ReadsHold-front base xs ys told.1)
 
-AllTold-back : (base : Cells) (xs ys : List Read) → AllTold base (xs ++ ys) → AllTold base ys
-AllTold-back base [] ys told = told
-AllTold-back base (x ∷ xs) ys told = AllTold-back base xs ys told.1
+ReadsHold-back : (base : Cells) (xs ys : List Read) → ReadsHold base (xs ++ ys) → ReadsHold base ys
+ReadsHold-back base [] ys told = told
+ReadsHold-back base (x ∷ xs) ys told = ReadsHold-back base xs ys told.1
 
-AllTold-append : (base : Cells) (xs ys : List Read) → AllTold base xs → AllTold base ys → AllTold base (xs ++ ys)
-AllTold-append base [] ys front back = back
-AllTold-append base (x ∷ xs) ys front back = (front.0, AllTold-append base xs ys front.1 back)
+ReadsHold-append : (base : Cells) (xs ys : List Read) → ReadsHold base xs → ReadsHold base ys → ReadsHold base (xs ++ ys)
+ReadsHold-append base [] ys front back = back
+ReadsHold-append base (x ∷ xs) ys front back = (front.0, ReadsHold-append base xs ys front.1 back)
 
-pub Holds-one : (base : Cells) (r : Read) → IsTold base r → Holds base (r ∷ [])
-Holds-one base r told = record { told = (told, tt) }
+pub Holds-one : (base : Cells) (r : Read) → ReadHolds base r → Holds base (r ∷ [])
+Holds-one base r told = record { each = (told, tt) }
 
 -- the first read, and the others
-pub Holds-head : {base : Cells} {r : Read} {rs : List Read} → Holds base (r ∷ rs) → IsTold base r
-Holds-head held = held.told.0
+pub Holds-head : {base : Cells} {r : Read} {rs : List Read} → Holds base (r ∷ rs) → ReadHolds base r
+Holds-head held = held.each.0
 
 -- reads that hold with more reads hold alone
 pub Holds-front : (base : Cells) (xs ys : List Read) → Holds base (xs ++ ys) → Holds base xs
-Holds-front base xs ys held = record { told = AllTold-front base xs ys held.told }
+Holds-front base xs ys held = record { each = ReadsHold-front base xs ys held.each }
 
 pub Holds-back : (base : Cells) (xs ys : List Read) → Holds base (xs ++ ys) → Holds base ys
-Holds-back base xs ys held = record { told = AllTold-back base xs ys held.told }
+Holds-back base xs ys held = record { each = ReadsHold-back base xs ys held.each }
 
 pub Holds-append : (base : Cells) (xs ys : List Read) → Holds base xs → Holds base ys → Holds base (xs ++ ys)
-Holds-append base xs ys front back = record { told = AllTold-append base xs ys front.told back.told }
+Holds-append base xs ys front back = record { each = ReadsHold-append base xs ys front.each back.each }
 
 -- with one more read
-pub Holds-push : (base : Cells) (rs : List Read) (r : Read) → Holds base rs → IsTold base r → Holds base (rs ++ r ∷ [])
+pub Holds-push : (base : Cells) (rs : List Read) (r : Read) → Holds base rs → ReadHolds base r → Holds base (rs ++ r ∷ [])
 Holds-push base rs r held told = Holds-append base rs (r ∷ []) held (Holds-one base r told)
 
 -- the last read
-pub Holds-last : (base : Cells) (rs : List Read) (r : Read) → Holds base (rs ++ r ∷ []) → IsTold base r
-Holds-last base rs r held = (Holds-back base rs (r ∷ []) held).told.0
+pub Holds-last : (base : Cells) (rs : List Read) (r : Read) → Holds base (rs ++ r ∷ []) → ReadHolds base r
+Holds-last base rs r held = (Holds-back base rs (r ∷ []) held).each.0

@@ -100,17 +100,18 @@ pub data Read : Type 0 where
   objects_read : (class : ℕ) → List KeyedRow → Read
   part_read : (class : ℕ) → ClassPart → List KeyedRow → Read
 
-abbrev pub IsTold : Cells → Read → Type 0
-IsTold base (cell_read cell value) = base cell ≡ value
-IsTold base (keys_read class keys) = AreKeys base class keys
-IsTold base (objects_read class objects) = AreObjects base class objects
-IsTold base (part_read class p objects) = ArePart base class p objects
+-- what was read is so in these cells
+abbrev pub ReadHolds : Cells → Read → Type 0
+ReadHolds base (cell_read cell value) = base cell ≡ value
+ReadHolds base (keys_read class keys) = AreKeys base class keys
+ReadHolds base (objects_read class objects) = AreObjects base class objects
+ReadHolds base (part_read class p objects) = ArePart base class p objects
 
-abbrev pub AllTold : Cells → List Read → Type 0
-AllTold base [] = Unit {0}
-AllTold base (r ∷ rs) = IsTold base r × AllTold base rs
+abbrev pub ReadsHold : Cells → List Read → Type 0
+ReadsHold base [] = Unit {0}
+ReadsHold base (r ∷ rs) = ReadHolds base r × ReadsHold base rs
 
 -- the reads hold in these cells: each recorded cell has the recorded value or absence, each recorded class the recorded
 -- keys or objects, each recorded part of a class the recorded objects
 pub record Holds (base : Cells) (reads : List Read) : Type 0 where
-  pub told : AllTold base reads
+  pub each : ReadsHold base reads

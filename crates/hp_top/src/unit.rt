@@ -2,7 +2,7 @@
 
 ghost use Rattle.std.specs.Prelude.{◌≡◌, IfOk, OnErr};
 ghost use Rattle.hp_model.specs.Cascade.{time_of};
-ghost use Rattle.hp_model.specs.Cells.{Holds, IsTold};
+ghost use Rattle.hp_model.specs.Cells.{Holds, ReadHolds};
 ghost use Rattle.hp_model.specs.Sessions.{HasFitState};
 ghost use Rattle.hp_rule.specs.Mapped.{library, unit as unit_of};
 ghost use Rattle.hp_store.specs.Changes.{changes};
@@ -204,7 +204,7 @@ fn keep_lists(store: &mut Store, reads: &Reads) -> Result<(), AllocError>
 
 // Keeps the list of a class, if a read has one.
 fn keep_list(store: &mut Store, seen: &Seen, found: &Found) -> Result<(), AllocError>
-    requires { IsTold (cells_in store.old) (read (seen.now, found.now)) }
+    requires { ReadHolds (cells_in store.old) (read (seen.now, found.now)) }
     ensures { store.new ≡ store.old }
 {
     if let (Seen::Keys(class), Found::Objects(objects)) = (seen, found) {

@@ -9,7 +9,7 @@ use Rattle.std.proofs.lemmas.Bool.Decides.{Decides-eqb}
 use Rattle.std.specs.declared.sync.Arc.{Arc}
 use Rattle.std.specs.declared.alloc.Global.{Global}
 use Rattle.hp_model.specs.ClassParts.{ClassPart}
-use Rattle.hp_model.specs.Cells.{Cells, IsTold, AllTold, Holds, AreKeys, AreObjects}
+use Rattle.hp_model.specs.Cells.{Cells, ReadHolds, ReadsHold, Holds, AreKeys, AreObjects}
 use Rattle.hp_model.proofs.BridgesCells.{exact_cell}
 use Rattle.hp_value.specs.declared.cell.Cell.{Cell}
 use Rattle.hp_value.specs.declared.objects.ObjectList.{ObjectList}
@@ -69,14 +69,14 @@ recorded s (e ∷ es) n =
     ∙ (λ i. told_apart s e n.0 i || recorded s es n.1 i)
 
 -- what is recorded for a class tells its keys
-class_told : (base : Cells) (class : ℕ) (found : Found) → IsTold base (class_read class found) → AreKeys base class (keys_found found)
+class_told : (base : Cells) (class : ℕ) (found : Found) → ReadHolds base (class_read class found) → AreKeys base class (keys_found found)
 class_told base class (Value v) told = told
 class_told base class (Keys keys) told = told
 class_told base class (Objects objects) told = told.keys
 class_told base class (Part part) told = told
 
 -- the keys that are recorded for a class are told
-pub told_keys : (class : ℕ) (found : Found) (base : Cells) (es : List (Seen × Found)) → lookup (seeing.ghosts.eq (OfKeys class)) es ≡ Some found → AllTold base (map read es) → AreKeys base class (keys_found found)
+pub told_keys : (class : ℕ) (found : Found) (base : Cells) (es : List (Seen × Found)) → lookup (seeing.ghosts.eq (OfKeys class)) es ≡ Some found → ReadsHold base (map read es) → AreKeys base class (keys_found found)
 told_keys class found base [] h told = cc
 told_keys class found base ((OfCell q, other) ∷ es) h told = told_keys class found base es h told.1
 told_keys class found base ((OfPart n m, other) ∷ es) h told = told_keys class found base es h told.1
@@ -89,7 +89,7 @@ told_keys class found base ((OfKeys n, other) ∷ es) h told = by (class == n) r
     by false e h rest = rest h
 
 -- all objects that are recorded for a class are told
-pub told_objects : (class : ℕ) (objects : Arc ObjectList Global) (base : Cells) (es : List (Seen × Found)) → lookup (seeing.ghosts.eq (OfKeys class)) es ≡ Some (Objects objects) → AllTold base (map read es) → AreObjects base class objects.value
+pub told_objects : (class : ℕ) (objects : Arc ObjectList Global) (base : Cells) (es : List (Seen × Found)) → lookup (seeing.ghosts.eq (OfKeys class)) es ≡ Some (Objects objects) → ReadsHold base (map read es) → AreObjects base class objects.value
 told_objects class objects base [] h told = cc
 told_objects class objects base ((OfCell q, other) ∷ es) h told = told_objects class objects base es h told.1
 told_objects class objects base ((OfPart n m, other) ∷ es) h told = told_objects class objects base es h told.1
@@ -98,11 +98,11 @@ told_objects class objects base ((OfKeys n, other) ∷ es) h told = by (class ==
     by : (b : Bool) → (class == n) ≡ b → cond b (Some other) (lookup (seeing.ghosts.eq (OfKeys class)) es) ≡ Some (Objects objects) → (lookup (seeing.ghosts.eq (OfKeys class)) es ≡ Some (Objects objects) → AreObjects base class objects.value) → AreObjects base class objects.value
     by true e h rest =
         let same : other ≡ Objects objects = cc in
-        subst (λ k. AreObjects base k objects.value) (sym ((Decides-eqb class n).0 e)) (subst (λ f. IsTold base (class_read n f)) same told.0)
+        subst (λ k. AreObjects base k objects.value) (sym ((Decides-eqb class n).0 e)) (subst (λ f. ReadHolds base (class_read n f)) same told.0)
     by false e h rest = rest h
 
 -- what is recorded for a cell is told
-pub told_value : (q : Cell) (found : Found) (base : Cells) (es : List (Seen × Found)) → lookup (seeing.ghosts.eq (OfCell q)) es ≡ Some found → AllTold base (map read es) → value_found found ≡ base (cell q)
+pub told_value : (q : Cell) (found : Found) (base : Cells) (es : List (Seen × Found)) → lookup (seeing.ghosts.eq (OfCell q)) es ≡ Some found → ReadsHold base (map read es) → value_found found ≡ base (cell q)
 told_value q found base [] h told = cc
 told_value q found base ((OfKeys n, other) ∷ es) h told = told_value q found base es h told.1
 told_value q found base ((OfPart n m, other) ∷ es) h told = told_value q found base es h told.1
@@ -117,7 +117,7 @@ told_value q found base ((OfCell p, other) ∷ es) h told = by (seeing.ghosts.eq
 pub value_told : (q : Cell) (r : Option (Bor Found)) (es : List (Seen × Found)) → option_copied r ≡ lookup (seeing.ghosts.eq (OfCell q)) es
     → IfSome r (λ found. (base : Cells) → Holds base (map read es) → value_found found.now ≡ base (cell q))
 value_told q None es is = tt
-value_told q (Some found) es is = λ base held. told_value q found.now base es (sym is) held.told
+value_told q (Some found) es is = λ base held. told_value q found.now base es (sym is) held.each
 
 -- ---- classes that were read as a whole
 

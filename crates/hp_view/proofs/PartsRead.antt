@@ -6,7 +6,7 @@ use Rattle.std.proofs.lemmas.Bool.Decides.{Decides-eqb}
 use Rattle.std.proofs.lemmas.Cmp.{nat_eq_equiv}
 use Rattle.hp_model.specs.Values.{KeyedRow, Outcome}
 use Rattle.hp_model.specs.ClassParts.{ClassPart}
-use Rattle.hp_model.specs.Cells.{Cells, over, Read, cell_read, keys_read, objects_read, part_read, AllTold, Holds, ArePart}
+use Rattle.hp_model.specs.Cells.{Cells, over, Read, cell_read, keys_read, objects_read, part_read, ReadsHold, Holds, ArePart}
 use Rattle.hp_model.proofs.BridgesCells.{Holds-last}
 use Rattle.hp_model.proofs.BridgesKeys.{same_keys}
 use Rattle.hp_value.specs.Mapped.{keys_of}
@@ -52,7 +52,7 @@ pub free_unread : (class : ℕ) (p : ClassPart) (reads : List Read) → number_w
 free_unread class p reads free = false_from_ne_true (part_was_read reads class p) (λ h. true≢false (sym (number_read class p reads h) ∙ free))
 
 -- a part that was read is told
-part_told : (C : Cells) (class : ℕ) (p : ClassPart) (reads : List Read) → AllTold C reads → part_was_read reads class p ≡ true → (objects : List KeyedRow) × ArePart C class p objects
+part_told : (C : Cells) (class : ℕ) (p : ClassPart) (reads : List Read) → ReadsHold C reads → part_was_read reads class p ≡ true → (objects : List KeyedRow) × ArePart C class p objects
 part_told C class p [] c h = absurd (true≢false (sym h))
 part_told C class p (cell_read q value ∷ rs) c h = part_told C class p rs c.1 h
 part_told C class p (keys_read n keys ∷ rs) c h = part_told C class p rs c.1 h
@@ -66,7 +66,7 @@ part_told C class p (part_read n q objects ∷ rs) c h = by (class == n && same_
     by false e h rest = rest h
 
 -- it has the same objects wherever the reads hold
-part_again : (B C : Cells) (class : ℕ) (p : ClassPart) (hits : List KeyedRow) (reads : List Read) → AllTold B reads → AllTold C reads → ArePart C class p hits → part_was_read reads class p ≡ true → ArePart B class p hits
+part_again : (B C : Cells) (class : ℕ) (p : ClassPart) (hits : List KeyedRow) (reads : List Read) → ReadsHold B reads → ReadsHold C reads → ArePart C class p hits → part_was_read reads class p ≡ true → ArePart B class p hits
 part_again B C class p hits [] b c are h = absurd (true≢false (sym h))
 part_again B C class p hits (cell_read q value ∷ rs) b c are h = part_again B C class p hits rs b.1 c.1 are h
 part_again B C class p hits (keys_read n keys ∷ rs) b c are h = part_again B C class p hits rs b.1 c.1 are h
@@ -85,7 +85,7 @@ part_noted : (B C : Cells) (class : ℕ) (p : ClassPart) (hits : List KeyedRow) 
 part_noted B C class p hits reads c are b = by (part_was_read reads class p) refl b
   where
     by : (t : Bool) → part_was_read reads class p ≡ t → Holds B (if t then reads else reads ++ part_read class p hits ∷ []) → ArePart B class p hits
-    by true e b = part_again B C class p hits reads b.told c.told are e
+    by true e b = part_again B C class p hits reads b.each c.each are e
     by false e b = Holds-last B reads (part_read class p hits) b
 
 -- ---- a call of `read_part`, on a view whose fields make v
@@ -113,5 +113,5 @@ part_is_read {v} {old} class p hits reads from held are is = record {
 -- a part that was read before
 pub part_was_told : {v old : Seeing} (class : ℕ) (p : ClassPart) → v ≡ old → Holds (beneath v) v.reads → part_was_read v.reads class p ≡ true → PartRead v old class p v.reads
 part_was_told {v} {old} class p from held again =
-    let found = part_told (beneath v) class p v.reads held.told again in
+    let found = part_told (beneath v) class p v.reads held.each again in
     part_is_read class p found.0 v.reads from held found.1 (sym (noted-again v.reads (part_read class p found.0) again))

@@ -3,7 +3,7 @@ use Rattle.std.proofs.Common.{◌≡◌, refl, sym, ap, ◌∙◌, subst, ℕ, �
 use Rattle.std.specs.Prelude.{IfSome, option_map}
 use Rattle.std.specs.List.{list_any}
 use Rattle.std.proofs.lemmas.Bool.Decides.{Decides-eqb}
-use Rattle.hp_model.specs.Cells.{Cell, CellValue, Cells, Changes, object_cell, rule_cell, detector_cell, changed, over, same_cell, Read, cell_read, keys_read, objects_read, part_read, IsTold, AllTold, Holds, AreKeys, AreObjects}
+use Rattle.hp_model.specs.Cells.{Cell, CellValue, Cells, Changes, object_cell, rule_cell, detector_cell, changed, over, same_cell, Read, cell_read, keys_read, objects_read, part_read, ReadHolds, ReadsHold, Holds, AreKeys, AreObjects}
 use Rattle.hp_model.proofs.BridgesCells.{exact_cell, Holds-push, Holds-last}
 use Rattle.hp_model.proofs.BridgesKeys.{one_list}
 use Rattle.hp_value.specs.Mapped.{keys_of}
@@ -15,7 +15,7 @@ use Rattle.hp_view.proofs.SameClass.{same_objects}
 -- ---- reads that are noted
 
 -- a read that is true of the cells
-pub Holds-noted : (base : Cells) (reads : List Read) (r : Read) → Holds base reads → IsTold base r → Holds base (noted reads r)
+pub Holds-noted : (base : Cells) (reads : List Read) (r : Read) → Holds base reads → ReadHolds base r → Holds base (noted reads r)
 Holds-noted base reads r held told = by (was_read reads r)
   where
     by : (b : Bool) → Holds base (if b then reads else reads ++ r ∷ [])
@@ -39,7 +39,7 @@ noted-again reads r e = ap (λ b. if b then reads else reads ++ r ∷ []) e
 -- ---- the same wherever the reads hold
 
 -- a cell that was read by itself
-itself_again : (B C : Cells) (cell : Cell) (reads : List Read) → AllTold B reads → AllTold C reads → list_any (reads_cell cell) reads ≡ true → B cell ≡ C cell
+itself_again : (B C : Cells) (cell : Cell) (reads : List Read) → ReadsHold B reads → ReadsHold C reads → list_any (reads_cell cell) reads ≡ true → B cell ≡ C cell
 itself_again B C cell [] b c h = absurd (true≢false (sym h))
 itself_again B C cell (cell_read q value ∷ rs) b c h = by (same_cell cell q) refl h (itself_again B C cell rs b.1 c.1)
   where
@@ -51,7 +51,7 @@ itself_again B C cell (objects_read class objects ∷ rs) b c h = itself_again B
 itself_again B C cell (part_read class part objects ∷ rs) b c h = itself_again B C cell rs b.1 c.1 h
 
 -- an object whose class was read as a whole
-row_again : (B C : Cells) (class : ℕ) (key : ℤ) (reads : List Read) → AllTold B reads → AllTold C reads → class_was_read reads class ≡ true → B (object_cell class key) ≡ C (object_cell class key)
+row_again : (B C : Cells) (class : ℕ) (key : ℤ) (reads : List Read) → ReadsHold B reads → ReadsHold C reads → class_was_read reads class ≡ true → B (object_cell class key) ≡ C (object_cell class key)
 row_again B C class key [] b c h = absurd (true≢false (sym h))
 row_again B C class key (cell_read q value ∷ rs) b c h = row_again B C class key rs b.1 c.1 h
 row_again B C class key (keys_read n keys ∷ rs) b c h = by (class == n) h (row_again B C class key rs b.1 c.1)
@@ -68,7 +68,7 @@ row_again B C class key (objects_read n objects ∷ rs) b c h = by (class == n) 
     by false e h rest = rest h
 row_again B C class key (part_read n part objects ∷ rs) b c h = row_again B C class key rs b.1 c.1 h
 
-cell_again : (B C : Cells) (cell : Cell) (reads : List Read) → AllTold B reads → AllTold C reads → cell_was_read reads cell ≡ true → B cell ≡ C cell
+cell_again : (B C : Cells) (cell : Cell) (reads : List Read) → ReadsHold B reads → ReadsHold C reads → cell_was_read reads cell ≡ true → B cell ≡ C cell
 cell_again B C cell reads b c h = by (list_any (reads_cell cell) reads) refl h
   where
     with_class : (q : Cell) → row_was_read reads q ≡ true → B q ≡ C q
@@ -80,7 +80,7 @@ cell_again B C cell reads b c h = by (list_any (reads_cell cell) reads) refl h
     by true e h = itself_again B C cell reads b c e
     by false e h = with_class cell h
 
-keys_again : (B C : Cells) (class : ℕ) (keys : List ℤ) (reads : List Read) → AllTold B reads → AllTold C reads → AreKeys C class keys → keys_were_read reads class ≡ true → AreKeys B class keys
+keys_again : (B C : Cells) (class : ℕ) (keys : List ℤ) (reads : List Read) → ReadsHold B reads → ReadsHold C reads → AreKeys C class keys → keys_were_read reads class ≡ true → AreKeys B class keys
 keys_again B C class keys [] b c are h = absurd (true≢false (sym h))
 keys_again B C class keys (cell_read q value ∷ rs) b c are h = keys_again B C class keys rs b.1 c.1 are h
 keys_again B C class keys (keys_read n found ∷ rs) b c are h = by (class == n) refl h (keys_again B C class keys rs b.1 c.1 are)
@@ -104,14 +104,14 @@ pub cell_noted : (B C : Cells) (cell : Cell) (reads : List Read) → Holds C rea
 cell_noted B C cell reads c b = by (cell_was_read reads cell) refl b
   where
     by : (t : Bool) → cell_was_read reads cell ≡ t → Holds B (if t then reads else reads ++ cell_read cell (C cell) ∷ []) → B cell ≡ C cell
-    by true e b = cell_again B C cell reads b.told c.told e
+    by true e b = cell_again B C cell reads b.each c.each e
     by false e b = Holds-last B reads (cell_read cell (C cell)) b
 
 pub keys_noted : (B C : Cells) (class : ℕ) (keys : List ℤ) (reads : List Read) → Holds C reads → AreKeys C class keys → Holds B (noted reads (keys_read class keys)) → AreKeys B class keys
 keys_noted B C class keys reads c are b = by (keys_were_read reads class) refl b
   where
     by : (t : Bool) → keys_were_read reads class ≡ t → Holds B (if t then reads else reads ++ keys_read class keys ∷ []) → AreKeys B class keys
-    by true e b = keys_again B C class keys reads b.told c.told are e
+    by true e b = keys_again B C class keys reads b.each c.each are e
     by false e b = Holds-last B reads (keys_read class keys) b
 
 -- ---- what a view shows
@@ -173,7 +173,7 @@ shows_covered {v} {old} cell from covered = subst (λ u. Shows u cell (now_in u 
 pub shows_again : {v old : Seeing} (cell : Cell) → v ≡ old → Holds (beneath v) v.reads → cell_was_read v.reads cell ≡ true → Shows old cell (now_in old cell)
 shows_again {v} {old} cell from held again =
     subst (λ u. Shows u cell (now_in u cell)) from
-    (record { everywhere = λ base here. ap (λ o. changed o (written v cell)) (cell_again base (beneath v) cell v.reads here.told held.told again) })
+    (record { everywhere = λ base here. ap (λ o. changed o (written v cell)) (cell_again base (beneath v) cell v.reads here.each held.each again) })
 
 -- a cell's value that is told beneath, where no write covers it
 pub peeked : {v old : Seeing} (cell : Cell) (value : Option CellValue) → v ≡ old → Holds (beneath v) v.reads → is_some (written v cell) ≡ false
@@ -225,7 +225,7 @@ shows_keys_again {v} {old} class keys merged from held are again over_them =
 pub noted_only : {v old : Seeing} (r : Read) (reads : List Read) → v ≡ old → reads ≡ noted v.reads r → OnlyReads old (record v { reads = reads })
 noted_only {v} {old} r reads from is = only_more reads from (subst (λ rs. (more : List Read) × (rs ≡ v.reads ++ more)) (sym is) (noted-more v.reads r))
 
-pub noted_held : (v : Seeing) (r : Read) (reads : List Read) → Holds (beneath v) v.reads → IsTold (beneath v) r → reads ≡ noted v.reads r → Holds (beneath v) reads
+pub noted_held : (v : Seeing) (r : Read) (reads : List Read) → Holds (beneath v) v.reads → ReadHolds (beneath v) r → reads ≡ noted v.reads r → Holds (beneath v) reads
 noted_held v r reads held told is = subst (Holds (beneath v)) (sym is) (Holds-noted (beneath v) v.reads r held told)
 
 -- keys that are noted

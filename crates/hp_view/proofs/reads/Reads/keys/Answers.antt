@@ -14,7 +14,7 @@ pub returns-in-Some-clause-held : goal.returns-in-Some-clause-held
 returns-in-Some-clause-held c = λ base held.
     subst (AreKeys base c.args.class) (sym c.keys.ensures)
     (told_keys c.args.class c.in-Some.found.now base c.self.inside.entries.entries (seen_same c.in-Some.is c.get.ensures.value)
-    (subst (Holds base) (sym c.self.view_is) held).told)
+    (subst (Holds base) (sym c.self.view_is) held).each)
 
 pub returns-in-None-clause-known : goal.returns-in-None-clause-known
 returns-in-None-clause-known c =

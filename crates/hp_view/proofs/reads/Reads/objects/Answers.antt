@@ -13,4 +13,4 @@ returns-in-Some-Objects-clause-known c = λ some.
 pub returns-in-Some-Objects-clause-held : goal.returns-in-Some-Objects-clause-held
 returns-in-Some-Objects-clause-held c = λ base held.
     told_objects c.args.class c.in-Some-Objects.objects base c.self.inside.entries.entries (seen_same c.in-Some-Objects.is c.get.ensures.value ∙ ap Some c.in-Some-Objects.field-0-is)
-    (subst (Holds base) (sym c.self.view_is) held).told
+    (subst (Holds base) (sym c.self.view_is) held).each
