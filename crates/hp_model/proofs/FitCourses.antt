@@ -15,20 +15,13 @@ use Rattle.hp_model.specs.Tree.{Task, Step, condition_step, action_step, Node, O
 use Rattle.hp_model.specs.Transactions.{Detached, End, done, abort_by, veto_by, Course, Work, ends, joined, after_end, then_do, with_value, for_each, with_items, survivor_by, survivors, closed_by, closed, placed, detached_of, unreleased}
 use Rattle.hp_model.specs.Firing.{Firing, Fire, after_firing, siblings, Siblings, course_of, Level, start, triggered, signal_in, Context, with_row, operated, created_if_absent, updated_if_present, deleted_if_present, vetoes, nested, sub_by, choose, run_statement, run_body, changed_row, made_row, checked_kinds, keyed_row, integer_value, boolean_value, values_of, answer_named, named_object, operated_rule, fired_task, start_fired, triggered_by, task_if, triggered_from}
 use Rattle.hp_model.specs.Ranges.{expression_fits, assignments_fit, statement_fits, body_fits, IsFitLibrary}
+pub use Rattle.hp_model.specs.Fitting.{StepFits, TaskFits}
 use Rattle.hp_model.proofs.Induction.{firing_course}
 use Rattle.hp_model.proofs.FitValues.{Gives, Gives-any, each_to, each_append, each_filter, each_map, each_found, ValueFits, KeyedFits, RowsFit, PrimitiveFits, OccurrenceFits, OptionFits, EnvironmentFits, AnswersFit, values_give, answer_gives}
 use Rattle.hp_model.proofs.FitRows.{made_gives, checked_gives, ChangesFit, object_changed, key_gives, keyed_gives, object_gives}
 use Rattle.hp_model.proofs.FitStates.{found_fit, PastFits, objects_of_fit, pasts_of_fit, extended_fits, with_rule_fits, rule_state_fits, operated_rule_gives, OperationFits, operation_fits, occurrence_fits}
 
 -- ---- what fits
-
-abbrev pub StepFits : Step → Type 0
-StepFits condition_step = ⊤
-StepFits (action_step answers) = AnswersFit answers
-
--- what a task carries fits
-abbrev pub TaskFits : Library → Task → Type 0
-TaskFits library t = StepFits t.step × OccurrenceFits library t.occurrence
 
 abbrev pub TasksFit : Library → List Task → Type 0
 TasksFit library ts = AllByRecursion (TaskFits library) ts

@@ -13,6 +13,7 @@ use Rattle.hp_model.specs.Rules.{Library, Assignment, class_at}
 use Rattle.hp_model.specs.State.{Objects, ObjectName, rows_of, object_fits, primitive_fits}
 use Rattle.hp_model.specs.Firing.{values_of, assigned}
 use Rattle.hp_model.specs.Ranges.{expression_fits, assignments_fit}
+pub use Rattle.hp_model.specs.Fitting.{ValueFits, RowFits, KeyedFits, RowsFit, PrimitiveFits, OccurrenceFits, OptionFits, EnvironmentFits, AnswersFit, ObjectsFit}
 
 -- ---- outcomes
 
@@ -81,39 +82,6 @@ found_choice P false v o x h k e = k e
 pub each_found : {K A : Type 0} (P : A → Type 0) (test : K → Bool) (es : List (K × A)) (x : A) → AllByRecursion (λ (e : K × A). P e.1) es → lookup test es ≡ Some x → P x
 each_found P test [] x h e = cc
 each_found P test (y ∷ ys) x h e = found_choice P (test y.0) y.1 (lookup test ys) x h.0 (λ k. each_found P test ys x h.1 k) e
-
--- ---- what fits
-
-abbrev pub ValueFits : Value → Type 0
-ValueFits v = IsTrue (value_fits v)
-
-abbrev pub RowFits : Row → Type 0
-RowFits row = AllByRecursion (λ (v : Name × Value). ValueFits v.1) row
-
-abbrev pub KeyedFits : KeyedRow → Type 0
-KeyedFits r = IsTrue (fits_64 r.key) × RowFits r.row
-
-abbrev pub RowsFit : List KeyedRow → Type 0
-RowsFit rows = AllByRecursion KeyedFits rows
-
-abbrev pub PrimitiveFits : Library → Primitive → Type 0
-PrimitiveFits library p = IsTrue (primitive_fits library p)
-
-abbrev pub OccurrenceFits : Library → Occurrence → Type 0
-OccurrenceFits library o = AllByRecursion (PrimitiveFits library) o.parts
-
-abbrev pub OptionFits : Library → Option Occurrence → Type 0
-OptionFits library None = ⊤
-OptionFits library (Some o) = OccurrenceFits library o
-
-abbrev pub EnvironmentFits : Library → Environment → Type 0
-EnvironmentFits library env = OptionFits library env.occurrence × AllByRecursion (λ (b : Name × KeyedRow). KeyedFits b.1) env.rows
-
-abbrev pub AnswersFit : Answers → Type 0
-AnswersFit answers = AllByRecursion (λ (a : Name × List KeyedRow). RowsFit a.1) answers
-
-abbrev pub ObjectsFit : Library → Objects → Type 0
-ObjectsFit library objects = AllByRecursion (λ (o : ObjectName × Row). IsTrue (object_fits library o.0.class o.0.key o.1)) objects
 
 -- ---- objects and occurrences
 

@@ -29,8 +29,9 @@ pub mod Mentions
 pub mod Operations
 pub mod Checked
 pub mod Groups
+pub mod Ranges
+pub mod Fitting
 pub mod States
 pub mod Accepting
-pub mod Ranges
 pub mod Sessions
 pub mod Laws

@@ -7,7 +7,7 @@ use Rattle.hp_model.specs.Ranges.{IsFitLibrary}
 use Rattle.hp_model.specs.Firing.{Firing, Siblings, fire_task}
 use Rattle.hp_model.specs.Soundness.{FiringAnswer, firing_answer, Attempt, IsSound}
 use Rattle.hp_model.specs.Answers.{SiblingsAnswer, siblings_answer}
-use Rattle.hp_model.proofs.FitCourses.{TaskFits}
+use Rattle.hp_model.specs.Fitting.{TaskFits}
 
 -- a class of states: all that are ordered, or those that are fit, as each is that a run reaches
 pub data States : Type 0 where
