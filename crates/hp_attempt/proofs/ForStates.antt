@@ -1,9 +1,8 @@
 -- How firings for which sound attempts stand follow one another, for a class of states.
-use Rattle.std.proofs.Common.{◌≡◌, refl, ap, ap₂, sym, ◌∙◌, subst, ℕ, Bool, true, false, List, [], ◌∷◌, ◌++◌, append-nil, append_assoc, Option, Some, None}
+use Rattle.std.proofs.Common.{◌≡◌, refl, ap, ap₂, sym, ◌∙◌, subst, ℕ, Bool, true, List, [], ◌∷◌, ◌++◌, append-nil, append_assoc, Some, None}
 use Rattle.hp_model.specs.Rules.{Library}
-use Rattle.hp_model.specs.State.{State}
 use Rattle.hp_model.specs.Tree.{Task}
-use Rattle.hp_model.specs.Firing.{Firing, Fire, Siblings, after_firing, siblings}
+use Rattle.hp_model.specs.Firing.{Fire, Siblings, after_firing, siblings}
 use Rattle.hp_model.specs.Cells.{Changes, over, Read}
 use Rattle.hp_model.specs.Soundness.{FiringAnswer}
 use Rattle.hp_model.specs.Answers.{SiblingsAnswer, siblings_answer}

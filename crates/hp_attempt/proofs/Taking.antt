@@ -17,14 +17,12 @@ use Rattle.hp_view.proofs.Views.{GoesOn-then}
 use Rattle.hp_value.specs.declared.cell.Cell.{Cell as RustCell}
 use Rattle.hp_value.specs.Mapped.{cell}
 use Rattle.hp_view.specs.declared.reads.Found.{Found}
-use Rattle.hp_view.specs.declared.reads.Found.TheVariants.{Value, Keys, Objects, Part}
-use Rattle.hp_view.specs.declared.reads.Seen.{Seen}
-use Rattle.hp_view.specs.declared.reads.Seen.TheVariants.{Cell as OfCell, Keys as OfKeys, Part as OfPart}
+use Rattle.hp_view.specs.declared.reads.Seen.TheVariants.{Cell as OfCell}
 use Rattle.hp_view.specs.Mapped.{read}
 use Rattle.hp_view.specs.Adding.{AddsReads, IsOfClass, adds_then}
 use Rattle.hp_view.proofs.Adding.{adds_noted, adds_more}
 use Rattle.hp_model.specs.States.{States, LeadsToOne, IsSoundFor, FaithfulFiringFor}
-use Rattle.hp_attempt.specs.Holding.{IsReadOf, IsReadAgain, IsFor, IsForAny, IsAccepted, Covers}
+use Rattle.hp_attempt.specs.Holding.{IsReadAgain, IsFor, IsForAny, IsAccepted, Covers}
 
 -- ---- a view that only read
 

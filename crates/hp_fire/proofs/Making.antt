@@ -1,5 +1,5 @@
 -- Statements before their event is signalled.
-use Rattle.std.proofs.Common.{◌≡◌, refl, sym, ap, ◌∙◌, ℕ, ℤ, List, [], ◌∷◌, ◌++◌, append_assoc}
+use Rattle.std.proofs.Common.{◌≡◌, sym, ap, ◌∙◌, ℕ, ℤ, List, ◌++◌}
 use Rattle.std.specs.Prelude.{Result, Ok, Err, Option, Some, None, ⊤}
 use Rattle.hp_model.specs.Values.{Value, Row, KeyedRow, Cause, missing, Outcome, ◌>>=◌, or_cause}
 use Rattle.hp_model.specs.Occurrences.{Primitive}
@@ -8,7 +8,7 @@ use Rattle.hp_model.specs.Rules.{Library, RuleOperation, Assignment, create, upd
 use Rattle.hp_model.specs.State.{State, Objects, find_object}
 use Rattle.hp_model.specs.Tree.{no_items, operation, emission, rule_op, without_detachments}
 use Rattle.hp_model.specs.Transactions.{Work, abort_by, with_value, with_items}
-use Rattle.hp_model.specs.Firing.{Level, Context, signal_in, run_statement, keyed_row, made_row, checked_kinds, integer_value, values_of, named_object, created_if_absent, updated_if_present, deleted_if_present}
+use Rattle.hp_model.specs.Firing.{Level, Context, signal_in, run_statement, keyed_row, made_row, checked_kinds, integer_value, named_object, created_if_absent, updated_if_present, deleted_if_present}
 use Rattle.hp_model.specs.Cells.{Changes, Read}
 use Rattle.hp_model.specs.Soundness.{Answer}
 use Rattle.hp_model.specs.Answers.{FaithfulWork, Finds, ended, tells, followed}
@@ -18,12 +18,11 @@ use Rattle.hp_model.proofs.FaithfulOperations.{faithful_create_refused, faithful
 use Rattle.hp_model.proofs.BridgesKeys.{ObjectsRise}
 use Rattle.hp_value.specs.declared.halt.Halt.{Halt}
 use Rattle.hp_value.specs.declared.halt.Halt.TheVariants.{Cause as ByCause, Memory}
-use Rattle.hp_value.specs.declared.row.KeyedRow.{KeyedRow as RustRow}
-use Rattle.hp_value.specs.Mapped.{Meets, cause, keyed_row as keyed_row_of}
+use Rattle.hp_value.specs.Mapped.{Meets, cause}
 use Rattle.hp_ops.specs.Performs.{Performs}
 use Rattle.hp_ops.proofs.Worlds.{finds_world}
 use Rattle.hp_view.specs.Seeing.{Seeing, written, GoesOn, OnlyReads}
-use Rattle.hp_view.specs.Looks.{Allows, only_reads_same}
+use Rattle.hp_view.specs.Looks.{Allows}
 use Rattle.hp_view.proofs.Reading.{GoesOn-only}
 use Rattle.hp_view.proofs.Views.{GoesOn-same}
 use Rattle.hp_fire.specs.Runs.{Runs, Steps, Finding, Looks, Makes}

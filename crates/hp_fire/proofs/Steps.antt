@@ -14,7 +14,7 @@ use Rattle.hp_model.specs.Cells.{Changes}
 use Rattle.hp_model.specs.Soundness.{Answer, FiringAnswer}
 use Rattle.hp_model.specs.Answers.{FaithfulWork, FaithfulFiring, SiblingsAnswer, ended, tells, followed, is_done, kept, closing, closing_action}
 use Rattle.hp_model.specs.Operations.{operation_items}
-use Rattle.hp_model.proofs.Faithful.{Grows, finds_more, faithful_ends, faithful_as, faithful_value, faithful_cause, faithful_then, Completes, each_more, each_halt, each_end, faithful_sub_done, faithful_sub_veto, faithful_sub_abort}
+use Rattle.hp_model.proofs.Faithful.{Grows, finds_more, faithful_ends, faithful_as, faithful_value, faithful_cause, Completes, each_more, each_halt, each_end, faithful_sub_done, faithful_sub_veto, faithful_sub_abort}
 use Rattle.hp_model.proofs.FaithfulFirings.{faithful_action, goes_on, GroupCompletes, group_more, group_end, group_vetoed}
 use Rattle.hp_rule.specs.declared.stmt.Stmt.{Stmt}
 use Rattle.hp_rule.specs.Mapped.{statement, body_in}

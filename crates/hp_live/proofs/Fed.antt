@@ -1,15 +1,14 @@
 -- The answers to bytes that arrive in pieces.
-use Rattle.std.proofs.Common.{◌≡◌, ◌≢◌, ◌≤◌, ℕ, suc, drop-cons, ◌+◌, ◌<◌, List, [], ◌∷◌, ◌++◌, length, take, drop, length-take-le, slice_index_or, Option, Some, None, IfSome, Bool, false, refl, sym, ap, subst, ◌∙◌, append_assoc, append-nil, arith}
+use Rattle.std.proofs.Common.{◌≡◌, ◌≢◌, ◌≤◌, ℕ, suc, drop-cons, ◌+◌, ◌<◌, List, [], ◌∷◌, ◌++◌, length, take, drop, length-take-le, slice_index_or, Option, Some, None, IfSome, Bool, false, refl, sym, ap, subst, ◌∙◌, append-nil, arith}
 use Rattle.std.specs.Io.KnownBytes.{Appends, Consumes, Keeps, IsAtEnd}
 use Rattle.std.proofs.Math.Seq.{take-suc}
 use Rattle.std.proofs.lemmas.List.{take-append-drop}
-use Rattle.std.proofs.KnownBytes.{Appends-nil, Appends-trans, Consumes-nil, Consumes-trans}
+use Rattle.std.proofs.KnownBytes.{Appends-trans, Consumes-trans}
 use Rattle.hp_report.specs.Device.{Begins}
-use Rattle.hp_lines.specs.Lines.{lines_of}
 use Rattle.hp_lines.specs.Live as L
-use Rattle.hp_lines.specs.Live.{piece_output, after, byte_output, next, end_output, new_server, output, closed, stage_after, unopened}
+use Rattle.hp_lines.specs.Live.{piece_output, after, byte_output, next, end_output, new_server, output, closed, unopened}
 use Rattle.hp_lines.proofs.Pieces.{output-append, after-append, in_all, in_all-append, in_all_of, stage_in_all, stage_of, stage-append, closed_writes, closed_stays}
-use Rattle.hp_lines.proofs.Kept.{begins_whole, begins_more, begins_on}
+use Rattle.hp_lines.proofs.Kept.{begins_more, begins_on}
 use Rattle.hp_live.specs.Kept.{IsServer, StopsAtRefusal}
 use Rattle.hp_live.specs.Ends.{status_at, status_of}
 use Rattle.hp_live.specs.declared.server.Server.{Server}

@@ -1,24 +1,22 @@
 -- The keys of a class and its rows by their keys, among objects in order.
-use Rattle.std.proofs.Common.{◌≡◌, refl, ap, sym, ◌∙◌, subst, ℕ, ℤ, ◌<◌, Bool, true, false, ◌&&◌, ◌||◌, cond, List, [], ◌∷◌, map, length, Option, Some, None, is_some, int_eq}
-use Rattle.std.specs.Prelude.{◌==◌, option_map, filter}
+use Rattle.std.proofs.Common.{◌≡◌, refl, ap, sym, ◌∙◌, subst, ℕ, ℤ, Bool, true, false, ◌&&◌, ◌||◌, cond, List, [], ◌∷◌, map, Option, Some, is_some, int_eq}
+use Rattle.std.specs.Prelude.{◌==◌, filter}
 use Rattle.std.specs.declared.cmp.Ordering.TheVariants.{Less}
 use Rattle.std.specs.Ordering.{nat_cmp, int_cmp, ordering_then}
 use Rattle.std.specs.Map.{lookup}
 use Rattle.std.specs.BTreeMap.{is_at}
-use Rattle.std.specs.List.{AllByRecursion, All, list_any, filter_map, cons_option, slice_index_or}
+use Rattle.std.specs.List.{AllByRecursion, All, list_any, slice_index_or}
 use Rattle.std.specs.List.Sorted.{IsStrictlySortedBy}
 use Rattle.std.proofs.lemmas.Bool.Decides.{Decides-eqb}
 use Rattle.std.proofs.lemmas.Cmp.{nat_eq_equiv, nat_cmp_total, int_cmp_total, tied_itself, eq_by_cmp_equiv}
 use Rattle.std.proofs.lemmas.Option.{slice_get-get_or}
-use Rattle.std.proofs.lemmas.List.{get_or-map}
-use Rattle.std.proofs.lemmas.List.Elements.{All-map, All-filter, All-head, All-tail, filter_passes}
+use Rattle.std.proofs.lemmas.List.Elements.{All-map, All-filter, filter_passes}
 use Rattle.std.proofs.lemmas.Map.Keys.{IsDistinct-from_sorted}
 use Rattle.std.proofs.lemmas.Map.Entries.{lookup_from_place}
 use Rattle.std.proofs.lemmas.Map.Lookups.{btree_set_from_contains, exact_signed}
 use Rattle.hp_model.specs.Values.{Row, KeyedRow}
-use Rattle.hp_model.specs.Rules.{Library}
-use Rattle.hp_model.specs.State.{ObjectName, compare_names, Objects, find_object, rows_of, State, IsOrdered}
-use Rattle.hp_model.specs.Cells.{row_value, Cells, cells, AreKeys}
+use Rattle.hp_model.specs.State.{ObjectName, compare_names, Objects, find_object, rows_of}
+use Rattle.hp_model.specs.Cells.{Cells, cells, AreKeys}
 use Rattle.hp_model.proofs.Ordered.{names_total}
 use Rattle.hp_model.proofs.BridgesCells.{name_at}
 

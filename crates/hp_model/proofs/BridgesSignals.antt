@@ -1,24 +1,19 @@
 -- The effect of a signal on a state's detectors, and the tasks that it triggers, in terms of the state's cells.
-use Rattle.std.proofs.Common.{arith, ◌≡◌, ◌≢◌, refl, ap, ap₂, sym, ◌∙◌, ℕ, suc, ◌+◌, ◌<◌, ◌≤◌, Bool, true, false, List, [], ◌∷◌, map, length, Option, Some, None, ltb-true, ltb-false, lt-ltb, le-ltb}
-use Rattle.std.specs.Prelude.{◌==◌, nat_lt, option_map, filter_map, if◌then◌else◌}
+use Rattle.std.proofs.Common.{arith, ◌≡◌, refl, ap, ap₂, sym, ◌∙◌, ℕ, suc, ◌+◌, ◌<◌, Bool, true, false, List, [], ◌∷◌, map, length, Option, Some, None}
+use Rattle.std.specs.Prelude.{option_map, filter_map, if◌then◌else◌}
 use Rattle.std.specs.List.{slice_index_or}
 use Rattle.std.proofs.Math.ListN.{get_or-map}
-use Rattle.std.specs.Cmp.{both_ways}
-use Rattle.std.proofs.lemmas.List.{get_or_past, length-map}
-use Rattle.std.proofs.lemmas.Bool.{eqb-false}
-use Rattle.std.proofs.lemmas.Bool.Decides.{Decides-eqb}
+use Rattle.std.proofs.lemmas.List.{length-map}
 use Rattle.hp_model.specs.Occurrences.{Primitive, History, Occurrence}
 use Rattle.hp_model.specs.Events.{is_pure}
 use Rattle.hp_model.specs.Knowledge.{Knowledge, knowledge}
 use Rattle.hp_model.specs.Rules.{Rule, no_rule, Library, rule_at}
 use Rattle.hp_model.specs.State.{State, Status, absent, enabled, disabled, RuleState, rule_state, with_status, extended_rule, extended, IsOrdered}
-use Rattle.hp_model.specs.Cells.{Cell, object_cell, rule_cell, detector_cell, CellValue, knowledge_value, Cells, cells, status_in, knowledge_in, Changes, no_changes, changed, over, with_change}
+use Rattle.hp_model.specs.Cells.{rule_cell, detector_cell, CellValue, knowledge_value, Cells, cells, knowledge_in, changed}
 use Rattle.hp_model.specs.Tree.{Task}
 use Rattle.hp_model.specs.Firing.{Level, triggered_by, task_if, triggered_from, triggered}
 use Rattle.hp_model.proofs.Detecting.{advance, advance_lem}
-use Rattle.hp_model.proofs.BridgesCells.{stacked, stacked-with_change, with_change-same}
-use Rattle.hp_model.proofs.BridgesReads.{status_at, known_by, status-cells, known-cells, detector-cells, detector-cells-idle}
-use Rattle.hp_model.proofs.BridgesWrites.{cells_over}
+use Rattle.hp_model.proofs.BridgesReads.{status_at, known_by, status-cells, known-cells}
 
 -- a rule's state after a signal
 pub rule_state-extended : (p : Primitive) (S : State) (n : ℕ) → rule_state (extended p S) n ≡ extended_rule p (rule_state S n)

@@ -1,5 +1,5 @@
 -- How faithful calls compose.
-use Rattle.std.proofs.Common.{◌≡◌, refl, ap, ap₂, sym, ◌∙◌, subst, ℕ, false, List, [], ◌∷◌, ◌++◌, Option, Some, append-nil, append_assoc}
+use Rattle.std.proofs.Common.{◌≡◌, refl, ap, ap₂, sym, ◌∙◌, subst, ℕ, false, List, [], ◌∷◌, ◌++◌, Option, append-nil, append_assoc}
 use Rattle.std.specs.Prelude.{Ok, Err}
 use Rattle.hp_model.specs.Values.{Cause, Outcome}
 use Rattle.hp_model.specs.Rules.{Library}
@@ -7,11 +7,10 @@ use Rattle.hp_model.specs.State.{State, IsOrdered}
 use Rattle.hp_model.specs.Tree.{Task, Items, no_items, operation, emission, detachment, node, append, Node, sub_node, without_detachments}
 use Rattle.hp_model.specs.Transactions.{End, done, abort_by, veto_by, Course, Work, ends, for_each, joined, after_end, then_do, with_value, with_items, closed_by, closed, detachments, placed, detached_of}
 use Rattle.hp_model.specs.Firing.{Firing, nested, sub_by, sub_in}
-use Rattle.hp_model.specs.Cells.{Cell, CellValue, Cells, cells, Changes, over, with_change, Read, Holds}
+use Rattle.hp_model.specs.Cells.{Cell, CellValue, Cells, cells, Changes, over, Read, Holds}
 use Rattle.hp_model.specs.Soundness.{Answer, answer_of, FiringAnswer, firing_answer, LeadsTo, Faithful}
 use Rattle.hp_model.specs.Answers.{FaithfulWork, FaithfulFiring, Finds, ended, tells, placing, followed, is_done, kept, closing}
 use Rattle.hp_model.proofs.BridgesCells.{Holds-front}
-use Rattle.hp_model.proofs.BridgesWrites.{ChangesCell, cells_changed}
 
 -- ---- reads that grow
 

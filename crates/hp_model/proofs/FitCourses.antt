@@ -1,7 +1,7 @@
 -- All that runs from a state that fits leaves one that fits, and the tasks that it makes fit too.
-use Rattle.std.proofs.Common.{◌≡◌, refl, sym, subst, ℕ, suc, ℤ, List, [], ◌∷◌, length, Option, None, Some, Bool, true, false, ◌&&◌, IsTrue, nat_lt}
+use Rattle.std.proofs.Common.{◌≡◌, refl, ℕ, suc, ℤ, List, [], ◌∷◌, length, Option, None, Some, Bool, true, false, ◌&&◌, IsTrue, nat_lt}
 use Rattle.std.proofs.lemmas.Bool.{and_parts, and_from}
-use Rattle.std.specs.Prelude.{⊤, Ok, Err, bytes_eq, filter, filter_map, option_map, unwrap_or, if◌then◌else◌}
+use Rattle.std.specs.Prelude.{⊤, Ok, Err, bytes_eq, filter, filter_map, option_map, unwrap_or}
 use Rattle.std.specs.List.{AllByRecursion, cons_option}
 use Rattle.std.specs.Map.{lookup}
 use Rattle.hp_model.specs.Values.{Name, Row, KeyedRow, exists, missing, requested, vetoed, depth_exceeded, Outcome, fits_64, value_fits, row_fits}
@@ -11,13 +11,13 @@ use Rattle.hp_model.specs.Events.{occurrence_of}
 use Rattle.hp_model.specs.Conditions.{Answers, answer}
 use Rattle.hp_model.specs.Rules.{Coupling, immediate, deferred, separate, dependent, exclusive, is_immediate, Statement, create, update, delete, signal, emit, when, each, for_answer, with_object, subtransaction, abort, veto, on_rule, fire, Body, empty, ◌then◌, Library, Rule, class_at}
 use Rattle.hp_model.specs.State.{State, RuleState, object_fits, find_object, rule_state, with_rule, with_objects, extended, Status, absent, enabled, disabled, IsFit}
-use Rattle.hp_model.specs.Tree.{Task, Step, condition_step, action_step, Node, Operation, create_op, update_op, delete_op, rule_op, no_items, operation, emission, apply, sub_node}
+use Rattle.hp_model.specs.Tree.{Task, Node, Operation, create_op, update_op, delete_op, rule_op, no_items, operation, emission, apply, sub_node}
 use Rattle.hp_model.specs.Transactions.{Detached, End, done, abort_by, veto_by, Course, Work, ends, joined, after_end, then_do, with_value, for_each, with_items, survivor_by, survivors, closed_by, closed, placed, detached_of, unreleased}
 use Rattle.hp_model.specs.Firing.{Firing, Fire, after_firing, siblings, Siblings, course_of, Level, start, triggered, signal_in, Context, with_row, operated, created_if_absent, updated_if_present, deleted_if_present, vetoes, nested, sub_by, choose, run_statement, run_body, changed_row, made_row, checked_kinds, keyed_row, integer_value, boolean_value, values_of, answer_named, named_object, operated_rule, fired_task, start_fired, triggered_by, task_if, triggered_from}
 use Rattle.hp_model.specs.Ranges.{expression_fits, assignments_fit, statement_fits, body_fits, IsFitLibrary}
 pub use Rattle.hp_model.specs.Fitting.{StepFits, TaskFits}
 use Rattle.hp_model.proofs.Induction.{firing_course}
-use Rattle.hp_model.proofs.FitValues.{Gives, Gives-any, each_to, each_append, each_filter, each_map, each_found, ValueFits, KeyedFits, RowsFit, PrimitiveFits, OccurrenceFits, OptionFits, EnvironmentFits, AnswersFit, values_give, answer_gives}
+use Rattle.hp_model.proofs.FitValues.{Gives, Gives-any, each_to, each_append, each_filter, each_map, each_found, ValueFits, KeyedFits, RowsFit, PrimitiveFits, OptionFits, EnvironmentFits, AnswersFit, values_give, answer_gives}
 use Rattle.hp_model.proofs.FitRows.{made_gives, checked_gives, ChangesFit, object_changed, key_gives, keyed_gives, object_gives}
 use Rattle.hp_model.proofs.FitStates.{found_fit, PastFits, objects_of_fit, pasts_of_fit, extended_fits, with_rule_fits, rule_state_fits, operated_rule_gives, OperationFits, operation_fits, occurrence_fits}
 

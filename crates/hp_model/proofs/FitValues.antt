@@ -8,9 +8,9 @@ use Rattle.std.specs.Map.{lookup}
 use Rattle.hp_model.specs.Values.{Name, Field, kind_of, is_kind, row_fits, Value, integer, boolean, text, Row, KeyedRow, Cause, wrong_kind, overflow, divide_by_zero, no_parameter, Outcome, ◌>>=◌, or_cause, fits_64, value_fits}
 use Rattle.hp_model.specs.Occurrences.{Primitive, created, updated, deleted, signalled, commit_reached, moment_reached, Occurrence}
 use Rattle.hp_model.specs.Expressions.{Arithmetic, plus, minus, times, quotient, remainder, Expression, constant, arithmetic, negated, inverted, both, either, compared, field_of, key_of, new_field, old_field, key_in, argument, time_of, occurrence_count, Environment, bound, as_integer, as_boolean, in_range, calculate, compare, part_of, row_named, field_in, new_row, old_row, operation_key, argument_of, moment_of, count_in, value_of}
-use Rattle.hp_model.specs.Conditions.{selected, answer, Answers}
+use Rattle.hp_model.specs.Conditions.{selected, answer}
 use Rattle.hp_model.specs.Rules.{Library, Assignment, class_at}
-use Rattle.hp_model.specs.State.{Objects, ObjectName, rows_of, object_fits, primitive_fits}
+use Rattle.hp_model.specs.State.{Objects, ObjectName, rows_of, object_fits}
 use Rattle.hp_model.specs.Firing.{values_of, assigned}
 use Rattle.hp_model.specs.Ranges.{expression_fits, assignments_fit}
 pub use Rattle.hp_model.specs.Fitting.{ValueFits, RowFits, KeyedFits, RowsFit, PrimitiveFits, OccurrenceFits, OptionFits, EnvironmentFits, AnswersFit, ObjectsFit}

@@ -8,7 +8,6 @@ pub mod Cascades
 pub mod Replayed
 pub mod Lawful
 pub mod Levels
-pub mod Places
 pub mod ForStates
 pub mod Accepted
 pub mod Detecting

@@ -2,24 +2,22 @@
 use Rattle.std.proofs.Common.{arith, ◌≡◌, refl, ap, sym, ◌∙◌, subst, ℕ, suc, ℤ, pos, negsuc, List, [], ◌∷◌, ◌++◌, length, map, append_assoc, append-nil, Option, None, Some, false, ◌||◌}
 use Rattle.std.proofs.lemmas.Bool.Decides.{nat_tests}
 use Rattle.std.proofs.lemmas.List.{length-map, map-append}
-use Rattle.std.proofs.lemmas.List.Elements.{All-append, All-nil, All-cons}
-use Rattle.std.specs.Prelude.{⊤, Ok, All, nat_lt, ◌==◌, codes}
+use Rattle.std.specs.Prelude.{Ok, nat_lt, ◌==◌, codes}
 use Rattle.serde_json.specs.Data.{Data}
 use Rattle.hp_model.specs.Values.{Name, Field, ClassDef, ◌>>=◌}
 use Rattle.hp_model.specs.Rules.{Query, Statement, Rule, Library}
-use Rattle.hp_model.specs.Cascade.{Unit, transaction, moment, Script}
 use Rattle.hp_model.specs.Refusals.{Path, under_root, item_at, classes_limit, fields_limit, rules_limit, shaped}
 use Rattle.hp_model.specs.Json.{pair_of}
-use Rattle.hp_model.specs.Parts.{integer_at, number_from, list_at, read_from}
+use Rattle.hp_model.specs.Parts.{integer_at, list_at, read_from}
 use Rattle.hp_model.specs.Scopes as S
 use Rattle.hp_model.specs.Scopes.{class_names, field_names, query_names}
 use Rattle.hp_model.specs.StatementGrammar.{statement_within, statements_at, body_of}
 use Rattle.hp_model.specs.RuleHeads as H
 use Rattle.hp_model.specs.RuleHeads.{RuleHead, rule_parts_of, rule_head_at, rule_heads_at}
 use Rattle.hp_model.specs.Decode as D
-use Rattle.hp_model.specs.Decode.{Version, version_at, depth_in, depth_at, depth_if_any, kind_at, field_at, fields_at, class_at, classes_at, coupling_at, triple_of, condition_at, acting, rule_at, rules_at, due_moments, few_moments, Schedule, no_item, item_form_at, transaction_at, clock_at, item_from, unit_at, units_from, units_at, root_of, script_scope, script_from, decode}
+use Rattle.hp_model.specs.Decode.{Version, depth_in, depth_at, depth_if_any, kind_at, field_at, fields_at, class_at, classes_at, coupling_at, triple_of, condition_at, acting, rule_at, rules_at, script_scope}
 use Rattle.hp_model.specs.Checked as C
-use Rattle.hp_model.specs.Checked.{Checked, new_name_check, limit_check, each_check, event_check, body_check, statement_check, field_definition_check, fields_check, class_definition_check, classes_check, head_check, heads_check, query_check, queries_check, action_scope, rule_check, rules_check, depth_check, library_check, script_body_check}
+use Rattle.hp_model.specs.Checked.{Checked, new_name_check, each_check, event_check, body_check, statement_check, field_definition_check, fields_check, class_definition_check, classes_check, head_check, heads_check, query_check, queries_check, rule_check, rules_check, depth_check, library_check, script_body_check}
 use Rattle.hp_model.proofs.WellFormedParts.{Reads, Reads-value, Reads-none, Reads-any, Reads-more, Reads-both, Reads-then, Reads-unless, passes_then, new_name_reads, new_row_reads, place_reads, short_list_reads, limit_passes, each_reads}
 use Rattle.hp_model.proofs.WellFormedExpressions.{Passes, PartReads, event_reads}
 use Rattle.hp_model.proofs.WellFormedStatements.{whole_expression_reads, checking, body_reads, statement_reads}

@@ -1,5 +1,5 @@
 -- What fits: numbers are within the bounds of their types, and rows have the fields of their classes.
-use Rattle.std.specs.Prelude.{⊤, ℕ, List, Option, None, Some, IsTrue}
+use Rattle.std.specs.Prelude.{⊤, List, Option, None, Some, IsTrue}
 use Rattle.std.specs.List.{AllByRecursion}
 use Rattle.hp_model.specs.Values.{Name, Value, Row, KeyedRow, fits_64, value_fits}
 use Rattle.hp_model.specs.Occurrences.{Primitive, Occurrence}

@@ -1,5 +1,4 @@
 pub mod RowLemmas
-pub mod KeyLemmas
 pub mod SelectLemmas
 mod CollectLemmas
 pub mod PlainLemmas

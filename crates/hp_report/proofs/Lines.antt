@@ -4,7 +4,7 @@ use Rattle.std.proofs.lemmas.List.{at_drop_more}
 use Rattle.std.proofs.lemmas.Option.{slice_get_within, get_or_from_slice_get}
 use Rattle.std.proofs.lemmas.List.Concat.{flat_map-append}
 use Rattle.json.specs.Print.{escape_byte, quoted as json_quoted}
-use Rattle.hp_model.specs.Report.{Bytes, row_words, escaped, quoted, words, line, value_text, rules_text}
+use Rattle.hp_model.specs.Report.{Bytes, row_words, quoted, words, line, value_text, rules_text}
 use Rattle.hp_model.specs.Rules.{Rule}
 use Rattle.hp_model.specs.State.{RuleState}
 use Rattle.hp_model.specs.Values.{Name, Value, Row}

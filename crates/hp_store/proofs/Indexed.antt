@@ -4,11 +4,10 @@ use Rattle.std.specs.Prelude.{option_map, MatchOption, ⊤, string_bytes, if◌t
 use Rattle.std.specs.Map.{lookup}
 use Rattle.std.specs.Ordering.{int_cmp}
 use Rattle.std.specs.BTreeMap.{is_at}
-use Rattle.std.proofs.lemmas.List.{append-nil}
 use Rattle.std.specs.BTreeSet.{contains}
 use Rattle.std.proofs.lemmas.Bool.Decides.{Decides-int_eq}
 use Rattle.hp_model.specs.Values as V
-use Rattle.hp_model.specs.Values.{Name, Row, Outcome, fits_64, ◌>>=◌}
+use Rattle.hp_model.specs.Values.{Name, Outcome, fits_64, ◌>>=◌}
 use Rattle.hp_model.specs.Expressions.{field_in}
 use Rattle.hp_model.specs.ClassParts.{ClassPart, field_attribute, belongs, lies_within}
 use Rattle.hp_model.specs.Cells as C

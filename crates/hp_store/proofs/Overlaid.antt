@@ -17,8 +17,7 @@ use Rattle.hp_store.specs.declared.value.CellValue.TheVariants.{Row, Status as R
 use Rattle.hp_store.specs.Mapped.{change, entry}
 use Rattle.hp_store.specs.Changes.{Entries, changes, class_entries, KeysFit}
 use Rattle.hp_store.specs.Keys.{below, above, merged, AboveKeys, KeysRise}
-use Rattle.hp_store.specs.Kept.{HoldsOther, MakesObjects}
-use Rattle.hp_store.specs.Parts.{no_cells}
+use Rattle.hp_store.specs.Kept.{MakesObjects}
 use Rattle.hp_store.proofs.Entered.{fit_key}
 use Rattle.hp_store.proofs.Merging.{all_weaker, all_filter, below-all, above-all, at_key, at_nothing, at_itself, at_lower, at_higher, at_skipped, changes-key, keys_found, Entered, Merges, merges_first, merges_value, merges_none, merges_other, merges_last}
 use Rattle.hp_store.proofs.Wholes.{HasRow, unchanged}

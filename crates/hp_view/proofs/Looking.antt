@@ -1,14 +1,13 @@
 -- What a view shows to a query.
-use Rattle.std.proofs.Common.{◌≡◌, refl, sym, ap, ◌∙◌, ℕ, ℤ, List, slice_index_or, Option, Some, None, is_some, Ok}
+use Rattle.std.proofs.Common.{◌≡◌, refl, ap, ◌∙◌, ℕ, ℤ, List, slice_index_or, Option, Some, None, is_some, Ok}
 use Rattle.std.specs.Prelude.{option_map}
 use Rattle.hp_model.specs.Values.{Row, KeyedRow}
 use Rattle.hp_model.specs.ClassParts.{ClassPart, picked}
 use Rattle.hp_model.specs.State.{Objects, find_object, rows_of}
-use Rattle.hp_model.specs.Cells.{object_cell, CellValue, row_value, over, AreKeys, AreObjects}
-use Rattle.hp_model.proofs.BridgesReads.{row_at}
+use Rattle.hp_model.specs.Cells.{row_value, over, AreKeys, AreObjects}
 use Rattle.hp_model.proofs.BridgesKeys.{ObjectsRise, class_keys, keys_are_class_keys, rows_found}
 use Rattle.hp_value.specs.Mapped.{keys_of}
-use Rattle.hp_view.specs.Seeing.{Seeing, written, Shows, ShowsKeys, ShowsObjects, ShowsPart}
+use Rattle.hp_view.specs.Seeing.{Seeing, written, ShowsKeys, ShowsObjects, ShowsPart}
 use Rattle.hp_view.proofs.Wholes.{same_rows}
 use Rattle.hp_view.specs.Looks.{Allows}
 use Rattle.hp_query.proofs.PartLemmas.{part_picked}

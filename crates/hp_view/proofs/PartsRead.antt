@@ -1,12 +1,11 @@
 -- Parts of classes that are read, and what they show wherever the reads hold.
-use Rattle.std.proofs.Common.{◌≡◌, refl, sym, ap, ap₂, ◌∙◌, subst, ℕ, ℤ, Bool, true, false, true≢false, ◌&&◌, ◌||◌, ◌==◌, List, [], ◌∷◌, ◌++◌, Ok, if◌then◌else◌, int_eq}
-use Rattle.std.specs.List.{list_any}
+use Rattle.std.proofs.Common.{◌≡◌, refl, sym, ap, ◌∙◌, subst, ℕ, Bool, true, false, true≢false, ◌&&◌, ◌||◌, ◌==◌, List, [], ◌∷◌, ◌++◌, Ok, if◌then◌else◌}
 use Rattle.std.proofs.lemmas.Bool.{and_parts, false_from_ne_true}
 use Rattle.std.proofs.lemmas.Bool.Decides.{Decides-eqb}
 use Rattle.std.proofs.lemmas.Cmp.{nat_eq_equiv}
 use Rattle.hp_model.specs.Values.{KeyedRow, Outcome}
 use Rattle.hp_model.specs.ClassParts.{ClassPart}
-use Rattle.hp_model.specs.Cells.{Cells, over, Read, cell_read, keys_read, objects_read, part_read, ReadsHold, Holds, ArePart}
+use Rattle.hp_model.specs.Cells.{Cells, Read, cell_read, keys_read, objects_read, part_read, ReadsHold, Holds, ArePart}
 use Rattle.hp_model.proofs.BridgesCells.{Holds-last}
 use Rattle.hp_model.proofs.BridgesKeys.{same_keys}
 use Rattle.hp_value.specs.Mapped.{keys_of}

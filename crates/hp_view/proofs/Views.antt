@@ -1,7 +1,5 @@
 -- Views that go on, for the layers above.
-use Rattle.std.proofs.Common.{refl, sym, ap, ◌∙◌, subst, ◌≤◌, [], ◌++◌, append-nil, append_assoc, length, arith}
-use Rattle.hp_model.specs.Cells.{Cells, Holds}
-use Rattle.hp_model.proofs.BridgesCells.{Holds-front}
+use Rattle.std.proofs.Common.{refl, sym, ap, ◌∙◌, ◌≤◌, [], ◌++◌, append-nil, append_assoc, length, arith}
 use Rattle.hp_view.specs.Seeing.{Seeing, GoesOn}
 
 -- a view goes on from itself
