@@ -51,7 +51,6 @@ ContextFits library context = EnvironmentFits library context.environment × Ans
 -- ---- courses
 
 module _ (library : Library) where
-
   pub ends_fits : (e : End) → WorkFits library (ends e)
   ends_fits e S fit = record { state = fit; queued = tt; detached = tt }
 
