@@ -8,7 +8,6 @@ pub record AsksLeft {A : Type 0} (asks : ℕ → A → A → Type 0) (all left :
   pub rest : (last : A) → AsksEach asks left now last → AsksEach asks all first last
 
 module _ {A : Type 0} (asks : ℕ → A → A → Type 0) where
-
   asks_none : ((class : ℕ) (look : A) → asks class look look) → (left : List ℕ) (now : A) → AsksEach asks left now now
   asks_none same [] now = refl
   asks_none same (class ∷ left) now = (now, same class now, asks_none same left now)
