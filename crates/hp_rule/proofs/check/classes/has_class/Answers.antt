@@ -10,6 +10,6 @@ use Rattle.hp_rule.proofs.check.classes.has_class.Goals as goal
 
 pub returns : goal.returns
 returns c =
-    any_from_yields_List (λ c. bytes_eq (string_bytes c.name) c.args.name.now) _ _ c.any.result c.any.ensures.ran
+    any_from_yields_List (λ d. bytes_eq (string_bytes d.name) c.args.name.now) _ _ c.any.result c.any.ensures.ran
     (YieldsList-from_slice c.args.classes.now (cc)) (λ x b q k. search (rules, tests))
-    ∙ is_known_item class_def (λ (c : ClassDef). c.name) c.args.name.now c.args.classes.now
+    ∙ is_known_item class_def (λ (d : ClassDef). d.name) c.args.name.now c.args.classes.now
