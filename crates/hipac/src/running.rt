@@ -21,7 +21,11 @@ use std::mem;
 use std::thread::Threads;
 
 /// The most bytes that are read: one more than a script may have is enough to refuse it.
-const MOST_READ: usize = 1_048_577;
+fn most_read() -> usize
+    ensures { result ≡ 1048577 }
+{
+    1_048_577
+}
 
 /// Reads a script up to the reader's end, runs it, and writes its report, or the line that refuses it.
 ///
@@ -66,7 +70,7 @@ fn read_script<R: Source>(alloc: Global, reader: &mut R) -> Result<Vec<u8>, Read
     ensures bytes { IfOk result (λ input. IfSome (R.remaining reader.old) (λ all. input.items ≡ take 1048577 all)) }
     ensures read { result ≡ Err ReadFault.Read ↔ (R.has_failed reader.new ≡ true) }
 {
-    read_up_to(alloc, reader, MOST_READ)
+    read_up_to(alloc, reader, most_read())
 }
 
 /// Writes the text that the definitions give for a script's bytes.
