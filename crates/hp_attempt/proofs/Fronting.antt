@@ -20,7 +20,7 @@ use Rattle.hp_attempt.specs.declared.outcome.Attempt.{Attempt}
 use Rattle.hp_attempt.specs.Mapped.{firing, attempt}
 use Rattle.hp_model.specs.States.{States, ordered_states, IsSoundFor, FaithfulFiringFor, FaithfulSiblingsFor}
 use Rattle.hp_model.proofs.ForStates.{sound_as, faithful_of}
-use Rattle.hp_attempt.proofs.ForStates.{Completes, completes_more, completes_end, completes_vetoed}
+use Rattle.hp_attempt.proofs.Siblings.{Completes, completes_more, completes_end, completes_vetoed}
 use Rattle.hp_attempt.specs.Fronts.{AreSound, AreSoundFor, last_end, stopped_by, Stays, StopsAt, IsLongest, FrontIs, FrontIsFor, StandsFor, TakesAttempt, TakesSome, AreOutcomes, TakesFirst, LeavesFirst}
 
 -- ---- the next of a list

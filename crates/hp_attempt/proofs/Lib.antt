@@ -1,5 +1,5 @@
 mod Passed
 mod Taking
-mod ForStates
+mod Siblings
 mod Fronting
 pub mod Joining

@@ -189,7 +189,7 @@ impl Looks {
     }
 }
 
-// A comparison, the same one turned, the keys of its answer, and the objects in the part, if one is asked for.
+// A comparison, the same one turned, the keys of its answer, and how many objects a part has, if one is asked for.
 type Case = (&'static str, &'static str, &'static [Key], Option<usize>);
 
 // A query for one key asks for no part.
