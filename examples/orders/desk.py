@@ -154,6 +154,12 @@ class Desk(socketserver.ThreadingTCPServer):
         super().__init__(ADDRESS, Client)
         self.base = base
 
+    def stop_listening(self) -> None:
+        """Refuses new clients from here on."""
+        # A second client that finds out the same finds the socket shut.
+        with contextlib.suppress(OSError):
+            self.socket.shutdown(socket.SHUT_RDWR)
+
     def fail(self, why: Exception) -> None:
         print(f"desk: {why}", file=sys.stderr)
         self.failed = True
@@ -175,6 +181,8 @@ class Client(socketserver.StreamRequestHandler):
         try:
             self.write(answer(self.server.base, request))
         except HipacError as fault:
+            # Whoever is told may start a new desk and ask it at once: the request mustn't come in here.
+            self.server.stop_listening()
             is_kept = isinstance(fault, ProgramEnded) and fault.is_kept
             with contextlib.suppress(ConnectionError):
                 self.write(["no: the desk goes down; " + ("this runs when it is up again" if is_kept else "ask again")])
@@ -209,7 +217,8 @@ def connected() -> socket.socket:
 
 
 def ask(request: str) -> int:
-    with connected() as desk, desk.makefile("rw", encoding="utf-8") as lines:
+    desk = connected()
+    with contextlib.suppress(ConnectionError), desk, desk.makefile("rw", encoding="utf-8") as lines:
         lines.write(request + "\n")
         lines.flush()
         for line in lines:

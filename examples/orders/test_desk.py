@@ -133,6 +133,8 @@ class CrashTest(DeskTest):
             program, = map(int, subprocess.check_output(["pgrep", "-P", str(desk.pid)]).split())
             os.kill(program, signal.SIGKILL)
             self.assertRegex(self.ask("show")[0][0], "^no: the desk goes down")
+            with self.assertRaises(ConnectionRefusedError):
+                self.ask("show")
         self.assertEqual(desk.wait(LIMIT), -signal.SIGKILL if kills_desk else 1)
         return self.serve()
 
