@@ -248,7 +248,7 @@ fn fired(
 }
 
 #[test]
-fn an_elder_is_seen(rt: HostRuntime) -> Result<(), Fail> {
+fn a_predecessor_is_seen(rt: HostRuntime) -> Result<(), Fail> {
     let alloc = rt.alloc();
     // The second task starts from what the first has posted.
     assert_eq!(rt; fired(&rt, alloc, &[plus(1), DOUBLES], 1)?, (22, (2, 0, 1)));
