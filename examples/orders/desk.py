@@ -156,7 +156,7 @@ class Desk(socketserver.ThreadingTCPServer):
 
     def stop_listening(self) -> None:
         """Refuses new clients from here on."""
-        # A second client that finds out the same finds the socket shut.
+        # Where several clients meet the fault at once, the first of them has shut the socket.
         with contextlib.suppress(OSError):
             self.socket.shutdown(socket.SHUT_RDWR)
 
@@ -181,7 +181,7 @@ class Client(socketserver.StreamRequestHandler):
         try:
             self.write(answer(self.server.base, request))
         except HipacError as fault:
-            # Whoever is told may start a new desk and ask it at once: the request mustn't come in here.
+            # Whoever gets the answer may start a new desk and ask it at once. That request mustn't reach this one.
             self.server.stop_listening()
             is_kept = isinstance(fault, ProgramEnded) and fault.is_kept
             with contextlib.suppress(ConnectionError):
@@ -218,6 +218,7 @@ def connected() -> socket.socket:
 
 def ask(request: str) -> int:
     desk = connected()
+    # A connection that is reset ends as one that is closed does.
     with contextlib.suppress(ConnectionError), desk, desk.makefile("rw", encoding="utf-8") as lines:
         lines.write(request + "\n")
         lines.flush()
