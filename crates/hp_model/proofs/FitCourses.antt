@@ -194,10 +194,10 @@ module _ (library : Library) where
   named_fits None h = tt
   named_fits (Some rows) h = h rows refl
 
-  kept_answer_fits : (answers : Answers) (x : Name) → AnswersFit answers → RowsFit (answer_named answers x)
+  pub kept_answer_fits : (answers : Answers) (x : Name) → AnswersFit answers → RowsFit (answer_named answers x)
   kept_answer_fits answers x h = named_fits (lookup (bytes_eq x) answers) (λ rows is. each_found RowsFit (bytes_eq x) answers rows h is)
 
-  created_object : (class : ℕ) (r : KeyedRow) → IsTrue (nat_lt class (length library.classes)) → IsTrue (fits_64 r.key) × IsTrue (row_fits (class_at library class).fields r.row)
+  pub created_object : (class : ℕ) (r : KeyedRow) → IsTrue (nat_lt class (length library.classes)) → IsTrue (fits_64 r.key) × IsTrue (row_fits (class_at library class).fields r.row)
       → IsTrue (object_fits library class r.key r.row)
   created_object class r within h = and_from (nat_lt class (length library.classes)) _ within (and_from (fits_64 r.key) _ h.0 h.1)
 

@@ -65,14 +65,14 @@ kind_takes true k o e = refl
 kind_takes false k o e = cc
 
 -- each field has the kind that its name is found with
-abbrev KindsAre : List Field → List Field → Type 0
+abbrev pub KindsAre : List Field → List Field → Type 0
 KindsAre fields fs = AllByRecursion (λ (f : Field). kind_in fields f.name ≡ Some f.kind) fs
 
 later_kinds : (g : Field) (gs fs : List Field) → AllByRecursion (λ x. bytes_eq g.name x ≡ false) (field_names fs) → KindsAre gs fs → KindsAre (g ∷ gs) fs
 later_kinds g gs [] apart h = tt
 later_kinds g gs (f ∷ fs) apart h = (kind_skips (bytes_eq g.name f.name) g.kind (kind_in gs f.name) apart.0 ∙ h.0, later_kinds g gs fs apart.1 h.1)
 
-kinds_are : (fields : List Field) → IsDistinct bytes_eq (field_names fields) → KindsAre fields fields
+pub kinds_are : (fields : List Field) → IsDistinct bytes_eq (field_names fields) → KindsAre fields fields
 unfolding IsDistinct
 kinds_are [] distinct = tt
 kinds_are (g ∷ gs) distinct = (kind_takes (bytes_eq g.name g.name) g.kind (kind_in gs g.name) (same_name g.name), later_kinds g gs gs distinct.0 (kinds_are gs distinct.1))
@@ -119,7 +119,7 @@ none_distinct : IsDistinct bytes_eq []
 unfolding IsDistinct
 none_distinct = tt
 
-fields_at : (classes : List ClassDef) (n : ℕ) → AllByRecursion (λ (c : ClassDef). IsDistinct bytes_eq (field_names c.fields)) classes → IsDistinct bytes_eq (field_names (slice_index_or classes n no_class).fields)
+pub fields_at : (classes : List ClassDef) (n : ℕ) → AllByRecursion (λ (c : ClassDef). IsDistinct bytes_eq (field_names c.fields)) classes → IsDistinct bytes_eq (field_names (slice_index_or classes n no_class).fields)
 fields_at [] n h = none_distinct
 fields_at (c ∷ cs) zero h = h.0
 fields_at (c ∷ cs) (suc n) h = fields_at cs n h.1

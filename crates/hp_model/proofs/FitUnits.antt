@@ -22,7 +22,7 @@ use Rattle.hp_model.proofs.FitCourses.{StepFits, TaskFits, TasksFit, DetachedFit
 
 -- ---- conditions and their answers
 
-abbrev VerdictFits : Verdict → Type 0
+abbrev pub VerdictFits : Verdict → Type 0
 VerdictFits (satisfied answers) = AnswersFit answers
 VerdictFits unsatisfied = ⊤
 VerdictFits (faulty c) = ⊤
@@ -37,7 +37,7 @@ answered_fits x (Err c) next gives k = tt
 answered_fits x (Ok []) next gives k = tt
 answered_fits x (Ok (r ∷ rs)) next gives k = keeping_fits x (r ∷ rs) (next r) (gives.fact (r ∷ rs) refl) (k r)
 
-verdict_fits : (library : Library) (objects : Objects) (env : Environment) (qs : List Query) → ObjectsFit library objects → VerdictFits (verdict objects env qs)
+pub verdict_fits : (library : Library) (objects : Objects) (env : Environment) (qs : List Query) → ObjectsFit library objects → VerdictFits (verdict objects env qs)
 verdict_fits library objects env [] h = tt
 verdict_fits library objects env (q ∷ qs) h =
     answered_fits q.name (answer env q.name q.class q.predicate objects) (λ first. verdict objects (bound q.name first env) qs)
@@ -48,13 +48,13 @@ one_answer : (library : Library) (x : Name) (rows : List KeyedRow) (more : Answe
 one_answer library x [] more env h fit next = next env fit
 one_answer library x (r ∷ rs) more env h fit next = next (bound x r env) (fit.0, (h.0, fit.1))
 
-answers_bound : (library : Library) (answers : Answers) (env : Environment) → AnswersFit answers → EnvironmentFits library env → EnvironmentFits library (with_answers env answers)
+pub answers_bound : (library : Library) (answers : Answers) (env : Environment) → AnswersFit answers → EnvironmentFits library env → EnvironmentFits library (with_answers env answers)
 answers_bound library [] env h fit = fit
 answers_bound library (a ∷ more) env h fit = one_answer library a.0 a.1 more env h.0 fit (λ inner inner_fit. answers_bound library more inner h.1 inner_fit)
 
 -- ---- firings
 
-rule_at_fits : (classes : ℕ) (rules : List Rule) (n : ℕ) → IsTrue (list_all (rule_fits classes) rules) → IsTrue (rule_fits classes (slice_index_or rules n no_rule))
+pub rule_at_fits : (classes : ℕ) (rules : List Rule) (n : ℕ) → IsTrue (list_all (rule_fits classes) rules) → IsTrue (rule_fits classes (slice_index_or rules n no_rule))
 rule_at_fits classes [] n h = refl
 rule_at_fits classes (r ∷ rs) zero h = (and_parts (rule_fits classes r) (list_all (rule_fits classes) rs) h).0
 rule_at_fits classes (r ∷ rs) (suc n) h = rule_at_fits classes rs n (and_parts (rule_fits classes r) (list_all (rule_fits classes) rs) h).1

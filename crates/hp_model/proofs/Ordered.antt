@@ -125,5 +125,6 @@ orders library limit = record {
 -- a firing, of any task
 pub fire_ordered : (library : Library) (S : State) (t : Task) → IsOrdered library S → IsOrdered library (fire_task library S t).state
 fire_ordered library S t =
-    step_kept (library.depth_limit + t.depth) (Orders library) (orders library (library.depth_limit + t.depth)) t.step (below_limit library (library.depth_limit - t.depth)) library t S
-    (below_kept (library.depth_limit + t.depth) (Orders library) (orders library (library.depth_limit + t.depth)) library (library.depth_limit - t.depth) t.depth (omega arith)) (omega arith)
+    let most = t.depth + (library.depth_limit - t.depth) in
+    step_kept most (Orders library) (orders library most) t.step (below_limit library (library.depth_limit - t.depth)) library t S
+    (below_kept most (Orders library) (orders library most) library (library.depth_limit - t.depth) t.depth refl) (omega arith)

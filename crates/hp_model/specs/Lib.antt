@@ -34,4 +34,6 @@ pub mod Fitting
 pub mod States
 pub mod Accepting
 pub mod Sessions
+pub mod Kinds
 pub mod Laws
+pub mod Chains

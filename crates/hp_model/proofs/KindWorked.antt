@@ -1,0 +1,78 @@
+-- Worked rows of the kinds: what is kinded, and what isn't.
+use Rattle.std.proofs.Common.{◌≡◌, refl, [], ◌∷◌, codes, true, false}
+use Rattle.hp_model.specs.Values.{integer_kind, text_kind, text}
+use Rattle.hp_model.specs.Expressions.{Expression, constant, arithmetic, plus, compared, less, field_of, new_field, old_field, key_in, argument, occurrence_count}
+use Rattle.hp_model.specs.Events.{Event, pattern_event, on_create, on_update, on_delete, on_signal, or_event, seq_event}
+use Rattle.hp_model.specs.Rules.{Query, immediate, emit, signal, empty, ◌then◌, Library}
+use Rattle.hp_model.specs.Cascade.{transaction}
+use Rattle.hp_model.specs.Kinds.{only, Declared, library_kinded, unit_kinded, is_condition_calm}
+use Rattle.hp_model.proofs.Scripts.{number, acct_class, bal, rule, script}
+use Rattle.hp_model.proofs.Rows.{thinnest_script}
+
+abbrev none : Declared
+none = record { signatures = []; fired = [] }
+
+abbrev pays : Declared
+pays = record { signatures = (codes "paid", only integer_kind ∷ only text_kind ∷ []) ∷ []; fired = [] }
+
+-- one rule on an event, which emits a value
+abbrev emits_on : Event → Expression → Library
+emits_on e x = (script (acct_class ∷ []) 8 (rule (codes "r") e immediate [] immediate (emit x then empty) ∷ []) []).library
+
+pub thinnest_kinded : library_kinded thinnest_script.library none ≡ true
+thinnest_kinded = refl
+
+-- `new` in a rule on a deletion
+pub new_of_a_deletion : library_kinded (emits_on (pattern_event (on_delete 0)) (new_field 0 bal)) none ≡ false
+new_of_a_deletion = refl
+
+pub old_of_a_deletion : library_kinded (emits_on (pattern_event (on_delete 0)) (old_field 0 bal)) none ≡ true
+old_of_a_deletion = refl
+
+-- the key is known in each of the two, the old balance is not
+pub key_of_either : library_kinded (emits_on (or_event (pattern_event (on_create 0)) (pattern_event (on_update 0))) (key_in 0)) none ≡ true
+key_of_either = refl
+
+pub old_of_either : library_kinded (emits_on (or_event (pattern_event (on_create 0)) (pattern_event (on_update 0))) (old_field 0 bal)) none ≡ false
+old_of_either = refl
+
+-- the second part of a sequence, and a third one
+pub second_part : library_kinded (emits_on (seq_event (pattern_event (on_signal (codes "paid"))) (pattern_event (on_update 0))) (arithmetic plus (argument 0 0) (old_field 1 bal))) pays ≡ true
+second_part = refl
+
+pub third_part : library_kinded (emits_on (seq_event (pattern_event (on_signal (codes "paid"))) (pattern_event (on_update 0))) (key_in 2)) pays ≡ false
+third_part = refl
+
+-- a text is no number, and this signal has no third argument
+pub text_plus_one : library_kinded (emits_on (pattern_event (on_signal (codes "paid"))) (arithmetic plus (argument 0 1) (number 1))) pays ≡ false
+text_plus_one = refl
+
+pub third_argument : library_kinded (emits_on (pattern_event (on_signal (codes "paid"))) (argument 0 2)) pays ≡ false
+third_argument = refl
+
+-- transactions that signal it
+pub one_argument : unit_kinded thinnest_script.library pays (transaction (signal (codes "paid") (number 1 ∷ []) then empty)) ≡ false
+one_argument = refl
+
+pub three_arguments : unit_kinded thinnest_script.library pays (transaction (signal (codes "paid") (number 1 ∷ constant (text (codes "cash")) ∷ number 2 ∷ []) then empty)) ≡ true
+three_arguments = refl
+
+-- a rule that is fired may use the count, and no part
+pub fired_count : library_kinded (emits_on (pattern_event (on_update 0)) occurrence_count) (record { signatures = []; fired = 0 ∷ [] }) ≡ true
+fired_count = refl
+
+pub fired_part : library_kinded (emits_on (pattern_event (on_update 0)) (key_in 0)) (record { signatures = []; fired = 0 ∷ [] }) ≡ false
+fired_part = refl
+
+-- a guard that compares is calm; one that computes isn't
+abbrev solvent : Query
+solvent = record { name = codes "a"; class = 0; predicate = compared less (field_of (codes "a") bal) (number 0) }
+
+abbrev credit : Query
+credit = record { name = codes "a"; class = 0; predicate = compared less (number 100) (arithmetic plus (field_of (codes "a") bal) (new_field 0 bal)) }
+
+pub solvent_calm : is_condition_calm (solvent ∷ []) ≡ true
+solvent_calm = refl
+
+pub credit_faults : is_condition_calm (credit ∷ []) ≡ false
+credit_faults = refl

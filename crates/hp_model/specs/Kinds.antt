@@ -1,0 +1,412 @@
+-- Kinds: which kinds of values expressions give, read off the library alone; and the law that where each use is of the
+-- right kind, nothing ends because of a wrong kind or a part that the occurrence lacks.
+use Rattle.std.specs.Prelude.{ℕ, suc, Bool, true, false, ◌&&◌, ◌||◌, ◌==◌, IsTrue, ⊤, ◌≡◌, List, [], ◌∷◌, ◌++◌, map, Option, Some, None, is_some, option_map, unwrap_or, bytes_eq, slice_get}
+use Rattle.std.specs.Bool.{then_some}
+use Rattle.std.specs.List.{list_all, list_any, AllByRecursion}
+use Rattle.std.specs.Map.{lookup}
+use Rattle.hp_model.specs.Values.{Name, Value, Kind, integer_kind, boolean_kind, text_kind, Field, Cause, exists, missing, wrong_kind, overflow, divide_by_zero, no_parameter, depth_exceeded, requested, vetoed, kind_of, is_kind}
+use Rattle.hp_model.specs.Occurrences.{Primitive, signalled}
+use Rattle.hp_model.specs.Events.{Pattern, on_create, on_update, on_delete, on_signal, at_moment, every_moment, Event, pattern_event, or_event, seq_event, closure_event}
+use Rattle.hp_model.specs.Expressions.{Comparison, equal, unequal, less, at_most, greater, at_least, Expression, constant, arithmetic, negated, inverted, both, either, compared, field_of, key_of, new_field, old_field, key_in, argument, time_of, occurrence_count}
+use Rattle.hp_model.specs.Rules.{Query, Assignment, Statement, create, update, delete, signal, emit, when, each, for_answer, with_object, subtransaction, abort, veto, on_rule, fire, Body, empty, ◌then◌, Rule, Library, class_at, rule_at}
+use Rattle.hp_model.specs.Firing.{kind_in}
+use Rattle.hp_model.specs.State.{State, RuleState, IsFit}
+use Rattle.hp_model.specs.Tree.{Ending, committed, aborted, Condition, without_action, with_fault, with_action, with_later_action, Node, sub_node, fire_node, act_node, Items, no_items, operation, emission, detachment, node}
+use Rattle.hp_model.specs.Ranges.{IsFitLibrary, unit_fits}
+use Rattle.hp_model.specs.Cascade.{Unit, transaction, moment, Transaction, transactions_of, run_unit, TransactionReport, UnitReport, Script, evaluate}
+
+-- ---- sorts, and what is declared
+
+-- what is known of a value: its kind, or nothing
+pub data Sort : Type 0 where
+  only : Kind → Sort
+  any : Sort
+
+abbrev pub has_sort : Sort → Value → Bool
+has_sort (only k) v = is_kind k (kind_of v)
+has_sort any v = true
+
+-- the signals' first arguments, by their sorts; and the rules that statements may fire. The program infers this for a
+-- library and its transactions; the laws hold of each such declaration
+pub record Declared : Type 0 where
+  pub signatures : List (Name × List Sort)
+  pub fired : List ℕ
+
+abbrev pub signature_of : Declared → Name → List Sort
+signature_of d s = unwrap_or (lookup (bytes_eq s) d.signatures) []
+
+abbrev pub is_fired : Declared → ℕ → Bool
+is_fired d n = list_any (λ m. m == n) d.fired
+
+-- the first values are of these sorts
+abbrev pub covers : List Sort → List Value → Bool
+covers [] vs = true
+covers (s ∷ ss) [] = false
+covers (s ∷ ss) (v ∷ vs) = has_sort s v && covers ss vs
+
+-- a signal is as declared
+abbrev pub is_declared : Declared → Primitive → Bool
+is_declared d (signalled name arguments) = covers (signature_of d name) arguments
+is_declared d p = true
+
+-- ---- the parts of an event's occurrences
+
+-- for each place the patterns of which a part there matches one; if exact, there are no further parts
+pub record Columns : Type 0 where
+  pub places : List (List Pattern)
+  pub exact : Bool
+
+-- nothing is known of the parts
+abbrev pub no_columns : Columns
+no_columns = record { places = []; exact = false }
+
+abbrev pub same_length : {A : Type 0} → List A → List A → Bool
+same_length [] [] = true
+same_length [] (y ∷ ys) = false
+same_length (x ∷ xs) [] = false
+same_length (x ∷ xs) (y ∷ ys) = same_length xs ys
+
+abbrev pub merged : List (List Pattern) → List (List Pattern) → List (List Pattern)
+merged [] bs = []
+merged (a ∷ as') [] = []
+merged (a ∷ as') (b ∷ bs) = (a ++ b) ∷ merged as' bs
+
+abbrev pub either_columns : Columns → Columns → Columns
+either_columns a b = record { places = merged a.places b.places; exact = a.exact && (b.exact && same_length a.places b.places) }
+
+abbrev pub followed : Bool → List (List Pattern) → Columns → Columns
+followed true places b = record { places = places ++ b.places; exact = b.exact }
+followed false places b = record { places = places; exact = false }
+
+abbrev pub columns_of : Event → Columns
+columns_of (pattern_event pattern) = record { places = (pattern ∷ []) ∷ []; exact = true }
+columns_of (or_event a b) = either_columns (columns_of a) (columns_of b)
+columns_of (seq_event a b) = followed (columns_of a).exact (columns_of a).places (columns_of b)
+columns_of (closure_event a t) = followed (columns_of a).exact (columns_of a).places (columns_of t)
+
+-- the columns of a rule: a fired one may have no parts
+abbrev pub columns_by : (fired : Bool) → Event → Columns
+columns_by true e = no_columns
+columns_by false e = columns_of e
+
+-- ---- expressions
+
+-- what is known at a place: the occurrence's columns, if there is an occurrence, and the classes of the rows by name,
+-- the innermost first
+pub record Scope : Type 0 where
+  pub columns : Option Columns
+  pub rows : List (Name × ℕ)
+
+abbrev pub with_name : Name → ℕ → Scope → Scope
+with_name x class scope = record { columns = scope.columns; rows = (x, class) ∷ scope.rows }
+
+-- the sort is known, and is exactly this kind
+abbrev pub is_only : Kind → Option Sort → Bool
+is_only k None = false
+is_only k (Some any) = false
+is_only k (Some (only l)) = is_kind k l
+
+abbrev pub only_if : Bool → Kind → Sort
+only_if true k = only k
+only_if false k = any
+
+-- what is known of a value that has one sort or the other
+abbrev pub meets : Sort → Sort → Sort
+meets (only k) (only l) = only_if (is_kind k l) k
+meets (only k) any = any
+meets any t = any
+
+abbrev pub meet : Option Sort → Option Sort → Option Sort
+meet None o = None
+meet (Some s) None = None
+meet (Some s) (Some t) = Some (meets s t)
+
+-- the sort that the test gives for each of the patterns
+abbrev pub common : (Pattern → Option Sort) → List Pattern → Option Sort
+common test [] = None
+common test (p ∷ []) = test p
+common test (p ∷ q ∷ ps) = meet (test p) (common test (q ∷ ps))
+
+abbrev pub common_at : (Pattern → Option Sort) → Option (List Pattern) → Option Sort
+common_at test None = None
+common_at test (Some ps) = common test ps
+
+abbrev pub part_sort : Option Columns → ℕ → (Pattern → Option Sort) → Option Sort
+part_sort None i test = None
+part_sort (Some c) i test = common_at test (slice_get c.places i)
+
+abbrev pub field_sort : Library → ℕ → Name → Option Sort
+field_sort library class f = option_map only (kind_in (class_at library class).fields f)
+
+abbrev pub new_sort : Library → Name → Pattern → Option Sort
+new_sort library f (on_create c) = field_sort library c f
+new_sort library f (on_update c) = field_sort library c f
+new_sort library f p = None
+
+abbrev pub old_sort : Library → Name → Pattern → Option Sort
+old_sort library f (on_update c) = field_sort library c f
+old_sort library f (on_delete c) = field_sort library c f
+old_sort library f p = None
+
+abbrev pub key_sort : Pattern → Option Sort
+key_sort (on_create c) = Some (only integer_kind)
+key_sort (on_update c) = Some (only integer_kind)
+key_sort (on_delete c) = Some (only integer_kind)
+key_sort p = None
+
+abbrev pub argument_sort : Declared → ℕ → Pattern → Option Sort
+argument_sort d j (on_signal s) = slice_get (signature_of d s) j
+argument_sort d j p = None
+
+abbrev pub moment_sort : Pattern → Option Sort
+moment_sort (at_moment t) = Some (only integer_kind)
+moment_sort (every_moment first period) = Some (only integer_kind)
+moment_sort p = None
+
+abbrev pub named_sort : Library → Option ℕ → Name → Option Sort
+named_sort library None f = None
+named_sort library (Some class) f = field_sort library class f
+
+-- two values of one kind; two integers or two texts
+abbrev pub are_alike : Option Sort → Option Sort → Bool
+are_alike None o = false
+are_alike (Some any) o = false
+are_alike (Some (only k)) o = is_only k o
+
+abbrev pub are_ordered : Option Sort → Option Sort → Bool
+are_ordered a b = (is_only integer_kind a && is_only integer_kind b) || (is_only text_kind a && is_only text_kind b)
+
+abbrev pub are_comparable : Comparison → Option Sort → Option Sort → Bool
+are_comparable equal a b = are_alike a b
+are_comparable unequal a b = are_alike a b
+are_comparable less a b = are_ordered a b
+are_comparable at_most a b = are_ordered a b
+are_comparable greater a b = are_ordered a b
+are_comparable at_least a b = are_ordered a b
+
+-- the sort of an expression, if all in it is of the right kinds
+abbrev pub sort_of : Library → Declared → Scope → Expression → Option Sort
+sort_of library d scope (constant v) = Some (only (kind_of v))
+sort_of library d scope (arithmetic op a b) =
+    then_some (is_only integer_kind (sort_of library d scope a) && is_only integer_kind (sort_of library d scope b)) (only integer_kind)
+sort_of library d scope (negated a) = then_some (is_only integer_kind (sort_of library d scope a)) (only integer_kind)
+sort_of library d scope (inverted a) = then_some (is_only boolean_kind (sort_of library d scope a)) (only boolean_kind)
+sort_of library d scope (both a b) =
+    then_some (is_only boolean_kind (sort_of library d scope a) && is_only boolean_kind (sort_of library d scope b)) (only boolean_kind)
+sort_of library d scope (either a b) =
+    then_some (is_only boolean_kind (sort_of library d scope a) && is_only boolean_kind (sort_of library d scope b)) (only boolean_kind)
+sort_of library d scope (compared op a b) = then_some (are_comparable op (sort_of library d scope a) (sort_of library d scope b)) (only boolean_kind)
+sort_of library d scope (field_of x f) = named_sort library (lookup (bytes_eq x) scope.rows) f
+sort_of library d scope (key_of x) = then_some (is_some (lookup (bytes_eq x) scope.rows)) (only integer_kind)
+sort_of library d scope (new_field i f) = part_sort scope.columns i (new_sort library f)
+sort_of library d scope (old_field i f) = part_sort scope.columns i (old_sort library f)
+sort_of library d scope (key_in i) = part_sort scope.columns i key_sort
+sort_of library d scope (argument i j) = part_sort scope.columns i (argument_sort d j)
+sort_of library d scope (time_of i) = part_sort scope.columns i moment_sort
+sort_of library d scope occurrence_count = then_some (is_some scope.columns) (only integer_kind)
+
+-- an expression whose value never overflows and never divides by zero: it has no arithmetic and no count
+abbrev pub is_calm : Expression → Bool
+is_calm (arithmetic op a b) = false
+is_calm (negated a) = false
+is_calm (inverted a) = is_calm a
+is_calm (both a b) = is_calm a && is_calm b
+is_calm (either a b) = is_calm a && is_calm b
+is_calm (compared op a b) = is_calm a && is_calm b
+is_calm occurrence_count = false
+is_calm e = true
+
+-- ---- statements
+
+abbrev pub gives_sort : Sort → Option Sort → Bool
+gives_sort any o = is_some o
+gives_sort (only k) o = is_only k o
+
+-- the arguments of a signal: the first ones are of these sorts
+abbrev pub arguments_kinded : Library → Declared → Scope → List Sort → List Expression → Bool
+arguments_kinded library d scope [] es = list_all (λ e. is_some (sort_of library d scope e)) es
+arguments_kinded library d scope (s ∷ ss) [] = false
+arguments_kinded library d scope (s ∷ ss) (e ∷ es) = gives_sort s (sort_of library d scope e) && arguments_kinded library d scope ss es
+
+abbrev pub is_given : Option Kind → Option Sort → Bool
+is_given None o = false
+is_given (Some k) o = is_only k o
+
+-- each assigned field is one of these, and its value is of its kind
+abbrev pub assignments_kinded : Library → Declared → Scope → List Field → List Assignment → Bool
+assignments_kinded library d scope fields pairs = list_all (λ (a : Assignment). is_given (kind_in fields a.field) (sort_of library d scope a.value)) pairs
+
+-- each field is assigned
+abbrev pub all_assigned : List Field → List Assignment → Bool
+all_assigned fields pairs = list_all (λ (f : Field). list_any (λ (a : Assignment). bytes_eq f.name a.field) pairs) fields
+
+-- in the scope, and with these classes of the rule's queries
+abbrev mutual
+  pub statement_kinded : Library → Declared → Scope → List (Name × ℕ) → Statement → Bool
+  statement_kinded library d scope queries (create class key pairs) =
+      is_only integer_kind (sort_of library d scope key) && (assignments_kinded library d scope (class_at library class).fields pairs && all_assigned (class_at library class).fields pairs)
+  statement_kinded library d scope queries (update class key pairs) =
+      is_only integer_kind (sort_of library d scope key) && assignments_kinded library d scope (class_at library class).fields pairs
+  statement_kinded library d scope queries (delete class key) = is_only integer_kind (sort_of library d scope key)
+  statement_kinded library d scope queries (signal name arguments) = arguments_kinded library d scope (signature_of d name) arguments
+  statement_kinded library d scope queries (emit e) = is_some (sort_of library d scope e)
+  statement_kinded library d scope queries (when e then_body else_body) =
+      is_only boolean_kind (sort_of library d scope e) && (body_kinded library d scope queries then_body && body_kinded library d scope queries else_body)
+  statement_kinded library d scope queries (each x class predicate body) =
+      is_only boolean_kind (sort_of library d (with_name x class scope) predicate) && body_kinded library d (with_name x class scope) queries body
+  statement_kinded library d scope queries (for_answer x body) =
+      is_some (lookup (bytes_eq x) queries) && body_kinded library d (with_name x (unwrap_or (lookup (bytes_eq x) queries) 0) scope) queries body
+  statement_kinded library d scope queries (with_object x class key body) =
+      is_only integer_kind (sort_of library d scope key) && body_kinded library d (with_name x class scope) queries body
+  statement_kinded library d scope queries (subtransaction body otherwise) = body_kinded library d scope queries body && body_kinded library d scope queries otherwise
+  statement_kinded library d scope queries abort = true
+  statement_kinded library d scope queries veto = true
+  statement_kinded library d scope queries (on_rule op n) = true
+  statement_kinded library d scope queries (fire n) = is_fired d n
+
+  pub body_kinded : Library → Declared → Scope → List (Name × ℕ) → Body → Bool
+  body_kinded library d scope queries empty = true
+  body_kinded library d scope queries (s then rest) = statement_kinded library d scope queries s && body_kinded library d scope queries rest
+
+-- no abort of the body is one of arithmetic: all its expressions are calm, except within a `sub`, whose abort its other
+-- body follows
+abbrev mutual
+  pub is_statement_calm : Statement → Bool
+  is_statement_calm (create class key pairs) = is_calm key && list_all (λ (a : Assignment). is_calm a.value) pairs
+  is_statement_calm (update class key pairs) = is_calm key && list_all (λ (a : Assignment). is_calm a.value) pairs
+  is_statement_calm (delete class key) = is_calm key
+  is_statement_calm (signal name arguments) = list_all is_calm arguments
+  is_statement_calm (emit e) = is_calm e
+  is_statement_calm (when e then_body else_body) = is_calm e && (is_body_calm then_body && is_body_calm else_body)
+  is_statement_calm (each x class predicate body) = is_calm predicate && is_body_calm body
+  is_statement_calm (for_answer x body) = is_body_calm body
+  is_statement_calm (with_object x class key body) = is_calm key && is_body_calm body
+  is_statement_calm (subtransaction body otherwise) = is_body_calm otherwise
+  is_statement_calm s = true
+
+  pub is_body_calm : Body → Bool
+  is_body_calm empty = true
+  is_body_calm (s then rest) = is_statement_calm s && is_body_calm rest
+
+-- ---- rules, libraries and units
+
+abbrev pub queries_kinded : Library → Declared → Scope → List Query → Bool
+queries_kinded library d scope [] = true
+queries_kinded library d scope (q ∷ qs) =
+    is_only boolean_kind (sort_of library d (with_name q.name q.class scope) q.predicate) && queries_kinded library d (with_name q.name q.class scope) qs
+
+-- an action knows the first row of each answer
+abbrev pub with_queries : Scope → List Query → Scope
+with_queries scope [] = scope
+with_queries scope (q ∷ qs) = with_queries (with_name q.name q.class scope) qs
+
+abbrev pub query_classes : List Query → List (Name × ℕ)
+query_classes qs = map (λ (q : Query). (q.name, q.class)) qs
+
+-- the scope of a rule's condition
+abbrev pub rule_scope : (fired : Bool) → Rule → Scope
+rule_scope fired rule = record { columns = Some (columns_by fired rule.event); rows = [] }
+
+abbrev pub rule_kinded : Library → Declared → (fired : Bool) → Rule → Bool
+rule_kinded library d fired rule =
+    queries_kinded library d (rule_scope fired rule) rule.condition && body_kinded library d (with_queries (rule_scope fired rule) rule.condition) (query_classes rule.condition) rule.action
+
+-- the first rule of the list is the n-th
+abbrev pub rules_kinded : Library → Declared → (n : ℕ) → List Rule → Bool
+rules_kinded library d n [] = true
+rules_kinded library d n (rule ∷ rules) = rule_kinded library d (is_fired d n) rule && rules_kinded library d (suc n) rules
+
+-- all predicates of the rule's condition are calm
+abbrev pub is_condition_calm : List Query → Bool
+is_condition_calm [] = true
+is_condition_calm (q ∷ qs) = is_calm q.predicate && is_condition_calm qs
+
+abbrev pub library_kinded : Library → Declared → Bool
+library_kinded library d = rules_kinded library d 0 library.rules
+
+abbrev pub no_scope : Scope
+no_scope = record { columns = None; rows = [] }
+
+abbrev pub unit_kinded : Library → Declared → Unit → Bool
+unit_kinded library d (transaction body) = body_kinded library d no_scope [] body
+unit_kinded library d (moment t) = true
+
+-- ---- trees in which nothing ends because of a kind
+
+abbrev pub NotOfKinds : Cause → Type 0
+NotOfKinds exists = ⊤
+NotOfKinds missing = ⊤
+NotOfKinds wrong_kind = ⊥
+NotOfKinds overflow = ⊤
+NotOfKinds divide_by_zero = ⊤
+NotOfKinds no_parameter = ⊥
+NotOfKinds depth_exceeded = ⊤
+NotOfKinds requested = ⊤
+NotOfKinds (vetoed rule) = ⊤
+
+abbrev pub IsKindedEnding : Ending → Type 0
+IsKindedEnding committed = ⊤
+IsKindedEnding (aborted c) = NotOfKinds c
+
+abbrev pub is_arithmetic : Cause → Bool
+is_arithmetic overflow = true
+is_arithmetic divide_by_zero = true
+is_arithmetic c = false
+
+-- an action ends with no cause of a kind; with none of arithmetic if it is calm
+abbrev pub CauseOf : (calm : Bool) → Cause → Type 0
+CauseOf calm c = NotOfKinds c × (is_arithmetic c ≡ true → calm ≡ false)
+
+abbrev pub IsEndingOf : (calm : Bool) → Ending → Type 0
+IsEndingOf calm committed = ⊤
+IsEndingOf calm (aborted c) = CauseOf calm c
+
+-- whether what runs in the node is calm
+abbrev pub is_node_calm : Library → Node → Bool
+is_node_calm library sub_node = false
+is_node_calm library (fire_node rule place condition) = is_body_calm (rule_at library rule).action
+is_node_calm library (act_node rule place) = is_body_calm (rule_at library rule).action
+
+-- a condition ends with no cause of a kind; with no cause at all if it is calm
+abbrev pub IsKindedCondition : (calm : Bool) → Condition → Type 0
+IsKindedCondition calm without_action = ⊤
+IsKindedCondition calm (with_fault c) = NotOfKinds c × (calm ≡ false)
+IsKindedCondition calm with_action = ⊤
+IsKindedCondition calm with_later_action = ⊤
+
+abbrev pub IsKindedNode : Library → Node → Type 0
+IsKindedNode library sub_node = ⊤
+IsKindedNode library (fire_node rule place condition) = IsKindedCondition (is_condition_calm (rule_at library rule).condition) condition
+IsKindedNode library (act_node rule place) = ⊤
+
+-- no transaction in the tree ended because of a kind or a part, and no condition did
+abbrev pub IsKinded : Library → Items → Type 0
+IsKinded library no_items = ⊤
+IsKinded library (operation op rest) = IsKinded library rest
+IsKinded library (emission v rest) = IsKinded library rest
+IsKinded library (detachment t rest) = IsKinded library rest
+IsKinded library (node what end inside rest) = ((IsKindedNode library what × IsEndingOf (is_node_calm library what) end) × IsKinded library inside) × IsKinded library rest
+
+abbrev pub AreKinded : Library → List Transaction → Type 0
+AreKinded library ts = AllByRecursion (λ (t : Transaction). IsKindedEnding t.ending × IsKinded library t.items) ts
+
+abbrev pub IsKindedReport : Library → UnitReport → Type 0
+IsKindedReport library u = AllByRecursion (λ (t : TransactionReport). IsKindedEnding t.ending × IsKinded library t.items) u.transactions
+
+-- ---- the laws
+
+-- all that was signalled is as declared
+abbrev pub ArePastsDeclared : Declared → State → Type 0
+ArePastsDeclared d S = AllByRecursion (λ (r : RuleState). AllByRecursion (λ p. IsTrue (is_declared d p)) r.past) S.rules
+
+-- a kinded unit, run from a fit state in which all is as declared: no cause of a kind, and such a state after it
+abbrev pub KindsHold : Type 0
+KindsHold = (library : Library) (d : Declared) → IsFitLibrary library → IsTrue (library_kinded library d) → (unit : Unit) → IsTrue (unit_fits library unit) → IsTrue (unit_kinded library d unit)
+    → (S : State) → IsFit library S → ArePastsDeclared d S
+    → AreKinded library (transactions_of (run_unit library unit S)) × ArePastsDeclared d (run_unit library unit S).state
+
+-- a kinded script never meets a wrong kind or a part that the occurrence lacks
+abbrev pub NeverOfKinds : Type 0
+NeverOfKinds = (script : Script) (d : Declared) → IsFitLibrary script.library → AllByRecursion (λ u. IsTrue (unit_fits script.library u)) script.units
+    → IsTrue (library_kinded script.library d) → AllByRecursion (λ u. IsTrue (unit_kinded script.library d u)) script.units
+    → AllByRecursion (IsKindedReport script.library) (evaluate script).units
