@@ -17,12 +17,14 @@ A transaction that aborts is an answer, and no exception: its unit says so. Thes
 - `ProgramEnded`: the program has gone away, and the state with it. Each later call raises it again.
 - `AnswerFault`: the program has written what is no answer. It is ended; later calls raise `ProgramEnded`.
 - `JournalFault`: a journal is in use, can't be written, or is another rule base's. Nothing was sent.
+- `SnapshotFault`: a snapshot wouldn't go on as the rule base does.
 """
 
 from __future__ import annotations
 
 import contextlib
 import fcntl
+import heapq
 import json
 import logging
 import os
@@ -122,6 +124,15 @@ class AnswerFault(HipacError):
 
 class JournalFault(HipacError):
     """A journal that can't be used."""
+
+
+class SnapshotFault(HipacError):
+    """A snapshot after which some rules would not fire as they do in this rule base. `differences` says why, by the
+    rules' names."""
+
+    def __init__(self, differences: Mapping[str, str]):
+        super().__init__("a snapshot would differ: " + "; ".join(f"{rule} {why}" for rule, why in differences.items()))
+        self.differences = dict(differences)
 
 
 # What is answered.
@@ -502,6 +513,96 @@ def _clock_after(items: Any) -> Optional[int]:
     return moves[-1] if moves else None
 
 
+# Snapshots: the lines of a new rule base that stands as another does.
+
+_MOST_BYTES = 1_048_576
+
+# The most moments of a move of the clock.
+_MOST_MOMENTS = 1_000
+
+# The most moments of all moves of a snapshot: each is a unit, in which no rule fires.
+_MOST_MOVED = 1_000_000
+
+
+def _patterns(event: Sequence[Any]) -> Iterator[Sequence[Any]]:
+    """The patterns of an event."""
+    if event[0] in ("or", "seq", "closure"):
+        for part in event[1:]:
+            yield from _patterns(part)
+    else:
+        yield event
+
+
+def _is_composite(event: Sequence[Any]) -> bool:
+    """Whether what an event remembers of the past decides when it occurs."""
+    return event[0] in ("seq", "closure") or event[0] == "or" and any(map(_is_composite, event[1:]))
+
+
+def _difference(event: Sequence[Any]) -> Optional[str]:
+    """Why an enabled rule with this event doesn't go on in a snapshot as before."""
+    if _is_composite(event):
+        return "loses its past"
+    if any(pattern[0] == "commit" for pattern in _patterns(event)):
+        return "fires once more, at the end of the snapshot's own transaction"
+    return None
+
+
+def _moments_up_to(rules: Sequence[Any], time: int) -> Iterator[int]:
+    """The moments up to a time that events name, in ascending order, each once."""
+    named = [pattern[1:] for rule in rules for pattern in _patterns(rule[1]) if pattern[0] in ("at", "every")]
+    streams = [range(first, time + 1, *period) if period else [first] for first, *period in named]
+    previous = 0
+    for moment in heapq.merge(*streams):
+        if previous < moment <= time:
+            yield moment
+            previous = moment
+
+
+def _moves(rules: Sequence[Any], time: int) -> Iterator[List[Any]]:
+    """Moves of the clock from 0 to a time, each with as many moments as it may have."""
+    count, last = 0, 0
+    for moment in _moments_up_to(rules, time):
+        if count == _MOST_MOVED:
+            raise SnapshotFault({"the clock": f"has passed more than {_MOST_MOVED:,} moments"})
+        if count and count % _MOST_MOMENTS == 0:
+            yield ["clock", last]
+        count, last = count + 1, moment
+    if time:
+        yield ["clock", time]
+
+
+def _transactions(statements: Iterable[List[Any]]) -> Iterator[List[Any]]:
+    """Transactions of these statements, none of which is too long for a line."""
+    body: List[Any] = []
+    size = 0
+    for statement in statements:
+        length = len(_line(statement)) + 1
+        if body and size + length > _MOST_BYTES // 2:
+            yield ["tx", body]
+            body, size = [], 0
+        body.append(statement)
+        size += length
+    if body:
+        yield ["tx", body]
+
+
+def _snapshot(script: Mapping[str, Any], state: State, time: int) -> List[bytes]:
+    """The lines of a rule base of this script that has the objects, the rules' statuses and the time of another one.
+
+    The objects come before the rules, and the clock before both: so no rule fires but those on `commit`.
+    """
+    creates = [["create", it.class_name, it.key, [list(pair) for pair in it.fields.items()]] for it in state.objects]
+    known = [rule[0] for rule in script["rules"]]
+    statuses = [(name, state.rules.get(name, "absent")) for name in known]
+    rules = [["install", name] for name, status in statuses if status != "absent"]
+    rules += [["disable", name] for name, status in statuses if status == "disabled"]
+    items = [*_moves(script["rules"], time), *_transactions(creates), *_transactions(rules)]
+    whole = _line({**script, "items": [*items, *script["items"]]})
+    if len(whole) <= _MOST_BYTES:
+        return [whole]
+    return [_line({**script, "items": []}), *map(_line, [*items, *script["items"]])]
+
+
 class Journal:
     """The lines of a rule base on disk, one to a line, so that whoever sends them again has the same rule base.
 
@@ -668,6 +769,7 @@ class RuleBase:
         if workers is not None and not 1 <= workers <= 64:
             raise ValueError(f"there are 1 to 64 workers, and not {workers}")
         value = _script_value(script)
+        self._script = value
         self._script_line = _line(value)
         self._tree, self._timeout, self._journal = tree, timeout, None
         self._lock = threading.Lock()
@@ -741,6 +843,25 @@ class RuleBase:
     def show(self) -> State:
         """The objects and the rules as they are."""
         return self._ask(["show"]).state
+
+    def snapshot(self, script: Optional[Script] = None, *, lose_pasts: bool = False) -> List[bytes]:
+        """The lines of a journal whose rule base stands as this one does: a script, and items if it is too long.
+
+        The new rule base has the objects, the rules' statuses and the clock's time. Its units are numbered anew. An
+        enabled rule with `seq` or `closure` in its event loses its past, and one on `commit` fires once more; where
+        there is such a rule, and `lose_pasts` isn't set, it is a SnapshotFault. If a script is given, its classes and
+        rules take the place of this one's: a rule has the status of the old one of its name, and the script's own items
+        follow.
+        """
+        value = _script_value(script) if script is not None else {**self._script, "items": []}
+        with self._lock:
+            self._raise_if_ended()
+            state, time_now = self._exchange(_line(["show"]), ["show"]).state, self.time
+        found = {rule[0]: _difference(rule[1]) for rule in value["rules"] if state.rules.get(rule[0]) == "enabled"}
+        differences = {name: why for name, why in found.items() if why is not None}
+        if differences and not lose_pasts:
+            raise SnapshotFault(differences)
+        return _snapshot(value, state, time_now)
 
     def replay(self, lines: Iterable[Union[str, bytes]]) -> None:
         """Sends the later lines of a journal (`Journal.lines`), and skips their answers and refusals."""

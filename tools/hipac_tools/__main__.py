@@ -13,10 +13,12 @@ from .near import nearest
 
 @dataclass(frozen=True)
 class Word:
-    """A word of the command line: the module that implements it, and what it does in one line."""
+    """A word of the command line: the module that implements it, what it does in one line, and the module's function
+    for it."""
 
     module: str
     says: str
+    function: str = "main"
 
 
 WORDS = {
@@ -25,12 +27,14 @@ WORDS = {
     "graph": Word("graph", "draws which rules can trigger which"),
     "view": Word("view", "shows what a script's transactions did"),
     "why": Word("why", "says why a rule acted, or didn't"),
+    "journal": Word("journal", "writes the script of a journal"),
+    "snapshot": Word("journal", "writes a new rule base that stands as a journal's", "main_snapshot"),
 }
 
 
 def usage() -> str:
     lines = ["usage: hipac-tools WORD ..", ""]
-    lines += [f"  {name:<6} {word.says}" for name, word in WORDS.items()]
+    lines += [f"  {name:<8} {word.says}" for name, word in WORDS.items()]
     return "\n".join([*lines, "", "`hipac-tools WORD --help` says more of one; docs/TOOLS.md shows each by example."])
 
 
@@ -45,7 +49,7 @@ def main(arguments: list[str]) -> int:
         print(f"hipac-tools: there is no word `{name}`{question}\n\n{usage()}", file=sys.stderr)
         return WRONG_WORDS
     module = importlib.import_module(f"{__package__}.{WORDS[name].module}")
-    return module.main(arguments[1:])
+    return getattr(module, WORDS[name].function)(arguments[1:])
 
 
 def run() -> int:
