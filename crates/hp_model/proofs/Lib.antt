@@ -2,6 +2,7 @@ pub mod Scripts
 pub mod Rows
 pub mod Chained
 pub mod Decoding
+pub mod Endings
 pub mod Causes
 pub mod Guarded
 pub mod Induction

@@ -10,6 +10,7 @@ pub mod Tree
 pub mod Transactions
 pub mod Firing
 pub mod Cascade
+pub mod Endings
 pub mod Report
 pub mod Refusals
 pub mod Json
