@@ -4,7 +4,9 @@
     desk.py serve JOURNAL      takes requests on a local port and answers each, until it is ended
     desk.py ask WORD ..        sends one request, and prints the answer
 
-$DESK_PORT is the port, 7070 if it isn't set. These are the requests, one a line; each number is a whole number:
+$DESK_PORT is the port, 7070 if it isn't set. The desk's page for a browser is on the port after it.
+
+These are the requests, one a line; each number is a whole number:
 
     product NUMBER STOCK LOW NAME   a new product, which is reordered when there are less than LOW
     order NUMBER PRODUCT COUNT      a new order
@@ -14,8 +16,9 @@ $DESK_PORT is the port, 7070 if it isn't set. These are the requests, one a line
     clock MINUTE                    so many minutes have gone by since the desk was opened; a day has 1440
     show                            all there is
 
-An answer is what the rules emit, a line each and indented, and then `done` or `no: ` with the reason.
-`rules.json` says what is allowed and what follows: the desk has no rules of its own.
+An answer is what the rules emit, a line each and indented, and then `done` or `no: ` with the reason. A desk that is
+still reading its journal answers `wait: ` with how far it is, and `ask` asks again.
+`rules.json` says what is allowed and what follows: the desk only refuses numbers that no rule would ask about.
 """
 
 from __future__ import annotations
@@ -26,14 +29,16 @@ import re
 import socket
 import socketserver
 import sys
+import threading
 import time
 from pathlib import Path
-from typing import Any, Callable, Dict, Iterable, List
+from typing import Any, Callable, Dict, Iterable, Iterator, List, Optional
 
 sys.path.insert(0, str(Path(__file__).resolve().parents[2] / "clients" / "python"))
 
+import page  # noqa: E402 - it stands beside this file
 from hipac_live import (  # noqa: E402 - found by the path above
-    HipacError, JournalFault, ProgramEnded, Refused, RuleBase, Unit, Value)
+    HipacError, Journal, JournalFault, ProgramEnded, Refused, RuleBase, Unit, Value)
 
 RULES = Path(__file__).with_name("rules.json")
 ADDRESS = ("127.0.0.1", int(os.environ.get("DESK_PORT", "7070")))
@@ -60,11 +65,19 @@ REQUESTS = {
 }
 
 
+# Why a request is refused before it runs, by the code of the refusal.
+REFUSALS = {"S3": "a number is too large", "S5": "that is too long"}
+
+
 class NoRequest(Exception):
     """A line that is none of the requests."""
 
 
-def is_meant(word: str) -> str:
+class Unfit(Exception):
+    """A request that isn't asked, with the reason."""
+
+
+def usage_of(word: str) -> str:
     """What a request looks like that begins with this word."""
     if word in REQUESTS:
         return f"the request is: {word} {REQUESTS[word]}".rstrip()
@@ -72,6 +85,8 @@ def is_meant(word: str) -> str:
 
 
 def product(number: int, stock: int, low: int, *name: Value) -> List[Any]:
+    if any(isinstance(it, int) and it < 0 for it in (number, stock, low)):
+        raise Unfit("a product's number, its stock and the least stock aren't negative")
     fields = [["name", " ".join(map(str, name))], ["stock", stock], ["low", low], ["awaited", False]]
     return [["create", "product", number, fields]]
 
@@ -116,9 +131,16 @@ def end_of(units: List[Unit]) -> str:
     return "done" if ending is None else "no: " + REASONS.get(ending.rule or ending.cause, str(ending))
 
 
+def reason_of(refused: Refused, word: str, base: RuleBase) -> str:
+    """Why a request was refused, in the words of a client, who has seen no rules and no paths."""
+    if refused.code == "S2" and word == "clock":
+        return f"the clock doesn't go back: it is minute {base.time}"
+    return REFUSALS.get(refused.code, "that can't be asked")
+
+
 def run(base: RuleBase, word: str, words: List[Value]) -> List[Unit]:
     """The units of a request."""
-    if word == "clock" and len(words) == 1:
+    if word == "clock" and len(words) == 1 and isinstance(words[0], int):
         return base.clock(words[0])
     try:
         body = TRANSACTIONS[word](*words)
@@ -135,12 +157,27 @@ def answer(base: RuleBase, request: str) -> List[str]:
     try:
         units = run(base, word, [int(it) if re.fullmatch("-?[0-9]{1,19}", it) else it for it in rest])
     except NoRequest:
-        return [f"no: {is_meant(word)}"]
-    except JournalFault as fault:
+        return [f"no: {usage_of(word)}"]
+    except (JournalFault, Unfit) as fault:
         return [f"no: {fault}"]
     except Refused as refused:
-        return [f"no: {refused}" + (f"; it is minute {base.time}" if word == "clock" else "")]
+        return [f"no: {reason_of(refused, word, base)}"]
     return news(units) + [end_of(units)]
+
+
+class CountedJournal(Journal):
+    """A journal that tells how much of it has been read."""
+
+    read = 0
+
+    def __init__(self, path: str):
+        super().__init__(path)
+        self.total = sum(1 for _ in super().lines())
+
+    def lines(self) -> Iterator[bytes]:
+        for line in super().lines():
+            self.read += 1
+            yield line
 
 
 class Desk(socketserver.ThreadingTCPServer):
@@ -148,11 +185,31 @@ class Desk(socketserver.ThreadingTCPServer):
 
     allow_reuse_address = True
     daemon_threads = True
-    failed = False
 
-    def __init__(self, base: RuleBase):
+    def __init__(self, journal: CountedJournal):
         super().__init__(ADDRESS, Client)
-        self.base = base
+        self.journal = journal
+        self.base: Optional[RuleBase] = None
+        """The rule base, once the whole journal has been read."""
+        self.fault: Optional[HipacError] = None
+        """Why the desk goes down."""
+
+    def progress(self) -> str:
+        """How far a desk is that is opening."""
+        return f"opening, {self.journal.read:,} of {self.journal.total:,} lines"
+
+    def answer(self, request: str) -> List[str]:
+        """The lines of the answer to a request. Once it is written, `end_if_failed` is due."""
+        if self.base is None:
+            return [f"wait: {self.progress()}"]
+        try:
+            return answer(self.base, request)
+        except HipacError as fault:
+            # Whoever gets the answer may start a new desk and ask it at once. That request mustn't reach this one.
+            self.stop_listening()
+            self.fault = self.fault or fault
+            is_kept = isinstance(fault, ProgramEnded) and fault.is_kept
+            return ["no: the desk goes down; " + ("this runs when it is up again" if is_kept else "ask again")]
 
     def stop_listening(self) -> None:
         """Refuses new clients from here on."""
@@ -160,10 +217,10 @@ class Desk(socketserver.ThreadingTCPServer):
         with contextlib.suppress(OSError):
             self.socket.shutdown(socket.SHUT_RDWR)
 
-    def fail(self, why: Exception) -> None:
-        print(f"desk: {why}", file=sys.stderr)
-        self.failed = True
-        self.shutdown()
+    def end_if_failed(self) -> None:
+        """Ends the desk if the rule base has gone."""
+        if self.fault is not None:
+            self.shutdown()
 
 
 class Client(socketserver.StreamRequestHandler):
@@ -178,29 +235,38 @@ class Client(socketserver.StreamRequestHandler):
                 self.reply(raw.decode("utf-8", "replace"))
 
     def reply(self, request: str) -> None:
+        lines = self.server.answer(request)
         try:
-            self.write(answer(self.server.base, request))
-        except HipacError as fault:
-            # Whoever gets the answer may start a new desk and ask it at once. That request mustn't reach this one.
-            self.server.stop_listening()
-            is_kept = isinstance(fault, ProgramEnded) and fault.is_kept
-            with contextlib.suppress(ConnectionError):
-                self.write(["no: the desk goes down; " + ("this runs when it is up again" if is_kept else "ask again")])
-            self.server.fail(fault)
-
-    def write(self, lines: List[str]) -> None:
-        self.wfile.write("".join(line + "\n" for line in lines).encode())
+            self.wfile.write("".join(line + "\n" for line in lines).encode())
+        finally:
+            self.server.end_if_failed()
 
 
-def serve(journal: str) -> int:
-    with RuleBase.recover(journal, RULES) as base, Desk(base) as desk:
-        print(f"desk: open on port {ADDRESS[1]}; lines replayed: {base.replayed}; units so far: {base.units}",
-              file=sys.stderr)
-        try:
-            desk.serve_forever(poll_interval=0.1)
-        except KeyboardInterrupt:
-            pass
-        return 1 if desk.failed else 0
+@contextlib.contextmanager
+def listening(*servers: socketserver.BaseServer) -> Iterator[List[threading.Thread]]:
+    """Servers that take requests, each in a thread of its own."""
+    threads = [threading.Thread(target=it.serve_forever, args=[0.1], daemon=True) for it in servers]
+    for thread in threads:
+        thread.start()
+    try:
+        yield threads
+    finally:
+        for server in servers:
+            server.shutdown()
+
+
+def serve(path: str) -> int:
+    """Takes requests while the journal is read, and answers them from then on."""
+    with CountedJournal(path) as journal, Desk(journal) as desk, page.PageServer(desk) as pages:
+        with listening(desk, pages) as threads, RuleBase.recover(journal, RULES) as base:
+            desk.base = base
+            print(f"desk: open on port {ADDRESS[1]}, with a page at {pages.url}; lines replayed: {base.replayed}; "
+                  f"units so far: {base.units}", file=sys.stderr)
+            with contextlib.suppress(KeyboardInterrupt):
+                threads[0].join()
+    if desk.fault is not None:
+        print(f"desk: {desk.fault}", file=sys.stderr)
+    return 0 if desk.fault is None else 1
 
 
 def connected() -> socket.socket:
@@ -211,23 +277,36 @@ def connected() -> socket.socket:
             return socket.create_connection(ADDRESS)
         except ConnectionRefusedError:
             if time.monotonic() > deadline:
-                raise ConnectionRefusedError(f"no desk is open on port {ADDRESS[1]}: start one, and wait until it says "
-                                             "that it is open") from None
+                raise ConnectionRefusedError(f"no desk is open on port {ADDRESS[1]}: start one with `serve`") from None
             time.sleep(0.1)
 
 
-def ask(request: str) -> int:
-    desk = connected()
+def exchange(request: str) -> Iterator[str]:
+    """Sends a request, and gives the lines of the answer as they come."""
     # A connection that is reset ends as one that is closed does.
-    with contextlib.suppress(ConnectionError), desk, desk.makefile("rw", encoding="utf-8") as lines:
+    with contextlib.suppress(ConnectionError), connected() as desk, desk.makefile("rw", encoding="utf-8") as lines:
         lines.write(request + "\n")
         lines.flush()
         for line in lines:
-            print(line, end="")
+            yield line
             if not line.startswith(" "):
-                return 0 if line == "done\n" else 1
-    print("no: the desk has gone away")
-    return 1
+                return
+    yield "no: the desk has gone away\n"
+
+
+def ask(request: str) -> int:
+    """Asks a desk, and waits for one that is opening."""
+    told = ""
+    while True:
+        for line in exchange(request):
+            if not line.startswith("wait: "):
+                print(line, end="", flush=True)
+            elif line != told:
+                print(f"desk: {line[len('wait: '):]}", end="", file=sys.stderr, flush=True)
+                told = line
+        if not line.startswith("wait: "):
+            return 0 if line == "done\n" else 1
+        time.sleep(0.2)
 
 
 def main(words: List[str]) -> int:

@@ -27,9 +27,12 @@ LIMIT = 60
 
 
 def free_port() -> int:
-    with socket.socket() as probe:
-        probe.bind(("127.0.0.1", 0))
-        return probe.getsockname()[1]
+    """A port that is free, as is the one after it, which the page takes."""
+    while True:
+        with socket.socket() as probe, socket.socket() as after, contextlib.suppress(OSError, OverflowError):
+            probe.bind(("127.0.0.1", 0))
+            after.bind(("127.0.0.1", probe.getsockname()[1] + 1))
+            return probe.getsockname()[1]
 
 
 class DeskTest(unittest.TestCase):
@@ -145,6 +148,28 @@ class CrashTest(DeskTest):
         self.assertIn("another process has this journal", ended.stderr)
 
 
+class OpeningTest(DeskTest):
+    def test_a_client_waits_while_the_journal_is_read(self):
+        """The program answers the journal's lines only when it is let go on."""
+        self.serve().kill()
+        room = Path(self.journal).parent
+        gate, program = room / "gate", room / "program"
+        script = f"#!/bin/sh\nuntil [ -e {gate} ]; do sleep 0.1; done\nexec {PROGRAM[0]} \"$@\"\n"
+        program.write_text(script, encoding="utf-8")
+        program.chmod(0o755)
+        self.how["env"]["HIPAC_LIVE"] = str(program)
+        words = [sys.executable, str(HERE / "desk.py")]
+        desk = subprocess.Popen([*words, "serve", self.journal], **self.how)
+        self.addCleanup(desk.wait, LIMIT)
+        self.addCleanup(desk.kill)
+        asking = subprocess.Popen([*words, "ask", "show"], text=True, stdout=subprocess.PIPE,
+                                  **{**self.how, "stderr": subprocess.PIPE})
+        self.assertEqual(asking.stderr.readline(), "desk: opening, 1 of 1 lines\n")
+        gate.touch()
+        told, _ = asking.communicate(timeout=LIMIT)
+        self.assertEqual((told, asking.returncode), ("done\n", 0))
+
+
 class ManyTest(DeskTest):
     CLIENTS, ORDERS, STOCK = 8, 10, 50
 
@@ -187,7 +212,11 @@ class RequestTest(DeskTest):
                 ("complain 8", ["no: there is nothing of that number"]),
                 ("complain 7", ["done"]), ("complain 7", ["done", "two complaints in a row 7"]),
                 ("clock 1439", ["done"]), ("clock 1440", ["done", "orders today 1"]),
-                ("clock 1", ["no: refused S2 /1 (a wrong shape): 1; it is minute 1440"]),
+                ("clock 1", ["no: the clock doesn't go back: it is minute 1440"]),
+                ("clock noon", ["no: the request is: clock MINUTE"]),
+                ("product -1 3 2 lamp", ["no: a product's number, its stock and the least stock aren't negative"]),
+                ("order 2 7 9999999999999999999", ["no: a number is too large"]),
+                (f"product 9 1 1 {'x' * 1025}", ["no: that is too long"]),
                 ("order 1 7", ["no: the request is: order NUMBER PRODUCT COUNT"]),
                 ("show 1", ["no: the request is: show"]), ("oder 1 7 2", [REQUESTS]), ("", [REQUESTS]),
                 ("show", ["done", 'order 1 product=7 count=2 state="cancelled" reminded=false',

@@ -166,16 +166,27 @@ class Browser:
         elif method == "Page.loadEventFired":
             self.loaded += 1
 
-    def open(self, path, address=""):
-        """Opens a page, and returns how many milliseconds it took to load and paint all of it."""
+    def open(self, place, address=""):
+        """Opens a page by its path or its URL, and returns how many milliseconds it took to load and paint all of
+        it."""
         before = self.loaded
         self.faults, self.requests = [], []
         began = time.monotonic()
-        self.call("Page.navigate", url=Path(path).resolve().as_uri() + address)
+        url = str(place) if str(place).startswith("http://") else Path(place).resolve().as_uri()
+        self.call("Page.navigate", url=url + address)
+        self._await_load(before)
+        return (time.monotonic() - began) * 1000
+
+    def follow(self, selector):
+        """Clicks on what opens another page, and waits until that is loaded."""
+        before = self.loaded
+        self.click(selector)
+        self._await_load(before)
+
+    def _await_load(self, before):
         while self.loaded == before:
             self._event(json.loads(self.socket.receive()))
         self.evaluate("new Promise((done) => requestAnimationFrame(() => setTimeout(done)))")
-        return (time.monotonic() - began) * 1000
 
     def evaluate(self, expression):
         answer = self.call("Runtime.evaluate", expression=expression, returnByValue=True, awaitPromise=True)
