@@ -89,7 +89,7 @@ fn put_stored_object(
     value: Option<&CellValue>,
 ) -> Result<(), AllocError>
     ensures { OnOk result (Gains out.old out.new (stored_line (model.library_of names.now) class key
-        (option_map (λ v. cell_value v.now) value))) }
+        (option_map (λ v. cell_value v.now) value.entry))) }
 {
     match value {
         Some(CellValue::Row(row)) => {

@@ -96,11 +96,7 @@ fn excerpt_from(
 
 /// The request to show what a form names.
 #[tactic(auto, unfolding(crate::specs::Requests::show_of))]
-fn show_of(
-    alloc: Global,
-    library: &Library,
-    form: ShowForm<'_>,
-) -> Result<Request, DecodeError>
+fn show_of(alloc: Global, library: &Library, form: ShowForm<'_>) -> Result<Request, DecodeError>
     ensures reads { Gives request result (show_of (model_library library.now) (show_form_view form.entry)) }
     ensures own { IfOk result (λ r. (all : _) → IsRequestOf all r) }
 {

@@ -1,14 +1,14 @@
 -- The lines of the objects in a store are those of each state that has its cells.
-use Rattle.std.proofs.Common.{◌≡◌, refl, sym, ap, ◌∙◌, subst, ℕ, ℤ, Bool, List, [], ◌∷◌, ◌++◌, map, flat_map, Option, Some, None, is_some, option_map}
+use Rattle.std.proofs.Common.{◌≡◌, refl, sym, ap, ◌∙◌, subst, ℕ, ℤ, List, [], ◌∷◌, ◌++◌, map, flat_map, Option, Some, None, is_some, option_map}
 use Rattle.std.specs.List.{All}
 use Rattle.std.proofs.lemmas.List.Elements.{All-head, All-tail}
 use Rattle.hp_model.specs.Values.{ClassDef, Row, KeyedRow}
-use Rattle.hp_model.specs.Rules.{Rule, Library}
+use Rattle.hp_model.specs.Rules.{Library}
 use Rattle.hp_model.specs.State.{State, IsOrdered, find_object, rows_of}
 use Rattle.hp_model.specs.Cells.{Cells, cells, CellValue, row_value, object_cell, AreKeys}
 use Rattle.hp_model.specs.Report.{Bytes}
-use Rattle.hp_model.proofs.BridgesKeys.{class_keys, keys_are_class_keys, rows_found}
-use Rattle.hp_report.specs.Text.{object_line, class_text, line_of_row, object_text}
+use Rattle.hp_model.proofs.BridgesKeys.{keys_are_class_keys, rows_found}
+use Rattle.hp_report.specs.Text.{object_line, class_text, line_of_row}
 use Rattle.hp_report.specs.Stored.{stored_line, stored_lines, IsClassText, IsObjectText}
 
 -- ---- one object
