@@ -19,8 +19,8 @@ use Rattle.hp_script.specs.Requests.{Request, item, show, ShowForm, show_form_in
 use Rattle.hp_script.specs.Timed.{TimedScript, library_at, timed_script_at, timed_script_of, untimed}
 use Rattle.hp_script.proofs.Timed.{untimed_at}
 use Rattle.hp_lines.specs.Lines.{Line}
-use Rattle.hp_lines.specs.Live.{RuleBase, new_base, Stage, unopened, up, closed, Answer, ran, opening_answer, later_answer, answer, stage_after}
-use Rattle.hp_lines.specs.Journal.{item_in, item_for, value_if, body_if, accepted, accepted_bodies, opened_by, IsJournal, Replays, AcceptedLinesReplay}
+use Rattle.hp_lines.specs.Live.{RuleBase, new_base, up, closed, opening_answer, later_answer, stage_after}
+use Rattle.hp_lines.specs.Journal.{item_in, value_if, body_if, accepted, accepted_bodies, AcceptedLinesReplay}
 use Rattle.hp_lines.proofs.Anywhere.{unit_goes}
 use Rattle.hp_lines.proofs.Pieces.{closed_stage}
 
@@ -166,7 +166,7 @@ step : (with_tree : Bool) (S : State) (path : Path) (base : RuleBase) (before : 
     → Leads_on with_tree S path base before i (value_if (item_in r) (json_at l) ++ accepted with_tree (later_answer with_tree base r).stage ls)
     (body_if (item_in r) (later_answer with_tree base r).body ++ accepted_bodies with_tree (later_answer with_tree base r).stage ls) end
 step with_tree S path base before i l ls end rest leads (Err e) asked ends = rest base before i leads ends
-step with_tree S path base before i l ls end rest leads (Ok state) asked ends = rest base before i leads ends
+step with_tree S path base before i l ls end rest leads (Ok (show excerpt)) asked ends = rest base before i leads ends
 step with_tree S path base before i l ls end rest leads (Ok (item s)) asked ends =
     let read = item_read base.library base.clock l s asked in
     let clock : nothing_since base.clock ≡ nothing_since before.clock = ap nothing_since (sym leads.clock_is) in

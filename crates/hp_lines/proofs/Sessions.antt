@@ -1,5 +1,5 @@
 -- Worked sessions, each with what is answered, proved by computation.
-use Rattle.std.proofs.Common.{◌≡◌, refl, List, [], ◌∷◌, codes, false}
+use Rattle.std.proofs.Common.{◌≡◌, refl, [], ◌∷◌, codes, false}
 use Rattle.hp_model.proofs.Decoding.{script_on_literals}
 use Rattle.hp_model.proofs.Scripts.{lines}
 use Rattle.hp_script.specs.Timed.{library_at, timed_script_at, timed_script_of}
@@ -16,7 +16,7 @@ numbered_on = refl
 -- the state is shown as it is; the last line needs no line feed
 pub shown : output false (codes "{\"version\":1,\"classes\":[[\"acct\",[[\"bal\",\"int\"]]]],\"rules\":[],\"items\":[[\"tx\",[[\"create\",\"acct\",1,[[\"bal\",5]]]]]]}\r\n[\"show\"]")
     ≡ lines (codes "unit 1 committed" ∷ codes "ok 1" ∷ codes "object acct 1 bal=5" ∷ codes "ok 1" ∷ [])
-unfolding script_on_literals library_at timed_script_at timed_script_of item_of request_at request_of
+unfolding script_on_literals library_at timed_script_at timed_script_of excerpt_from show_of item_of request_at request_of
 shown = refl
 
 -- a class's objects are shown, and one object; a class that the library lacks and a key that is no number are refused

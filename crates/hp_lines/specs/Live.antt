@@ -1,8 +1,8 @@
 -- The answers of a running rule manager to lines.
-use Rattle.std.specs.Prelude.{ℕ, suc, ◌+◌, ◌==◌, Bool, List, [], ◌∷◌, ◌++◌, length, codes, decimal, Ok, Err, if◌then◌else◌}
+use Rattle.std.specs.Prelude.{ℕ, ◌+◌, ◌==◌, Bool, List, [], ◌∷◌, ◌++◌, length, codes, decimal, Ok, Err, if◌then◌else◌}
 use Rattle.hp_model.specs.Rules.{Library}
 use Rattle.hp_model.specs.State.{State, initial_state}
-use Rattle.hp_model.specs.Cascade.{UnitReport, run_units}
+use Rattle.hp_model.specs.Cascade.{run_units}
 use Rattle.hp_model.specs.Refusals.{Decoded}
 use Rattle.hp_model.specs.Decode.{Schedule}
 use Rattle.hp_model.specs.Report.{Bytes, line, units_text}
