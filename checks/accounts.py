@@ -1,5 +1,5 @@
 #!/usr/bin/env python3
-"""Compares what `hipac-tools why` says of random scripts with a plain, slow account from the definitions.
+"""Compares what `hipac-tools why` says of scripts with a plain, slow account from the definitions.
 
     checks/accounts.py [--scripts N] [--jobs N]
 
@@ -10,8 +10,8 @@ what it came to; each dropped task; and for each rule in each unit how often it 
 signal, and what became of each occurrence that its event could have been completed with. The same facts are worded, and
 each kind of sentence must occur.
 
-HIPAC names the program; the default is the one that ./hipac starts. The seeds are fixed: script n is the same on each
-machine. The last line is 'N passed, M failed'.
+The scripts are the examples and N random ones. HIPAC names the program; the default is the one that ./hipac
+starts. The seeds are fixed: script n is the same on each machine. The last line is 'N passed, M failed'.
 """
 
 import argparse
@@ -23,6 +23,7 @@ import re
 import sys
 import traceback
 from collections import Counter
+from pathlib import Path
 
 TOP = os.path.dirname(os.path.dirname(os.path.abspath(__file__)))
 sys.path[:0] = [os.path.join(TOP, "tools"), os.path.join(TOP, "checks")]
@@ -33,12 +34,12 @@ import plain_account  # noqa: E402
 from hipac_tools import account as accounts  # noqa: E402
 from hipac_tools import fates, why  # noqa: E402
 from hipac_tools.answers import rule_answer, status_by_report  # noqa: E402
+from hipac_tools.command import REFUSED  # noqa: E402
 from hipac_tools.model import page_model  # noqa: E402
 from hipac_tools.notes import ABORT, NO_ABORT, VETO, undone_by  # noqa: E402
 from hipac_tools.pasts import Fate  # noqa: E402
-from hipac_tools.report import Act, Fire, children, walk  # noqa: E402
-from hipac_tools.values import value_text  # noqa: E402
-from hipac_tools.wording import ALL, SOME  # noqa: E402
+from hipac_tools.report import Act, Fire, children  # noqa: E402
+from hipac_tools.wording import ALL  # noqa: E402
 from live_sessions import by_pipe, command_of  # noqa: E402
 from tests.made_scripts import ScriptMaker  # noqa: E402
 
@@ -50,7 +51,7 @@ SENTENCES = [
     "was taken by", "ended the closure itself", "was undone, as", "was forgotten at",
     r"wasn't heard, as rule \w+ was disabled, since disable",
     r"wasn't heard, as rule \w+ wasn't installed\.", r"wasn't heard, as rule \w+ wasn't installed, since remove",
-    "has yet to follow", "the next moment of", "before it is left", "before it counts", "since the last",
+    "has yet to follow", "the next moment of", "no earlier .* is left", "no earlier .* counts", "since the last",
     "there was no .* before it\\.",
     "there was no .* before it since", r"At .* it was disabled, since", r"At .* it wasn't installed\.",
     r"At .* it wasn't installed, since", "would have been too deep", r"It wasn't installed\.",
@@ -105,6 +106,12 @@ def made(seed):
     return (AccountMaker if seed % 4 else ScriptMaker)(seed).script()
 
 
+def written():
+    """The scripts that lie in files: the examples, and those of the tests of the tools."""
+    folders = ("examples", "examples/tutorial", "tools/tests/accepted")
+    return [path for folder in folders for path in sorted(Path(TOP, folder).glob("*.json"))]
+
+
 # ---- the tools' facts, as plain tuples
 
 class ToolFacts:
@@ -155,9 +162,12 @@ class ToolFacts:
         answer = rule_answer(self.account, unit, rule, math.inf)
         tally = fates.tally([node for _, node in answer.tasks], answer.dropped)
         return {"silences": [self._silence(silence) for silence in answer.silences],
+                "fates": {fates.WORDS[fate]: number for fate, number in tally.fates.items()},
+                "is by event": tally.is_by_event,
                 "throughout": answer.throughout and (answer.throughout.status, self.place(answer.throughout.since)),
                 "undone operation": self.place(answer.undone_operation),
-                "status by the trees": status_by_report(self.account, unit, rule), "triggers": tally.triggers}
+                "status by the trees": status_by_report(self.account, unit, rule),
+                "triggers": tally.triggers}
 
     def _silence(self, one):
         shortfalls = [(each.lack.at, each.lack.is_vain, [self._candidate(candidate) for candidate in each.candidates])
@@ -223,22 +233,25 @@ def derived_differences(run, account):
 
 
 def worded(account):
-    """All that `why` says on a script, in short and in full, and the page of `view`."""
+    """All that `why` says on a script, and the page of `view`."""
     texts = [" ".join(page_model(account).sentences)]
     for unit in account.report.units:
-        for most in (SOME, ALL):
-            lines = why.Lines(math.inf, account.places, most)
-            why.UnitText(account, unit, lines).write()
-            for rule in account.rules:
-                why.RuleText(account, rule_answer(account, unit, rule, most.candidates), lines).write()
-            texts.append(lines.text())
+        lines = why.Lines(math.inf, account.places, ALL)
+        why.UnitText(account, unit, lines).write()
+        for rule in account.rules:
+            why.RuleText(account, rule_answer(account, unit, rule, ALL.candidates), lines).write()
+        texts.append(lines.text())
     return "\n".join(texts)
 
 
-def tried(command, seed):
-    """What is wrong with a script's account, in lines, and the kinds of sentences in it."""
+def tried(command, which):
+    """What is wrong with the account of a script, by its seed or its file, in lines, and the kinds of sentences in it.
+    A file may have a script that the program refuses."""
     try:
-        return compared(command, made(seed))
+        if isinstance(which, int):
+            return compared(command, made(which))
+        text = which.read_bytes()
+        return ([], Counter()) if by_pipe(command, text)[0] == REFUSED else compared(command, json.loads(text))
     except Exception:  # (whatever the tools raise is a failure of theirs)
         return [traceback.format_exc()], Counter()
 
@@ -268,17 +281,17 @@ def main():
     parser.add_argument("--jobs", type=int, default=os.cpu_count())
     options = parser.parse_args()
     command, failed, kinds = command_of("hipac"), 0, Counter()
+    scripts = written() + list(range(options.scripts))
     with concurrent.futures.ProcessPoolExecutor(options.jobs) as pool:
-        seeds = range(options.scripts)
-        for seed, (wrong, told) in zip(seeds, pool.map(tried, [command] * len(seeds), seeds, chunksize=8)):
+        for which, (wrong, told) in zip(scripts, pool.map(tried, [command] * len(scripts), scripts, chunksize=8)):
             failed += bool(wrong)
             kinds += told
             for line in wrong[:3]:
-                print(f"script {seed}: {line[:2000]}")
+                print(f"script {which}: {line[:2000]}")
     never = [kind for kind in SENTENCES if not kinds[kind]] if options.scripts >= ENOUGH else []
     for kind in never:
         print(f"no answer has a sentence with: {kind}")
-    print(f"{options.scripts - failed} passed, {failed + len(never)} failed")
+    print(f"{len(scripts) - failed} passed, {failed + len(never)} failed")
     return 1 if failed or never else 0
 
 

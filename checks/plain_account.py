@@ -5,6 +5,8 @@ An occurrence's fate is looked up in whole histories: those that a rule had at e
 its status.
 """
 
+from collections import Counter
+
 import definitions
 from definitions import Cause, at_places, is_pure, mentions, occurrence_at_end
 
@@ -138,22 +140,32 @@ def rule_facts(run, unit, rule):
     signals = [signal for signal in run.signals if unit_of(signal.within) == unit]
     name, event = run.rules[rule][:2]
     fired = [signal for signal in signals if signal.depth < run.limit and name in signal.triggered]
-    silent = [signal for signal in signals if signal.kind != "fire" and signal not in fired]
-    silences = [_silence(run, rule, event, signal) for signal in silent]
+    silences = [_silence(run, rule, event, one) for one in signals if one.kind != "fire" and one not in fired]
     pasts = {(status, since) for _, status, since, *_ in silences}
     throughout = pasts.pop() if len(pasts) == 1 and silences[0][1] != "enabled" else None
+    nodes = [node for top in run.units[unit - 1][1] for node in _walk(top)
+             if node.word in ("fire", "act") and node.rule == name]
+    dropped = [one for one in run.dropped if one.task.rule == rule and one.top.number[0] == unit]
     return {"silences": silences, "throughout": throughout,
             "undone operation": throughout and _undone_operation(run, unit, rule, throughout[1]),
             "status by the trees": run.starts[unit - 1].rules[rule].status,
-            "triggers": len(fired) + _fired_by_statements(run, name, signals)}
+            "triggers": len(fired) + _fired_by_statements(nodes, dropped), "fates": _fates(run, nodes, dropped),
+            "is by event": bool(fired)}
 
 
-def _fired_by_statements(run, name, signals):
-    """How many tasks of a rule the statement `fire` made."""
-    made = {id(node.trigger) for _, transactions in run.units for top in transactions for node in _walk(top)
-            if node.word == "fire" and node.rule == name}
-    made |= {id(one.task.trigger) for one in run.dropped if run.rules[one.task.rule][0] == name}
-    return sum(1 for signal in signals if signal.kind == "fire" and id(signal) in made)
+def _fates(run, nodes, dropped):
+    """How often a rule's tasks came to each fate. An action that is put off is a task of its own."""
+    found = Counter(_fate(run, node, undoing(node.parent)) for node in nodes)
+    found["was dropped"] += len(dropped)
+    del found["put its action off"]
+    return +found
+
+
+def _fired_by_statements(nodes, dropped):
+    """How many tasks of a rule the statement `fire` made, by those that ran and those that were dropped."""
+    triggers = [node.trigger for node in nodes if node.word == "fire"]
+    triggers += [one.task.trigger for one in dropped if one.task.answers is None]
+    return sum(1 for trigger in triggers if trigger.kind == "fire")
 
 
 def _walk(node):

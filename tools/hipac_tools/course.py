@@ -176,7 +176,7 @@ class Course:
         else:
             node.end = stop.end
 
-    def _drop(self, task: Task, why: str, by: Any = None) -> None:
+    def _drop(self, task: Task, why: int, by: Any = None) -> None:
         dropped = Dropped(task.rule.name, task.mode, task.answers is not None, task.trigger, task.occurrence, why, by)
         task.made_in.note.dropped.append(dropped)
 

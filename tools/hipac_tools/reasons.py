@@ -304,4 +304,4 @@ def _shortfall_words(shortfall: Shortfall, since: Optional[Operation]) -> str:
         return f"there was no {noun_text(first)} before it" + ("" if has_one_part(first) else since_words(since)[1:])
     if word == "closure" and has_one_part(first) and shortfall.candidates[0].fate is Fate.TAKEN:
         return f"there was no {noun_text(first)} since the last {noun_text(last)}"
-    return f"no {noun_text(first)} before it {'is left' if word == 'seq' else 'counts'}"
+    return f"no earlier {noun_text(first)} {'is left' if word == 'seq' else 'counts'}"

@@ -359,7 +359,7 @@ class SilenceTest(WhyCase):
         of = script([simple("pair", pair)], install("pair"), [["signal", "a", []], ["signal", "b", []]],
                     [["signal", "b", []]])
         self.assertEqual(self.answer(of, 3, "pair")[2:], [
-            "At signal b [] (at /items/2/1/0) its event didn't occur, as no signal a before it is left.",
+            "At signal b [] (at /items/2/1/0) its event didn't occur, as no earlier signal a is left.",
             "Signal a [] in unit 2 (at /items/1/1/0) was taken by signal b [] in unit 2 (at /items/1/1/1)."])
 
     def test_a_closure_that_waits(self):
@@ -413,7 +413,7 @@ class PastTest(WhyCase):
     A, B = ["signal", "a", []], ["signal", "b", []]
     PAIR = simple("waits", ["seq", ["signal", "a"], ["signal", "b"]])
     BATCH = simple("waits", ["closure", ["signal", "a"], ["signal", "b"]])
-    LEFT, COUNTS = "as no signal a before it is left.", "as no signal a before it counts."
+    LEFT, COUNTS = "as no earlier signal a is left.", "as no earlier signal a counts."
 
     def told(self, rule, *items, **more):
         """The sentences on a rule in the last of these units. Unit 1 installs it."""
@@ -445,7 +445,7 @@ class PastTest(WhyCase):
     def test_what_aborts_later_is_not_undone_yet(self):
         of = script([self.PAIR], install("waits"), [self.A, self.B, self.B, ["abort"]])
         self.assertEqual(self.answer(of, 2, "waits")[-2:], [
-            "At signal b [] (at /items/1/1/2) its event didn't occur, as no signal a before it is left.",
+            "At signal b [] (at /items/1/1/2) its event didn't occur, as no earlier signal a is left.",
             "Signal a [] (at /items/1/1/0) was taken by signal b [] (at /items/1/1/1)."])
 
     def test_a_change_of_status_that_was_undone_forgets_nothing(self):
@@ -488,7 +488,7 @@ class PastTest(WhyCase):
     def test_the_parts_of_a_candidate_are_told(self):
         triple = simple("waits", ["seq", self.PAIR[1], ["signal", "c"]])
         self.assertEqual(self.told(triple, [self.A, ["sub", [self.B, ["abort"]], []], ["signal", "c", []]])[-2:], [
-            "as no (signal a followed by signal b) before it is left.",
+            "as no earlier (signal a followed by signal b) is left.",
             "Signal a [] then signal b [] (at /items/1/1/1/1/0) was undone, as the `sub` at /items/1/1/1 aborted "
             "(A8)."])
 
