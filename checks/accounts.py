@@ -193,9 +193,8 @@ def signal_facts(primitive):
 
 def query_facts(query):
     given = [(one.name, one.row.name, one.row.key, one.rows) for one in query.given]
-    fault = query.fault and (query.fault.cause, query.fault_key)
-    return (query.name, query.on, query.objects, given, None if fault else query.key, query.keys, fault, query.failed,
-            query.values)
+    key = None if query.fault else query.key
+    return (query.name, query.on, query.objects, given, key, query.keys, query.fault_key, query.failed, query.values)
 
 
 # ---- the comparison

@@ -318,8 +318,8 @@ class Run:
     def do_update(self, statement, path, context, state):
         name, fields = statement[1], self.classes[statement[1]]
         key, given = self.keyed_row(statement, context.env)
-        for field, value in given.items():
-            of_kind(fields[field], value)
+        for name_of_field, value in given.items():
+            of_kind(fields[name_of_field], value)
         old = self.present(name, key, state)
         row = {field: given.get(field, value) for field, value in old.items()}
         return self.operated(Signal("update", name, key, old, row), path, context, state)

@@ -65,9 +65,16 @@ def _fate(run, node, outer):
         return "did nothing" if node.action == "none" else "put its action off"
     if node.cause:
         return "vetoed" if node.cause == f"A9 {node.rule}" else "failed"
-    if not node.items and not any(signal.within is node for signal in run.signals):
+    if _is_idle(run, node):
         return "did nothing"
     return "acted in vain" if outer else "acted"
+
+
+def _is_idle(run, node):
+    """Whether nothing was done or signalled in a node, but for subtransactions that are idle too."""
+    if any(signal.within is node for signal in run.signals):
+        return False
+    return all(item.word == "sub" and not item.cause and _is_idle(run, item) for item in node.items)
 
 
 def dropped_facts(run):
@@ -91,8 +98,8 @@ def query_facts(asked):
         failed = next(test for test in _conjuncts(predicate) if definitions.value_of(test, env) is not True)
         values = [one for leaf in _leaves(failed) for one in _value(leaf, env)]
     keys = [row[1] for row in asked.answer or []]
-    fault = (asked.fault, asked.fault_row[1]) if asked.fault else None
-    return name, on, len(asked.rows), given, None if fault else key, keys, fault, failed, values
+    fault_key = asked.fault_row[1] if asked.fault else None
+    return name, on, len(asked.rows), given, None if asked.fault else key, keys, fault_key, failed, values
 
 
 def _conjuncts(test):

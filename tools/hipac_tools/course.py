@@ -425,7 +425,7 @@ class Course:
             try:
                 answer = self._answer(asked, query, environment)
             except Fault as fault:
-                node.condition, query.fault = "fault " + fault.cause, fault
+                node.condition, query.fault = "fault " + fault.cause, fault.words
                 return None
             if not answer:
                 node.condition = "unsatisfied"

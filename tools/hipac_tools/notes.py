@@ -6,8 +6,8 @@ from dataclasses import dataclass, field
 from typing import Any, List, Optional, Set, Tuple
 
 from .language import Form
-from .report import End, Holder, Operation
-from .values import Fault, Occurrence, Primitive, Row
+from .report import End, Holder, Operation, Sub, walk
+from .values import Occurrence, Primitive, Row
 
 
 @dataclass
@@ -37,9 +37,9 @@ class Given:
 
 @dataclass
 class Query:
-    """What a query of a condition found: the keys of its answer, or its fault and the object that met it. If it asked
-    for one object by its key and that doesn't fit: the first test of its predicate that failed, and the values in it.
-    """
+    """What a query of a condition found: the keys of its answer, or its fault and the key of the object that met it. If
+    it asked for one object by its key and that doesn't fit: the first test of its predicate that failed, and the values
+    in it."""
 
     name: str
     on: str
@@ -47,7 +47,7 @@ class Query:
     given: List[Given] = field(default_factory=list)
     key: Optional[int] = None
     keys: List[int] = field(default_factory=list)
-    fault: Optional[Fault] = None
+    fault: Optional[str] = None
     fault_key: Optional[int] = None
     failed: Form = None
     values: List[Tuple[Form, str]] = field(default_factory=list)
@@ -108,12 +108,13 @@ def ancestry(node: Any) -> List[Any]:
 
 
 def is_idle(task: Any) -> bool:
-    """Whether an action ran and neither changed nor signalled anything. That nothing was signalled is only known for
-    a course that was followed."""
-    if task.items or task.note.occurrence is None:
+    """Whether an action ran and neither changed nor signalled anything, in its subtransactions either. That nothing
+    was signalled is only known for a course that was followed."""
+    inner = list(walk(task))
+    if task.note.occurrence is None or not all(isinstance(node, Sub) and node.end.committed for node in inner):
         return False
     top = (ancestry(task) or [task])[-1]
-    return not any(signal.within is task for signal in top.note.signals)
+    return not any(signal.within is node for signal in top.note.signals for node in [task, *inner])
 
 
 def aborted_before(node: Any, around: Set[int]) -> Optional[Any]:

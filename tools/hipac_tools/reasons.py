@@ -215,7 +215,7 @@ class Teller:
         """What a query found, or why it found nothing."""
         given = f", with {listed(map(_given_words, query.given))}" if query.given else ""
         if query.fault is not None:
-            return f"query {query.name} met a fault at {query.on} {query.fault_key}{given}: {query.fault.words}"
+            return f"query {query.name} met a fault at {query.on} {query.fault_key}{given}: {query.fault}"
         if query.objects == 0:
             return f"query {query.name} found nothing, as there is no object of {query.on}"
         if query.key is None:
