@@ -11,7 +11,7 @@ from dataclasses import dataclass
 from typing import Optional
 
 from . import program
-from .command import DONE, FAILED, REFUSED, WRONG_WORDS, bytes_of, shown
+from .command import DONE, FAILED, MOST_BYTES, REFUSED, WRONG_WORDS, bytes_of, shown, unknown_option, wrong_words
 from .checking.excerpt import excerpt
 from .checking.faults import Fault, Note, Refused
 from .checking.script import Script, read_script
@@ -22,8 +22,6 @@ USAGE = """usage: hipac-tools check SCRIPT.json ..
 
 Says of each script whether the program accepts it. Of a refused one it says where and why. `-` is standard input.
 The exit status is the program's: 0 accepted, 2 refused, 3 the words are wrong, 4 the program failed."""
-
-MOST_BYTES = 1_048_576
 
 MEANINGS = {
     "S1": "the script is no JSON text",
@@ -49,9 +47,8 @@ def main(arguments: list[str]) -> int:
     if arguments in (["--help"], ["-h"]):
         print(USAGE)
         return DONE
-    if not arguments or any(argument.startswith("-") and argument != "-" for argument in arguments):
-        print(USAGE, file=sys.stderr)
-        return WRONG_WORDS
+    if not arguments or unknown_option(arguments):
+        return wrong_words("check", USAGE, arguments)
     return max(check(argument) for argument in arguments)
 
 
@@ -80,7 +77,7 @@ def read(script: bytes) -> Read:
     """Reads a script in the order of checks: its size, then its JSON, then its contents."""
     text = script.decode("utf-8", "replace")
     if len(script) > MOST_BYTES:
-        message = f"the script has {len(script):,} bytes, and {MOST_BYTES:,} are the most"
+        message = f"a script has at most {MOST_BYTES:,} bytes, and this has more"
         return Read("", None, None, Fault("S5 size", 0, 0, message))
     try:
         text = script.decode("utf-8")

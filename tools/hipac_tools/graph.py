@@ -13,7 +13,7 @@ from typing import Iterable, Iterator, Sequence
 
 from . import influence, language, oversights, paths, picture
 from . import rulebase as scripts
-from .command import DONE, WRONG_WORDS
+from .command import DONE, unknown_option, write_file, wrong_words
 from .influence import Deeds, Pattern, Reach
 from .printing import event_text, folded, when_text
 from .rulebase import Rule, RuleBase
@@ -24,6 +24,8 @@ Tells which rule may set off which, the cycles among them, the longest chain of 
 oversight. With --svg it also draws the picture: by Graphviz where `dot` is installed, else by a layout of its own.
 `-` is standard input.
 The exit status is 0, or 2 where it is no script, or 3 where the words are wrong or a file can't be read or written."""
+
+OPTIONS = ("--svg",)
 
 SETS_OFF, PREPARES, FIRES = "sets off", "prepares", "fires"
 OPERATIONS = {"fire": FIRES, "install": "installs", "enable": "enables", "disable": "disables", "remove": "removes"}
@@ -120,27 +122,15 @@ def main(arguments: list[str]) -> int:
         place = words.index("--svg")
         target = words[place + 1]
         del words[place:place + 2]
-    if len(words) != 1 or words[0].startswith("-") and words[0] != "-":
-        print(USAGE, file=sys.stderr)
-        return WRONG_WORDS
+    if len(words) != 1 or unknown_option(words):
+        return wrong_words("graph", USAGE, words, OPTIONS)
     try:
         graph = build(scripts.read_file(words[0]))
     except scripts.Refused as fault:
         print(fault, file=sys.stderr)
         return fault.status
     sys.stdout.buffer.write(graph_text(graph).encode("utf-8"))
-    return DONE if target is None else _write_picture(graph, target)
-
-
-def _write_picture(graph: Graph, target: str) -> int:
-    """Writes the picture to a file, and returns the exit status."""
-    try:
-        with open(target, "w", encoding="utf-8") as file:
-            file.write(svg(graph))
-    except OSError as fault:
-        print(f"{target}: {fault.strerror}", file=sys.stderr)
-        return WRONG_WORDS
-    return DONE
+    return DONE if target is None else write_file("graph", target, svg(graph).encode("utf-8"))
 
 
 def build(rulebase: RuleBase) -> Graph:

@@ -9,7 +9,7 @@ from typing import Any, Dict, Iterator, List, Optional, Tuple
 
 from . import fates, reasons
 from .account import Account, NoAccount, account_of
-from .command import DONE, REFUSED, WRONG_WORDS, bytes_of
+from .command import DONE, REFUSED, WRONG_WORDS, bytes_of, unknown_option, wrong_words
 from .course import STEPS
 from .language import DETACHED
 from .near import nearest
@@ -39,9 +39,8 @@ def main(arguments: List[str]) -> int:
     if arguments in (["--help"], ["-h"]):
         print(USAGE)
         return DONE
-    if len(arguments) not in (2, 3):
-        print(USAGE, file=sys.stderr)
-        return WRONG_WORDS
+    if len(arguments) not in (2, 3) or unknown_option(arguments):
+        return wrong_words("why", USAGE, arguments)
     if not arguments[1].isdigit():
         print(f"why: {arguments[1]} is no unit's number; the words are SCRIPT.json UNIT [RULE]", file=sys.stderr)
         return WRONG_WORDS

@@ -150,7 +150,7 @@ class Bytes(InDirectory):
     def test_one_byte_too_many(self) -> None:
         status, lines = self.check(b" " * 1_048_577)
         self.assertEqual(status, 2)
-        told = "script.json:1:1: refused S5 size: the script has 1,048,577 bytes, and 1,048,576 are the most"
+        told = "script.json:1:1: refused S5 size: a script has at most 1,048,576 bytes, and this has more"
         self.assertEqual(lines, [told])
 
     def test_as_many_bytes_as_may_be(self) -> None:
