@@ -18,10 +18,13 @@ from .checking.script import Script, read_script
 from .positions import Node, NotJson, find, line_and_column, parse
 from .wording import counted
 
-USAGE = """usage: hipac-tools check SCRIPT.json ..
+USAGE = """usage: hipac-tools check [--live] SCRIPT.json ..
 
-Says of each script whether the program accepts it. Of a refused one it says where and why. `-` is standard input.
+Says of each script whether the program accepts it. Of a refused one it says where and why. With --live any transaction
+may follow the script's, as in a rule base that stays up. `-` is standard input.
 The exit status is the program's: 0 accepted, 2 refused, 3 the words are wrong, 4 the program failed."""
+
+OPTIONS = ("--live",)
 
 MEANINGS = {
     "S1": "the script is no JSON text",
@@ -47,12 +50,13 @@ def main(arguments: list[str]) -> int:
     if arguments in (["--help"], ["-h"]):
         print(USAGE)
         return DONE
-    if not arguments or unknown_option(arguments):
-        return wrong_words("check", USAGE, arguments)
-    return max(check(argument) for argument in arguments)
+    names = [argument for argument in arguments if argument not in OPTIONS]
+    if not names or unknown_option(names):
+        return wrong_words("check", USAGE, arguments, OPTIONS)
+    return max(check(name, is_live="--live" in arguments) for name in names)
 
 
-def check(name: str) -> int:
+def check(name: str, is_live: bool = False) -> int:
     """Checks one script, and returns the program's status."""
     try:
         script = bytes_of(name)
@@ -61,7 +65,7 @@ def check(name: str) -> int:
         return WRONG_WORDS
     ended = program.run(script, [])
     if ended.status == DONE:
-        print("\n".join(accepted(shown(name), read(script))))
+        print("\n".join(accepted(shown(name), read(script, is_live))))
     elif ended.status == REFUSED and ended.output.startswith("refused "):
         print("\n".join(refused(shown(name), ended.output[len("refused "):].strip(), read(script))))
     else:
@@ -73,7 +77,7 @@ def check(name: str) -> int:
 # ---- the tool's own reading
 
 
-def read(script: bytes) -> Read:
+def read(script: bytes, is_live: bool = False) -> Read:
     """Reads a script in the order of checks: its size, then its JSON, then its contents."""
     text = script.decode("utf-8", "replace")
     if len(script) > MOST_BYTES:
@@ -89,7 +93,7 @@ def read(script: bytes) -> Read:
     except NotJson as fault:
         return Read(text, None, None, json_fault(fault))
     try:
-        return Read(text, root, read_script(root), None)
+        return Read(text, root, read_script(root, is_live), None)
     except Refused as refusal:
         return Read(text, root, None, refusal.fault)
 

@@ -180,6 +180,29 @@ class AcceptedScripts(InDirectory):
         _, output, _ = run_word(check.main, *map(str, sorted((REPOSITORY / "examples").glob("*.json"))))
         self.assertNotIn("warning", output)
 
+    def test_the_order_desk_has_no_warnings(self) -> None:
+        _, output, _ = run_word(check.main, str(REPOSITORY / "examples" / "orders" / "rules.json"))
+        self.assertEqual(output.splitlines()[1:], [])
+
+    def test_a_signal_may_follow_a_beginning(self) -> None:
+        waits = '["r", ["signal", "go"], "immediate", [], "immediate", []]'
+        begins, goes_on = '["tx", [["install", "r"]]]', '["tx", [["install", "r"], ["emit", 1]]]'
+        self.assertEqual(self.check(script(rules=waits, items=begins))[1][1:], [])
+        self.assertEqual(self.warnings(script(rules=waits, items=goes_on)), ["nothing in this script signals `go`"])
+        file = self.directory / "script.json"
+        status, output, _ = run_word(check.main, "--live", str(file))
+        self.assertEqual((status, output.splitlines()[1:]), (0, []))
+
+    def test_a_beginning_is_told_of_rules_that_it_does_not_install_and_of_misspelt_signals(self) -> None:
+        waits = '["r", ["signal", "paid"], "immediate", [], "immediate", []]'
+        tells = '["s", ["signal", "go"], "immediate", [], "immediate", [["signal", "payd", []]]]'
+        _, lines = self.check(script(rules=f"{waits}, {tells}", items='["tx", [["install", "r"]]]'))
+        told = [line.split(": ", 1)[1] for line in lines if line.startswith("script.json:")] + [lines[4]]
+        self.assertEqual(told, [
+            "accepted (2 rules, 2 classes, 1 item)", "warning: nothing in this script signals `paid`",
+            "hint: the rule `s` isn't installed here: a later transaction has to install it",
+            "  did you mean `payd`?"])
+
     def test_counts(self) -> None:
         _, lines = self.check(script(items='["tx", []]'))
         self.assertEqual(lines, ["script.json: accepted (0 rules, 2 classes, 1 item)"])

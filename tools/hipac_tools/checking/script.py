@@ -7,7 +7,9 @@ from __future__ import annotations
 from dataclasses import dataclass, replace
 from typing import Optional
 
-from ..language import KINDS, MODES, MOST_DEPTH, MOST_MOMENTS, SECOND_VERSION_MODE, VERSIONS, modes_of, shapes
+from ..language import (
+    KINDS, MODES, MOST_DEPTH, MOST_MOMENTS, SECOND_VERSION_MODE, VERSIONS, is_beginning, modes_of, shapes,
+)
 from ..positions import Node, shortened
 from ..wording import listed
 from .events import Moments, read_event
@@ -38,8 +40,8 @@ class Script:
     warnings: list[Warned]
 
 
-def read_script(root: Node) -> Script:
-    """Reads a script; raises Refused with its first fault."""
+def read_script(root: Node, is_live: bool = False) -> Script:
+    """Reads a script; raises Refused with its first fault. A live one is the beginning of a rule base that stays up."""
     place = Place(root)
     check_members(place)
     version = read_version(place.member("version"))
@@ -55,7 +57,10 @@ def read_script(root: Node) -> Script:
     for parts in heads.values():
         read_rule(parts, scope, moments, place.member("version"), version)
     items = read_items(place.member("items"), replace(scope, has_occurrence=False), moments)
-    warn_of_silence(scope, items)
+    if is_live or is_beginning(place.member("items").node.value):
+        warn_of_silence_in_a_beginning(scope, items)
+    else:
+        warn_of_silence(scope, items)
     return Script(len(heads), len(classes), items, gathered.warnings)
 
 
@@ -223,5 +228,22 @@ def warn_of_silence(scope: Scope, items: int) -> None:
             gathered.warn(place, f"the rule `{rule}` is never installed, and so never triggered")
     for signal, place in gathered.awaited.items():
         if signal not in gathered.signalled:
-            meant = did_you_mean(signal, sorted(gathered.signalled))
+            gathered.warn(place, f"nothing in this script signals `{signal}`", what_is_signalled(signal, gathered))
+
+
+def warn_of_silence_in_a_beginning(scope: Scope, items: int) -> None:
+    """What can't be meant even if any transaction may follow: a signal that rules wait for, and that isn't signalled
+    where another is whose name is near."""
+    gathered = scope.gathered
+    for rule, place in scope.rules.items():
+        if items and rule not in gathered.installed:
+            gathered.hint(place, f"the rule `{rule}` isn't installed here: a later transaction has to install it")
+    for signal, place in gathered.awaited.items():
+        meant = what_is_signalled(signal, gathered)
+        if signal not in gathered.signalled and meant:
             gathered.warn(place, f"nothing in this script signals `{signal}`", meant)
+
+
+def what_is_signalled(signal: str, gathered: Gathered) -> str:
+    """The question whether another signal is meant, which is signalled."""
+    return did_you_mean(signal, sorted(gathered.signalled))
