@@ -25,6 +25,7 @@ WORDS = {
     "graph": Word("graph", "draws which rules can trigger which"),
     "view": Word("view", "shows what a script's transactions did"),
     "why": Word("why", "says why a rule acted, or didn't"),
+    "faults": Word("faults", "lists the conditions and actions that ended with a fault"),
 }
 
 

@@ -6,7 +6,7 @@ from dataclasses import dataclass, field
 from typing import Any, List, Optional, Tuple
 
 from .language import Form
-from .report import End, Holder, Operation
+from .report import End, Holder, Operation, Sub, walk
 from .values import Occurrence, Primitive
 
 
@@ -106,12 +106,13 @@ def ancestry(node: Any) -> List[Any]:
 
 
 def is_idle(task: Any) -> bool:
-    """Whether an action ran and neither changed nor signalled anything. That nothing was signalled is only known for
-    a course that was followed."""
-    if task.items or task.note.occurrence is None:
+    """Whether an action ran and neither changed nor signalled anything, in its subtransactions either. That nothing
+    was signalled is only known for a course that was followed."""
+    inner = list(walk(task))
+    if task.note.occurrence is None or not all(isinstance(node, Sub) and node.end.committed for node in inner):
         return False
     top = (ancestry(task) or [task])[-1]
-    return not any(signal.within is task for signal in top.note.signals)
+    return not any(signal.within is node for signal in top.note.signals for node in [task, *inner])
 
 
 def undone_by(node: Any) -> Optional[Any]:

@@ -7,7 +7,7 @@ import textwrap
 from collections import Counter
 from typing import Any, Dict, Iterator, List, Optional, Tuple
 
-from . import fates, reasons
+from . import fates, faulting, reasons
 from .account import Account, NoAccount, account_of
 from .command import DONE, REFUSED, WRONG_WORDS, bytes_of, unknown_option, wrong_words
 from .course import STEPS
@@ -133,6 +133,7 @@ class UnitAnswer:
 
     def _transaction(self, transaction: Transaction) -> None:
         say = self.lines.say
+        self.lines.say_all(1, faulting.leading_sentences(self.account, transaction))
         if transaction.rule is not None:
             self._task(transaction)
         elif transaction.end.committed:

@@ -37,14 +37,20 @@ def place_of(case: Case) -> tuple[int, int]:
     return len(before), len(before[-1]) + 1
 
 
+def first_of(lines: list[str]) -> list[str]:
+    """The lines of the first fault."""
+    later = (number for number, line in enumerate(lines) if number and line.startswith("script.json:"))
+    return lines[:next(later, len(lines))]
+
+
 class RefusedScripts(unittest.TestCase):
-    """The messages on each script of the table, whose refusal is the program's."""
+    """The messages on each script of the table, whose refusal is the program's. Of several faults the first counts."""
 
     @classmethod
     def setUpClass(cls) -> None:
         cls.refusals = refusals([case.script for case in CASES])
         cls.told = [
-            check.refused("script.json", refusal, check.read(case.script.encode("utf-8")))
+            first_of(check.refused("script.json", refusal, check.read(case.script.encode("utf-8"))))
             for case, refusal in zip(CASES, cls.refusals)]
 
     def test_the_program_refuses_each(self) -> None:
@@ -337,7 +343,7 @@ class CommandLine(InDirectory):
     def test_no_words(self) -> None:
         status, output, errors = run_word(check.main)
         self.assertEqual((status, output), (3, ""))
-        self.assertIn("usage: hipac-tools check SCRIPT.json", errors)
+        self.assertIn("usage: hipac-tools check [--live] SCRIPT.json", errors)
 
     def test_an_unknown_option(self) -> None:
         self.assertEqual(run_word(check.main, "--fast")[0], 3)
@@ -345,7 +351,7 @@ class CommandLine(InDirectory):
     def test_help(self) -> None:
         status, output, _ = run_word(check.main, "--help")
         self.assertEqual(status, 0)
-        self.assertIn("usage: hipac-tools check SCRIPT.json", output)
+        self.assertIn("usage: hipac-tools check [--live] SCRIPT.json", output)
 
     def test_a_file_that_is_not_there(self) -> None:
         status, output, errors = run_word(check.main, str(self.directory / "none.json"))
