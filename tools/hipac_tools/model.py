@@ -9,7 +9,7 @@ from __future__ import annotations
 from dataclasses import dataclass, field
 from typing import Any, Dict, List, Optional, Tuple
 
-from . import reasons
+from . import faulting, reasons
 from .account import Account
 from .notes import undone_by
 from .places import marked
@@ -24,7 +24,8 @@ END_PLACES = {TRANSACTION: 4, SUB: 2, FIRE: 5, ACT: 4}
 
 @dataclass
 class PageModel:
-    """Nodes are rows of [kind, parent, texts .., facts]; facts are pairs of a label and a sentence's index."""
+    """Units are rows of [number, moment, transactions, number of faults that last]. Nodes are rows of [kind, parent,
+    texts .., facts]; facts are pairs of a label and a sentence's index."""
 
     units: List[List[Any]] = field(default_factory=list)
     nodes: List[List[Any]] = field(default_factory=list)
@@ -55,7 +56,8 @@ class _Maker:
     def model(self) -> PageModel:
         for unit in self.account.report.units:
             places = [self._transaction(unit.number, transaction) for transaction in unit.transactions]
-            self.page.units.append([unit.number, unit.moment, places])
+            faults = sum(len(faulting.lasting_faults(transaction)) for transaction in unit.transactions)
+            self.page.units.append([unit.number, unit.moment, places, faults])
         self.page.classes = [one.name for one in self.account.base.classes]
         self._objects()
         for name, status in self.account.report.rules:
@@ -64,7 +66,7 @@ class _Maker:
 
     def _transaction(self, unit: int, transaction: Transaction) -> int:
         head = "" if transaction.rule is None else f"{transaction.mode} {transaction.rule}"
-        facts = []
+        facts = [("Fault", words) for words in faulting.leading_sentences(self.account, transaction)]
         if transaction.rule is not None:
             facts.append(("Detached", self._trigger(transaction)))
         if not transaction.end.committed:

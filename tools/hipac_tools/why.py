@@ -7,10 +7,10 @@ import textwrap
 from collections import Counter
 from typing import Any, Dict, List, Optional
 
-from . import fates, reasons
+from . import fates, faulting, reasons
 from .account import Account, NoAccount, account_of
 from .answers import RuleAnswer, Silence, rule_answer, status_by_report
-from .command import DONE, REFUSED, WRONG_WORDS, bytes_of
+from .command import DONE, REFUSED, WRONG_WORDS, bytes_of, unknown_option, wrong_words
 from .course import STEPS
 from .language import DETACHED
 from .near import nearest
@@ -44,9 +44,8 @@ def main(arguments: List[str]) -> int:
         return DONE
     most = ALL if EVERYTHING in arguments else SOME
     words = [word for word in arguments if word != EVERYTHING]
-    if len(words) not in (2, 3) or any(word.startswith("--") for word in words):
-        print(USAGE, file=sys.stderr)
-        return WRONG_WORDS
+    if len(words) not in (2, 3) or unknown_option(words):
+        return wrong_words("why", USAGE, arguments, [EVERYTHING])
     if not words[1].isdigit():
         print(f"why: {words[1]} is no unit's number; the words are SCRIPT.json UNIT [RULE]", file=sys.stderr)
         return WRONG_WORDS
@@ -143,6 +142,7 @@ class UnitText:
 
     def _transaction(self, transaction: Transaction) -> None:
         say = self.lines.say
+        self.lines.say_all(1, faulting.leading_sentences(self.account, transaction, self.lines.most))
         if transaction.rule is not None:
             self._task(transaction)
         elif transaction.end.committed:

@@ -110,7 +110,9 @@ class CausesTest(WhyCase):
         self.one([["emit", ["id", 0]]], "A6", "`id` stands where there is no occurrence (at /items/0/1/0).")
         asks = simple("asks", ["signal", "go"], action=[["emit", ["new", 0, "bal"]]])
         self.says(script([asks], [["install", "asks"], GO]), 1, [
-            "unit 1 committed", "All of its own statements ran.", "Within it the action of rule asks aborted A6:",
+            "unit 1 committed",
+            "Though it committed, the action of rule asks ended with a fault (A6). Only the action was undone.",
+            "All of its own statements ran.", "Within it the action of rule asks aborted A6:",
             "Part 0 is signal go [], which has no `new` (at /rules/0/5/0).",
             "Rule asks was triggered by signal go [] at /items/0/1/1, in the unit's own body.",
             "Rules:", "asks failed (A6)"])
@@ -122,7 +124,9 @@ class CausesTest(WhyCase):
     def test_a7(self):
         loop = simple("loop", ["signal", "go"], action=[GO])
         self.says(script([loop], [["install", "loop"], GO], depth=1), 1, [
-            "unit 1 committed", "All of its own statements ran.", "Within it the action of rule loop aborted A7:",
+            "unit 1 committed",
+            "Though it committed, the action of rule loop ended with a fault (A7). Only the action was undone.",
+            "All of its own statements ran.", "Within it the action of rule loop aborted A7:",
             "Signal go [] would trigger loop at depth 2, and the limit is 1 (at /rules/0/5/0).",
             "Rule loop was triggered by signal go [] at /items/0/1/1, in the unit's own body.",
             "Rules:", "loop failed (A7)"])
@@ -186,7 +190,9 @@ class CascadeTest(WhyCase):
             "Its condition wasn't satisfied. Query i found nothing, as i.stock < 3 isn't true of item 7 (i.stock is "
             "4).",
             "So it did nothing.",
-            "separate gone committed", "Rule gone " + trigger,
+            "separate gone committed",
+            "Though it committed, the action of rule gone ended with a fault (A2). Only the action was undone.",
+            "Rule gone " + trigger,
             "Its action aborted A2. `delete item 9`: there is no item 9 (at /rules/1/5/0)."])
 
 
