@@ -6,12 +6,12 @@
 For each script the program's report with trees must be the one of the definitions (definitions.py and
 definitions_run.py). Then each fact that `why` and `view` tell is compared with the plain account (plain_account.py): of
 each node its trigger with the parts of the occurrence, each query of its condition, why it aborted, what undid it and
-what it came to; each dropped task; and for each rule in each unit how often it was triggered, its status at each
-signal, and what became of each occurrence that its event could have been completed with. The same facts are worded, and
-each kind of sentence must occur.
+what it came to; each fault that lasts; each dropped task; and for each rule in each unit how often it was triggered,
+its status at each signal, and what became of each occurrence that its event could have been completed with. The same
+facts are worded, and each kind of sentence must occur.
 
-The scripts are the examples and N random ones. HIPAC names the program; the default is the one that ./hipac
-starts. The seeds are fixed: script n is the same on each machine. The last line is 'N passed, M failed'.
+The scripts are the examples and N random ones. HIPAC names the program; the default is the one that ./hipac starts. The
+seeds are fixed: script n is the same on each machine. The last line is 'N passed, M failed'.
 """
 
 import argparse
@@ -32,7 +32,7 @@ sys.dont_write_bytecode = True
 import definitions_run  # noqa: E402 (they lie in tools/ and checks/)
 import plain_account  # noqa: E402
 from hipac_tools import account as accounts  # noqa: E402
-from hipac_tools import fates, why  # noqa: E402
+from hipac_tools import fates, faulting, why  # noqa: E402
 from hipac_tools.answers import rule_answer, status_by_report  # noqa: E402
 from hipac_tools.command import REFUSED  # noqa: E402
 from hipac_tools.model import page_model  # noqa: E402
@@ -65,6 +65,7 @@ SENTENCES = [
     "ran at the end of the transaction", "ran in a transaction of its own", "so it was put off", "So it did nothing",
     "Its action committed", "ran and changed nothing", "It vetoed", "was undone, as", "as no transaction round its",
     "before its condition was tested, as unit", "before its action ran, as", "vetoed first",
+    "Though it committed, the condition of", "Though it committed, the action of",
     "acted in vain", "failed once", "each time", "vetoed once", "and was dropped", "wasn't triggered in",
     *(f"aborted {cause}" for cause in ("A1", "A2", "A3", "A4", "A5", "A6", "A7", "A8", r"A9 \w+")),
 ]
@@ -153,6 +154,10 @@ class ToolFacts:
                 "queries": [query_facts(query) for query in note.queries],
                 "fate": fates.WORDS[fates.fate_of(node)] if is_task else None}
 
+    def fault_facts(self):
+        return [(self.place(fault.node), fault.is_condition, fault.cause) for unit in self.account.report.units
+                for transaction in unit.transactions for fault in faulting.lasting_faults(transaction)]
+
     def dropped_facts(self):
         whys = {ABORT: "abort", VETO: "veto", NO_ABORT: "no abort"}
         return sorted((self.place(node), one.rule, one.mode, one.is_tested, one.trigger.number, numbers(one.occurrence),
@@ -210,7 +215,8 @@ def differences(run, account):
     """The facts that differ, each with what the tools say and what the definitions say."""
     tools = ToolFacts(account)
     pairs = [("signals", tools.signal_facts(), plain_signals(run)),
-             ("dropped", tools.dropped_facts(), plain_account.dropped_facts(run))]
+             ("dropped", tools.dropped_facts(), plain_account.dropped_facts(run)),
+             ("faults", tools.fault_facts(), plain_account.fault_facts(run))]
     ours, plain = tools.node_facts(), plain_account.node_facts(run)
     pairs.append(("places", sorted(ours), sorted(plain)))
     pairs += [(f"node {place} {what}", ours[place][what], plain[place][what])
