@@ -9,7 +9,7 @@ from __future__ import annotations
 from dataclasses import dataclass, field
 from typing import Any, Dict, List, Optional, Tuple
 
-from . import reasons
+from . import faulting, reasons
 from .account import Account
 from .notes import undone_by
 from .places import marked
@@ -24,7 +24,8 @@ END_PLACES = {TRANSACTION: 4, SUB: 2, FIRE: 5, ACT: 4}
 
 @dataclass
 class PageModel:
-    """Nodes are rows of [kind, parent, texts .., facts]; facts are pairs of a label and a sentence's index."""
+    """Units are rows of [number, moment, transactions, number of faults that last]. Nodes are rows of [kind, parent,
+    texts .., facts]; facts are pairs of a label and a sentence's index."""
 
     units: List[List[Any]] = field(default_factory=list)
     nodes: List[List[Any]] = field(default_factory=list)
@@ -45,6 +46,7 @@ class _Maker:
     def __init__(self, account: Account):
         self.account = account
         self.page = PageModel(doubt=account.doubt)
+        self.tell = reasons.Teller()
         self.sentence_places: Dict[str, int] = {}
         self.node_places: Dict[int, int] = {}
         self.histories: Dict[Tuple[str, int], List[List[int]]] = {}
@@ -54,7 +56,8 @@ class _Maker:
     def model(self) -> PageModel:
         for unit in self.account.report.units:
             places = [self._transaction(unit.number, transaction) for transaction in unit.transactions]
-            self.page.units.append([unit.number, unit.moment, places])
+            faults = sum(len(faulting.lasting_faults(transaction)) for transaction in unit.transactions)
+            self.page.units.append([unit.number, unit.moment, places, faults])
         self.page.classes = [one.name for one in self.account.base.classes]
         self._objects()
         for name, status in self.account.report.rules:
@@ -63,13 +66,13 @@ class _Maker:
 
     def _transaction(self, unit: int, transaction: Transaction) -> int:
         head = "" if transaction.rule is None else f"{transaction.mode} {transaction.rule}"
-        facts = []
+        facts = [("Fault", words) for words in faulting.leading_sentences(self.account, transaction)]
         if transaction.rule is not None:
             facts.append(("Detached", self._trigger(transaction)))
         if not transaction.end.committed:
-            facts.append(("Aborted", " ".join(reasons.chain(transaction))))
+            facts.append(("Aborted", " ".join(self.tell.chain(transaction))))
         for dropped in transaction.note.dropped:
-            facts.append(("Dropped", " ".join(reasons.dropped_sentences(dropped, f"Rule {dropped.rule}"))))
+            facts.append(("Dropped", " ".join(self.tell.dropped(dropped, f"Rule {dropped.rule}"))))
         row = [TRANSACTION, NOWHERE, unit, head, str(transaction.end), transaction.emits]
         place = self._add(transaction, row, facts)
         self.page.nodes[place].append(self._trigger_place(transaction))
@@ -112,8 +115,8 @@ class _Maker:
 
     def _aborted(self, node: Any) -> str:
         """Why a node aborted; what triggered it is a fact of its own."""
-        told = [] if isinstance(node, Sub) else reasons.trigger_sentences(node, f"Rule {node.rule}")
-        return " ".join(one for one in reasons.chain(node) if one not in told)
+        told = [] if isinstance(node, Sub) else self.tell.trigger_sentences(node, f"Rule {node.rule}")
+        return " ".join(one for one in self.tell.chain(node) if one not in told)
 
     def _task(self, node: Any) -> List[Tuple[str, str]]:
         """What triggered a firing, and how its condition and its action went."""
@@ -121,13 +124,13 @@ class _Maker:
         action = reasons.action_sentence(node, self.account.mode_of_action(node.rule))
         if isinstance(node, Fire):
             end = [action] if node.action == "none" else []
-            facts.append(("Condition", " ".join(reasons.condition_sentences(node) + end)))
+            facts.append(("Condition", " ".join(self.tell.condition(node) + end)))
         if node.end.committed and not (isinstance(node, Fire) and node.action == "none"):
             facts.append(("Action", action))
         return facts
 
     def _trigger(self, node: Any) -> str:
-        trigger = sentence(reasons.trigger_words(node.note.trigger, node.note.occurrence))
+        trigger = sentence(self.tell.trigger(node.note.trigger, node.note.occurrence))
         return " ".join([trigger] + reasons.later_sentences(node))
 
     def _trigger_place(self, node: Any) -> int:

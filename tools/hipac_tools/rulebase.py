@@ -87,7 +87,10 @@ def read_file(name: str) -> RuleBase:
     """The script in a file, or `Refused`. `-` is standard input."""
     shown = command.shown(name)
     try:
-        return read(command.bytes_of(name).decode("utf-8"))
+        content = command.bytes_of(name)
+        if len(content) > command.MOST_BYTES:
+            raise Refused(f"a script has at most {command.MOST_BYTES:,} bytes, and this has more")
+        return read(content.decode("utf-8"))
     except OSError as fault:
         raise Unreadable(f"{shown}: {fault.strerror}") from fault
     except UnicodeDecodeError as fault:

@@ -21,7 +21,7 @@ from .browser import Browser
 from .large_script import UNITS, large_script
 from .made_scripts import TEXTS
 from .test_report import EXAMPLES
-from .trials import followed
+from .trials import REPOSITORY, followed
 
 MOST_MILLISECONDS = 2_000
 MOST_ELEMENTS = 2_500
@@ -158,6 +158,23 @@ class ExamplesTest(BrowserCase):
             if self.browser.evaluate("document.activeElement.textContent.trim()") == text:
                 return self.browser.key("Enter")
         self.fail(f"no way by Tab to {text}")
+
+    def test_a_unit_that_committed_with_a_fault_says_so(self):
+        script = json.loads((REPOSITORY / "examples" / "tutorial" / "04-fault-wrong.json").read_text(encoding="utf-8"))
+        script["items"].append(["tx", [["create", "order", 2, [["customer", 1], ["product", 1], ["count", 1]]]]])
+        self.browser.open(page_of(script, self.folder.name, "fault")[0])
+        self.assertIn("3 committed \u00b7 0 aborted \u00b7 1 with faults", self.browser.text("#summary"))
+        self.browser.click("#show-faults")
+        self.assertEqual(self.browser.evaluate("document.querySelectorAll('.row.top').length"), 1)
+        self.browser.click(".row.top .kind", "unit 2")
+        self.assertIn("committed faults Though it committed, the condition of rule credit", self.selected())
+        self.assertIn("30 * 400000000000000000 is outside 64 bits. So credit didn't veto.", self.panel("details"))
+        self.browser.key("n")
+        self.assertIn("fire credit immediate fault A4 none", self.selected())
+        self.browser.click("#show-all")
+        self.assertEqual(self.browser.evaluate("document.querySelectorAll('.row.top').length"), 3)
+        self.page("constraint")
+        self.assertTrue(self.browser.evaluate("document.getElementById('show-faults').hidden"))
 
     def test_the_graph_opens_rules(self):
         self.page("workflow")

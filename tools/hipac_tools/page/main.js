@@ -43,8 +43,9 @@ function goToAddress() {
 function summary() {
   const own = data.units.map((unit) => unit[2][0]);
   const aborted = own.filter(isAborted).length;
+  const faulty = data.units.filter((unit, at) => faultsOfUnit(at) > 0).length;
   const parts = [data.units.length + " units", own.length - aborted + " committed", aborted + " aborted",
-    data.rules.length + " rules", data.objects.filter((object) => object[2] !== null).length + " objects at the end"];
+    ...(faulty ? [faulty + " with faults"] : []), data.rules.length + " rules", data.objects.filter((object) => object[2] !== null).length + " objects at the end"];
   return parts.join(" \u00b7 ");
 }
 
@@ -74,6 +75,7 @@ byId("keys").addEventListener("click", () => byId("help").showModal());
 byId("show-all").addEventListener("click", () => showUnits(NO_ABORT));
 byId("show-any").addEventListener("click", () => showUnits(INNER_ABORT));
 byId("show-top").addEventListener("click", () => showUnits(TOP_ABORT));
+byId("show-faults").addEventListener("click", () => showUnits(ANY_FAULT));
 byId("next-abort").addEventListener("click", () => moveAbort(1));
 byId("former-abort").addEventListener("click", () => moveAbort(-1));
 byId("open-all").addEventListener("click", () => {
@@ -91,6 +93,7 @@ function start() {
     byId("doubt").textContent = data.doubt + ": only what the report itself tells is shown here.";
     byId("doubt").hidden = false;
   }
+  byId("show-faults").hidden = !data.units.some((unit, at) => faultsOfUnit(at) > 0);
   if (data.units.length <= 12) data.units.forEach((unit) => tree.open.add(unit[2][0]));
   listRules();
   listObjects();

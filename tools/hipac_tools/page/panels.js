@@ -97,7 +97,7 @@ function facts(place) {
   if (node[0] === EMIT) rows.unshift(["Value", node[2]]);
   if (node[0] === TRANSACTION) rows.push(["Within it", contents(place)]);
   for (const [label, sentence] of rows) {
-    const style = label === "Aborted" || label === "Undone" ? "bad" : "";
+    const style = { Aborted: "bad", Undone: "bad", Fault: "doubt" }[label] ?? "";
     const isPlain = label === "Row" || label === "Value";
     const content = isPlain ? element("dd", "name", sentence) : sentenceElement("dd", style, sentence);
     made.append(element("dt", "", label), content);
