@@ -7,9 +7,10 @@ from typing import BinaryIO, Iterable, Optional
 
 from .near import nearest
 
-DONE, REFUSED, WRONG_WORDS, FAILED = 0, 2, 3, 4
+DONE, REFUSED, WRONG_WORDS, FAILED, DIFFERENT = 0, 2, 3, 4, 5
 """The program's statuses, which the words give too: all is well, a script that is no script, words that are wrong or a
-file that can't be read, a fault of the program or of a device."""
+file that can't be read, a fault of the program or of a device. The last is of the tools alone: a report differs from the
+one that they find by following the script."""
 
 STANDARD_INPUT = "-"
 

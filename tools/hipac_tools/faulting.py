@@ -15,12 +15,10 @@ from . import language, reasons
 from .account import Account
 from .notes import undone_by
 from .report import Act, End, Fire, Transaction, walk
-from .wording import times
+from .wording import Most, SOME, times
 
 FAULTS = ("A1", "A2", "A3", "A4", "A5", "A6", "A7")
 """The causes that nobody asks for: `abort` (A8) and `veto` (A9) are statements."""
-
-MOST_SENTENCES = 12
 
 
 @dataclass(frozen=True)
@@ -31,6 +29,12 @@ class Fault:
     is_condition: bool
     cause: str
     words: str
+
+    @property
+    def place(self) -> str:
+        """Which query met the fault of a condition, and at which object, as the end of a sentence."""
+        met = [query for query in self.node.note.queries if self.is_condition and query.fault is not None]
+        return f", in query {met[0].name} at {met[0].on} {met[0].fault_key}" if met else ""
 
     @property
     def what(self) -> str:
@@ -74,13 +78,13 @@ def consequence(account: Account, fault: Fault) -> str:
     return "So its action didn't run." if fault.is_condition else "Only the action was undone."
 
 
-def leading_sentences(account: Account, transaction: Transaction) -> List[str]:
+def leading_sentences(account: Account, transaction: Transaction, most: Most = SOME) -> List[str]:
     """What is said first of a transaction that committed with faults."""
     told = Counter(leading_sentence(account, fault) for fault in lasting_faults(transaction))
     sentences = [words + (f" That happened {times(number)}." if number > 1 else "") for words, number in told.items()]
-    if len(sentences) <= MOST_SENTENCES:
+    if len(sentences) <= most.lines:
         return sentences
-    return sentences[:MOST_SENTENCES] + [f"And {len(sentences) - MOST_SENTENCES} more ended with a fault."]
+    return sentences[:int(most.lines)] + [f"And {len(sentences) - most.lines} more ended with a fault."]
 
 
 def leading_sentence(account: Account, fault: Fault) -> str:

@@ -8,17 +8,20 @@ from typing import Iterator, List, Optional, Tuple
 from . import reasons
 from .account import Account, NoAccount, account_of
 from .command import DONE, REFUSED, bytes_of, shown, unknown_option, wrong_words
-from .faulting import MOST_SENTENCES, Fault, consequence, faults_in, vetoes
+from .faulting import Fault, consequence, faults_in, vetoes
 from .notes import undone_by
 from .report import Transaction, Unit
 from .why import WIDTH, Lines, head_of
-from .wording import counted, sentence, some_of
+from .wording import SOME, counted, sentence, some_of
 
 USAGE = """usage: hipac-tools faults SCRIPT.json
 
 Lists the conditions and actions that ended with a fault, unit by unit: the cause, the place, and what triggered the
 rule. Of a rule that vetoes it says that it didn't. `-` is standard input.
 The exit status is 0, 2 for a script that is refused, 3 for wrong words, 4 where the program failed."""
+
+
+TELL = reasons.Teller()
 
 
 def main(arguments: List[str]) -> int:
@@ -50,8 +53,8 @@ def list_of_faults(account: Account) -> str:
         if transaction is not None:
             lines.say(0, head_of(unit, transaction))
         number, units = number + 1, units | {unit.number}
-        lines.say(1, sentence(f"{fault.what} ended with a fault ({fault.cause}): {fault.words}"))
-        lines.say_all(2, what_became(account, fault) + reasons.origins(fault.node))
+        lines.say(1, sentence(f"{fault.what} ended with a fault ({fault.cause}): {fault.words}{fault.place}"))
+        lines.say_all(2, what_became(account, fault) + TELL.origins(fault.node))
         if vetoes(account, fault.node.rule) and not undone_by(fault.node):
             silent.add(fault.node.rule)
     counts = counted(len(account.report.units), "unit")
@@ -60,7 +63,7 @@ def list_of_faults(account: Account) -> str:
         return lines.text()
     lines.say(0, f"{counted(number, 'fault')} in {len(units)} of {counts}")
     if silent:
-        told = some_of(sorted(silent), MOST_SENTENCES)
+        told = some_of(sorted(silent), SOME.lines)
         lines.say(0, f"Rules that were to veto and didn't: {told}; docs/SCRIPT.md, \"Guards\", says how they do.")
     return lines.text()
 

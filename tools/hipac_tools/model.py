@@ -47,6 +47,7 @@ class _Maker:
     def __init__(self, account: Account):
         self.account = account
         self.page = PageModel(doubt=account.doubt)
+        self.tell = reasons.Teller()
         self.sentence_places: Dict[str, int] = {}
         self.node_places: Dict[int, int] = {}
         self.histories: Dict[Tuple[str, int], List[List[int]]] = {}
@@ -71,14 +72,14 @@ class _Maker:
         if transaction.rule is not None:
             facts.append(("Detached", self._trigger(transaction)))
         if not transaction.end.committed:
-            facts.append(("Aborted", " ".join(reasons.chain(transaction))))
+            facts.append(("Aborted", " ".join(self.tell.chain(transaction))))
         self.signals = {}
         for signal in transaction.note.signals:
             if signal.primitive is not None and signal.primitive.kind == "signal":
                 self.signals.setdefault(id(signal.within), []).append(signal)
         facts += self._signals_of(transaction)
         for dropped in transaction.note.dropped:
-            facts.append(("Dropped", " ".join(reasons.dropped_sentences(dropped, f"Rule {dropped.rule}"))))
+            facts.append(("Dropped", " ".join(self.tell.dropped(dropped, f"Rule {dropped.rule}"))))
         row = [TRANSACTION, NOWHERE, unit, head, str(transaction.end), transaction.emits]
         place = self._add(transaction, row, facts)
         self.page.nodes[place].append(self._trigger_place(transaction))
@@ -127,8 +128,8 @@ class _Maker:
 
     def _aborted(self, node: Any) -> str:
         """Why a node aborted; what triggered it is a fact of its own."""
-        told = [] if isinstance(node, Sub) else reasons.trigger_sentences(node, f"Rule {node.rule}")
-        return " ".join(one for one in reasons.chain(node) if one not in told)
+        told = [] if isinstance(node, Sub) else self.tell.trigger_sentences(node, f"Rule {node.rule}")
+        return " ".join(one for one in self.tell.chain(node) if one not in told)
 
     def _task(self, node: Any) -> List[Tuple[str, str]]:
         """What triggered a firing, and how its condition and its action went."""
@@ -136,13 +137,13 @@ class _Maker:
         action = reasons.action_sentence(node, self.account.mode_of_action(node.rule))
         if isinstance(node, Fire):
             end = [action] if node.action == "none" else []
-            facts.append(("Condition", " ".join(reasons.condition_sentences(node) + end)))
+            facts.append(("Condition", " ".join(self.tell.condition(node) + end)))
         if node.end.committed and not (isinstance(node, Fire) and node.action == "none"):
             facts.append(("Action", action))
         return facts
 
     def _trigger(self, node: Any) -> str:
-        trigger = sentence(reasons.trigger_words(node.note.trigger, node.note.occurrence))
+        trigger = sentence(self.tell.trigger(node.note.trigger, node.note.occurrence))
         return " ".join([trigger] + reasons.later_sentences(node))
 
     def _trigger_place(self, node: Any) -> int:

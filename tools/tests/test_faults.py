@@ -49,7 +49,8 @@ class Listed(unittest.TestCase):
     def test_all_are_listed_with_what_follows(self) -> None:
         self.assertEqual(listed(guarded([created(1, GREATEST)])), f"""\
 unit 2 committed
-  The condition of rule asks ended with a fault (A4): {GREATEST} * 4 is outside 64 bits.
+  The condition of rule asks ended with a fault (A4): {GREATEST} * 4 is outside 64 bits, in query i
+    at item 1.
     So asks didn't veto.
     It was triggered by create item 1 (stock {GREATEST}) at /items/1/1/0, in the unit's own body.
   The action of rule tests ended with a fault (A4): {GREATEST} * 4 is outside 64 bits (at

@@ -173,11 +173,11 @@ class CommandTest(unittest.TestCase):
         with open(self.path("page.html"), encoding="utf-8") as file:
             self.assertEqual(file.read(), page)
 
-    def test_a_report_of_another_script_is_doubted(self):
+    def test_a_report_of_another_script_is_an_error(self):
         given = self.path("given.report", program.run(EXAMPLES[0].read_bytes(), ["--tree"]).output.encode())
-        status, page, _ = self.run_words(str(EXAMPLES[1]), given)
-        self.assertEqual(status, 0)
-        self.assertEqual(data_of(page)["doubt"], "The report isn't the one that following the script gives")
+        status, page, errors = self.run_words(str(EXAMPLES[1]), given)
+        self.assertEqual((status, page), (5, ""))
+        self.assertIn("the report isn't this script's: line 2 is", errors)
 
     def test_a_report_without_trees_is_refused(self):
         given = self.path("given.report", program.run(EXAMPLES[0].read_bytes(), []).output.encode())
