@@ -9,8 +9,8 @@ from .near import nearest
 
 DONE, REFUSED, WRONG_WORDS, FAILED, DIFFERENT = 0, 2, 3, 4, 5
 """The program's statuses, which the words give too: all is well, a script that is no script, words that are wrong or a
-file that can't be read, a fault of the program or of a device. The last is of the tools alone: a report differs from the
-one that they find by following the script."""
+file that can't be read, a fault of the program or of a device. The last is of the tools alone: a report differs from
+the one that they find by following the script."""
 
 STANDARD_INPUT = "-"
 

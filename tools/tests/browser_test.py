@@ -87,7 +87,9 @@ class ExamplesTest(BrowserCase):
         self.browser.click(".row.top .kind", "unit 3")
         self.assertIn("aborted A9 solvent", self.selected())
         self.assertIn("Rule solvent vetoed", self.selected())
-        self.assertIn("It was triggered by update acct 1 (bal 70 -> -1) at /items/2/1/0", self.panel("details"))
+        self.assertIn("It was triggered by update acct 1 (bal 70 -> -1) at line ", self.panel("details"))
+        self.assertEqual(self.browser.text("#note"), "The script is on one line: lines and columns are those that "
+                                                     "python3 -m json.tool gives it.")
         self.browser.key("ArrowRight")
         self.assertIn("bal=-1 limit=0 undone", self.selected())
         self.assertIn("undone", self.browser.evaluate("document.querySelector('.row.selected').className"))
@@ -191,7 +193,7 @@ class ExamplesTest(BrowserCase):
         rows = self.browser.evaluate("[...document.querySelectorAll('.row')].map((row) => row.innerText)")
         lines = [re.sub(r"\s+", " ", row) for row in rows]
         place = next(at for at, line in enumerate(lines) if line.startswith("dependent operator committed"))
-        self.assertIn("Triggered by signal burst [2] at /rules/3/5/0/2/0, in the action of rule burst", lines[place])
+        self.assertRegex(lines[place], r"Triggered by signal burst \[2\] at line \d+:\d+, in the action of rule burst")
 
     def test_every_control_has_a_name_and_the_tree_says_what_it_is(self):
         self.page("workflow")

@@ -96,6 +96,11 @@ function start() {
     byId("doubt").textContent = data.doubt + ": only what the report itself tells is shown here.";
     byId("doubt").hidden = false;
   }
+  if (data.note) {
+    const note = data.note[0].toUpperCase() + data.note.slice(1) + ".";
+    byId("note").append(...sentenceElement("p", "", note).childNodes);
+    byId("note").hidden = false;
+  }
   byId("show-faults").hidden = !data.units.some((unit, at) => faultsOfUnit(at) > 0);
   if (data.units.length <= 12) data.units.forEach((unit) => tree.open.add(unit[2][0]));
   listRules();
