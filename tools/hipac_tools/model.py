@@ -14,10 +14,11 @@ from .account import Account
 from .notes import undone_by
 from .places import marked
 from .report import Act, Emit, Fire, Operation, Sub, Transaction, children
-from .wording import sentence
+from .wording import sentence, some_of
 
 TRANSACTION, OPERATION, EMIT, SUB, FIRE, ACT = range(6)
 NOWHERE = -1
+MOST_SIGNALS = 8
 END_PLACES = {TRANSACTION: 4, SUB: 2, FIRE: 5, ACT: 4}
 """Where a node's end stands in its row, for those that have one."""
 
@@ -50,6 +51,7 @@ class _Maker:
         self.sentence_places: Dict[str, int] = {}
         self.node_places: Dict[int, int] = {}
         self.histories: Dict[Tuple[str, int], List[List[int]]] = {}
+        self.signals: Dict[int, List[Any]] = {}
         self.firings: Dict[str, List[int]] = {name: [] for name, _ in account.report.rules}
         self.operations: Dict[str, List[int]] = {name: [] for name, _ in account.report.rules}
 
@@ -71,6 +73,11 @@ class _Maker:
             facts.append(("Detached", self._trigger(transaction)))
         if not transaction.end.committed:
             facts.append(("Aborted", " ".join(self.tell.chain(transaction))))
+        self.signals = {}
+        for signal in transaction.note.signals:
+            if signal.primitive is not None and signal.primitive.kind == "signal":
+                self.signals.setdefault(id(signal.within), []).append(signal)
+        facts += self._signals_of(transaction)
         for dropped in transaction.note.dropped:
             facts.append(("Dropped", " ".join(self.tell.dropped(dropped, f"Rule {dropped.rule}"))))
         row = [TRANSACTION, NOWHERE, unit, head, str(transaction.end), transaction.emits]
@@ -107,11 +114,17 @@ class _Maker:
         facts = [] if isinstance(node, Sub) else self._task(node)
         if not node.end.committed:
             facts.append(("Aborted", self._aborted(node)))
+        facts += self._signals_of(node)
         place = self._add(node, row, facts + self._common(node))
         if not isinstance(node, Sub):
             self.page.nodes[place].append(self._trigger_place(node))
             self.firings.setdefault(node.rule, []).append(place)
         return place
+
+    def _signals_of(self, node: Any) -> List[Tuple[str, str]]:
+        """What was signalled by statements in a node itself; the report has no lines for it."""
+        told = [f"{signal}{reasons.at(signal.path)}" for signal in self.signals.get(id(node), [])]
+        return [("Signals", sentence(some_of(told, MOST_SIGNALS)))] if told else []
 
     def _aborted(self, node: Any) -> str:
         """Why a node aborted; what triggered it is a fact of its own."""

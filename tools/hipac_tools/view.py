@@ -95,6 +95,7 @@ def page_text(account: Account, name: str) -> str:
     base = account.base
     data: Dict[str, Any] = dict(vars(page_model(account)))
     data["name"] = name
+    data["note"] = account.places.note
     data["texts"] = {rule.name: printing.rule_text(rule, base) for rule in base.rules}
     code = "".join(_part(part) for part in CODE)
     parts = {

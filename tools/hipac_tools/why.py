@@ -111,6 +111,9 @@ class Lines:
             self.say(level, f"and {len(things) - self.most.lines} more{what}")
 
     def text(self) -> str:
+        """All lines; if the places aren't those of the file, the last one says whose they are."""
+        if self.places.note is not None:
+            self.say(0, f"({self.places.note})")
         return "\n".join(self.lines) + "\n"
 
 

@@ -20,7 +20,7 @@ from .made_scripts import made_script
 from .making import rule, script
 from .test_report import EXAMPLES
 from .test_view import account, data_of
-from .trials import REPOSITORY
+from .trials import REPOSITORY, with_paths
 
 ITEM = [["item", [["stock", "int"]]]]
 TEST = [">", ["*", ["new", 0, "stock"], 4], 100]
@@ -42,7 +42,7 @@ def guarded(body: list, **how: object) -> dict:
 
 
 def listed(one: dict) -> str:
-    return faults.list_of_faults(account(one))
+    return with_paths(faults.list_of_faults(account(one)), one)
 
 
 class Listed(unittest.TestCase):
@@ -53,8 +53,7 @@ unit 2 committed
     at item 1.
     So asks didn't veto.
     It was triggered by create item 1 (stock {GREATEST}) at /items/1/1/0, in the unit's own body.
-  The action of rule tests ended with a fault (A4): {GREATEST} * 4 is outside 64 bits (at
-    /rules/1/5/0).
+  The action of rule tests ended with a fault (A4): {GREATEST} * 4 is outside 64 bits (at /rules/1/5/0).
     So tests didn't veto.
     It was triggered by create item 1 (stock {GREATEST}) at /items/1/1/0, in the unit's own body.
   The action of rule counts ended with a fault (A2): `delete item 99`: there is no item 99 (at /rules/2/5/0).

@@ -15,7 +15,7 @@ from hipac_tools.report import walk
 
 from .made_scripts import TEXTS, made_script
 from .test_report import EXAMPLES
-from .trials import followed
+from .trials import followed, with_paths
 
 SEEDS = range(25)
 FACTS = {FIRE: 6, ACT: 5}
@@ -100,7 +100,7 @@ class ModelTest(unittest.TestCase):
             "items": [["tx", [["install", "low"], ["create", "item", 1, [["stock", 4]]],
                               ["create", "item", 2, [["stock", 2]]]]]]}
         page = page_model(account(script))
-        facts = [{label: page.sentences[place] for label, place in node[FACTS[node[0]]]}
+        facts = [{label: with_paths(page.sentences[place], script) for label, place in node[FACTS[node[0]]]}
                  for node in page.nodes if node[0] in (FIRE, ACT)]
         later = " It is deferred, so it ran at the end of the transaction."
         self.assertEqual(facts, [

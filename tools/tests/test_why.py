@@ -9,6 +9,8 @@ import unittest
 
 from hipac_tools import places, why
 
+from .trials import with_paths
+
 CLASSES = [["acct", [["bal", "int"], ["open", "bool"]]], ["item", [["stock", "int"]]]]
 ACCOUNT = ["create", "acct", 1, [["bal", 10], ["open", True]]]
 GO = ["signal", "go", []]
@@ -41,7 +43,7 @@ class WhyCase(unittest.TestCase):
     def answer(self, of, unit, rule=None, **more):
         """The answer's lines, none of them folded."""
         text = why.explanation(json.dumps(of).encode(), unit, rule, width=10_000, **more)
-        return [line.strip() for line in text.splitlines()]
+        return [line.strip() for line in with_paths(text, of).splitlines()]
 
     def says(self, of, unit, expected, rule=None, **more):
         self.assertEqual(self.answer(of, unit, rule, **more), expected)
@@ -62,8 +64,13 @@ class PlacesTest(unittest.TestCase):
         self.assertIn("Within it the `sub` at line ", told)
         self.assertNotIn("/items", told)
 
-    def test_a_script_of_one_line_has_paths(self):
-        self.assertIn("note 1 is there already (at /items/0/1/2).", self.answer(json.dumps(self.OF) + "\n"))
+    def test_a_script_of_one_line_has_the_places_of_its_printed_form(self):
+        line = json.dumps(self.OF, indent=4)[:-1].rsplit('"create"', 1)[0].count("\n")
+        told = self.answer(json.dumps(self.OF) + "\n").split("\n")
+        self.assertIn(f"  `create note 1`: note 1 is there already (at line {line}:17).", told)
+        self.assertEqual(told[-2], "(the script is on one line: lines and columns are those that "
+                                   "`python3 -m json.tool` gives it)")
+        self.assertNotIn("/items", "".join(told[:-2]).replace('"see /items/0/1/0"', ""))
 
     def test_only_marked_paths_of_the_script_are_told(self):
         told = places.Places('{"rules": [],\n "items": [["tx", []]]}').told

@@ -215,7 +215,7 @@ class Reader:
         if word in ("and", "or"):
             both = holds == (word == "and")
             return self.assume(test[2], holds, self.assume(test[1], holds, known)) if both else known
-        if word not in NOT:
+        if word not in NOT or not any(map(is_leaf, test[1:])):
             return known
         word = word if holds else NOT[word]
         left, right = (self._quiet(side, known) for side in test[1:])
@@ -267,11 +267,14 @@ def narrowed(word: str, left: Value, right: Value) -> Value:
 
 def bounded(known: Known, form: Form, value: Value) -> Known:
     """What is known with a bound on a value of a row or of the occurrence."""
-    if not isinstance(form, list) or form[0] not in OF_A_ROW and form[0] not in OF_THE_OCCURRENCE:
-        return known
-    if not value.kinds or value.least > value.most:
+    if not is_leaf(form) or not value.kinds or value.least > value.most:
         return known
     return replace(known, bounds={**known.bounds, repr(form): value})
+
+
+def is_leaf(form: Form) -> bool:
+    """Whether a form takes a value from a row or the occurrence."""
+    return isinstance(form, list) and (form[0] in OF_A_ROW or form[0] in OF_THE_OCCURRENCE)
 
 
 def at_form(form: Form) -> Place:

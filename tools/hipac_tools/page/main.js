@@ -10,9 +10,9 @@ function address(text, keep) {
 
 /* Shows a node. `keep` says whether the way back should lead to what was shown before. */
 function choose(place, keep) {
+  showTab("details");
   reveal(place);
   showDetails(place);
-  showTab("details");
   drawOverview();
   address("node " + place, keep);
 }
@@ -51,7 +51,10 @@ function summary() {
 
 const KEYS = {
   "/": () => { searchBox.focus(); searchBox.select(); },
-  Escape: () => treeBox.focus(),
+  Escape: () => {
+    if (treeBox.clientHeight === 0) showTab("details");
+    treeBox.focus();
+  },
   n: () => moveAbort(1),
   p: () => moveAbort(-1),
   "?": () => byId("help").showModal(),
@@ -84,7 +87,7 @@ byId("open-all").addEventListener("click", () => {
 });
 byId("close-all").addEventListener("click", () => { tree.open.clear(); layOut(); });
 window.addEventListener("popstate", goToAddress);
-window.addEventListener("resize", () => { drawRows(); drawOverview(); });
+window.addEventListener("resize", () => { drawRows(); drawOverview(); fitAgain(); });
 window.matchMedia("(prefers-color-scheme: dark)").addEventListener("change", drawOverview);
 
 function start() {
@@ -92,6 +95,11 @@ function start() {
   if (data.doubt) {
     byId("doubt").textContent = data.doubt + ": only what the report itself tells is shown here.";
     byId("doubt").hidden = false;
+  }
+  if (data.note) {
+    const note = data.note[0].toUpperCase() + data.note.slice(1) + ".";
+    byId("note").append(...sentenceElement("p", "", note).childNodes);
+    byId("note").hidden = false;
   }
   byId("show-faults").hidden = !data.units.some((unit, at) => faultsOfUnit(at) > 0);
   if (data.units.length <= 12) data.units.forEach((unit) => tree.open.add(unit[2][0]));

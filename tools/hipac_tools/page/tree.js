@@ -89,9 +89,13 @@ const LEFT_OUT = [/ \(at [^)]*\)/g, /, in the unit's own body/g, /; `(ec|ca)` is
 
 function reasonOf(place) {
   const reason = fact(place, "Fault") || fact(place, "Aborted") || fact(place, "Detached") || fact(place, "Trigger");
+  const isSilent = !reason && insideOf(place).length === 0;
+  if (isSilent && fact(place, "Signals")) return shortened(fact(place, "Signals"));
   if (!reason && kindOf(place) === TRANSACTION && !tree.open.has(place)) return contents(place);
-  return LEFT_OUT.reduce((text, left) => text.replace(left, ""), reason);
+  return shortened(reason);
 }
+
+const shortened = (sentence) => LEFT_OUT.reduce((text, left) => text.replace(left, ""), sentence);
 
 function rowStyle(place, level) {
   const styles = ["row"];
