@@ -1,1 +1,5 @@
-pub mod Passing
+pub mod Listeners
+pub mod Sets
+pub mod Reached
+pub mod Tables
+pub mod Checking
