@@ -46,3 +46,5 @@ pub mod KindRows
 pub mod KindCourses
 pub mod KindUnits
 pub mod KindWorked
+pub mod NotationWorked
+pub mod NotationLexing

@@ -60,7 +60,7 @@ listed part zero ts = Err (place ts)
 listed part (suc n) ts = do
   p ← part ts
   elim (begins (is_mark comma) p.1) [
-      true ↦ listed part n (past p.1) >>= λ q. Ok (node p.0 q.0, q.1)
+    | true ↦ listed part n (past p.1) >>= λ q. Ok (node p.0 q.0, q.1)
     | false ↦ Ok (node p.0 no_nodes, p.1)
   ]
 
@@ -68,7 +68,7 @@ listed part (suc n) ts = do
 abbrev pub repeated : (begins_part : Token → Bool) → (part : Phrase Node) → ℕ → Phrase Nodes
 repeated begins_part part zero ts = Ok (no_nodes, ts)
 repeated begins_part part (suc n) ts = elim (begins begins_part ts) [
-    true ↦ part ts >>= λ p. repeated begins_part part n p.1 >>= λ q. Ok (node p.0 q.0, q.1)
+  | true ↦ part ts >>= λ p. repeated begins_part part n p.1 >>= λ q. Ok (node p.0 q.0, q.1)
   | false ↦ Ok (no_nodes, ts)
 ]
 
