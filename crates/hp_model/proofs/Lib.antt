@@ -48,3 +48,5 @@ pub mod KindUnits
 pub mod KindWorked
 pub mod NotationWorked
 pub mod NotationLexing
+pub mod NotationReadings
+pub mod NotationExpressionsRead
