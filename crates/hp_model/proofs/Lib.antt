@@ -50,3 +50,4 @@ pub mod NotationWorked
 pub mod NotationLexing
 pub mod NotationReadings
 pub mod NotationExpressionsRead
+pub mod NotationEventsRead

@@ -1,15 +1,15 @@
 -- How phrases read the tokens of pieces, and how readings compose.
-use Rattle.std.proofs.Common.{◌≡◌, refl, sym, ap, ◌∙◌, subst, ℕ, zero, suc, ◌+◌, ◌<◌, ◌≤◌, Bool, true, false, ◌==◌, List, [], ◌∷◌, length, codes, Option, Some, None, Ok, Err, arith, inl, inr, ◌⊎◌}
+use Rattle.std.proofs.Common.{◌≡◌, refl, sym, ap, ◌∙◌, subst, ℕ, zero, suc, ◌+◌, ◌<◌, ◌≤◌, Bool, true, false, ◌==◌, List, [], ◌∷◌, length, codes, Option, Some, None, Result, Ok, Err, arith, inl, inr, ◌⊎◌}
 use Rattle.std.specs.Prelude.{nat_lt, if◌then◌else◌, bytes_eq, ⊤}
 use Rattle.std.proofs.lemmas.Bool.{cases_lt, lt-ltb, le-ltb, ne_eqb, eq-eqb}
-use Rattle.serde_json.specs.Data.{Data}
+use Rattle.serde_json.specs.Data.{Data, no_items, item}
 use Rattle.hp_model.specs.Values.{◌>>=◌}
-use Rattle.hp_model.specs.NotationTokens.{Mark, point, spelling, reserved_word, Token, mark, word, quoted, number, string, Tokens, token, ending, unreadable, size}
-use Rattle.hp_model.specs.NotationTree.{Node, data_of, Phrase}
-use Rattle.hp_model.specs.NotationPhrases.{is_mark, begins, Operator, joined, with_right, chained, chain_from}
+use Rattle.hp_model.specs.NotationTokens.{Mark, point, comma, spelling, reserved_word, Token, mark, word, quoted, number, string, Tokens, token, ending, unreadable, size}
+use Rattle.hp_model.specs.NotationTree.{Node, Nodes, no_nodes, node, data_of, items_of, Phrase}
+use Rattle.hp_model.specs.NotationPhrases.{is_mark, begins, past, listed, repeated, Operator, joined, with_right, chained, chain_from}
 use Rattle.hp_model.specs.NotationExpressions.{level_of, operator, chain}
-use Rattle.hp_model.specs.NotationForms.{form_data}
-use Rattle.hp_model.specs.NotationPrint.{Gap, space, Piece, Pieces, sign, enclosed_if, name_token, token_of_name}
+use Rattle.hp_model.specs.NotationForms.{items, form_data}
+use Rattle.hp_model.specs.NotationPrint.{Gap, tight, space, Piece, Pieces, sign, enclosed_if, name_token, token_of_name, first_is}
 
 -- ---- the tokens of pieces
 
@@ -94,9 +94,9 @@ pub record Chaining (operand : Phrase Node) (op : Operator) (P : Phrase Node) (d
 abbrev pub ChainsBy : Phrase Node → Operator → Phrase Node → ℕ → (Gap → Pieces → Pieces) → Data → Type 0
 ChainsBy operand op P p f d = (gap : Gap) (k : Pieces) (o : ℕ → ℕ) → binding k < p → Chaining operand op P d (stream o (f gap k)) k
 
--- what f writes has at least the pieces that follow
+-- what f writes has more pieces than those that follow
 abbrev pub Grows : (Gap → Pieces → Pieces) → Type 0
-Grows f = (gap : Gap) (k : Pieces) → length k ≤ length (f gap k)
+Grows f = (gap : Gap) (k : Pieces) → length k < length (f gap k)
 
 -- ---- chains
 
@@ -113,7 +113,7 @@ begins_chain operand op p f d left gap k o h =
       reads = rw l.reads refl
     }
 
-ends : (operand : Phrase Node) (op : Operator) (turns : ℕ) (n : Node) (ts : Tokens) → op ts ≡ None → chain_from operand op turns n ts ≡ Ok (n, ts)
+pub ends : (operand : Phrase Node) (op : Operator) (turns : ℕ) (n : Node) (ts : Tokens) → op ts ≡ None → chain_from operand op turns n ts ≡ Ok (n, ts)
 unfolding chain_from
 ends operand op zero n ts none = refl
 ends operand op (suc turns) n ts none = ap (chained operand (chain_from operand op turns) n ts) none
@@ -134,33 +134,34 @@ joined_same : (tag : List ℕ) (a b : Node) (c d : Data) → data_of a ≡ c →
 joined_same tag a b c d p q = λ i. form_data tag (p i ∷ q i ∷ [])
 
 -- an operator and an operand go on with a chain
+pub chain_on : (operand : Phrase Node) (op : Operator) (P : Phrase Node) (tag : List ℕ) (m : Mark) (ts : Tokens) (g : Gap → Pieces → Pieces) (k : Pieces) (c d : Data)
+    → ((o : ℕ → ℕ) → op (stream o (sign space m (g space k))) ≡ Some (tag, stream (λ i. o (suc i)) (g space k))) → length k ≤ length (g space k)
+    → Chaining operand op P c ts (sign space m (g space k)) → ((o : ℕ → ℕ) → Reading operand d (stream o (g space k)) k) → Chaining operand op P (form_data tag (c ∷ d ∷ [])) ts k
+unfolding chain_from
+chain_on operand op P tag m ts g k c d some grows l right = turn l.turns refl
+  where
+    turn : (turns : ℕ) → l.turns ≡ turns → Chaining operand op P (form_data tag (c ∷ d ∷ [])) ts k
+    turn zero e = absurd (omega (arith, l.enough))
+    turn (suc turns) e =
+        let rest = λ (i : ℕ). l.next (suc i) in
+        let r = right rest in
+        let here = stream l.next (sign space m (g space k)) in
+        record {
+          node = joined tag l.node r.node;
+          next = r.next;
+          turns = turns;
+          enough = omega (arith, l.enough);
+          same = joined_same tag l.node r.node c d l.same r.same;
+          reads = l.reads ∙ ap (λ n. chain_from operand op n l.node here) e ∙ ap (chained operand (chain_from operand op turns) l.node here) (some l.next)
+              ∙ ap (λ q. q >>= λ x. chain_from operand op turns (joined tag l.node x.0) x.1) r.reads
+        }
+
 pub chain_step : (operand : Phrase Node) (level : ℕ) (P : Phrase Node) (p : ℕ) (m : Mark) (f g : Gap → Pieces → Pieces) (c d : Data)
     → level_of m ≡ level → mark_binding m < p → Grows g → ChainsBy operand (operator level) P p f c → ReadsBy operand p g d
     → ChainsBy operand (operator level) P p (λ gap k. f gap (sign space m (g space k))) (form_data (spelling m) (c ∷ d ∷ []))
-unfolding chain_from
 chain_step operand level P p m f g c d is binds grows left right gap k o h =
-    go (left gap (sign space m (g space k)) o binds)
-  where
-    Goal : Type 0
-    Goal = Chaining operand (operator level) P (form_data (spelling m) (c ∷ d ∷ [])) (stream o (f gap (sign space m (g space k)))) k
-    turn : (l : Chaining operand (operator level) P c (stream o (f gap (sign space m (g space k)))) (sign space m (g space k))) (turns : ℕ) → l.turns ≡ turns → Chaining operand (operator level) P (form_data (spelling m) (c ∷ d ∷ [])) (stream o (f gap (sign space m (g space k)))) k
-    turn l zero e = absurd (omega (arith, l.enough))
-    turn l (suc turns) e =
-        let rest = λ (i : ℕ). l.next (suc i) in
-        let r = right space k rest h in
-        let some : operator level (stream l.next (sign space m (g space k))) ≡ Some (spelling m, stream rest (g space k)) = rw (eq-eqb (level_of m) level is) refl in
-        record {
-          node = joined (spelling m) l.node r.node;
-          next = r.next;
-          turns = turns;
-          enough = omega (arith, l.enough, grows space k);
-          same = joined_same (spelling m) l.node r.node c d l.same r.same;
-          reads = l.reads ∙ ap (λ n. chain_from operand (operator level) n l.node (stream l.next (sign space m (g space k)))) e
-              ∙ ap (chained operand (chain_from operand (operator level) turns) l.node (stream l.next (sign space m (g space k)))) some
-              ∙ ap (λ q. q >>= λ x. chain_from operand (operator level) turns (joined (spelling m) l.node x.0) x.1) r.reads
-        }
-    go : (l : Chaining operand (operator level) P c (stream o (f gap (sign space m (g space k)))) (sign space m (g space k))) → Chaining operand (operator level) P (form_data (spelling m) (c ∷ d ∷ [])) (stream o (f gap (sign space m (g space k)))) k
-    go l = turn l l.turns refl
+    chain_on operand (operator level) P (spelling m) m (stream o (f gap (sign space m (g space k)))) g k c d (λ next. rw (eq-eqb (level_of m) level is) refl)
+    (omega (arith, grows space k)) (left gap (sign space m (g space k)) o binds) (λ next. right space k next h)
 
 -- ---- an operator with one operand on each side
 
@@ -212,3 +213,93 @@ name_cases x Good p q = go (reserved_word x)
     go : (m : Option Mark) → Good (token_of_name x m)
     go None = p
     go (Some m) = q
+
+-- ---- the first token of pieces
+
+pub begins-stream : (is : Token → Bool) (k : Pieces) (o : ℕ → ℕ) → begins is (stream o k) ≡ first_is is k
+begins-stream is [] o = refl
+begins-stream is (p ∷ k) o = refl
+
+-- ---- lists
+
+-- parts that follow one another are read
+pub record Repeats (begins_part : Token → Bool) (part : Phrase Node) (ds : List Data) (turns : ℕ) (ts : Tokens) (k : Pieces) : Type 0 where
+  pub nodes : Nodes
+  pub next : ℕ → ℕ
+  pub same : items_of nodes ≡ items ds
+  pub reads : repeated begins_part part turns ts ≡ Ok (nodes, stream next k)
+
+abbrev pub RepeatsBy : (Token → Bool) → Phrase Node → List Data → (ps k : Pieces) → Type 0
+RepeatsBy begins_part part ds ps k = (o : ℕ → ℕ) (turns : ℕ) → length ps ≤ turns → Repeats begins_part part ds turns (stream o ps) k
+
+pub repeats_none : (begins_part : Token → Bool) (part : Phrase Node) (k : Pieces) → first_is begins_part k ≡ false → RepeatsBy begins_part part [] k k
+repeats_none begins_part part k none o zero h = record { nodes = no_nodes; next = o; same = refl; reads = refl }
+repeats_none begins_part part k none o (suc turns) h = record {
+  nodes = no_nodes;
+  next = o;
+  same = refl;
+  reads = ap (λ b. elim b as (λ _. Result (Nodes × Tokens) ℕ) [
+        true ↦ part (stream o k) >>= λ p. repeated begins_part part turns p.1 >>= λ q. Ok (node p.0 q.0, q.1)
+      | false ↦ Ok (no_nodes, stream o k)
+    ]) (begins-stream begins_part k o ∙ none)
+}
+
+pub repeats_more : (begins_part : Token → Bool) (part : Phrase Node) (d : Data) (ds : List Data) (ps qs k : Pieces) → first_is begins_part ps ≡ true → length qs < length ps
+    → ((o : ℕ → ℕ) → Reading part d (stream o ps) qs) → RepeatsBy begins_part part ds qs k → RepeatsBy begins_part part (d ∷ ds) ps k
+repeats_more begins_part part d ds ps qs k first less one others o zero h = absurd (omega arith)
+repeats_more begins_part part d ds ps qs k first less one others o (suc turns) h =
+    let r = one o in
+    let rest = others r.next turns (omega arith) in
+    record {
+      nodes = node r.node rest.nodes;
+      next = rest.next;
+      same = λ i. item (r.same i) (rest.same i);
+      reads = ap (λ b. elim b as (λ _. Result (Nodes × Tokens) ℕ) [
+            true ↦ part (stream o ps) >>= λ p. repeated begins_part part turns p.1 >>= λ q. Ok (node p.0 q.0, q.1)
+          | false ↦ Ok (no_nodes, stream o ps)
+        ]) (begins-stream begins_part ps o ∙ first)
+          ∙ ap (λ q. q >>= λ p. repeated begins_part part turns p.1 >>= λ x. Ok (node p.0 x.0, x.1)) r.reads
+          ∙ ap (λ q. q >>= λ x. Ok (node r.node x.0, x.1)) rest.reads
+    }
+
+-- parts with commas between them are read
+pub record Lists (part : Phrase Node) (ds : List Data) (turns : ℕ) (ts : Tokens) (k : Pieces) : Type 0 where
+  pub nodes : Nodes
+  pub next : ℕ → ℕ
+  pub same : items_of nodes ≡ items ds
+  pub reads : listed part turns ts ≡ Ok (nodes, stream next k)
+
+abbrev pub ListsBy : Phrase Node → List Data → (ps k : Pieces) → Type 0
+ListsBy part ds ps k = (o : ℕ → ℕ) (turns : ℕ) → length ps ≤ turns → Lists part ds turns (stream o ps) k
+
+abbrev list_rest : Phrase Node → ℕ → Node × Tokens → Bool → Result (Nodes × Tokens) ℕ
+list_rest part turns p is_comma = elim is_comma as (λ _. Result (Nodes × Tokens) ℕ) [
+    true ↦ listed part turns (past p.1) >>= λ q. Ok (node p.0 q.0, q.1)
+  | false ↦ Ok (node p.0 no_nodes, p.1)
+]
+
+pub lists_one : (part : Phrase Node) (d : Data) (ps k : Pieces) → first_is (is_mark comma) k ≡ false → length k < length ps → ((o : ℕ → ℕ) → Reading part d (stream o ps) k)
+    → ListsBy part (d ∷ []) ps k
+lists_one part d ps k none less one o zero h = absurd (omega arith)
+lists_one part d ps k none less one o (suc turns) h =
+    let r = one o in
+    record {
+      nodes = node r.node no_nodes;
+      next = r.next;
+      same = λ i. item (r.same i) no_items;
+      reads = ap (λ q. q >>= λ p. list_rest part turns p (begins (is_mark comma) p.1)) r.reads
+          ∙ ap (list_rest part turns (r.node, stream r.next k)) (begins-stream (is_mark comma) k r.next ∙ none)
+    }
+
+pub lists_more : (part : Phrase Node) (d : Data) (ds : List Data) (ps qs k : Pieces) → suc (length qs) < length ps → ((o : ℕ → ℕ) → Reading part d (stream o ps) (sign tight comma qs))
+    → ListsBy part ds qs k → ListsBy part (d ∷ ds) ps k
+lists_more part d ds ps qs k less one others o zero h = absurd (omega arith)
+lists_more part d ds ps qs k less one others o (suc turns) h =
+    let r = one o in
+    let rest = others (λ i. r.next (suc i)) turns (omega arith) in
+    record {
+      nodes = node r.node rest.nodes;
+      next = rest.next;
+      same = λ i. item (r.same i) (rest.same i);
+      reads = ap (λ q. q >>= λ p. list_rest part turns p (begins (is_mark comma) p.1)) r.reads ∙ ap (λ q. q >>= λ x. Ok (node r.node x.0, x.1)) rest.reads
+    }

@@ -3,7 +3,7 @@ use Rattle.std.specs.Prelude.{◌≡◌, ◌≤◌, ◌<◌, ◌^◌, ℕ, suc, 
 use Rattle.std.specs.Str.{is_utf8}
 use Rattle.hp_model.specs.Parts.{is_name}
 use Rattle.hp_model.specs.NotationTokens.{Token, mark, word, quoted, number, string, reserved_word, Tokens, token, ending, unreadable, tokens}
-use Rattle.hp_model.specs.NotationForms.{Expression, integer, truth, text, operation, inverted, negated, field_of, key_of, value, now, image_field, key_in, time_of, argument, occurrence_count}
+use Rattle.hp_model.specs.NotationForms.{Expression, integer, truth, text, operation, inverted, negated, field_of, key_of, value, now, image_field, key_in, time_of, argument, occurrence_count, Event, on_change, on_signal, on_commit, at_moment, every_moment, or_event, then_event, closure_event}
 use Rattle.hp_model.specs.NotationPrint.{Piece, Pieces, text_of}
 
 -- ---- tokens
@@ -63,3 +63,21 @@ expression_levels (operation op a b) = suc (max (expression_levels a) (expressio
 expression_levels (inverted a) = suc (expression_levels a)
 expression_levels (negated a) = suc (expression_levels a)
 expression_levels e = 1
+
+-- ---- events
+
+abbrev pub IsWritableEvent : Event → Type 0
+IsWritableEvent (on_change c x) = is_name x ≡ true
+IsWritableEvent (on_signal x) = is_name x ≡ true
+IsWritableEvent on_commit = ⊤
+IsWritableEvent (at_moment t) = Fits t
+IsWritableEvent (every_moment t n) = Fits t × Fits n
+IsWritableEvent (or_event a b) = IsWritableEvent a × IsWritableEvent b
+IsWritableEvent (then_event a b) = IsWritableEvent a × IsWritableEvent b
+IsWritableEvent (closure_event a b) = IsWritableEvent a × IsWritableEvent b
+
+abbrev pub event_levels : Event → ℕ
+event_levels (or_event a b) = suc (max (event_levels a) (event_levels b))
+event_levels (then_event a b) = suc (max (event_levels a) (event_levels b))
+event_levels (closure_event a b) = suc (max (event_levels a) (event_levels b))
+event_levels e = 1
