@@ -51,3 +51,5 @@ pub mod NotationLexing
 pub mod NotationReadings
 pub mod NotationExpressionsRead
 pub mod NotationEventsRead
+pub mod NotationPartsRead
+pub mod NotationStatementsRead

@@ -12,7 +12,7 @@ use Rattle.hp_model.specs.NotationEvents.{simple_event, joint, event_operator, e
 use Rattle.hp_model.specs.NotationForms.{Change, creation, change, deletion, Event, on_change, on_signal, on_commit, at_moment, every_moment, or_event, then_event, closure_event, event_data, form_data}
 use Rattle.hp_model.specs.NotationPrint.{Gap, tight, space, Piece, Pieces, at_gap, sign, free, name, natural, enclosed_if, first_is, is_or, is_then, event_pieces}
 use Rattle.hp_model.specs.NotationLaws.{Fits, IsWritableEvent, event_levels}
-use Rattle.hp_model.proofs.NotationReadings.{stream, size-stream, Reading, Chaining, Grows, chain_on, ends, name_cases, begins-stream}
+use Rattle.hp_model.proofs.NotationReadings.{bind_ok, stream, size-stream, Reading, Chaining, Grows, chain_on, ends, name_cases, begins-stream}
 
 -- whether a token joins two events
 abbrev pub joins_events : Token → Bool
@@ -214,8 +214,7 @@ module _ (a b : Event) (left : Owned a) (right : Owned b) where
         node = form (o 0) (codes "closure") (one.node ∷ two.node ∷ []);
         next = λ i. two.next (suc i);
         same = λ i. form_data (codes "closure") (one.same i ∷ two.same i ∷ []);
-        reads = ap (λ q. q >>= λ each. passed (is_mark until_mark) each.1 >>= λ rest. event (event_within l) rest >>= λ last. passed (is_mark close_parenthesis) last.1 >>= λ end. Ok (form (o 0) (codes "closure") (each.0 ∷ last.0 ∷ []), end)) one.reads
-            ∙ ap (λ q. q >>= λ last. passed (is_mark close_parenthesis) last.1 >>= λ end. Ok (form (o 0) (codes "closure") (one.node ∷ last.0 ∷ []), end)) two.reads
+        reads = bind_ok _ _ _ one.reads ∙ bind_ok _ _ _ two.reads
       }
 
   own_closure : Owned (closure_event a b)

@@ -11,6 +11,9 @@ use Rattle.hp_model.specs.NotationExpressions.{level_of, operator, chain}
 use Rattle.hp_model.specs.NotationForms.{items, form_data}
 use Rattle.hp_model.specs.NotationPrint.{Gap, tight, space, Piece, Pieces, sign, enclosed_if, name_token, token_of_name, first_is}
 
+pub bind_ok : {A B : Type 0} (r : Result A ℕ) (x : A) (f : A → Result B ℕ) → r ≡ Ok x → (r >>= f) ≡ f x
+bind_ok r x f e = ap (λ q. q >>= f) e
+
 -- ---- the tokens of pieces
 
 -- the tokens of pieces, with these offsets

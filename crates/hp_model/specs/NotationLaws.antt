@@ -3,7 +3,7 @@ use Rattle.std.specs.Prelude.{◌≡◌, ◌≤◌, ◌<◌, ◌^◌, ℕ, suc, 
 use Rattle.std.specs.Str.{is_utf8}
 use Rattle.hp_model.specs.Parts.{is_name}
 use Rattle.hp_model.specs.NotationTokens.{Token, mark, word, quoted, number, string, reserved_word, Tokens, token, ending, unreadable, tokens}
-use Rattle.hp_model.specs.NotationForms.{Expression, integer, truth, text, operation, inverted, negated, field_of, key_of, value, now, image_field, key_in, time_of, argument, occurrence_count, Event, on_change, on_signal, on_commit, at_moment, every_moment, or_event, then_event, closure_event}
+use Rattle.hp_model.specs.NotationForms.{Expression, integer, truth, text, operation, inverted, negated, field_of, key_of, value, now, image_field, key_in, time_of, argument, occurrence_count, Event, on_change, on_signal, on_commit, at_moment, every_moment, or_event, then_event, closure_event, Rows, Aggregate, count_of, fold_of, next_key, plain, Assignment, Statement, set_object, delete, signal, emit, when, each, for_answer, with_object, with_value, subtransaction, abort, veto, veto_with, on_rule, Body, empty, ◌then◌}
 use Rattle.hp_model.specs.NotationPrint.{Piece, Pieces, text_of}
 
 -- ---- tokens
@@ -81,3 +81,73 @@ event_levels (or_event a b) = suc (max (event_levels a) (event_levels b))
 event_levels (then_event a b) = suc (max (event_levels a) (event_levels b))
 event_levels (closure_event a b) = suc (max (event_levels a) (event_levels b))
 event_levels e = 1
+
+-- ---- rows, aggregates and queries
+
+-- an expression that fits into a script: the reader reads at least 32 levels
+abbrev pub IsFitExpression : Expression → Type 0
+IsFitExpression e = IsWritableExpression e × (expression_levels e ≤ 32)
+
+pub record AreFitRows (r : Rows) : Type 0 where
+  pub name : is_name r.name ≡ true
+  pub class : is_name r.class ≡ true
+  pub predicate : IsFitExpression r.predicate
+
+abbrev pub IsFitAggregate : Aggregate → Type 0
+IsFitAggregate (count_of r) = AreFitRows r
+IsFitAggregate (fold_of f r e) = AreFitRows r × IsFitExpression e
+IsFitAggregate (next_key c) = is_name c ≡ true
+IsFitAggregate (plain e) = IsFitExpression e
+
+abbrev pub AreFitAssignments : List Assignment → Type 0
+AreFitAssignments [] = ⊤
+AreFitAssignments (a ∷ others) = (is_name a.field ≡ true) × IsFitExpression a.value × AreFitAssignments others
+
+abbrev pub AreFitExpressions : List Expression → Type 0
+AreFitExpressions [] = ⊤
+AreFitExpressions (e ∷ es) = IsFitExpression e × AreFitExpressions es
+
+-- ---- statements
+
+abbrev mutual
+  pub IsFitStatement : Statement → Type 0
+  IsFitStatement (set_object s c e ps) = (is_name c ≡ true) × IsFitExpression e × AreFitAssignments ps
+  IsFitStatement (delete c e) = (is_name c ≡ true) × IsFitExpression e
+  IsFitStatement (signal x es) = (is_name x ≡ true) × AreFitExpressions es
+  IsFitStatement (emit e) = IsFitExpression e
+  IsFitStatement (when e b c) = IsFitExpression e × IsFitBody b × IsFitBody c
+  IsFitStatement (each r b) = AreFitRows r × IsFitBody b
+  IsFitStatement (for_answer x b) = (is_name x ≡ true) × IsFitBody b
+  IsFitStatement (with_object x c e b) = (is_name x ≡ true) × (is_name c ≡ true) × IsFitExpression e × IsFitBody b
+  IsFitStatement (with_value x a b) = (is_name x ≡ true) × IsFitAggregate a × IsFitBody b
+  IsFitStatement (subtransaction b c) = IsFitBody b × IsFitBody c
+  IsFitStatement abort = ⊤
+  IsFitStatement veto = ⊤
+  IsFitStatement (veto_with e) = IsFitExpression e
+  IsFitStatement (on_rule op x) = is_name x ≡ true
+
+  pub IsFitBody : Body → Type 0
+  IsFitBody empty = ⊤
+  IsFitBody (◌then◌ s b) = IsFitStatement s × IsFitBody b
+
+abbrev mutual
+  -- how many levels of bodies stand round the innermost statements, with the statement's own
+  pub statement_levels : Statement → ℕ
+  statement_levels (when e b c) = suc (max (body_levels b) (body_levels c))
+  statement_levels (each r b) = suc (body_levels b)
+  statement_levels (for_answer x b) = suc (body_levels b)
+  statement_levels (with_object x c e b) = suc (body_levels b)
+  statement_levels (with_value x a b) = suc (body_levels b)
+  statement_levels (subtransaction b c) = suc (max (body_levels b) (body_levels c))
+  statement_levels (set_object s c e ps) = 1
+  statement_levels (delete c e) = 1
+  statement_levels (signal x es) = 1
+  statement_levels (emit e) = 1
+  statement_levels abort = 1
+  statement_levels veto = 1
+  statement_levels (veto_with e) = 1
+  statement_levels (on_rule op x) = 1
+
+  pub body_levels : Body → ℕ
+  body_levels empty = 1
+  body_levels (◌then◌ s b) = max (statement_levels s) (body_levels b)

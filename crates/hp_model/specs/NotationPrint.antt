@@ -173,7 +173,7 @@ first_is is (p ∷ k) = is p.token
 
 -- an expression, in parentheses if its first token would be read as another word
 abbrev pub apart_from : (Token → Bool) → Expression → Gap → Pieces → Pieces
-apart_from is e = enclosed_if (first_is is (expression_pieces e tight [])) (expression_pieces e)
+apart_from is e gap k = enclosed_if (first_is is (expression_pieces e gap k)) (expression_pieces e) gap k
 
 -- ---- events
 
