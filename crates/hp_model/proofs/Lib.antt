@@ -53,3 +53,4 @@ pub mod NotationExpressionsRead
 pub mod NotationEventsRead
 pub mod NotationPartsRead
 pub mod NotationStatementsRead
+pub mod NotationScriptsRead

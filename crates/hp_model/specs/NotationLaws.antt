@@ -1,9 +1,10 @@
 -- Laws of the text notation. Each is the contract of an empty function.
-use Rattle.std.specs.Prelude.{◌≡◌, ◌≤◌, ◌<◌, ◌^◌, ℕ, suc, max, pos, negsuc, true, List, [], ◌∷◌, ◌++◌, map, Option, Some, None, option_map, ⊤}
+use Rattle.std.specs.Prelude.{Bool, ◌&&◌, false, codes, bytes_eq, ◌≡◌, ◌≤◌, ◌<◌, ◌^◌, ℕ, suc, max, pos, negsuc, true, List, [], ◌∷◌, ◌++◌, map, Option, Some, None, option_map, ⊤}
 use Rattle.std.specs.Str.{is_utf8}
 use Rattle.hp_model.specs.Parts.{is_name}
 use Rattle.hp_model.specs.NotationTokens.{Token, mark, word, quoted, number, string, reserved_word, Tokens, token, ending, unreadable, tokens}
-use Rattle.hp_model.specs.NotationForms.{Expression, integer, truth, text, operation, inverted, negated, field_of, key_of, value, now, image_field, key_in, time_of, argument, occurrence_count, Event, on_change, on_signal, on_commit, at_moment, every_moment, or_event, then_event, closure_event, Rows, Aggregate, count_of, fold_of, next_key, plain, Assignment, Statement, set_object, delete, signal, emit, when, each, for_answer, with_object, with_value, subtransaction, abort, veto, veto_with, on_rule, Body, empty, ◌then◌}
+use Rattle.hp_model.specs.NotationScripts.{has_let}
+use Rattle.hp_model.specs.NotationForms.{Expression, integer, truth, text, operation, inverted, negated, field_of, key_of, value, now, image_field, key_in, time_of, argument, occurrence_count, Event, on_change, on_signal, on_commit, at_moment, every_moment, or_event, then_event, closure_event, Rows, Aggregate, count_of, fold_of, next_key, plain, Assignment, Query, some_rows, no_rows, named_value, Field, Class, Rule, Item, transaction, clock, Script, Statement, set_object, delete, signal, emit, when, each, for_answer, with_object, with_value, subtransaction, abort, veto, veto_with, on_rule, Body, empty, ◌then◌}
 use Rattle.hp_model.specs.NotationPrint.{Piece, Pieces, text_of}
 
 -- ---- tokens
@@ -151,3 +152,47 @@ abbrev mutual
   pub body_levels : Body → ℕ
   body_levels empty = 1
   body_levels (◌then◌ s b) = max (statement_levels s) (body_levels b)
+
+-- ---- scripts
+
+abbrev pub EachIs : {A : Type 0} → (A → Type 0) → List A → Type 0
+EachIs P [] = ⊤
+EachIs P (x ∷ xs) = P x × EachIs P xs
+
+-- with a `let` in a condition a row isn't called `let`, and without one there is no such query
+abbrev pub IsFitQuery : (lets : Bool) → Query → Type 0
+IsFitQuery lets (some_rows r) = AreFitRows r × ((lets && bytes_eq r.name (codes "let")) ≡ false)
+IsFitQuery lets (no_rows r) = AreFitRows r
+IsFitQuery lets (named_value x a) = (lets ≡ true) × (is_name x ≡ true) × IsFitAggregate a
+
+abbrev pub IsFitField : Field → Type 0
+IsFitField f = is_name f.name ≡ true
+
+pub record IsFitClass (c : Class) : Type 0 where
+  pub name : is_name c.name ≡ true
+  pub fields : EachIs IsFitField c.fields
+
+pub record IsFitRule (lets : Bool) (r : Rule) : Type 0 where
+  pub name : is_name r.name ≡ true
+  pub event : IsWritableEvent r.event
+  pub event_levels : event_levels r.event ≤ 64
+  pub condition : EachIs (IsFitQuery lets) r.condition
+  pub action : IsFitBody r.action
+  pub action_levels : body_levels r.action ≤ 64
+
+abbrev pub IsFitItem : Item → Type 0
+IsFitItem (transaction b) = IsFitBody b × (body_levels b ≤ 64)
+IsFitItem (clock t) = Fits t
+
+abbrev pub IsFitDepth : Option ℕ → Type 0
+IsFitDepth None = ⊤
+IsFitDepth (Some n) = Fits n
+
+-- a script that can be written: its names are names, its numbers fit in 64 bits, its texts are UTF-8, and it doesn't
+-- nest deeper than the reader reads
+pub record IsFitScript (s : Script) : Type 0 where
+  pub version : Fits s.version
+  pub depth : IsFitDepth s.depth
+  pub classes : EachIs IsFitClass s.classes
+  pub rules : EachIs (IsFitRule (has_let (pos s.version))) s.rules
+  pub items : EachIs IsFitItem s.items
