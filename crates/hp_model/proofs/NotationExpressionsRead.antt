@@ -42,25 +42,25 @@ negation_reads deeper (token at (string_token s) ts) r e = e
 negation_reads deeper (ending at) r e = e
 negation_reads deeper (unreadable at) r e = e
 
-module _ (deeper : Deeper) (f : Gap → Pieces → Pieces) (d : Data) where
+module _ (deeper : Deeper) (levels : ℕ) (some : 0 < levels) (f : Gap → Pieces → Pieces) (d : Data) where
   unary_of : ReadsBy (primary deeper) 9 f d → ReadsBy (unary deeper) 9 f d
   unary_of by gap k o h =
       let r = by gap k o h in
       record { node = r.node; next = r.next; same = r.same; reads = unary_reads deeper (stream o (f gap k)) (r.node, stream r.next k) r.reads }
 
-  product_chain_of : ReadsBy (unary deeper) 9 f d → ChainsBy (unary deeper) (operator 6) (product deeper) 9 f d
+  product_chain_of : ReadsBy (unary deeper) 9 f d → ChainsBy (unary deeper) (operator 6) (product deeper) 9 levels f d
   unfolding product
-  product_chain_of by = begins_chain (unary deeper) (operator 6) 9 f d by
+  product_chain_of by = begins_chain (unary deeper) (operator 6) 9 levels f d some by
 
-  product_of : ChainsBy (unary deeper) (operator 6) (product deeper) 9 f d → ReadsBy (product deeper) 6 f d
-  product_of by = ends_chain (unary deeper) 6 (product deeper) 9 f d (omega arith) by
+  product_of : ChainsBy (unary deeper) (operator 6) (product deeper) 9 levels f d → ReadsBy (product deeper) 6 f d
+  product_of by = ends_chain (unary deeper) 6 (product deeper) 9 levels f d (omega arith) by
 
-  sum_chain_of : ReadsBy (product deeper) 6 f d → ChainsBy (product deeper) (operator 5) (sum deeper) 6 f d
+  sum_chain_of : ReadsBy (product deeper) 6 f d → ChainsBy (product deeper) (operator 5) (sum deeper) 6 levels f d
   unfolding sum
-  sum_chain_of by = begins_chain (product deeper) (operator 5) 6 f d by
+  sum_chain_of by = begins_chain (product deeper) (operator 5) 6 levels f d some by
 
-  sum_of : ChainsBy (product deeper) (operator 5) (sum deeper) 6 f d → ReadsBy (sum deeper) 5 f d
-  sum_of by = ends_chain (product deeper) 5 (sum deeper) 6 f d (omega arith) by
+  sum_of : ChainsBy (product deeper) (operator 5) (sum deeper) 6 levels f d → ReadsBy (sum deeper) 5 f d
+  sum_of by = ends_chain (product deeper) 5 (sum deeper) 6 levels f d (omega arith) by
 
   comparison_of : ReadsBy (sum deeper) 5 f d → ReadsBy (comparison deeper) 4 f d
   unfolding comparison
@@ -94,69 +94,58 @@ rank_level rank_6 = 6
 rank_level rank_7 = 7
 rank_level rank_8 = 8
 
-module _ (deeper : Deeper) (f : Gap → Pieces → Pieces) (d : Data) where
+module _ (deeper : Deeper) (levels : ℕ) (some : 0 < levels) (f : Gap → Pieces → Pieces) (d : Data) where
   -- what f writes is read at the level of this rank
   abbrev Base : Rank → Type 0
   Base rank_1 = ReadsBy (expression deeper) 1 f d
   Base rank_2 = ReadsBy (conjunction deeper) 2 f d
   Base rank_3 = ReadsBy (negation deeper) 4 f d
   Base rank_4 = ReadsBy (comparison deeper) 4 f d
-  Base rank_5 = ChainsBy (product deeper) (operator 5) (sum deeper) 6 f d
-  Base rank_6 = ChainsBy (unary deeper) (operator 6) (product deeper) 9 f d
+  Base rank_5 = ChainsBy (product deeper) (operator 5) (sum deeper) 6 levels f d
+  Base rank_6 = ChainsBy (unary deeper) (operator 6) (product deeper) 9 levels f d
   Base rank_7 = ReadsBy (unary deeper) 9 f d
   Base rank_8 = ReadsBy (primary deeper) 9 f d
 
   at_unary : (rank : Rank) → Base rank → 7 ≤ rank_level rank → ReadsBy (unary deeper) 9 f d
-  at_unary rank_8 b h = unary_of deeper f d b
+  at_unary rank_8 b h = unary_of deeper levels some f d b
   at_unary rank_7 b h = b
   at_unary rank b h = absurd (omega arith)
 
-  at_product_chain : (rank : Rank) → Base rank → 6 ≤ rank_level rank → ChainsBy (unary deeper) (operator 6) (product deeper) 9 f d
-  at_product_chain rank_8 b h = product_chain_of deeper f d (at_unary rank_8 b (omega arith))
-  at_product_chain rank_7 b h = product_chain_of deeper f d (at_unary rank_7 b (omega arith))
+  at_product_chain : (rank : Rank) → Base rank → 6 ≤ rank_level rank → ChainsBy (unary deeper) (operator 6) (product deeper) 9 levels f d
+  at_product_chain rank_8 b h = product_chain_of deeper levels some f d (at_unary rank_8 b (omega arith))
+  at_product_chain rank_7 b h = product_chain_of deeper levels some f d (at_unary rank_7 b (omega arith))
   at_product_chain rank_6 b h = b
   at_product_chain rank b h = absurd (omega arith)
 
-  at_sum_chain : (rank : Rank) → Base rank → 5 ≤ rank_level rank → ChainsBy (product deeper) (operator 5) (sum deeper) 6 f d
+  at_sum_chain : (rank : Rank) → Base rank → 5 ≤ rank_level rank → ChainsBy (product deeper) (operator 5) (sum deeper) 6 levels f d
   at_sum_chain rank_5 b h = b
   at_sum_chain rank_4 b h = absurd (omega arith)
   at_sum_chain rank_3 b h = absurd (omega arith)
   at_sum_chain rank_2 b h = absurd (omega arith)
   at_sum_chain rank_1 b h = absurd (omega arith)
-  at_sum_chain rank b h = sum_chain_of deeper f d (product_of deeper f d (at_product_chain rank b (omega arith)))
+  at_sum_chain rank b h = sum_chain_of deeper levels some f d (product_of deeper levels some f d (at_product_chain rank b (omega arith)))
 
   at_comparison : (rank : Rank) → Base rank → 4 ≤ rank_level rank → ReadsBy (comparison deeper) 4 f d
   at_comparison rank_4 b h = b
   at_comparison rank_3 b h = absurd (omega arith)
   at_comparison rank_2 b h = absurd (omega arith)
   at_comparison rank_1 b h = absurd (omega arith)
-  at_comparison rank b h = comparison_of deeper f d (sum_of deeper f d (at_sum_chain rank b (omega arith)))
+  at_comparison rank b h = comparison_of deeper levels some f d (sum_of deeper levels some f d (at_sum_chain rank b (omega arith)))
 
   at_negation : (rank : Rank) → Base rank → 3 ≤ rank_level rank → ReadsBy (negation deeper) 4 f d
   at_negation rank_3 b h = b
   at_negation rank_2 b h = absurd (omega arith)
   at_negation rank_1 b h = absurd (omega arith)
-  at_negation rank b h = negation_of deeper f d (at_comparison rank b (omega arith))
+  at_negation rank b h = negation_of deeper levels some f d (at_comparison rank b (omega arith))
 
   at_conjunction : (rank : Rank) → Base rank → 2 ≤ rank_level rank → ReadsBy (conjunction deeper) 2 f d
   at_conjunction rank_2 b h = b
   at_conjunction rank_1 b h = absurd (omega arith)
-  at_conjunction rank b h = conjunction_of deeper f d (at_negation rank b (omega arith))
+  at_conjunction rank b h = conjunction_of deeper levels some f d (at_negation rank b (omega arith))
 
   at_expression : (rank : Rank) → Base rank → ReadsBy (expression deeper) 1 f d
   at_expression rank_1 b = b
-  at_expression rank b = expression_of deeper f d (at_conjunction rank b (omega arith))
-
--- how an expression without parentheses is read, with this number of levels left
-record Own (x : Expression) (l : ℕ) : Type 0 where
-  rank : Rank
-  fits : (p : ℕ) → p ≤ 7 → p ≤ expression_level x → p ≤ rank_level rank
-  base : Base (expressions_within l) (expression_pieces x) (expression_data x) rank
-  -- after a `-`
-  operand : 8 ≤ negated_level x → ReadsBy (primary (expressions_within l)) 9 (expression_pieces x) (expression_data x)
-
-abbrev Owned : Expression → Type 0
-Owned x = (l : ℕ) → 2 * expression_levels x ≤ l + 2 → Own x l
+  at_expression rank b = expression_of deeper levels some f d (at_conjunction rank b (omega arith))
 
 pub levels_positive : (y : Expression) → 0 < expression_levels y
 levels_positive (operation op a b) = omega arith
@@ -164,14 +153,25 @@ levels_positive (inverted a) = omega arith
 levels_positive (negated a) = omega arith
 levels_positive y = omega arith
 
+-- how an expression without parentheses is read, with this number of levels left
+record Own (x : Expression) (l : ℕ) : Type 0 where
+  rank : Rank
+  fits : (p : ℕ) → p ≤ 7 → p ≤ expression_level x → p ≤ rank_level rank
+  base : Base (expressions_within l) (expression_levels x) (levels_positive x) (expression_pieces x) (expression_data x) rank
+  -- after a `-`
+  operand : 8 ≤ negated_level x → ReadsBy (primary (expressions_within l)) 9 (expression_pieces x) (expression_data x)
+
+abbrev Owned : Expression → Type 0
+Owned x = (l : ℕ) → l < 64 → 2 * expression_levels x ≤ l + 2 → Own x l
+
 module _ (x : Expression) (own : Owned x) where
   -- in parentheses, which nest a level deeper
-  parenthesized : (l : ℕ) → 2 * expression_levels x ≤ l + 1 → ReadsBy (primary (expressions_within l)) 9 (enclosed_if true (expression_pieces x)) (expression_data x)
+  parenthesized : (l : ℕ) → l < 64 → 2 * expression_levels x ≤ l + 1 → ReadsBy (primary (expressions_within l)) 9 (enclosed_if true (expression_pieces x)) (expression_data x)
   unfolding expressions_within
-  parenthesized zero h gap k o q = absurd (omega (arith, levels_positive x))
-  parenthesized (suc l) h gap k o q =
-      let inner = own l (omega arith) in
-      let r = at_expression (expressions_within l) (expression_pieces x) (expression_data x) inner.rank inner.base tight (sign tight close_parenthesis k) (λ i. o (suc i)) (omega arith) in
+  parenthesized zero few h gap k o q = absurd (omega (arith, levels_positive x))
+  parenthesized (suc l) few h gap k o q =
+      let inner = own l (omega arith) (omega arith) in
+      let r = at_expression (expressions_within l) (expression_levels x) (levels_positive x) (expression_pieces x) (expression_data x) inner.rank inner.base tight (sign tight close_parenthesis k) (λ i. o (suc i)) (omega arith) in
       record {
         node = r.node;
         next = λ i. r.next (suc i);
@@ -179,7 +179,7 @@ module _ (x : Expression) (own : Owned x) where
         reads = ap (λ q. q >>= λ e. passed (is_mark close_parenthesis) e.1 >>= λ rest. Ok (e.0, rest)) r.reads
       }
 
-  module _ (l : ℕ) (h : 2 * expression_levels x ≤ l + 1) where
+  module _ (l : ℕ) (few : l < 64) (h : 2 * expression_levels x ≤ l + 1) where
     abbrev deep : Deeper
     deep = expressions_within l
 
@@ -193,40 +193,40 @@ module _ (x : Expression) (own : Owned x) where
     dat = expression_data x
 
     mine : Own x l
-    mine = own l (omega arith)
+    mine = own l few (omega arith)
 
     in_expression : ReadsBy (expression deep) 1 (expression_in 1 x) dat
-    in_expression = enclosed_cases (expression_level x) 1 written (λ g. ReadsBy (expression deep) 1 g dat) (λ _. at_expression deep paren dat rank_8 (parenthesized l h))
-        (λ above. at_expression deep written dat mine.rank mine.base)
+    in_expression = enclosed_cases (expression_level x) 1 written (λ g. ReadsBy (expression deep) 1 g dat) (λ _. at_expression deep (expression_levels x) (levels_positive x) paren dat rank_8 (parenthesized l few h))
+        (λ above. at_expression deep (expression_levels x) (levels_positive x) written dat mine.rank mine.base)
 
     in_conjunction : ReadsBy (conjunction deep) 2 (expression_in 2 x) dat
-    in_conjunction = enclosed_cases (expression_level x) 2 written (λ g. ReadsBy (conjunction deep) 2 g dat) (λ _. at_conjunction deep paren dat rank_8 (parenthesized l h) (omega arith))
-        (λ above. at_conjunction deep written dat mine.rank mine.base (mine.fits 2 (omega arith) above))
+    in_conjunction = enclosed_cases (expression_level x) 2 written (λ g. ReadsBy (conjunction deep) 2 g dat) (λ _. at_conjunction deep (expression_levels x) (levels_positive x) paren dat rank_8 (parenthesized l few h) (omega arith))
+        (λ above. at_conjunction deep (expression_levels x) (levels_positive x) written dat mine.rank mine.base (mine.fits 2 (omega arith) above))
 
     in_negation : ReadsBy (negation deep) 4 (expression_in 3 x) dat
-    in_negation = enclosed_cases (expression_level x) 3 written (λ g. ReadsBy (negation deep) 4 g dat) (λ _. at_negation deep paren dat rank_8 (parenthesized l h) (omega arith))
-        (λ above. at_negation deep written dat mine.rank mine.base (mine.fits 3 (omega arith) above))
+    in_negation = enclosed_cases (expression_level x) 3 written (λ g. ReadsBy (negation deep) 4 g dat) (λ _. at_negation deep (expression_levels x) (levels_positive x) paren dat rank_8 (parenthesized l few h) (omega arith))
+        (λ above. at_negation deep (expression_levels x) (levels_positive x) written dat mine.rank mine.base (mine.fits 3 (omega arith) above))
 
-    in_sum_chain : ChainsBy (product deep) (operator 5) (sum deep) 6 (expression_in 5 x) dat
-    in_sum_chain = enclosed_cases (expression_level x) 5 written (λ g. ChainsBy (product deep) (operator 5) (sum deep) 6 g dat) (λ _. at_sum_chain deep paren dat rank_8 (parenthesized l h) (omega arith))
-        (λ above. at_sum_chain deep written dat mine.rank mine.base (mine.fits 5 (omega arith) above))
+    in_sum_chain : ChainsBy (product deep) (operator 5) (sum deep) 6 (expression_levels x) (expression_in 5 x) dat
+    in_sum_chain = enclosed_cases (expression_level x) 5 written (λ g. ChainsBy (product deep) (operator 5) (sum deep) 6 (expression_levels x) g dat) (λ _. at_sum_chain deep (expression_levels x) (levels_positive x) paren dat rank_8 (parenthesized l few h) (omega arith))
+        (λ above. at_sum_chain deep (expression_levels x) (levels_positive x) written dat mine.rank mine.base (mine.fits 5 (omega arith) above))
 
     in_sum : ReadsBy (sum deep) 5 (expression_in 5 x) dat
-    in_sum = sum_of deep (expression_in 5 x) dat in_sum_chain
+    in_sum = sum_of deep (expression_levels x) (levels_positive x) (expression_in 5 x) dat in_sum_chain
 
-    in_product_chain : ChainsBy (unary deep) (operator 6) (product deep) 9 (expression_in 6 x) dat
-    in_product_chain = enclosed_cases (expression_level x) 6 written (λ g. ChainsBy (unary deep) (operator 6) (product deep) 9 g dat) (λ _. at_product_chain deep paren dat rank_8 (parenthesized l h) (omega arith))
-        (λ above. at_product_chain deep written dat mine.rank mine.base (mine.fits 6 (omega arith) above))
+    in_product_chain : ChainsBy (unary deep) (operator 6) (product deep) 9 (expression_levels x) (expression_in 6 x) dat
+    in_product_chain = enclosed_cases (expression_level x) 6 written (λ g. ChainsBy (unary deep) (operator 6) (product deep) 9 (expression_levels x) g dat) (λ _. at_product_chain deep (expression_levels x) (levels_positive x) paren dat rank_8 (parenthesized l few h) (omega arith))
+        (λ above. at_product_chain deep (expression_levels x) (levels_positive x) written dat mine.rank mine.base (mine.fits 6 (omega arith) above))
 
     in_product : ReadsBy (product deep) 6 (expression_in 6 x) dat
-    in_product = product_of deep (expression_in 6 x) dat in_product_chain
+    in_product = product_of deep (expression_levels x) (levels_positive x) (expression_in 6 x) dat in_product_chain
 
     in_unary : ReadsBy (unary deep) 9 (expression_in 7 x) dat
-    in_unary = enclosed_cases (expression_level x) 7 written (λ g. ReadsBy (unary deep) 9 g dat) (λ _. at_unary deep paren dat rank_8 (parenthesized l h) (omega arith))
-        (λ above. at_unary deep written dat mine.rank mine.base (mine.fits 7 (omega arith) above))
+    in_unary = enclosed_cases (expression_level x) 7 written (λ g. ReadsBy (unary deep) 9 g dat) (λ _. at_unary deep (expression_levels x) (levels_positive x) paren dat rank_8 (parenthesized l few h) (omega arith))
+        (λ above. at_unary deep (expression_levels x) (levels_positive x) written dat mine.rank mine.base (mine.fits 7 (omega arith) above))
 
     after_minus : ReadsBy (primary deep) 9 (enclosed_if (nat_lt (negated_level x) 8) written) dat
-    after_minus = enclosed_cases (negated_level x) 8 written (λ g. ReadsBy (primary deep) 9 g dat) (λ _. parenthesized l h) (λ above. mine.operand above)
+    after_minus = enclosed_cases (negated_level x) 8 written (λ g. ReadsBy (primary deep) 9 g dat) (λ _. parenthesized l few h) (λ above. mine.operand above)
 
 -- ---- what an expression writes comes before what follows
 
@@ -436,9 +436,9 @@ negative_reads deeper at (ending b) r e = ap (λ q. q >>= λ p. Ok (form at (cod
 negative_reads deeper at (unreadable b) r e = ap (λ q. q >>= λ p. Ok (form at (codes "neg") (p.0 ∷ []), p.1)) e
 
 own_negated : (a : Expression) → Owned a → Owned (negated a)
-own_negated a own l h =
+own_negated a own l few h =
     let by : ReadsBy (unary (expressions_within l)) 9 (expression_pieces (negated a)) (expression_data (negated a)) = λ gap k o q.
-        let r = after_minus a own l (omega arith) tight k (λ i. o (suc i)) q in
+        let r = after_minus a own l few (omega arith) tight k (λ i. o (suc i)) q in
         record {
           node = form (o 0) (codes "neg") (r.node ∷ []);
           next = r.next;
@@ -449,10 +449,10 @@ own_negated a own l h =
 
 own_inverted : (a : Expression) → Owned a → Owned (inverted a)
 unfolding negation expressions_within
-own_inverted a own zero h = absurd (omega (arith, levels_positive a))
-own_inverted a own (suc l) h =
+own_inverted a own zero few h = absurd (omega (arith, levels_positive a))
+own_inverted a own (suc l) few h =
     let by : ReadsBy (negation (expressions_within (suc l))) 4 (expression_pieces (inverted a)) (expression_data (inverted a)) = λ gap k o q.
-        let r = in_negation a own l (omega arith) space k (λ i. o (suc i)) q in
+        let r = in_negation a own l (omega arith) (omega arith) space k (λ i. o (suc i)) q in
         record {
           node = form (o 0) (codes "not") (r.node ∷ []);
           next = r.next;
@@ -465,96 +465,96 @@ module _ (a b : Expression) (left : Owned a) (right : Owned b) where
   abbrev Operated : Operator → Type 0
   Operated op = Owned (operation op a b)
 
-  own_product : (m : Mark) (l : ℕ) → 2 * suc (max (expression_levels a) (expression_levels b)) ≤ l + 2 → level_of m ≡ 6 → mark_binding m < 9
-      → ChainsBy (unary (expressions_within l)) (operator 6) (product (expressions_within l)) 9 (λ gap k. expression_in 6 a gap (sign space m (expression_in 7 b space k)))
+  own_product : (m : Mark) (l : ℕ) → l < 64 → 2 * suc (max (expression_levels a) (expression_levels b)) ≤ l + 2 → level_of m ≡ 6 → mark_binding m < 9
+      → ChainsBy (unary (expressions_within l)) (operator 6) (product (expressions_within l)) 9 (suc (max (expression_levels a) (expression_levels b))) (λ gap k. expression_in 6 a gap (sign space m (expression_in 7 b space k)))
       (form_data (spelling m) (expression_data a ∷ expression_data b ∷ []))
-  own_product m l h is binds =
-      chain_step (unary (expressions_within l)) 6 (product (expressions_within l)) 9 m (expression_in 6 a) (expression_in 7 b) (expression_data a) (expression_data b) is binds
-      (grows_in 7 b) (in_product_chain a left l (omega arith)) (in_unary b right l (omega arith))
+  own_product m l few h is binds =
+      chain_step (unary (expressions_within l)) 6 (product (expressions_within l)) 9 m (expression_in 6 a) (expression_in 7 b) (expression_data a) (expression_data b) (expression_levels a) (suc (max (expression_levels a) (expression_levels b))) is binds
+      (omega arith) (omega arith) (in_product_chain a left l few (omega arith)) (in_unary b right l few (omega arith))
 
-  own_sum : (m : Mark) (l : ℕ) → 2 * suc (max (expression_levels a) (expression_levels b)) ≤ l + 2 → level_of m ≡ 5 → mark_binding m < 6
-      → ChainsBy (product (expressions_within l)) (operator 5) (sum (expressions_within l)) 6 (λ gap k. expression_in 5 a gap (sign space m (expression_in 6 b space k)))
+  own_sum : (m : Mark) (l : ℕ) → l < 64 → 2 * suc (max (expression_levels a) (expression_levels b)) ≤ l + 2 → level_of m ≡ 5 → mark_binding m < 6
+      → ChainsBy (product (expressions_within l)) (operator 5) (sum (expressions_within l)) 6 (suc (max (expression_levels a) (expression_levels b))) (λ gap k. expression_in 5 a gap (sign space m (expression_in 6 b space k)))
       (form_data (spelling m) (expression_data a ∷ expression_data b ∷ []))
-  own_sum m l h is binds =
-      chain_step (product (expressions_within l)) 5 (sum (expressions_within l)) 6 m (expression_in 5 a) (expression_in 6 b) (expression_data a) (expression_data b) is binds
-      (grows_in 6 b) (in_sum_chain a left l (omega arith)) (in_product b right l (omega arith))
+  own_sum m l few h is binds =
+      chain_step (product (expressions_within l)) 5 (sum (expressions_within l)) 6 m (expression_in 5 a) (expression_in 6 b) (expression_data a) (expression_data b) (expression_levels a) (suc (max (expression_levels a) (expression_levels b))) is binds
+      (omega arith) (omega arith) (in_sum_chain a left l few (omega arith)) (in_product b right l few (omega arith))
 
-  own_relation : (m : Mark) (l : ℕ) → 2 * suc (max (expression_levels a) (expression_levels b)) ≤ l + 2 → level_of m ≡ 4 → mark_binding m < 5
+  own_relation : (m : Mark) (l : ℕ) → l < 64 → 2 * suc (max (expression_levels a) (expression_levels b)) ≤ l + 2 → level_of m ≡ 4 → mark_binding m < 5
       → ReadsBy (comparison (expressions_within l)) 4 (λ gap k. expression_in 5 a gap (sign space m (expression_in 5 b space k)))
       (form_data (spelling m) (expression_data a ∷ expression_data b ∷ []))
   unfolding comparison
-  own_relation m l h is binds =
+  own_relation m l few h is binds =
       let deep = expressions_within l in
       let f = λ (gap : Gap) (k : Pieces). expression_in 5 a gap (sign space m (expression_in 5 b space k)) in
       weaker (two_sides (sum deep) (sum deep) 4) 4 5 f (form_data (spelling m) (expression_data a ∷ expression_data b ∷ [])) (omega arith)
-      (two_sides_read (sum deep) (sum deep) 4 5 5 m (expression_in 5 a) (expression_in 5 b) (expression_data a) (expression_data b) is binds (in_sum a left l (omega arith)) (in_sum b right l (omega arith)))
+      (two_sides_read (sum deep) (sum deep) 4 5 5 m (expression_in 5 a) (expression_in 5 b) (expression_data a) (expression_data b) is binds (in_sum a left l few (omega arith)) (in_sum b right l few (omega arith)))
 
   own_both : Operated both
   unfolding expressions_within conjunction
-  own_both zero h = absurd (omega (arith, levels_positive a))
-  own_both (suc l) h = record {
+  own_both zero few h = absurd (omega (arith, levels_positive a))
+  own_both (suc l) few h = record {
     rank = rank_2;
     fits = λ p a b. omega arith;
     base = two_sides_read (negation (expressions_within (suc l))) (conjunction (expressions_within l)) 2 4 2 and_mark (expression_in 3 a) (expression_in 2 b) (expression_data a) (expression_data b)
-        refl (omega arith) (in_negation a left (suc l) (omega arith)) (in_conjunction b right l (omega arith));
+        refl (omega arith) (in_negation a left (suc l) few (omega arith)) (in_conjunction b right l (omega arith) (omega arith));
     operand = λ q. absurd (omega arith)
   }
 
   own_either : Operated either
   unfolding expressions_within expression
-  own_either zero h = absurd (omega (arith, levels_positive a))
-  own_either (suc l) h = record {
+  own_either zero few h = absurd (omega (arith, levels_positive a))
+  own_either (suc l) few h = record {
     rank = rank_1;
     fits = λ p a b. omega arith;
     base = two_sides_read (conjunction (expressions_within (suc l))) (expression (expressions_within l)) 1 2 1 or_mark (expression_in 2 a) (expression_in 1 b) (expression_data a) (expression_data b)
-        refl (omega arith) (in_conjunction a left (suc l) (omega arith)) (in_expression b right l (omega arith));
+        refl (omega arith) (in_conjunction a left (suc l) few (omega arith)) (in_expression b right l (omega arith) (omega arith));
     operand = λ q. absurd (omega arith)
   }
 
   own_operation : (op : Operator) → Operated op
-  own_operation either l h = own_either l h
-  own_operation both l h = own_both l h
-  own_operation equal l h = record { rank = rank_4; fits = λ p a b. omega arith; base = own_relation equal_sign l h refl (omega arith); operand = λ q. absurd (omega arith) }
-  own_operation unequal l h = record { rank = rank_4; fits = λ p a b. omega arith; base = own_relation unequal_sign l h refl (omega arith); operand = λ q. absurd (omega arith) }
-  own_operation less l h = record { rank = rank_4; fits = λ p a b. omega arith; base = own_relation less_sign l h refl (omega arith); operand = λ q. absurd (omega arith) }
-  own_operation at_most l h = record { rank = rank_4; fits = λ p a b. omega arith; base = own_relation at_most_sign l h refl (omega arith); operand = λ q. absurd (omega arith) }
-  own_operation greater l h = record { rank = rank_4; fits = λ p a b. omega arith; base = own_relation greater_sign l h refl (omega arith); operand = λ q. absurd (omega arith) }
-  own_operation at_least l h = record { rank = rank_4; fits = λ p a b. omega arith; base = own_relation at_least_sign l h refl (omega arith); operand = λ q. absurd (omega arith) }
-  own_operation plus l h = record { rank = rank_5; fits = λ p a b. omega arith; base = own_sum plus_sign l h refl (omega arith); operand = λ q. absurd (omega arith) }
-  own_operation minus l h = record { rank = rank_5; fits = λ p a b. omega arith; base = own_sum minus_sign l h refl (omega arith); operand = λ q. absurd (omega arith) }
-  own_operation times l h = record { rank = rank_6; fits = λ p a b. omega arith; base = own_product times_sign l h refl (omega arith); operand = λ q. absurd (omega arith) }
-  own_operation quotient l h = record { rank = rank_6; fits = λ p a b. omega arith; base = own_product divided_sign l h refl (omega arith); operand = λ q. absurd (omega arith) }
-  own_operation remainder l h = record { rank = rank_6; fits = λ p a b. omega arith; base = own_product percent_sign l h refl (omega arith); operand = λ q. absurd (omega arith) }
+  own_operation either l few h = own_either l few h
+  own_operation both l few h = own_both l few h
+  own_operation equal l few h = record { rank = rank_4; fits = λ p a b. omega arith; base = own_relation equal_sign l few h refl (omega arith); operand = λ q. absurd (omega arith) }
+  own_operation unequal l few h = record { rank = rank_4; fits = λ p a b. omega arith; base = own_relation unequal_sign l few h refl (omega arith); operand = λ q. absurd (omega arith) }
+  own_operation less l few h = record { rank = rank_4; fits = λ p a b. omega arith; base = own_relation less_sign l few h refl (omega arith); operand = λ q. absurd (omega arith) }
+  own_operation at_most l few h = record { rank = rank_4; fits = λ p a b. omega arith; base = own_relation at_most_sign l few h refl (omega arith); operand = λ q. absurd (omega arith) }
+  own_operation greater l few h = record { rank = rank_4; fits = λ p a b. omega arith; base = own_relation greater_sign l few h refl (omega arith); operand = λ q. absurd (omega arith) }
+  own_operation at_least l few h = record { rank = rank_4; fits = λ p a b. omega arith; base = own_relation at_least_sign l few h refl (omega arith); operand = λ q. absurd (omega arith) }
+  own_operation plus l few h = record { rank = rank_5; fits = λ p a b. omega arith; base = own_sum plus_sign l few h refl (omega arith); operand = λ q. absurd (omega arith) }
+  own_operation minus l few h = record { rank = rank_5; fits = λ p a b. omega arith; base = own_sum minus_sign l few h refl (omega arith); operand = λ q. absurd (omega arith) }
+  own_operation times l few h = record { rank = rank_6; fits = λ p a b. omega arith; base = own_product times_sign l few h refl (omega arith); operand = λ q. absurd (omega arith) }
+  own_operation quotient l few h = record { rank = rank_6; fits = λ p a b. omega arith; base = own_product divided_sign l few h refl (omega arith); operand = λ q. absurd (omega arith) }
+  own_operation remainder l few h = record { rank = rank_6; fits = λ p a b. omega arith; base = own_product percent_sign l few h refl (omega arith); operand = λ q. absurd (omega arith) }
 
 -- ---- all expressions
 
 owned : (x : Expression) → IsWritableExpression x → Owned x
-owned (integer z) w l h = own_integer z l w
-owned (truth b) w l h = own_truth b l
-owned (text s) w l h = own_text s l
-owned (operation op a b) w l h = own_operation a b (owned a w.0) (owned b w.1) op l h
-owned (inverted a) w l h = own_inverted a (owned a w) l h
-owned (negated a) w l h = own_negated a (owned a w) l h
-owned (field_of x f) w l h = own_field x f l
-owned (key_of x) w l h = own_key x l
-owned (value x) w l h = own_value x l
-owned now w l h = own_now l
-owned (image_field image i f) w l h = own_image image i f l w.0
-owned (key_in i) w l h = own_key_in i l w
-owned (time_of i) w l h = own_time i l w
-owned (argument i j) w l h = own_argument i j l w.0 w.1
-owned occurrence_count w l h = own_count l
+owned (integer z) w l few h = own_integer z l w
+owned (truth b) w l few h = own_truth b l
+owned (text s) w l few h = own_text s l
+owned (operation op a b) w l few h = own_operation a b (owned a w.0) (owned b w.1) op l few h
+owned (inverted a) w l few h = own_inverted a (owned a w) l few h
+owned (negated a) w l few h = own_negated a (owned a w) l few h
+owned (field_of x f) w l few h = own_field x f l
+owned (key_of x) w l few h = own_key x l
+owned (value x) w l few h = own_value x l
+owned now w l few h = own_now l
+owned (image_field image i f) w l few h = own_image image i f l w.0
+owned (key_in i) w l few h = own_key_in i l w
+owned (time_of i) w l few h = own_time i l w
+owned (argument i j) w l few h = own_argument i j l w.0 w.1
+owned occurrence_count w l few h = own_count l
 
 -- an expression in any place of a script
 pub any_expression_read : (x : Expression) → IsWritableExpression x → expression_levels x ≤ 32 → ReadsBy any_expression 1 (expression_pieces x) (expression_data x)
 unfolding expressions_within
-any_expression_read x w h = let mine = owned x w 63 (omega arith) in at_expression (expressions_within 63) (expression_pieces x) (expression_data x) mine.rank mine.base
+any_expression_read x w h = let mine = owned x w 63 (omega arith) (omega arith) in at_expression (expressions_within 63) (expression_levels x) (levels_positive x) (expression_pieces x) (expression_data x) mine.rank mine.base
 
 pub any_sum_read : (x : Expression) → IsWritableExpression x → expression_levels x ≤ 32 → ReadsBy any_sum 5 (expression_in 5 x) (expression_data x)
-any_sum_read x w h = in_sum x (owned x w) 63 (omega arith)
+any_sum_read x w h = in_sum x (owned x w) 63 (omega arith) (omega arith)
 
 -- in parentheses
 pub enclosed_expression_read : (x : Expression) → IsWritableExpression x → expression_levels x ≤ 32 → ReadsBy any_expression 1 (enclosed_if true (expression_pieces x)) (expression_data x)
 unfolding expressions_within
 enclosed_expression_read x w h =
-    at_expression (expressions_within 63) (enclosed_if true (expression_pieces x)) (expression_data x) rank_8 (parenthesized x (owned x w) 63 (omega arith))
+    at_expression (expressions_within 63) (expression_levels x) (levels_positive x) (enclosed_if true (expression_pieces x)) (expression_data x) rank_8 (parenthesized x (owned x w) 63 (omega arith) (omega arith))

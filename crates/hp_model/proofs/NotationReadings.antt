@@ -6,7 +6,7 @@ use Rattle.serde_json.specs.Data.{Data, no_items, item}
 use Rattle.hp_model.specs.Values.{◌>>=◌}
 use Rattle.hp_model.specs.NotationTokens.{Mark, point, comma, spelling, reserved_word, Token, mark, word, quoted, number, string, Tokens, token, ending, unreadable, size}
 use Rattle.hp_model.specs.NotationTree.{Node, Nodes, no_nodes, node, data_of, items_of, Phrase}
-use Rattle.hp_model.specs.NotationPhrases.{is_mark, begins, past, listed, repeated, Operator, joined, with_right, chained, chain_from}
+use Rattle.hp_model.specs.NotationPhrases.{is_mark, begins, past, listed, repeated, Operator, joined, with_right, most_operators, unchained, chained, chain_from}
 use Rattle.hp_model.specs.NotationExpressions.{level_of, operator, chain}
 use Rattle.hp_model.specs.NotationForms.{items, form_data}
 use Rattle.hp_model.specs.NotationPrint.{Gap, tight, space, Piece, Pieces, sign, enclosed_if, name_token, token_of_name, first_is}
@@ -85,17 +85,17 @@ pub record Reading (P : Phrase Node) (d : Data) (ts : Tokens) (k : Pieces) : Typ
 abbrev pub ReadsBy : Phrase Node → ℕ → (Gap → Pieces → Pieces) → Data → Type 0
 ReadsBy P p f d = (gap : Gap) (k : Pieces) (o : ℕ → ℕ) → binding k < p → Reading P d (stream o (f gap k)) k
 
--- a phrase goes on, with this value as its left operand
-pub record Chaining (operand : Phrase Node) (op : Operator) (P : Phrase Node) (d : Data) (ts : Tokens) (k : Pieces) : Type 0 where
+-- a phrase goes on, with this value as its left operand. The value has fewer operators than levels
+pub record Chaining (operand : Phrase Node) (op : Operator) (P : Phrase Node) (levels : ℕ) (d : Data) (ts : Tokens) (k : Pieces) : Type 0 where
   pub node : Node
   pub next : ℕ → ℕ
   pub turns : ℕ
-  pub enough : length k ≤ turns
+  pub enough : most_operators < turns + levels
   pub same : data_of node ≡ d
   pub reads : P ts ≡ chain_from operand op turns node (stream next k)
 
-abbrev pub ChainsBy : Phrase Node → Operator → Phrase Node → ℕ → (Gap → Pieces → Pieces) → Data → Type 0
-ChainsBy operand op P p f d = (gap : Gap) (k : Pieces) (o : ℕ → ℕ) → binding k < p → Chaining operand op P d (stream o (f gap k)) k
+abbrev pub ChainsBy : Phrase Node → Operator → Phrase Node → (p levels : ℕ) → (Gap → Pieces → Pieces) → Data → Type 0
+ChainsBy operand op P p levels f d = (gap : Gap) (k : Pieces) (o : ℕ → ℕ) → binding k < p → Chaining operand op P levels d (stream o (f gap k)) k
 
 -- what f writes has more pieces than those that follow
 abbrev pub Grows : (Gap → Pieces → Pieces) → Type 0
@@ -104,27 +104,20 @@ Grows f = (gap : Gap) (k : Pieces) → length k < length (f gap k)
 -- ---- chains
 
 -- an operand begins a chain
-pub begins_chain : (operand : Phrase Node) (op : Operator) (p : ℕ) (f : Gap → Pieces → Pieces) (d : Data) → ReadsBy operand p f d → ChainsBy operand op (chain operand op) p f d
-begins_chain operand op p f d left gap k o h =
+pub begins_chain : (operand : Phrase Node) (op : Operator) (p levels : ℕ) (f : Gap → Pieces → Pieces) (d : Data) → 0 < levels → ReadsBy operand p f d → ChainsBy operand op (chain operand op) p levels f d
+begins_chain operand op p levels f d some left gap k o h =
     let l = left gap k o h in
-    record {
-      node = l.node;
-      next = l.next;
-      turns = size (stream l.next k);
-      enough = omega (arith, size-stream l.next k);
-      same = l.same;
-      reads = rw l.reads refl
-    }
+    record { node = l.node; next = l.next; turns = most_operators; enough = omega arith; same = l.same; reads = rw l.reads refl }
 
 pub ends : (operand : Phrase Node) (op : Operator) (turns : ℕ) (n : Node) (ts : Tokens) → op ts ≡ None → chain_from operand op turns n ts ≡ Ok (n, ts)
 unfolding chain_from
-ends operand op zero n ts none = refl
+ends operand op zero n ts none = ap (unchained n ts) none
 ends operand op (suc turns) n ts none = ap (chained operand (chain_from operand op turns) n ts) none
 
 -- a chain ends where no operator of its level follows
-pub ends_chain : (operand : Phrase Node) (level : ℕ) (P : Phrase Node) (p : ℕ) (f : Gap → Pieces → Pieces) (d : Data) → level ≤ p
-    → ChainsBy operand (operator level) P p f d → ReadsBy P level f d
-ends_chain operand level P p f d least left gap k o h =
+pub ends_chain : (operand : Phrase Node) (level : ℕ) (P : Phrase Node) (p levels : ℕ) (f : Gap → Pieces → Pieces) (d : Data) → level ≤ p
+    → ChainsBy operand (operator level) P p levels f d → ReadsBy P level f d
+ends_chain operand level P p levels f d least left gap k o h =
     let l = left gap k o (omega arith) in
     record {
       node = l.node;
@@ -137,13 +130,14 @@ joined_same : (tag : List ℕ) (a b : Node) (c d : Data) → data_of a ≡ c →
 joined_same tag a b c d p q = λ i. form_data tag (p i ∷ q i ∷ [])
 
 -- an operator and an operand go on with a chain
-pub chain_on : (operand : Phrase Node) (op : Operator) (P : Phrase Node) (tag : List ℕ) (m : Mark) (ts : Tokens) (g : Gap → Pieces → Pieces) (k : Pieces) (c d : Data)
-    → ((o : ℕ → ℕ) → op (stream o (sign space m (g space k))) ≡ Some (tag, stream (λ i. o (suc i)) (g space k))) → length k ≤ length (g space k)
-    → Chaining operand op P c ts (sign space m (g space k)) → ((o : ℕ → ℕ) → Reading operand d (stream o (g space k)) k) → Chaining operand op P (form_data tag (c ∷ d ∷ [])) ts k
+pub chain_on : (operand : Phrase Node) (op : Operator) (P : Phrase Node) (tag : List ℕ) (m : Mark) (ts : Tokens) (g : Gap → Pieces → Pieces) (k : Pieces) (c d : Data) (fewer levels : ℕ)
+    → ((o : ℕ → ℕ) → op (stream o (sign space m (g space k))) ≡ Some (tag, stream (λ i. o (suc i)) (g space k))) → fewer < levels → levels ≤ 64
+    → Chaining operand op P fewer c ts (sign space m (g space k)) → ((o : ℕ → ℕ) → Reading operand d (stream o (g space k)) k)
+    → Chaining operand op P levels (form_data tag (c ∷ d ∷ [])) ts k
 unfolding chain_from
-chain_on operand op P tag m ts g k c d some grows l right = turn l.turns refl
+chain_on operand op P tag m ts g k c d fewer levels some more few l right = turn l.turns refl
   where
-    turn : (turns : ℕ) → l.turns ≡ turns → Chaining operand op P (form_data tag (c ∷ d ∷ [])) ts k
+    turn : (turns : ℕ) → l.turns ≡ turns → Chaining operand op P levels (form_data tag (c ∷ d ∷ [])) ts k
     turn zero e = absurd (omega (arith, l.enough))
     turn (suc turns) e =
         let rest = λ (i : ℕ). l.next (suc i) in
@@ -159,12 +153,12 @@ chain_on operand op P tag m ts g k c d some grows l right = turn l.turns refl
               ∙ ap (λ q. q >>= λ x. chain_from operand op turns (joined tag l.node x.0) x.1) r.reads
         }
 
-pub chain_step : (operand : Phrase Node) (level : ℕ) (P : Phrase Node) (p : ℕ) (m : Mark) (f g : Gap → Pieces → Pieces) (c d : Data)
-    → level_of m ≡ level → mark_binding m < p → Grows g → ChainsBy operand (operator level) P p f c → ReadsBy operand p g d
-    → ChainsBy operand (operator level) P p (λ gap k. f gap (sign space m (g space k))) (form_data (spelling m) (c ∷ d ∷ []))
-chain_step operand level P p m f g c d is binds grows left right gap k o h =
-    chain_on operand (operator level) P (spelling m) m (stream o (f gap (sign space m (g space k)))) g k c d (λ next. rw (eq-eqb (level_of m) level is) refl)
-    (omega (arith, grows space k)) (left gap (sign space m (g space k)) o binds) (λ next. right space k next h)
+pub chain_step : (operand : Phrase Node) (level : ℕ) (P : Phrase Node) (p : ℕ) (m : Mark) (f g : Gap → Pieces → Pieces) (c d : Data) (fewer levels : ℕ)
+    → level_of m ≡ level → mark_binding m < p → fewer < levels → levels ≤ 64 → ChainsBy operand (operator level) P p fewer f c → ReadsBy operand p g d
+    → ChainsBy operand (operator level) P p levels (λ gap k. f gap (sign space m (g space k))) (form_data (spelling m) (c ∷ d ∷ []))
+chain_step operand level P p m f g c d fewer levels is binds more few left right gap k o h =
+    chain_on operand (operator level) P (spelling m) m (stream o (f gap (sign space m (g space k)))) g k c d fewer levels (λ next. rw (eq-eqb (level_of m) level is) refl)
+    more few (left gap (sign space m (g space k)) o binds) (λ next. right space k next h)
 
 -- ---- an operator with one operand on each side
 
