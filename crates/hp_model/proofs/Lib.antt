@@ -54,3 +54,5 @@ pub mod NotationEventsRead
 pub mod NotationPartsRead
 pub mod NotationStatementsRead
 pub mod NotationScriptsRead
+pub mod NotationSpelt
+pub mod NotationRead

@@ -1,18 +1,18 @@
 -- The canonical text of an event is read as the event.
-use Rattle.std.proofs.Common.{◌≡◌, refl, sym, ap, ◌∙◌, subst, ℕ, zero, suc, ◌+◌, ◌<◌, ◌≤◌, ◌^◌, max, Bool, true, false, ◌||◌, List, [], ◌∷◌, length, codes, Option, Some, None, Result, Ok, Err, arith}
-use Rattle.std.specs.Prelude.{nat_lt, pos}
+use Rattle.std.proofs.Common.{◌≡◌, refl, ap, ◌∙◌, ℕ, zero, suc, ◌+◌, ◌<◌, ◌≤◌, ◌^◌, Bool, true, false, ◌||◌, List, [], ◌∷◌, codes, Option, Some, None, Ok, arith}
+use Rattle.std.specs.Prelude.{pos}
 use Rattle.std.proofs.lemmas.Bool.{lt-ltb, or_parts, true≢false}
 use Rattle.serde_json.specs.Data.{Data}
 use Rattle.hp_model.specs.Values.{◌>>=◌}
-use Rattle.hp_model.specs.NotationTokens.{Mark, or_mark, then_mark, until_mark, create_mark, update_mark, delete_mark, signal_mark, close_parenthesis, Token, mark, word, quoted, Tokens, size}
+use Rattle.hp_model.specs.NotationTokens.{Mark, or_mark, then_mark, until_mark, create_mark, update_mark, delete_mark, signal_mark, close_parenthesis, Token, Tokens}
 use Rattle.hp_model.specs.NotationTree as T
 use Rattle.hp_model.specs.NotationTree.{Node, form, Phrase}
-use Rattle.hp_model.specs.NotationPhrases.{is_mark, begins, past, passed, Operator, most_operators, chain_from}
+use Rattle.hp_model.specs.NotationPhrases.{is_mark, past, passed, Operator, most_operators, chain_from}
 use Rattle.hp_model.specs.NotationEvents.{simple_event, joint, event_operator, event, event_within, any_event}
 use Rattle.hp_model.specs.NotationForms.{Change, creation, change, deletion, Event, on_change, on_signal, on_commit, at_moment, every_moment, or_event, then_event, closure_event, event_data, form_data}
-use Rattle.hp_model.specs.NotationPrint.{Gap, tight, space, Piece, Pieces, at_gap, sign, free, name, natural, enclosed_if, first_is, is_or, is_then, event_pieces}
-use Rattle.hp_model.specs.NotationLaws.{Fits, IsWritableEvent, event_levels}
-use Rattle.hp_model.proofs.NotationReadings.{bind_ok, stream, size-stream, Reading, Chaining, Grows, chain_on, ends, name_cases, begins-stream}
+use Rattle.hp_model.specs.NotationPrint.{Gap, tight, space, Pieces, at_gap, sign, enclosed_if, first_is, is_or, is_then, event_pieces}
+use Rattle.hp_model.specs.NotationLaws.{IsWritableEvent, event_levels}
+use Rattle.hp_model.proofs.NotationReadings.{bind_ok, stream, Reading, Chaining, Grows, chain_on, ends, name_cases, begins-stream}
 
 -- whether a token joins two events
 abbrev pub joins_events : Token → Bool
@@ -81,7 +81,7 @@ module _ (l levels : ℕ) (some : 0 < levels) (f : Gap → Pieces → Pieces) (d
         turns = most_operators;
         enough = omega arith;
         same = r.same;
-        reads = ap (λ q. q >>= λ p. chain_from (simple_event (event_within l)) (event_operator p.1) most_operators p.0 p.1) r.reads
+        reads = ap (λ q. q >>= λ p. chain_from (simple_event (event_within l)) (event_operator p.1) most_operators p.0 p.1) r.reads;
       }
 
   then_left_of : SimpleBy → LeftBy then_mark (codes "seq")
@@ -94,7 +94,7 @@ module _ (l levels : ℕ) (some : 0 < levels) (f : Gap → Pieces → Pieces) (d
         turns = most_operators;
         enough = omega arith;
         same = r.same;
-        reads = ap (λ q. q >>= λ p. chain_from (simple_event (event_within l)) (event_operator p.1) most_operators p.0 p.1) r.reads
+        reads = ap (λ q. q >>= λ p. chain_from (simple_event (event_within l)) (event_operator p.1) most_operators p.0 p.1) r.reads;
       }
 
   whole_of : SimpleBy → WholeBy
@@ -107,7 +107,7 @@ module _ (l levels : ℕ) (some : 0 < levels) (f : Gap → Pieces → Pieces) (d
         next = r.next;
         same = r.same;
         reads = ap (λ q. q >>= λ p. chain_from (simple_event (event_within l)) (event_operator p.1) most_operators p.0 p.1) r.reads
-            ∙ ends (simple_event (event_within l)) (event_operator rest) most_operators r.node rest (no_event_operator k r.next h)
+            ∙ ends (simple_event (event_within l)) (event_operator rest) most_operators r.node rest (no_event_operator k r.next h);
       }
 
 levels_positive : (x : Event) → 0 < event_levels x
@@ -130,7 +130,7 @@ own_simple x l by = record {
   simple = λ _. by;
   or_left = λ _. or_left_of l (event_levels x) (levels_positive x) (event_pieces x) (event_data x) by;
   then_left = λ _. then_left_of l (event_levels x) (levels_positive x) (event_pieces x) (event_data x) by;
-  whole = whole_of l (event_levels x) (levels_positive x) (event_pieces x) (event_data x) by
+  whole = whole_of l (event_levels x) (levels_positive x) (event_pieces x) (event_data x) by;
 }
 
 module _ (x : Event) (own : Owned x) where
@@ -144,7 +144,7 @@ module _ (x : Event) (own : Owned x) where
         node = r.node;
         next = λ i. r.next (suc i);
         same = r.same;
-        reads = ap (λ q. q >>= λ e. passed (is_mark close_parenthesis) e.1 >>= λ rest. Ok (e.0, rest)) r.reads
+        reads = ap (λ q. q >>= λ e. passed (is_mark close_parenthesis) e.1 >>= λ rest. Ok (e.0, rest)) r.reads;
       }
 
   module _ (l : ℕ) (few : l < 64) (h : event_levels x ≤ l) where
@@ -184,7 +184,7 @@ module _ (a b : Event) (left : Owned a) (right : Owned b) where
     node = c.node;
     next = c.next;
     same = c.same;
-    reads = c.reads ∙ ends (simple_event (event_within l)) (joint m tag) c.turns c.node (stream c.next k) (no_joint m tag k c.next none)
+    reads = c.reads ∙ ends (simple_event (event_within l)) (joint m tag) c.turns c.node (stream c.next k) (no_joint m tag k c.next none);
   }
 
   own_or : Owned (or_event a b)
@@ -192,7 +192,7 @@ module _ (a b : Event) (left : Owned a) (right : Owned b) where
     simple = λ e. absurd (true≢false e);
     or_left = λ _ gap k o. or_chain l few h gap (sign space or_mark k) o;
     then_left = λ e. absurd (true≢false e);
-    whole = λ gap k o none. whole_chain l (event_levels (or_event a b)) or_mark (codes "or") (event_data (or_event a b)) (stream o (event_pieces (or_event a b) gap k)) k (first_parts k none).0 (or_chain l few h gap k o)
+    whole = λ gap k o none. whole_chain l (event_levels (or_event a b)) or_mark (codes "or") (event_data (or_event a b)) (stream o (event_pieces (or_event a b) gap k)) k (first_parts k none).0 (or_chain l few h gap k o);
   }
 
   own_then : Owned (then_event a b)
@@ -200,7 +200,7 @@ module _ (a b : Event) (left : Owned a) (right : Owned b) where
     simple = λ e. absurd (true≢false e);
     or_left = λ e. absurd (true≢false e);
     then_left = λ _ gap k o. then_chain l few h gap (sign space then_mark k) o;
-    whole = λ gap k o none. whole_chain l (event_levels (then_event a b)) then_mark (codes "seq") (event_data (then_event a b)) (stream o (event_pieces (then_event a b) gap k)) k (first_parts k none).1 (then_chain l few h gap k o)
+    whole = λ gap k o none. whole_chain l (event_levels (then_event a b)) then_mark (codes "seq") (event_data (then_event a b)) (stream o (event_pieces (then_event a b) gap k)) k (first_parts k none).1 (then_chain l few h gap k o);
   }
 
   closure_by : (l : ℕ) → l < 64 → event_levels (closure_event a b) ≤ l + 1 → SimpleBy l (event_levels (closure_event a b)) (omega arith) (event_pieces (closure_event a b)) (event_data (closure_event a b))
@@ -214,7 +214,7 @@ module _ (a b : Event) (left : Owned a) (right : Owned b) where
         node = form (o 0) (codes "closure") (one.node ∷ two.node ∷ []);
         next = λ i. two.next (suc i);
         same = λ i. form_data (codes "closure") (one.same i ∷ two.same i ∷ []);
-        reads = bind_ok _ _ _ one.reads ∙ bind_ok _ _ _ two.reads
+        reads = bind_ok _ _ _ one.reads ∙ bind_ok _ _ _ two.reads;
       }
 
   own_closure : Owned (closure_event a b)
@@ -253,7 +253,7 @@ owned (every_moment t n) w l few h = own_simple (every_moment t n) l
       node = form (o 0) (codes "every") (T.integer (o 3) (pos t) ∷ T.integer (o 1) (pos n) ∷ []);
       next = λ i. o (suc (suc (suc (suc i))));
       same = refl;
-      reads = rw (lt-ltb n (2 ^ 63) w.1, lt-ltb t (2 ^ 63) w.0) refl
+      reads = rw (lt-ltb n (2 ^ 63) w.1, lt-ltb t (2 ^ 63) w.0) refl;
     })
 owned (or_event a b) w l few h = own_or a b (owned a w.0) (owned b w.1) l few h
 owned (then_event a b) w l few h = own_then a b (owned a w.0) (owned b w.1) l few h

@@ -1,16 +1,16 @@
 -- The canonical text of an expression is read as the expression.
-use Rattle.std.proofs.Common.{◌≡◌, refl, sym, ap, ◌∙◌, subst, ℕ, zero, suc, ◌+◌, ◌*◌, ◌<◌, ◌≤◌, ◌^◌, max, ℤ, pos, negsuc, Bool, true, false, List, [], ◌∷◌, length, codes, Option, Some, None, Result, Ok, Err, arith}
+use Rattle.std.proofs.Common.{◌≡◌, refl, ap, ◌∙◌, ℕ, zero, suc, ◌+◌, ◌*◌, ◌<◌, ◌≤◌, ◌^◌, max, ℤ, pos, negsuc, Bool, true, false, List, [], ◌∷◌, length, codes, Result, Ok, Err, arith}
 use Rattle.std.specs.Prelude.{nat_lt, bytes_eq}
 use Rattle.std.proofs.lemmas.Bool.{lt-ltb}
 use Rattle.serde_json.specs.Data.{Data, string}
 use Rattle.hp_model.specs.Values.{◌>>=◌}
-use Rattle.hp_model.specs.NotationTokens.{Mark, and_mark, or_mark, not_mark, equal_sign, unequal_sign, less_sign, at_most_sign, greater_sign, at_least_sign, plus_sign, times_sign, divided_sign, percent_sign, minus_sign, open_parenthesis, close_parenthesis, close_bracket, point, key_mark, spelling, Token, mark, word, quoted, number, string as string_token, Tokens, token, ending, unreadable, place}
+use Rattle.hp_model.specs.NotationTokens.{Mark, and_mark, or_mark, not_mark, equal_sign, unequal_sign, less_sign, at_most_sign, greater_sign, at_least_sign, plus_sign, times_sign, divided_sign, percent_sign, minus_sign, open_parenthesis, close_parenthesis, point, key_mark, spelling, mark, word, quoted, number, string as string_token, Tokens, token, ending, unreadable}
 use Rattle.hp_model.specs.NotationTree as T
 use Rattle.hp_model.specs.NotationTree.{Node, data_of, form, Phrase}
-use Rattle.hp_model.specs.NotationPhrases.{is_mark, begins, past, passed, number_at}
-use Rattle.hp_model.specs.NotationExpressions.{Deeper, level_of, operator, row_field, primary, negative, of_row, named, alone, unary, product, sum, comparison, negation, conjunction, expression, expressions_within, too_deep, any_expression, any_sum}
+use Rattle.hp_model.specs.NotationPhrases.{is_mark, begins, past, passed}
+use Rattle.hp_model.specs.NotationExpressions.{Deeper, level_of, operator, row_field, primary, negative, of_row, named, alone, unary, product, sum, comparison, negation, conjunction, expression, expressions_within, any_expression, any_sum}
 use Rattle.hp_model.specs.NotationForms.{Expression, integer, truth, text, Operator, either, both, equal, unequal, less, at_most, greater, at_least, plus, minus, times, quotient, remainder, operator_mark, operation, inverted, negated, Image, new_image, old_image, field_of, key_of, value, now, image_field, key_in, time_of, argument, occurrence_count, expression_data, form_data, natural_data}
-use Rattle.hp_model.specs.NotationPrint.{Gap, tight, space, Piece, Pieces, at_gap, sign, free, name, natural, name_token, value_token, value_token_of, enclosed_if, part_pieces, expression_level, left_level, right_level, negated_level, expression_pieces, expression_in}
+use Rattle.hp_model.specs.NotationPrint.{Gap, tight, space, Pieces, at_gap, sign, free, name, natural, value_token_of, enclosed_if, part_pieces, expression_level, left_level, right_level, negated_level, expression_pieces, expression_in}
 use Rattle.hp_model.specs.NotationLaws.{Fits, IsWritableExpression, expression_levels}
 use Rattle.hp_model.proofs.NotationReadings.{stream, mark_binding, binding, no_point, Reading, ReadsBy, ChainsBy, Grows, begins_chain, ends_chain, chain_step, one_side, two_sides, two_sides_read, enclosed_cases, name_cases}
 
@@ -176,7 +176,7 @@ module _ (x : Expression) (own : Owned x) where
         node = r.node;
         next = λ i. r.next (suc i);
         same = r.same;
-        reads = ap (λ q. q >>= λ e. passed (is_mark close_parenthesis) e.1 >>= λ rest. Ok (e.0, rest)) r.reads
+        reads = ap (λ q. q >>= λ e. passed (is_mark close_parenthesis) e.1 >>= λ rest. Ok (e.0, rest)) r.reads;
       }
 
   module _ (l : ℕ) (few : l < 64) (h : 2 * expression_levels x ≤ l + 1) where
@@ -280,13 +280,13 @@ own_integer (pos n) l fits = record {
   rank = rank_7;
   fits = λ p a b. omega arith;
   base = λ gap k o h. record { node = T.integer (o 0) (pos n); next = λ i. o (suc i); same = refl; reads = rw (lt-ltb n (2 ^ 63) fits) refl };
-  operand = λ h. absurd (omega arith)
+  operand = λ h. absurd (omega arith);
 }
 own_integer (negsuc n) l fits = record {
   rank = rank_7;
   fits = λ p a b. omega arith;
   base = λ gap k o h. record { node = T.integer (o 0) (negsuc n); next = λ i. o (suc (suc i)); same = refl; reads = refl };
-  operand = λ h. absurd (omega arith)
+  operand = λ h. absurd (omega arith);
 }
 
 own_truth : (b : Bool) (l : ℕ) → Own (truth b) l
@@ -326,7 +326,7 @@ own_value x l = own_primary (value x) l refl (λ gap k o h. by gap k o h (bytes_
       node = form (o 0) (codes "value") (T.text (o 0) x ∷ []);
       next = λ i. o (suc i);
       same = refl;
-      reads = named_alone (o 0) false (T.text (o 0) x) (stream (λ i. o (suc i)) k) (no_point k (λ i. o (suc i)) h)
+      reads = named_alone (o 0) false (T.text (o 0) x) (stream (λ i. o (suc i)) k) (no_point k (λ i. o (suc i)) h);
     }
     by gap k o h false e =
         name_cases x (λ t. Reading (primary (expressions_within l)) (expression_data (value x)) (stream o (at_gap gap t k)) k)
@@ -335,13 +335,13 @@ own_value x l = own_primary (value x) l refl (λ gap k o h. by gap k o h (bytes_
           next = λ i. o (suc i);
           same = refl;
           reads = ap (λ b. named (o 0) b (T.text (o 0) x) (stream (λ i. o (suc i)) k)) e
-              ∙ named_alone (o 0) false (T.text (o 0) x) (stream (λ i. o (suc i)) k) (no_point k (λ i. o (suc i)) h)
+              ∙ named_alone (o 0) false (T.text (o 0) x) (stream (λ i. o (suc i)) k) (no_point k (λ i. o (suc i)) h);
         })
         (record {
           node = form (o 0) (codes "value") (T.text (o 0) x ∷ []);
           next = λ i. o (suc i);
           same = refl;
-          reads = named_alone (o 0) false (T.text (o 0) x) (stream (λ i. o (suc i)) k) (no_point k (λ i. o (suc i)) h)
+          reads = named_alone (o 0) false (T.text (o 0) x) (stream (λ i. o (suc i)) k) (no_point k (λ i. o (suc i)) h);
         })
 
 own_now : (l : ℕ) → Own now l
@@ -360,13 +360,13 @@ row_field_read at tag (suc i) f k o fits =
       node = form at tag (T.integer (o 1) (pos (suc i)) ∷ T.text (o 4) f ∷ []);
       next = λ i. o (suc (suc (suc (suc (suc i)))));
       same = refl;
-      reads = rw (lt-ltb (suc i) (2 ^ 63) fits) refl
+      reads = rw (lt-ltb (suc i) (2 ^ 63) fits) refl;
     })
     (record {
       node = form at tag (T.integer (o 1) (pos (suc i)) ∷ T.text (o 4) f ∷ []);
       next = λ i. o (suc (suc (suc (suc (suc i)))));
       same = refl;
-      reads = rw (lt-ltb (suc i) (2 ^ 63) fits) refl
+      reads = rw (lt-ltb (suc i) (2 ^ 63) fits) refl;
     })
 
 own_image : (image : Image) (i : ℕ) (f : List ℕ) (l : ℕ) → Fits i → Own (image_field image i f) l
@@ -387,7 +387,7 @@ own_key_in (suc i) l fits = own_primary (key_in (suc i)) l refl
       node = form (o 0) (codes "id") (T.integer (o 2) (pos (suc i)) ∷ []);
       next = λ i. o (suc (suc (suc (suc (suc (suc i))))));
       same = refl;
-      reads = rw (lt-ltb (suc i) (2 ^ 63) fits) refl
+      reads = rw (lt-ltb (suc i) (2 ^ 63) fits) refl;
     })
 
 own_time : (i l : ℕ) → Fits i → Own (time_of i) l
@@ -398,7 +398,7 @@ own_time (suc i) l fits = own_primary (time_of (suc i)) l refl
       node = form (o 0) (codes "time") (T.integer (o 2) (pos (suc i)) ∷ []);
       next = λ i. o (suc (suc (suc (suc (suc (suc i))))));
       same = refl;
-      reads = rw (lt-ltb (suc i) (2 ^ 63) fits) refl
+      reads = rw (lt-ltb (suc i) (2 ^ 63) fits) refl;
     })
 
 own_argument : (i j l : ℕ) → Fits i → Fits j → Own (argument i j) l
@@ -407,14 +407,14 @@ own_argument zero j l fits small = own_primary (argument zero j) l refl
       node = form (o 0) (codes "arg") (T.integer (o 1) (pos 0) ∷ T.integer (o 4) (pos j) ∷ []);
       next = λ i. o (suc (suc (suc (suc (suc (suc i))))));
       same = refl;
-      reads = rw (lt-ltb j (2 ^ 63) small) refl
+      reads = rw (lt-ltb j (2 ^ 63) small) refl;
     })
 own_argument (suc i) j l fits small = own_primary (argument (suc i) j) l refl
     (λ gap k o h. record {
       node = form (o 0) (codes "arg") (T.integer (o 2) (pos (suc i)) ∷ T.integer (o 7) (pos j) ∷ []);
       next = λ i. o (suc (suc (suc (suc (suc (suc (suc (suc (suc i)))))))));
       same = refl;
-      reads = rw (lt-ltb (suc i) (2 ^ 63) fits, lt-ltb j (2 ^ 63) small) refl
+      reads = rw (lt-ltb (suc i) (2 ^ 63) fits, lt-ltb j (2 ^ 63) small) refl;
     })
 
 own_count : (l : ℕ) → Own occurrence_count l
@@ -438,13 +438,13 @@ negative_reads deeper at (unreadable b) r e = ap (λ q. q >>= λ p. Ok (form at 
 own_negated : (a : Expression) → Owned a → Owned (negated a)
 own_negated a own l few h =
     let by : ReadsBy (unary (expressions_within l)) 9 (expression_pieces (negated a)) (expression_data (negated a)) = λ gap k o q.
-        let r = after_minus a own l few (omega arith) tight k (λ i. o (suc i)) q in
-        record {
-          node = form (o 0) (codes "neg") (r.node ∷ []);
-          next = r.next;
-          same = ap (λ d. form_data (codes "neg") (d ∷ [])) r.same;
-          reads = negative_reads (expressions_within l) (o 0) (stream (λ i. o (suc i)) (enclosed_if (nat_lt (negated_level a) 8) (expression_pieces a) tight k)) (r.node, stream r.next k) r.reads
-        } in
+    let r = after_minus a own l few (omega arith) tight k (λ i. o (suc i)) q in
+    record {
+      node = form (o 0) (codes "neg") (r.node ∷ []);
+      next = r.next;
+      same = ap (λ d. form_data (codes "neg") (d ∷ [])) r.same;
+      reads = negative_reads (expressions_within l) (o 0) (stream (λ i. o (suc i)) (enclosed_if (nat_lt (negated_level a) 8) (expression_pieces a) tight k)) (r.node, stream r.next k) r.reads;
+    } in
     record { rank = rank_7; fits = λ p a b. omega arith; base = by; operand = λ q. absurd (omega arith) }
 
 own_inverted : (a : Expression) → Owned a → Owned (inverted a)
@@ -452,13 +452,13 @@ unfolding negation expressions_within
 own_inverted a own zero few h = absurd (omega (arith, levels_positive a))
 own_inverted a own (suc l) few h =
     let by : ReadsBy (negation (expressions_within (suc l))) 4 (expression_pieces (inverted a)) (expression_data (inverted a)) = λ gap k o q.
-        let r = in_negation a own l (omega arith) (omega arith) space k (λ i. o (suc i)) q in
-        record {
-          node = form (o 0) (codes "not") (r.node ∷ []);
-          next = r.next;
-          same = ap (λ d. form_data (codes "not") (d ∷ [])) r.same;
-          reads = ap (λ q. q >>= λ p. Ok (form (o 0) (codes "not") (p.0 ∷ []), p.1)) r.reads
-        } in
+    let r = in_negation a own l (omega arith) (omega arith) space k (λ i. o (suc i)) q in
+    record {
+      node = form (o 0) (codes "not") (r.node ∷ []);
+      next = r.next;
+      same = ap (λ d. form_data (codes "not") (d ∷ [])) r.same;
+      reads = ap (λ q. q >>= λ p. Ok (form (o 0) (codes "not") (p.0 ∷ []), p.1)) r.reads;
+    } in
     record { rank = rank_3; fits = λ p a b. omega arith; base = by; operand = λ q. absurd (omega arith) }
 
 module _ (a b : Expression) (left : Owned a) (right : Owned b) where
@@ -497,7 +497,7 @@ module _ (a b : Expression) (left : Owned a) (right : Owned b) where
     fits = λ p a b. omega arith;
     base = two_sides_read (negation (expressions_within (suc l))) (conjunction (expressions_within l)) 2 4 2 and_mark (expression_in 3 a) (expression_in 2 b) (expression_data a) (expression_data b)
         refl (omega arith) (in_negation a left (suc l) few (omega arith)) (in_conjunction b right l (omega arith) (omega arith));
-    operand = λ q. absurd (omega arith)
+    operand = λ q. absurd (omega arith);
   }
 
   own_either : Operated either
@@ -508,7 +508,7 @@ module _ (a b : Expression) (left : Owned a) (right : Owned b) where
     fits = λ p a b. omega arith;
     base = two_sides_read (conjunction (expressions_within (suc l))) (expression (expressions_within l)) 1 2 1 or_mark (expression_in 2 a) (expression_in 1 b) (expression_data a) (expression_data b)
         refl (omega arith) (in_conjunction a left (suc l) few (omega arith)) (in_expression b right l (omega arith) (omega arith));
-    operand = λ q. absurd (omega arith)
+    operand = λ q. absurd (omega arith);
   }
 
   own_operation : (op : Operator) → Operated op

@@ -7,6 +7,7 @@ use Rattle.std.proofs.lemmas.Fmt.{decimal_is_IsNumeral, decimal_digit, first_dec
 use Rattle.std.proofs.lemmas.Str.Parse.{digit_from_value}
 use Rattle.std.specs.List.{prefix_len, list_all}
 use Rattle.std.specs.Char.{is_ascii_alphabetic, is_ascii_digit, encode_utf8}
+use Rattle.std.specs.Str.{is_utf8}
 use Rattle.std.specs.Str.Parse.{AllDigits, digits_value}
 use Rattle.json.specs.Text.{code_unit, short_escape}
 use Rattle.hp_model.specs.Report.{escaped}
@@ -14,7 +15,7 @@ use Rattle.hp_model.specs.Parts.{is_name, is_name_byte}
 use Rattle.hp_model.specs.NotationTokens.{Mark, on_mark, if_mark, do_mark, where_mark, as_mark, set_mark, else_mark, otherwise_mark, then_mark, until_mark, and_mark, or_mark, not_mark, true_mark, false_mark, new_mark, old_mark, event_mark, key_mark, immediate_mark, deferred_mark, separate_mark, dependent_mark, exclusive_mark, create_mark, update_mark, delete_mark, signal_mark, emit_mark, each_mark, for_mark, with_mark, sub_mark, abort_mark, veto_mark, install_mark, enable_mark, disable_mark, remove_mark, fire_mark, open_brace, close_brace, open_parenthesis, close_parenthesis, open_bracket, close_bracket, comma, colon, semicolon, point, equal_sign, unequal_sign, less_sign, at_most_sign, greater_sign, at_least_sign, plus_sign, minus_sign, times_sign, divided_sign, percent_sign, Token, mark, word, quoted, number, string, spelling, reserved_word, word_token, word_rest, word_lexeme, string_lexeme, quoted_word_lexeme, number_lexeme, closed, content, found, faulty, letter, digit, beginning, lexeme, lexeme_at, Tokens, token, ending, tokens_from, tokens_at, tokens, tokens_of}
 use Rattle.hp_model.specs.NotationPhrases.{is_mark}
 use Rattle.hp_model.specs.NotationPrint.{Gap, tight, space, line, paragraph, Pieces, token_text, is_wordlike, would_join, widened, gap_after, gap_text, text_after, text_of}
-use Rattle.hp_model.specs.NotationLaws.{IsSpelt, AreSpelt, all_tokens, token_of, TokensAreRead}
+use Rattle.hp_model.specs.NotationLaws.{IsSpelt, AreSpelt, all_tokens, token_of}
 
 -- ---- lists
 
@@ -456,6 +457,6 @@ pieces_read before at (p ∷ ps) spelt =
     = append_assoc (gap_text g) (token_text t ++ rest) (10 ∷ []) ∙ ap (λ l. gap_text g ++ l) (append_assoc (token_text t) rest (10 ∷ [])) in
     ap (λ l. all_tokens (tokens_from ending 0 at l)) whole ∙ ap all_tokens (gap.1 ∙ one.1) ∙ ap (option_map (λ others. t ∷ others)) (pieces_read (Some t) one.0 ps spelt.1)
 
-pub tokens_are_read : TokensAreRead
+pub tokens_read : (ps : Pieces) → AreSpelt ps → is_utf8 (text_of ps ++ 10 ∷ []) ≡ true → all_tokens (tokens (text_of ps ++ 10 ∷ [])) ≡ Some (map token_of ps)
 unfolding tokens text_of
-tokens_are_read ps spelt utf8 = ap (λ b. all_tokens (tokens_of b (text_after None ps ++ 10 ∷ []))) utf8 ∙ pieces_read None 0 ps spelt
+tokens_read ps spelt utf8 = ap (λ b. all_tokens (tokens_of b (text_after None ps ++ 10 ∷ []))) utf8 ∙ pieces_read None 0 ps spelt

@@ -1,5 +1,5 @@
 -- The canonical text of rows, aggregates, objects and lists in statements is read as these.
-use Rattle.std.proofs.Common.{◌≡◌, refl, sym, ap, ◌∙◌, subst, ℕ, zero, suc, ◌+◌, ◌<◌, ◌≤◌, Bool, true, false, List, [], ◌∷◌, length, map, codes, Option, Some, None, Result, Ok, Err, arith}
+use Rattle.std.proofs.Common.{◌≡◌, refl, ap, ◌∙◌, ℕ, suc, ◌<◌, Bool, true, false, List, [], ◌∷◌, length, map, codes, Option, Some, None, Result, Ok, Err, arith}
 use Rattle.std.specs.Prelude.{bytes_eq, is_some}
 use Rattle.serde_json.specs.Data.{Data, string, array}
 use Rattle.hp_model.specs.Values.{◌>>=◌}
@@ -8,15 +8,13 @@ use Rattle.hp_model.specs.NotationTree as T
 use Rattle.hp_model.specs.NotationTree.{Node, data_of, form, Phrase}
 use Rattle.hp_model.specs.NotationPhrases as P
 use Rattle.hp_model.specs.NotationPhrases.{is_mark, is_word, begins, past, passed, listed}
-use Rattle.hp_model.specs.NotationExpressions.{expressions_within, expression, conjunction, negation, comparison, sum, product, any_expression, any_sum}
-use Rattle.hp_model.specs.NotationEvents.{of_name}
+use Rattle.hp_model.specs.NotationExpressions.{expressions_within, expression, conjunction, negation, comparison, sum, product, any_expression}
 use Rattle.hp_model.specs.NotationStatements as S
 use Rattle.hp_model.specs.NotationStatements.{aggregate_word, word_aggregate, aggregate, value_name, binding as binding_phrase, object, pair, pairs, arguments, empty_list}
-use Rattle.hp_model.specs.NotationForms as F
-use Rattle.hp_model.specs.NotationForms.{Expression, truth, expression_data, Rows, rows_data, Aggregate, count_of, fold_of, Fold, total, least, greatest, next_key, plain, aggregate_data, Assignment, assignment_data, form_data, list_data, items}
-use Rattle.hp_model.specs.NotationPrint.{Gap, tight, space, Piece, Pieces, at_gap, sign, free, name, value_token, value_token_of, enclosed_if, first_is, each_part, more_parts, expression_pieces, expression_in, apart_from, predicate_pieces, rows_pieces, begins_aggregate, aggregate_pieces, binding_pieces, object_pieces, assignment_pieces, assignments_pieces, argument_pieces, arguments_pieces}
-use Rattle.hp_model.specs.NotationLaws.{IsWritableExpression, expression_levels, IsFitExpression, AreFitRows, IsFitAggregate, AreFitAssignments, AreFitExpressions}
-use Rattle.hp_model.proofs.NotationReadings.{bind_ok, stream, size-stream, binding, Reading, name_cases, begins-stream, Lists, ListsBy, lists_one, lists_more}
+use Rattle.hp_model.specs.NotationForms.{Expression, truth, expression_data, Rows, Aggregate, count_of, fold_of, total, least, greatest, next_key, plain, aggregate_data, Assignment, assignment_data, form_data, list_data}
+use Rattle.hp_model.specs.NotationPrint.{Gap, tight, space, Pieces, at_gap, sign, free, name, value_token, value_token_of, enclosed_if, first_is, more_parts, expression_pieces, expression_in, predicate_pieces, rows_pieces, begins_aggregate, aggregate_pieces, binding_pieces, object_pieces, assignment_pieces, assignments_pieces, argument_pieces, arguments_pieces}
+use Rattle.hp_model.specs.NotationLaws.{IsFitExpression, AreFitRows, IsFitAggregate, AreFitAssignments, AreFitExpressions}
+use Rattle.hp_model.proofs.NotationReadings.{bind_ok, stream, size-stream, binding, Reading, name_cases, begins-stream, ListsBy, lists_one, lists_more}
 use Rattle.hp_model.proofs.NotationExpressionsRead.{grows_expression, grows_in, any_expression_read, any_sum_read, enclosed_expression_read}
 
 -- ---- names
@@ -39,7 +37,7 @@ predicate_read (truth true) w k ends o = record {
   next = o;
   same = refl;
   reads = ap (λ b. elim b as (λ _. Result (Node × Tokens) ℕ) [ true ↦ any_expression (past (stream o k)) | false ↦ Ok (T.truth (place (stream o k)) true, stream o k) ])
-      (begins-stream (is_mark where_mark) k o ∙ ends.no_where)
+      (begins-stream (is_mark where_mark) k o ∙ ends.no_where);
 }
 predicate_read e w k ends o =
     let r = any_expression_read e w.0 w.1 space k (λ i. o (suc i)) ends.binds in
@@ -65,7 +63,7 @@ rows_read r w k ends o =
       same_name = refl;
       same_class = refl;
       same_predicate = e.same;
-      reads = bind_ok _ _ _ c ∙ bind_ok _ _ _ x ∙ bind_ok _ _ _ e.reads
+      reads = bind_ok _ _ _ c ∙ bind_ok _ _ _ x ∙ bind_ok _ _ _ e.reads;
     }
 
 rows_same : (tag : List ℕ) (r : Rows) (n : S.Rows) (ds : List Data) → data_of n.name ≡ string r.name → data_of n.class ≡ string r.class → data_of n.predicate ≡ expression_data r.predicate
@@ -84,7 +82,7 @@ over_read at tag r e w v k ends o =
       node = form at tag (n.rows.name ∷ n.rows.class ∷ n.rows.predicate ∷ x.node ∷ []);
       next = n.next;
       same = λ i. form_data tag (n.same_name i ∷ n.same_class i ∷ n.same_predicate i ∷ x.same i ∷ []);
-      reads = bind_ok _ _ _ x.reads ∙ bind_ok _ _ _ n.reads
+      reads = bind_ok _ _ _ x.reads ∙ bind_ok _ _ _ n.reads;
     }
 
 no_word : (w : Option S.AggregateWord) → is_some w ≡ false → w ≡ None
@@ -121,7 +119,7 @@ aggregate_read (count_of r) w k ends o =
       node = form (o 0) (codes "count") (n.rows.name ∷ n.rows.class ∷ n.rows.predicate ∷ []);
       next = n.next;
       same = λ i. form_data (codes "count") (n.same_name i ∷ n.same_class i ∷ n.same_predicate i ∷ []);
-      reads = bind_ok _ _ _ n.reads
+      reads = bind_ok _ _ _ n.reads;
     }
 aggregate_read (fold_of total r e) w k ends o = let x = over_read (o 0) (codes "sum") r e w.0 w.1 k ends (λ i. o (suc i)) in record { node = x.node; next = x.next; same = x.same; reads = x.reads }
 aggregate_read (fold_of least r e) w k ends o = let x = over_read (o 0) (codes "least") r e w.0 w.1 k ends (λ i. o (suc i)) in record { node = x.node; next = x.next; same = x.same; reads = x.reads }
@@ -132,7 +130,7 @@ aggregate_read (next_key c) w k ends o = record {
   node = form (o 0) (codes "next") (T.text (o 1) c ∷ []);
   next = λ i. o (suc (suc i));
   same = refl;
-  reads = bind_ok _ _ _ (name_is space c k (λ i. o (suc i)))
+  reads = bind_ok _ _ _ (name_is space c k (λ i. o (suc i)));
 }
 aggregate_read (plain e) w k ends o = plain_read e w k ends o (first_is begins_aggregate (expression_pieces e space k)) refl
 
@@ -143,6 +141,7 @@ value_name_is gap x k o = go (bytes_eq x (codes "now")) refl
   where
     ts : Token → Tokens
     ts t = stream o (at_gap gap t k)
+
     go : (b : Bool) → bytes_eq x (codes "now") ≡ b → value_name (stream o (at_gap gap (value_token_of x b) k)) ≡ Ok (T.text (o 0) x, stream (λ i. o (suc i)) k)
     go true e = refl
     go false e =
@@ -166,7 +165,7 @@ binding_read x a w k ends o =
       next = r.next;
       same_name = refl;
       same_value = r.same;
-      reads = bind_ok _ _ _ (value_name_is space x (sign space equal_sign (aggregate_pieces a k)) o) ∙ bind_ok _ _ _ r.reads
+      reads = bind_ok _ _ _ (value_name_is space x (sign space equal_sign (aggregate_pieces a k)) o) ∙ bind_ok _ _ _ r.reads;
     }
 
 -- ---- objects, assignments and arguments
@@ -189,7 +188,7 @@ object_read c e w k o =
       next = λ i. r.next (suc i);
       same_class = refl;
       same_key = r.same;
-      reads = bind_ok _ _ _ (name_is space c (sign tight open_parenthesis (expression_pieces e tight after)) o) ∙ bind_ok _ _ _ r.reads
+      reads = bind_ok _ _ _ (name_is space c (sign tight open_parenthesis (expression_pieces e tight after)) o) ∙ bind_ok _ _ _ r.reads;
     }
 
 pair_read : (a : Assignment) → IsFitExpression a.value → (k : Pieces) → binding k < 5 → (o : ℕ → ℕ) → Reading pair (assignment_data a) (stream o (assignment_pieces a k)) k
@@ -199,7 +198,7 @@ pair_read a w k h o =
       node = T.list (o 0) (T.nodes (T.text (o 0) a.field ∷ r.node ∷ []));
       next = r.next;
       same = λ i. list_data (string a.field ∷ r.same i ∷ []);
-      reads = bind_ok _ _ _ (name_is space a.field (sign space equal_sign (expression_in 5 a.value space k)) o) ∙ bind_ok _ _ _ r.reads
+      reads = bind_ok _ _ _ (name_is space a.field (sign space equal_sign (expression_in 5 a.value space k)) o) ∙ bind_ok _ _ _ r.reads;
     }
 
 grows_assignment : (a : Assignment) (k : Pieces) → suc (length k) < length (assignment_pieces a k)
@@ -219,7 +218,7 @@ empty_read m one k none o = record {
   node = T.list (place (stream o k)) T.no_nodes;
   next = o;
   same = refl;
-  reads = ap (λ b. elim b as (λ _. Result (Node × Tokens) ℕ) [ true ↦ one (stream o k) | false ↦ empty_list (stream o k) ]) (begins-stream (is_mark m) k o ∙ none)
+  reads = ap (λ b. elim b as (λ _. Result (Node × Tokens) ℕ) [ true ↦ one (stream o k) | false ↦ empty_list (stream o k) ]) (begins-stream (is_mark m) k o ∙ none);
 }
 
 pub pairs_read : (ps : List Assignment) → AreFitAssignments ps → (k : Pieces) → binding k < 1 → first_is (is_mark comma) k ≡ false → first_is (is_mark set_mark) k ≡ false → (o : ℕ → ℕ)
@@ -234,7 +233,7 @@ pairs_read (a ∷ others) w k h none no_set o =
       node = T.list (o 0) r.nodes;
       next = r.next;
       same = λ i. array (r.same i);
-      reads = bind_ok _ _ _ r.reads
+      reads = bind_ok _ _ _ r.reads;
     }
 
 grows_argument : (e : Expression) (gap : Gap) (k : Pieces) → length k < length (expression_pieces e gap k)
@@ -279,9 +278,9 @@ arguments_read (e ∷ es) w k none o =
       next = λ i. r.next (suc i);
       same = λ i. array (r.same i);
       reads = ap (λ b. elim b as (λ _. Result (Node × Tokens) ℕ) [
-            true ↦ Ok (T.list (o 0) T.no_nodes, past ts)
-          | false ↦ S.list_of_parts (o 0) any_expression ts >>= λ p. passed (is_mark close_parenthesis) p.1 >>= λ end. Ok (p.0, end)
-        ]) (begins_no_close es) ∙ bind_ok _ _ _ (bind_ok _ _ _ r.reads)
+        | true ↦ Ok (T.list (o 0) T.no_nodes, past ts)
+        | false ↦ S.list_of_parts (o 0) any_expression ts >>= λ p. passed (is_mark close_parenthesis) p.1 >>= λ end. Ok (p.0, end)
+      ]) (begins_no_close es) ∙ bind_ok _ _ _ (bind_ok _ _ _ r.reads);
     }
   where
     begins_no_close : (es : List Expression) → begins (is_mark close_parenthesis) (stream (λ i. o (suc i)) (expression_pieces e tight (more_parts argument_pieces es (sign tight close_parenthesis k)))) ≡ false

@@ -1,15 +1,15 @@
 -- How phrases read the tokens of pieces, and how readings compose.
-use Rattle.std.proofs.Common.{◌≡◌, refl, sym, ap, ◌∙◌, subst, ℕ, zero, suc, ◌+◌, ◌<◌, ◌≤◌, Bool, true, false, ◌==◌, List, [], ◌∷◌, length, codes, Option, Some, None, Result, Ok, Err, arith, inl, inr, ◌⊎◌}
-use Rattle.std.specs.Prelude.{nat_lt, if◌then◌else◌, bytes_eq, ⊤}
+use Rattle.std.proofs.Common.{◌≡◌, refl, sym, ap, ◌∙◌, subst, ℕ, zero, suc, ◌+◌, ◌<◌, ◌≤◌, Bool, true, false, List, [], ◌∷◌, length, Option, Some, None, Result, Ok, arith, inl, inr, ◌⊎◌}
+use Rattle.std.specs.Prelude.{nat_lt}
 use Rattle.std.proofs.lemmas.Bool.{cases_lt, lt-ltb, le-ltb, ne_eqb, eq-eqb}
 use Rattle.serde_json.specs.Data.{Data, no_items, item}
 use Rattle.hp_model.specs.Values.{◌>>=◌}
-use Rattle.hp_model.specs.NotationTokens.{Mark, point, comma, spelling, reserved_word, Token, mark, word, quoted, number, string, Tokens, token, ending, unreadable, size}
+use Rattle.hp_model.specs.NotationTokens.{Mark, point, comma, spelling, reserved_word, Token, mark, word, quoted, number, string, Tokens, token, ending, size}
 use Rattle.hp_model.specs.NotationTree.{Node, Nodes, no_nodes, node, data_of, items_of, Phrase}
 use Rattle.hp_model.specs.NotationPhrases.{is_mark, begins, past, listed, repeated, Operator, joined, with_right, most_operators, unchained, chained, chain_from}
 use Rattle.hp_model.specs.NotationExpressions.{level_of, operator, chain}
 use Rattle.hp_model.specs.NotationForms.{items, form_data}
-use Rattle.hp_model.specs.NotationPrint.{Gap, tight, space, Piece, Pieces, sign, enclosed_if, name_token, token_of_name, first_is}
+use Rattle.hp_model.specs.NotationPrint.{Gap, tight, space, Pieces, sign, enclosed_if, name_token, token_of_name, first_is}
 
 pub bind_ok : {A B : Type 0} (r : Result A ℕ) (x : A) (f : A → Result B ℕ) → r ≡ Ok x → (r >>= f) ≡ f x
 bind_ok r x f e = ap (λ q. q >>= f) e
@@ -123,7 +123,7 @@ ends_chain operand level P p levels f d least left gap k o h =
       node = l.node;
       next = l.next;
       same = l.same;
-      reads = l.reads ∙ ends operand (operator level) l.turns l.node (stream l.next k) (no_operator level k l.next h)
+      reads = l.reads ∙ ends operand (operator level) l.turns l.node (stream l.next k) (no_operator level k l.next h);
     }
 
 joined_same : (tag : List ℕ) (a b : Node) (c d : Data) → data_of a ≡ c → data_of b ≡ d → data_of (joined tag a b) ≡ form_data tag (c ∷ d ∷ [])
@@ -150,7 +150,7 @@ chain_on operand op P tag m ts g k c d fewer levels some more few l right = turn
           enough = omega (arith, l.enough);
           same = joined_same tag l.node r.node c d l.same r.same;
           reads = l.reads ∙ ap (λ n. chain_from operand op n l.node here) e ∙ ap (chained operand (chain_from operand op turns) l.node here) (some l.next)
-              ∙ ap (λ q. q >>= λ x. chain_from operand op turns (joined tag l.node x.0) x.1) r.reads
+              ∙ ap (λ q. q >>= λ x. chain_from operand op turns (joined tag l.node x.0) x.1) r.reads;
         }
 
 pub chain_step : (operand : Phrase Node) (level : ℕ) (P : Phrase Node) (p : ℕ) (m : Mark) (f g : Gap → Pieces → Pieces) (c d : Data) (fewer levels : ℕ)
@@ -174,7 +174,7 @@ one_side left right level p f d least l gap k o h =
       next = a.next;
       same = a.same;
       reads = ap (λ q. q >>= λ x. with_right right x.0 x.1 (operator level x.1)) a.reads
-          ∙ ap (with_right right a.node (stream a.next k)) (no_operator level k a.next h)
+          ∙ ap (with_right right a.node (stream a.next k)) (no_operator level k a.next h);
     }
 
 pub two_sides_read : (left right : Phrase Node) (level p q : ℕ) (m : Mark) (f g : Gap → Pieces → Pieces) (c d : Data)
@@ -190,7 +190,7 @@ two_sides_read left right level p q m f g c d is binds l r gap k o h =
       next = b.next;
       same = joined_same (spelling m) a.node b.node c d a.same b.same;
       reads = ap (λ q. q >>= λ x. with_right right x.0 x.1 (operator level x.1)) a.reads
-          ∙ ap (with_right right a.node (stream a.next (sign space m (g space k)))) some ∙ ap (λ q. q >>= λ x. Ok (joined (spelling m) a.node x.0, x.1)) b.reads
+          ∙ ap (with_right right a.node (stream a.next (sign space m (g space k)))) some ∙ ap (λ q. q >>= λ x. Ok (joined (spelling m) a.node x.0, x.1)) b.reads;
     }
 
 -- ---- parentheses and names
@@ -236,9 +236,9 @@ repeats_none begins_part part k none o (suc turns) h = record {
   next = o;
   same = refl;
   reads = ap (λ b. elim b as (λ _. Result (Nodes × Tokens) ℕ) [
-        true ↦ part (stream o k) >>= λ p. repeated begins_part part turns p.1 >>= λ q. Ok (node p.0 q.0, q.1)
-      | false ↦ Ok (no_nodes, stream o k)
-    ]) (begins-stream begins_part k o ∙ none)
+    | true ↦ part (stream o k) >>= λ p. repeated begins_part part turns p.1 >>= λ q. Ok (node p.0 q.0, q.1)
+    | false ↦ Ok (no_nodes, stream o k)
+  ]) (begins-stream begins_part k o ∙ none);
 }
 
 pub repeats_more : (begins_part : Token → Bool) (part : Phrase Node) (d : Data) (ds : List Data) (ps qs k : Pieces) → first_is begins_part ps ≡ true → length qs < length ps
@@ -252,11 +252,11 @@ repeats_more begins_part part d ds ps qs k first less one others o (suc turns) h
       next = rest.next;
       same = λ i. item (r.same i) (rest.same i);
       reads = ap (λ b. elim b as (λ _. Result (Nodes × Tokens) ℕ) [
-            true ↦ part (stream o ps) >>= λ p. repeated begins_part part turns p.1 >>= λ q. Ok (node p.0 q.0, q.1)
-          | false ↦ Ok (no_nodes, stream o ps)
-        ]) (begins-stream begins_part ps o ∙ first)
+        | true ↦ part (stream o ps) >>= λ p. repeated begins_part part turns p.1 >>= λ q. Ok (node p.0 q.0, q.1)
+        | false ↦ Ok (no_nodes, stream o ps)
+      ]) (begins-stream begins_part ps o ∙ first)
           ∙ ap (λ q. q >>= λ p. repeated begins_part part turns p.1 >>= λ x. Ok (node p.0 x.0, x.1)) r.reads
-          ∙ ap (λ q. q >>= λ x. Ok (node r.node x.0, x.1)) rest.reads
+          ∙ ap (λ q. q >>= λ x. Ok (node r.node x.0, x.1)) rest.reads;
     }
 
 -- parts with commas between them are read
@@ -271,7 +271,7 @@ ListsBy part ds ps k = (o : ℕ → ℕ) (turns : ℕ) → length ps ≤ turns �
 
 abbrev list_rest : Phrase Node → ℕ → Node × Tokens → Bool → Result (Nodes × Tokens) ℕ
 list_rest part turns p is_comma = elim is_comma as (λ _. Result (Nodes × Tokens) ℕ) [
-    true ↦ listed part turns (past p.1) >>= λ q. Ok (node p.0 q.0, q.1)
+  | true ↦ listed part turns (past p.1) >>= λ q. Ok (node p.0 q.0, q.1)
   | false ↦ Ok (node p.0 no_nodes, p.1)
 ]
 
@@ -285,7 +285,7 @@ lists_one part d ps k none less one o (suc turns) h =
       next = r.next;
       same = λ i. item (r.same i) no_items;
       reads = ap (λ q. q >>= λ p. list_rest part turns p (begins (is_mark comma) p.1)) r.reads
-          ∙ ap (list_rest part turns (r.node, stream r.next k)) (begins-stream (is_mark comma) k r.next ∙ none)
+          ∙ ap (list_rest part turns (r.node, stream r.next k)) (begins-stream (is_mark comma) k r.next ∙ none);
     }
 
 pub lists_more : (part : Phrase Node) (d : Data) (ds : List Data) (ps qs k : Pieces) → suc (length qs) < length ps → ((o : ℕ → ℕ) → Reading part d (stream o ps) (sign tight comma qs))
@@ -298,5 +298,5 @@ lists_more part d ds ps qs k less one others o (suc turns) h =
       nodes = node r.node rest.nodes;
       next = rest.next;
       same = λ i. item (r.same i) (rest.same i);
-      reads = ap (λ q. q >>= λ p. list_rest part turns p (begins (is_mark comma) p.1)) r.reads ∙ ap (λ q. q >>= λ x. Ok (node r.node x.0, x.1)) rest.reads
+      reads = ap (λ q. q >>= λ p. list_rest part turns p (begins (is_mark comma) p.1)) r.reads ∙ ap (λ q. q >>= λ x. Ok (node r.node x.0, x.1)) rest.reads;
     }

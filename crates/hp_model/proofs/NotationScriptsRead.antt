@@ -1,12 +1,12 @@
 -- The canonical text of a script is read as the script.
-use Rattle.std.proofs.Common.{◌≡◌, refl, sym, ap, ◌∙◌, subst, ℕ, zero, suc, ◌+◌, ◌<◌, ◌≤◌, ◌^◌, ℤ, pos, negsuc, Bool, true, false, ◌&&◌, List, [], ◌∷◌, length, map, codes, Option, Some, None, Result, Ok, Err, arith}
-use Rattle.std.specs.Prelude.{nat_lt, bytes_eq}
+use Rattle.std.proofs.Common.{◌≡◌, refl, ap, ◌∙◌, ℕ, suc, ◌<◌, ◌≤◌, ◌^◌, pos, negsuc, Bool, true, false, ◌&&◌, List, [], ◌∷◌, length, map, codes, Option, Some, None, Result, Ok, arith}
+use Rattle.std.specs.Prelude.{bytes_eq}
 use Rattle.std.proofs.lemmas.Bool.{lt-ltb}
 use Rattle.serde_json.specs.Data.{Data, string, array, Items, item as data_item}
 use Rattle.hp_model.specs.Values.{◌>>=◌, Kind, integer_kind, boolean_kind, text_kind}
 use Rattle.hp_model.specs.Rules.{Coupling, immediate, deferred, separate, dependent, exclusive}
 use Rattle.hp_model.specs.Report.{coupling_word}
-use Rattle.hp_model.specs.NotationTokens.{Mark, on_mark, if_mark, do_mark, open_brace, close_brace, colon, comma, Token, mark, word, quoted, number, string as string_token, Tokens, token, ending, unreadable, place, size}
+use Rattle.hp_model.specs.NotationTokens.{on_mark, if_mark, do_mark, open_brace, close_brace, colon, comma, Token, mark, word, quoted, number, string as string_token, Tokens, token, place, size}
 use Rattle.hp_model.specs.NotationTree as T
 use Rattle.hp_model.specs.NotationTree.{Node, Nodes, no_nodes, data_of, items_of, form, Phrase, root_data}
 use Rattle.hp_model.specs.NotationPhrases as P
@@ -18,12 +18,12 @@ use Rattle.hp_model.specs.NotationScripts as R
 use Rattle.hp_model.specs.NotationScripts.{kind, field, is_name, class, is_mode, mode_at, mode, query, condition, closed, rule, item, is_item, all, script, has_let, is_let}
 use Rattle.hp_model.specs.NotationForms as F
 use Rattle.hp_model.specs.NotationForms.{Rows, rows_data, Query, some_rows, no_rows, named_value, query_data, Field, kind_word, field_data, Class, class_data, Rule, closed_data, rule_data, Item, transaction, clock, item_data, Script, event_data, body_data, form_data, list_data, natural_data, items}
-use Rattle.hp_model.specs.NotationPrint.{Gap, tight, space, line, paragraph, Piece, Pieces, sign, free, name, natural, name_token, first_is, each_part, more_parts, binding_pieces, query_pieces, rows_pieces, event_pieces, body_pieces, braced, is_empty, statements_pieces, field_pieces, fields_pieces, class_pieces, later_class_pieces, classes_pieces, mode_pieces, closed_pieces, condition_pieces, rule_pieces, item_pieces, later_item_pieces, depth_pieces, script_pieces, at_gap}
-use Rattle.hp_model.specs.NotationLaws.{IsFitQuery, IsFitField, IsFitClass, IsFitRule, IsFitItem, IsFitDepth, IsFitScript, EachIs}
-use Rattle.hp_model.proofs.NotationReadings.{bind_ok, stream, size-stream, Reading, name_cases, begins-stream, Repeats, RepeatsBy, repeats_none, repeats_more, ListsBy, lists_one, lists_more}
+use Rattle.hp_model.specs.NotationPrint.{Gap, tight, space, line, paragraph, Pieces, sign, free, name, natural, first_is, each_part, more_parts, binding_pieces, query_pieces, event_pieces, body_pieces, braced, is_empty, statements_pieces, field_pieces, fields_pieces, class_pieces, later_class_pieces, classes_pieces, mode_pieces, closed_pieces, condition_pieces, rule_pieces, item_pieces, later_item_pieces, depth_pieces, script_pieces, at_gap}
+use Rattle.hp_model.specs.NotationLaws.{IsFitQuery, IsFitRule, IsFitItem, IsFitDepth, IsFitScript, EachIs}
+use Rattle.hp_model.proofs.NotationReadings.{bind_ok, stream, size-stream, Reading, name_cases, begins-stream, RepeatsBy, repeats_none, repeats_more, ListsBy, lists_one, lists_more}
 use Rattle.hp_model.proofs.NotationEventsRead.{joins_events, grows_event, any_event_read}
-use Rattle.hp_model.proofs.NotationPartsRead.{Ends, name_is, RowsRead, rows_read, binding_read}
-use Rattle.hp_model.proofs.NotationStatementsRead.{grows_rows, grows_binding, grows_body, braced_ends, any_body_read}
+use Rattle.hp_model.proofs.NotationPartsRead.{Ends, name_is, rows_read, binding_read}
+use Rattle.hp_model.proofs.NotationStatementsRead.{grows_rows, grows_binding, grows_body, any_body_read}
 
 -- ---- classes
 
@@ -35,19 +35,19 @@ field_read f k o = go f.kind
       node = T.list (o 0) (T.nodes (T.text (o 0) f.name ∷ T.text (o 2) (codes "int") ∷ []));
       next = λ i. o (suc (suc (suc i)));
       same = refl;
-      reads = bind_ok _ _ _ (name_is space f.name (sign tight colon (free space (codes "int") k)) o)
+      reads = bind_ok _ _ _ (name_is space f.name (sign tight colon (free space (codes "int") k)) o);
     }
     go boolean_kind = record {
       node = T.list (o 0) (T.nodes (T.text (o 0) f.name ∷ T.text (o 2) (codes "bool") ∷ []));
       next = λ i. o (suc (suc (suc i)));
       same = refl;
-      reads = bind_ok _ _ _ (name_is space f.name (sign tight colon (free space (codes "bool") k)) o)
+      reads = bind_ok _ _ _ (name_is space f.name (sign tight colon (free space (codes "bool") k)) o);
     }
     go text_kind = record {
       node = T.list (o 0) (T.nodes (T.text (o 0) f.name ∷ T.text (o 2) (codes "text") ∷ []));
       next = λ i. o (suc (suc (suc i)));
       same = refl;
-      reads = bind_ok _ _ _ (name_is space f.name (sign tight colon (free space (codes "text") k)) o)
+      reads = bind_ok _ _ _ (name_is space f.name (sign tight colon (free space (codes "text") k)) o);
     }
 
 fields_listed : (f : Field) (fs : List Field) (k : Pieces) → first_is (is_mark comma) k ≡ false → ListsBy field (map field_data (f ∷ fs)) (field_pieces f (more_parts field_pieces fs k)) k
@@ -73,7 +73,7 @@ some_fields_read at f fs k o =
       node = T.list at r.nodes;
       next = r.next;
       same = λ i. array (r.same i);
-      reads = ap (fields_phrase at (stream o ps)) (name_begins f.name space (sign tight colon (free space (kind_word f.kind) (more_parts field_pieces fs after))) o) ∙ bind_ok _ _ _ r.reads
+      reads = ap (fields_phrase at (stream o ps)) (name_begins f.name space (sign tight colon (free space (kind_word f.kind) (more_parts field_pieces fs after))) o) ∙ bind_ok _ _ _ r.reads;
     }
 
 class_read : (c : Class) (gap : Gap) (k : Pieces) (o : ℕ → ℕ) → Reading class (class_data c) (stream o (class_pieces c gap k)) k
@@ -85,7 +85,7 @@ class_read c gap k o = go c.fields
       node = T.list (o 0) (T.nodes (T.text (o 1) c.name ∷ T.list (o 2) no_nodes ∷ []));
       next = λ i. o (suc (suc (suc (suc i))));
       same = refl;
-      reads = bind_ok _ _ _ (name_is space c.name (sign space open_brace (sign tight close_brace k)) (λ i. o (suc i)))
+      reads = bind_ok _ _ _ (name_is space c.name (sign space open_brace (sign tight close_brace k)) (λ i. o (suc i)));
     }
     go (f ∷ fs) =
         let x = name_is space c.name (sign space open_brace (fields_pieces (f ∷ fs) k)) (λ i. o (suc i)) in
@@ -94,7 +94,7 @@ class_read c gap k o = go c.fields
           node = T.list (o 0) (T.nodes (T.text (o 1) c.name ∷ r.node ∷ []));
           next = λ i. r.next (suc i);
           same = λ i. list_data (string c.name ∷ r.same i ∷ []);
-          reads = bind_ok _ _ _ x ∙ bind_ok _ _ _ r.reads
+          reads = bind_ok _ _ _ x ∙ bind_ok _ _ _ r.reads;
         }
 
 grows_fields : (fs : List Field) (k : Pieces) → length k ≤ length (each_part (λ x others. sign tight comma (field_pieces x others)) fs k)
@@ -172,7 +172,7 @@ query_read lets (some_rows r) w k ends o =
       node = T.list (o 0) (T.nodes (S.parts_of_rows n.rows));
       next = n.next;
       same = rows_list r n.rows n.same_name n.same_class n.same_predicate;
-      reads = bind_ok _ _ _ n.reads ∙ ap (R.some_rows (o 0) n.rows (stream n.next k)) not_misread
+      reads = bind_ok _ _ _ n.reads ∙ ap (R.some_rows (o 0) n.rows (stream n.next k)) not_misread;
     }
 query_read lets (no_rows r) w k ends o =
     let n = rows_read r w k ends (λ i. o (suc i)) in
@@ -180,7 +180,7 @@ query_read lets (no_rows r) w k ends o =
       node = form (o 0) (codes "no") (S.parts_of_rows n.rows);
       next = n.next;
       same = λ i. form_data (codes "no") (n.same_name i ∷ n.same_class i ∷ n.same_predicate i ∷ []);
-      reads = bind_ok _ _ _ n.reads
+      reads = bind_ok _ _ _ n.reads;
     }
 query_read lets (named_value x a) w k ends o =
     let r = binding_read x a w.2 k ends (λ i. o (suc i)) in
@@ -188,7 +188,7 @@ query_read lets (named_value x a) w k ends o =
       node = form (o 0) (codes "let") (r.name ∷ r.value ∷ []);
       next = r.next;
       same = λ i. form_data (codes "let") (r.same_name i ∷ r.same_value i ∷ []);
-      reads = ap (λ b. R.named_value (o 0) b (stream (λ i. o (suc i)) (binding_pieces x a k))) w.0 ∙ bind_ok _ _ _ r.reads
+      reads = ap (λ b. R.named_value (o 0) b (stream (λ i. o (suc i)) (binding_pieces x a k))) w.0 ∙ bind_ok _ _ _ r.reads;
     }
 
 condition_read : (lets : Bool) (q : Query) → IsFitQuery lets q → (k : Pieces) → Ends k → (o : ℕ → ℕ) → Reading (condition lets) (query_data q) (stream o (condition_pieces q k)) k
@@ -279,7 +279,7 @@ module _ (lets : Bool) (r : Rule) (w : IsFitRule lets r) (k : Pieces) where
         next = b.next;
         same = λ p q i. list_data_with (p i) (e.same i) (m.same i) (array (qs.same i)) (a.same i) (b.same i) (q i);
         reads = bind_ok _ _ _ e.reads ∙ ap (after_event_mode lets at x e.node c) m.reads ∙ bind_ok _ _ _ qs.reads
-            ∙ ap (after_action_mode at x e.node m.node conditions c) a.reads ∙ bind_ok _ _ _ b.reads
+            ∙ ap (after_action_mode at x e.node m.node conditions c) a.reads ∙ bind_ok _ _ _ b.reads;
       }
     where
       list_data_with : (x e m q a b : Data) → Items → Data
@@ -350,7 +350,7 @@ item_read (clock t) w gap k o = record {
   node = form (o 0) (codes "clock") (T.integer (o 1) (pos t) ∷ []);
   next = λ i. o (suc (suc i));
   same = refl;
-  reads = bind_ok _ _ _ (natural_is space t k (λ i. o (suc i)) w)
+  reads = bind_ok _ _ _ (natural_is space t k (λ i. o (suc i)) w);
 }
 
 grows_item : (i : Item) (gap : Gap) (k : Pieces) → length k < length (item_pieces i gap k)
@@ -404,13 +404,13 @@ depth_read None w k other o = record {
   next = o;
   same = refl;
   reads = ap (λ b. elim b as (λ _. Result (Option Node × Tokens) ℕ) [ true ↦ P.natural (past (stream o k)) >>= λ n. Ok (Some n.0, n.1) | false ↦ Ok (None, stream o k) ])
-      (begins-stream (is_word (codes "depth")) k o ∙ other)
+      (begins-stream (is_word (codes "depth")) k o ∙ other);
 }
 depth_read (Some n) w k other o = record {
   depth = Some (T.integer (o 1) (pos n));
   next = λ i. o (suc (suc i));
   same = refl;
-  reads = bind_ok _ _ _ (natural_is space n k (λ i. o (suc i)) w)
+  reads = bind_ok _ _ _ (natural_is space n k (λ i. o (suc i)) w);
 }
 
 pub record ScriptRead (s : Script) (ts : Tokens) : Type 0 where
@@ -434,5 +434,5 @@ script_read s w o =
       read = record { at = o 0; version = T.integer (o 1) (pos s.version); depth = d.depth; classes = cs.node; rules = rs.node; items = is.node };
       same = λ i. root_data (natural_data s.version) (d.same i) (cs.same i) (rs.same i) (is.same i);
       reads = bind_ok _ _ _ (natural_is space s.version (depth_pieces s.depth classes_part) (λ i. o (suc i)) w.version) ∙ bind_ok _ _ _ d.reads ∙ bind_ok _ _ _ cs.reads
-          ∙ bind_ok _ _ _ rs.reads ∙ bind_ok _ _ _ is.reads
+          ∙ bind_ok _ _ _ rs.reads ∙ bind_ok _ _ _ is.reads;
     }

@@ -1,19 +1,18 @@
 -- The canonical text of statements and bodies is read as these.
-use Rattle.std.proofs.Common.{◌≡◌, refl, sym, ap, ◌∙◌, subst, ℕ, zero, suc, ◌+◌, ◌<◌, ◌≤◌, max, Bool, true, false, List, [], ◌∷◌, length, map, codes, Option, Some, None, Result, Ok, Err, arith}
-use Rattle.std.specs.Prelude.{bytes_eq}
-use Rattle.serde_json.specs.Data.{Data, string, array, Items, no_items, item}
+use Rattle.std.proofs.Common.{◌≡◌, refl, ap, ◌∙◌, ℕ, zero, suc, ◌<◌, ◌≤◌, Bool, true, false, List, [], ◌∷◌, length, map, codes, Result, Ok, Err, arith}
+use Rattle.serde_json.specs.Data.{string, array, item}
 use Rattle.hp_model.specs.Values.{◌>>=◌}
-use Rattle.hp_model.specs.NotationTokens.{Mark, where_mark, as_mark, set_mark, else_mark, otherwise_mark, not_mark, true_mark, false_mark, new_mark, old_mark, event_mark, create_mark, update_mark, delete_mark, signal_mark, emit_mark, if_mark, each_mark, for_mark, with_mark, sub_mark, abort_mark, veto_mark, install_mark, enable_mark, disable_mark, remove_mark, fire_mark, open_brace, close_brace, open_parenthesis, close_parenthesis, comma, semicolon, minus_sign, spelling, Token, mark, word, quoted, number, string as string_token, Tokens, token, ending, unreadable, place, size}
+use Rattle.hp_model.specs.NotationTokens.{Mark, where_mark, as_mark, set_mark, else_mark, otherwise_mark, not_mark, true_mark, false_mark, new_mark, old_mark, event_mark, close_brace, open_parenthesis, close_parenthesis, comma, semicolon, minus_sign, Token, mark, word, quoted, number, string as string_token, Tokens, token, ending, unreadable, place, size}
 use Rattle.hp_model.specs.NotationTree as T
 use Rattle.hp_model.specs.NotationTree.{Node, Nodes, no_nodes, node, data_of, items_of, form, Phrase}
-use Rattle.hp_model.specs.NotationPhrases.{is_mark, is_word, begins, past, passed}
+use Rattle.hp_model.specs.NotationPhrases.{is_mark, begins, past}
 use Rattle.hp_model.specs.NotationExpressions.{expressions_within, expression, conjunction, negation, comparison, sum, product, any_expression}
 use Rattle.hp_model.specs.NotationStatements as S
 use Rattle.hp_model.specs.NotationStatements.{Deeper, begins_message, past_semicolon, statements, statement, body, bodies_within, any_body}
-use Rattle.hp_model.specs.NotationForms.{Expression, truth, expression_data, Rows, Aggregate, count_of, fold_of, next_key, plain, rows_data, Assignment, Setting, create, update, setting_mark, RuleOperation, install, enable, disable, remove, fire, operation_mark, Statement, set_object, delete, signal, emit, when, each, for_answer, with_object, with_value, subtransaction, abort, veto, veto_with, on_rule, Body, empty, ◌then◌, assignment_data, statement_data, body_data, form_data, list_data}
-use Rattle.hp_model.specs.NotationPrint.{Gap, tight, space, line, Piece, Pieces, sign, free, name, enclosed_if, first_is, expression_pieces, predicate_pieces, rows_pieces, begins_aggregate, aggregate_pieces, binding_pieces, object_pieces, assignment_pieces, more_parts, each_part, assignments_pieces, argument_pieces, arguments_pieces, is_empty, braced, body_after, is_let, statement_pieces, statements_pieces, body_pieces}
+use Rattle.hp_model.specs.NotationForms.{Expression, truth, expression_data, Rows, Aggregate, count_of, fold_of, next_key, plain, Assignment, create, update, install, enable, disable, remove, fire, Statement, set_object, delete, signal, emit, when, each, for_answer, with_object, with_value, subtransaction, abort, veto, veto_with, on_rule, Body, empty, ◌then◌, assignment_data, statement_data, body_data, form_data, list_data}
+use Rattle.hp_model.specs.NotationPrint.{Gap, tight, space, line, Pieces, sign, free, name, enclosed_if, first_is, expression_pieces, predicate_pieces, rows_pieces, begins_aggregate, aggregate_pieces, binding_pieces, object_pieces, assignment_pieces, more_parts, assignments_pieces, argument_pieces, arguments_pieces, is_empty, braced, body_after, is_let, statement_pieces, statements_pieces, body_pieces}
 use Rattle.hp_model.specs.NotationLaws.{IsFitExpression, AreFitAssignments, IsFitStatement, IsFitBody, statement_levels, body_levels}
-use Rattle.hp_model.proofs.NotationReadings.{bind_ok, stream, size-stream, token_binding, binding, Reading, begins-stream}
+use Rattle.hp_model.proofs.NotationReadings.{bind_ok, stream, size-stream, token_binding, Reading, begins-stream}
 use Rattle.hp_model.proofs.NotationExpressionsRead.{grows_expression, grows_in, any_expression_read, enclosed_expression_read}
 use Rattle.hp_model.proofs.NotationPartsRead.{Ends, name_is, rows_read, binding_read, object_read, pairs_read, arguments_read}
 
@@ -49,7 +48,7 @@ quiet_of (p ∷ k) q = record {
   no_otherwise = q.5;
   no_comma = q.6;
   no_semicolon = q.7;
-  no_message = q.8
+  no_message = q.8;
 }
 
 statement_is_quiet : (s : Statement) (depth : ℕ) (k : Pieces) → IsQuiet (statement_pieces s depth k)
@@ -221,7 +220,7 @@ body_by (◌then◌ s b) by (suc l) h depth k o =
       node = T.list (o 0) r.nodes;
       next = r.next;
       same = λ i. array (r.same i);
-      reads = bind_ok _ _ _ r.reads
+      reads = bind_ok _ _ _ r.reads;
     }
 
 -- ---- bodies that are left out
@@ -237,7 +236,7 @@ else_read empty by l h depth k o none = record {
   node = T.list (place (stream o k)) no_nodes;
   next = o;
   same = refl;
-  reads = left_out else_mark (λ ts. S.else_body (bodies_within l) (place ts) (past ts)) k none o
+  reads = left_out else_mark (λ ts. S.else_body (bodies_within l) (place ts) (past ts)) k none o;
 }
 else_read (◌then◌ s b) by l h depth k o none = let r = by l h depth k (λ i. o (suc i)) in record { node = r.node; next = r.next; same = r.same; reads = r.reads }
 
@@ -247,7 +246,7 @@ otherwise_read empty by l h depth k o none = record {
   node = T.list (place (stream o k)) no_nodes;
   next = o;
   same = refl;
-  reads = left_out otherwise_mark (λ ts. (bodies_within l).body (past ts)) k none o
+  reads = left_out otherwise_mark (λ ts. (bodies_within l).body (past ts)) k none o;
 }
 otherwise_read (◌then◌ s b) by l h depth k o none = let r = by l h depth k (λ i. o (suc i)) in record { node = r.node; next = r.next; same = r.same; reads = r.reads }
 
@@ -287,7 +286,7 @@ message_read at e w k ends o true is =
       node = form at (codes "veto") (r.node ∷ []);
       next = r.next;
       same = λ i. form_data (codes "veto") (r.same i ∷ []);
-      reads = bind_ok _ _ _ r.reads
+      reads = bind_ok _ _ _ r.reads;
     }
 message_read at e w k ends o false is =
     let r = any_expression_read e w.0 w.1 space k o ends.binds in
@@ -296,7 +295,7 @@ message_read at e w k ends o false is =
       node = form at (codes "veto") (r.node ∷ []);
       next = r.next;
       same = λ i. form_data (codes "veto") (r.same i ∷ []);
-      reads = ap (veto_phrase at ts) (message_begins ts (r.node, stream r.next k) r.reads (begins-stream is_let (expression_pieces e space k) o ∙ is)) ∙ bind_ok _ _ _ r.reads
+      reads = ap (veto_phrase at ts) (message_begins ts (r.node, stream r.next k) r.reads (begins-stream is_let (expression_pieces e space k) o ∙ is)) ∙ bind_ok _ _ _ r.reads;
     }
 
 -- ---- statements
@@ -336,7 +335,7 @@ setting_read at tag c e ps w v k q o =
       node = form at tag (x.class ∷ x.key ∷ y.node ∷ []);
       next = y.next;
       same = λ i. form_data tag (x.same_class i ∷ x.same_key i ∷ y.same i ∷ []);
-      reads = bind_ok _ _ _ x.reads ∙ bind_ok _ _ _ y.reads
+      reads = bind_ok _ _ _ x.reads ∙ bind_ok _ _ _ y.reads;
     }
 
 semicolon_absent : (k : Pieces) (o : ℕ → ℕ) → first_is (is_mark semicolon) k ≡ false → past_semicolon (stream o k) ≡ stream o k
@@ -344,12 +343,13 @@ semicolon_absent k o none = ap (λ b. elim b as (λ _. Tokens) [ true ↦ past (
 
 statements_step : (l turns : ℕ) (ts : Tokens) → Bool → Result (Nodes × Tokens) ℕ
 statements_step l turns ts is_end = elim is_end as (λ _. Result (Nodes × Tokens) ℕ) [
-    true ↦ Ok (no_nodes, past ts)
+  | true ↦ Ok (no_nodes, past ts)
   | false ↦ statement (bodies_within l) ts >>= λ p. statements (statement (bodies_within l)) turns (past_semicolon p.1) >>= λ q. Ok (node p.0 q.0, q.1)
 ]
 
 mutual
   unfolding statement statements_step
+
   statement_read : (s : Statement) → IsFitStatement s → StatementBy s
   statement_read (set_object create c e ps) w l h depth k o q =
       let r = setting_read (o 0) (codes "create") c e ps w.1 w.2 k q (λ i. o (suc i)) in record { node = r.node; next = r.next; same = r.same; reads = r.reads }
@@ -361,7 +361,7 @@ mutual
         node = form (o 0) (codes "delete") (x.class ∷ x.key ∷ []);
         next = x.next;
         same = λ i. form_data (codes "delete") (x.same_class i ∷ x.same_key i ∷ []);
-        reads = bind_ok _ _ _ x.reads
+        reads = bind_ok _ _ _ x.reads;
       }
   statement_read (signal x es) w l h depth k o q =
       let r = arguments_read es w.1 k q.no_parenthesis (λ i. o (suc (suc i))) in
@@ -369,7 +369,7 @@ mutual
         node = form (o 0) (codes "signal") (T.text (o 1) x ∷ r.node ∷ []);
         next = r.next;
         same = λ i. form_data (codes "signal") (string x ∷ r.same i ∷ []);
-        reads = bind_ok _ _ _ (name_is space x (arguments_pieces es k) (λ i. o (suc i))) ∙ bind_ok _ _ _ r.reads
+        reads = bind_ok _ _ _ (name_is space x (arguments_pieces es k) (λ i. o (suc i))) ∙ bind_ok _ _ _ r.reads;
       }
   statement_read (emit e) w l h depth k o q =
       let r = any_expression_read e w.0 w.1 space k (λ i. o (suc i)) q.ends.binds in
@@ -377,7 +377,7 @@ mutual
         node = form (o 0) (codes "emit") (r.node ∷ []);
         next = r.next;
         same = λ i. form_data (codes "emit") (r.same i ∷ []);
-        reads = bind_ok _ _ _ r.reads
+        reads = bind_ok _ _ _ r.reads;
       }
   statement_read (when e b c) w l h depth k o q =
       let after = body_after else_mark (is_empty c) (body_pieces c depth) k in
@@ -389,7 +389,7 @@ mutual
         node = form (o 0) (codes "if") (x.node ∷ y.node ∷ z.node ∷ []);
         next = z.next;
         same = λ i. form_data (codes "if") (x.same i ∷ y.same i ∷ z.same i ∷ []);
-        reads = bind_ok _ _ _ x.reads ∙ bind_ok _ _ _ y.reads ∙ bind_ok _ _ _ z.reads
+        reads = bind_ok _ _ _ x.reads ∙ bind_ok _ _ _ y.reads ∙ bind_ok _ _ _ z.reads;
       }
   statement_read (each r b) w l h depth k o q =
       let x = rows_read r w.0 (body_pieces b depth k) (braced_ends (is_empty b) depth (statements_pieces b (suc depth)) k) (λ i. o (suc i)) in
@@ -398,7 +398,7 @@ mutual
         node = form (o 0) (codes "each") (x.rows.name ∷ x.rows.class ∷ x.rows.predicate ∷ y.node ∷ []);
         next = y.next;
         same = λ i. form_data (codes "each") (x.same_name i ∷ x.same_class i ∷ x.same_predicate i ∷ y.same i ∷ []);
-        reads = bind_ok _ _ _ x.reads ∙ bind_ok _ _ _ y.reads
+        reads = bind_ok _ _ _ x.reads ∙ bind_ok _ _ _ y.reads;
       }
   statement_read (for_answer x b) w l h depth k o q =
       let y = body_by b (statements_read b w.1) l (omega arith) depth k (λ i. o (suc (suc i))) in
@@ -406,7 +406,7 @@ mutual
         node = form (o 0) (codes "for") (T.text (o 1) x ∷ y.node ∷ []);
         next = y.next;
         same = λ i. form_data (codes "for") (string x ∷ y.same i ∷ []);
-        reads = bind_ok _ _ _ (name_is space x (body_pieces b depth k) (λ i. o (suc i))) ∙ bind_ok _ _ _ y.reads
+        reads = bind_ok _ _ _ (name_is space x (body_pieces b depth k) (λ i. o (suc i))) ∙ bind_ok _ _ _ y.reads;
       }
   statement_read (with_object x c e b) w l h depth k o q =
       let r = object_read c e w.2 (sign space as_mark (name space x (body_pieces b depth k))) (λ i. o (suc i)) in
@@ -416,7 +416,7 @@ mutual
         node = form (o 0) (codes "with") (T.text (rest 0) x ∷ r.class ∷ r.key ∷ y.node ∷ []);
         next = y.next;
         same = λ i. form_data (codes "with") (string x ∷ r.same_class i ∷ r.same_key i ∷ y.same i ∷ []);
-        reads = bind_ok _ _ _ r.reads ∙ bind_ok _ _ _ (name_is space x (body_pieces b depth k) rest) ∙ bind_ok _ _ _ y.reads
+        reads = bind_ok _ _ _ r.reads ∙ bind_ok _ _ _ (name_is space x (body_pieces b depth k) rest) ∙ bind_ok _ _ _ y.reads;
       }
   statement_read (with_value x a b) w l h depth k o q =
       let r = binding_read x a w.1 (body_pieces b depth k) (braced_ends (is_empty b) depth (statements_pieces b (suc depth)) k) (λ i. o (suc i)) in
@@ -425,7 +425,7 @@ mutual
         node = form (o 0) (codes "let") (r.name ∷ r.value ∷ y.node ∷ []);
         next = y.next;
         same = λ i. form_data (codes "let") (r.same_name i ∷ r.same_value i ∷ y.same i ∷ []);
-        reads = bind_ok _ _ _ r.reads ∙ bind_ok _ _ _ y.reads
+        reads = bind_ok _ _ _ r.reads ∙ bind_ok _ _ _ y.reads;
       }
   statement_read (subtransaction b c) w l h depth k o q =
       let y = body_by b (statements_read b w.0) l (omega arith) depth (body_after otherwise_mark (is_empty c) (body_pieces c depth) k) (λ i. o (suc i)) in
@@ -434,7 +434,7 @@ mutual
         node = form (o 0) (codes "sub") (y.node ∷ z.node ∷ []);
         next = z.next;
         same = λ i. form_data (codes "sub") (y.same i ∷ z.same i ∷ []);
-        reads = bind_ok _ _ _ y.reads ∙ bind_ok _ _ _ z.reads
+        reads = bind_ok _ _ _ y.reads ∙ bind_ok _ _ _ z.reads;
       }
   statement_read abort w l h depth k o q = record { node = form (o 0) (codes "abort") []; next = λ i. o (suc i); same = refl; reads = refl }
   statement_read veto w l h depth k o q = record {
@@ -442,9 +442,9 @@ mutual
     next = λ i. o (suc i);
     same = refl;
     reads = ap (λ b. elim b as (λ _. Result (Node × Tokens) ℕ) [
-          true ↦ S.of_expression (o 0) (codes "veto") (stream (λ i. o (suc i)) k)
-        | false ↦ Ok (form (o 0) (codes "veto") [], stream (λ i. o (suc i)) k)
-      ]) (begins-stream begins_message k (λ i. o (suc i)) ∙ q.no_message)
+      | true ↦ S.of_expression (o 0) (codes "veto") (stream (λ i. o (suc i)) k)
+      | false ↦ Ok (form (o 0) (codes "veto") [], stream (λ i. o (suc i)) k)
+    ]) (begins-stream begins_message k (λ i. o (suc i)) ∙ q.no_message);
   }
   statement_read (veto_with e) w l h depth k o q =
       let r = message_read (o 0) e w k q.ends (λ i. o (suc i)) (first_is is_let (expression_pieces e space k)) refl in
@@ -453,31 +453,31 @@ mutual
     node = form (o 0) (codes "install") (T.text (o 1) x ∷ []);
     next = λ i. o (suc (suc i));
     same = refl;
-    reads = bind_ok _ _ _ (name_is space x k (λ i. o (suc i)))
+    reads = bind_ok _ _ _ (name_is space x k (λ i. o (suc i)));
   }
   statement_read (on_rule enable x) w l h depth k o q = record {
     node = form (o 0) (codes "enable") (T.text (o 1) x ∷ []);
     next = λ i. o (suc (suc i));
     same = refl;
-    reads = bind_ok _ _ _ (name_is space x k (λ i. o (suc i)))
+    reads = bind_ok _ _ _ (name_is space x k (λ i. o (suc i)));
   }
   statement_read (on_rule disable x) w l h depth k o q = record {
     node = form (o 0) (codes "disable") (T.text (o 1) x ∷ []);
     next = λ i. o (suc (suc i));
     same = refl;
-    reads = bind_ok _ _ _ (name_is space x k (λ i. o (suc i)))
+    reads = bind_ok _ _ _ (name_is space x k (λ i. o (suc i)));
   }
   statement_read (on_rule remove x) w l h depth k o q = record {
     node = form (o 0) (codes "remove") (T.text (o 1) x ∷ []);
     next = λ i. o (suc (suc i));
     same = refl;
-    reads = bind_ok _ _ _ (name_is space x k (λ i. o (suc i)))
+    reads = bind_ok _ _ _ (name_is space x k (λ i. o (suc i)));
   }
   statement_read (on_rule fire x) w l h depth k o q = record {
     node = form (o 0) (codes "fire") (T.text (o 1) x ∷ []);
     next = λ i. o (suc (suc i));
     same = refl;
-    reads = bind_ok _ _ _ (name_is space x k (λ i. o (suc i)))
+    reads = bind_ok _ _ _ (name_is space x k (λ i. o (suc i)));
   }
 
   statements_read : (b : Body) → IsFitBody b → StatementsBy b
@@ -496,7 +496,7 @@ mutual
         reads = ap (statements_step l turns (stream o (statement_pieces s depth rest))) (begins-stream (is_mark close_brace) (statement_pieces s depth rest) o ∙ no_close_first s depth rest)
             ∙ bind_ok _ _ _ r.reads
             ∙ ap (λ ts. statements (statement (bodies_within l)) turns ts >>= λ q. Ok (node r.node q.0, q.1)) (semicolon_absent rest r.next quiet.no_semicolon)
-            ∙ bind_ok _ _ _ others.reads
+            ∙ bind_ok _ _ _ others.reads;
       }
 
 -- the body of a transaction or of a rule's action

@@ -1,11 +1,12 @@
 -- Laws of the text notation. Each is the contract of an empty function.
-use Rattle.std.specs.Prelude.{Bool, ◌&&◌, false, codes, bytes_eq, ◌≡◌, ◌≤◌, ◌<◌, ◌^◌, ℕ, suc, max, pos, negsuc, true, List, [], ◌∷◌, ◌++◌, map, Option, Some, None, option_map, ⊤}
+use Rattle.std.specs.Prelude.{Bool, ◌&&◌, false, codes, bytes_eq, ◌≡◌, ◌≤◌, ◌<◌, ◌^◌, ℕ, suc, max, pos, negsuc, true, List, [], ◌∷◌, ◌++◌, map, Option, Some, None, option_map, Ok, ⊤}
 use Rattle.std.specs.Str.{is_utf8}
 use Rattle.hp_model.specs.Parts.{is_name}
 use Rattle.hp_model.specs.NotationTokens.{Token, mark, word, quoted, number, string, reserved_word, Tokens, token, ending, unreadable, tokens}
-use Rattle.hp_model.specs.NotationScripts.{has_let}
-use Rattle.hp_model.specs.NotationForms.{Expression, integer, truth, text, operation, inverted, negated, field_of, key_of, value, now, image_field, key_in, time_of, argument, occurrence_count, Event, on_change, on_signal, on_commit, at_moment, every_moment, or_event, then_event, closure_event, Rows, Aggregate, count_of, fold_of, next_key, plain, Assignment, Query, some_rows, no_rows, named_value, Field, Class, Rule, Item, transaction, clock, Script, Statement, set_object, delete, signal, emit, when, each, for_answer, with_object, with_value, subtransaction, abort, veto, veto_with, on_rule, Body, empty, ◌then◌}
-use Rattle.hp_model.specs.NotationPrint.{Piece, Pieces, text_of}
+use Rattle.hp_model.specs.NotationTree as T
+use Rattle.hp_model.specs.NotationScripts.{has_let, read_script}
+use Rattle.hp_model.specs.NotationForms.{Expression, integer, truth, text, operation, inverted, negated, field_of, key_of, value, now, image_field, key_in, time_of, argument, occurrence_count, Event, on_change, on_signal, on_commit, at_moment, every_moment, or_event, then_event, closure_event, Rows, Aggregate, count_of, fold_of, next_key, plain, Assignment, Query, some_rows, no_rows, named_value, Field, Class, Rule, Item, transaction, clock, Script, Statement, set_object, delete, signal, emit, when, each, for_answer, with_object, with_value, subtransaction, abort, veto, veto_with, on_rule, Body, empty, ◌then◌, script_data}
+use Rattle.hp_model.specs.NotationPrint.{Piece, Pieces, text_of, print_script}
 
 -- ---- tokens
 
@@ -15,7 +16,7 @@ IsSpelt (mark m) = ⊤
 IsSpelt (word w) = (is_name w ≡ true) × (reserved_word w ≡ None)
 IsSpelt (quoted x) = is_name x ≡ true
 IsSpelt (number n) = n ≤ 2 ^ 63
-IsSpelt (string s) = ⊤
+IsSpelt (string s) = is_utf8 s ≡ true
 
 abbrev pub AreSpelt : Pieces → Type 0
 AreSpelt [] = ⊤
@@ -32,7 +33,7 @@ token_of p = p.token
 
 -- the tokens of the text of some pieces are their tokens, however they are laid out
 abbrev pub TokensAreRead : Type 0
-TokensAreRead = (ps : Pieces) → AreSpelt ps → is_utf8 (text_of ps ++ 10 ∷ []) ≡ true → all_tokens (tokens (text_of ps ++ 10 ∷ [])) ≡ Some (map token_of ps)
+TokensAreRead = (ps : Pieces) → AreSpelt ps → all_tokens (tokens (text_of ps ++ 10 ∷ [])) ≡ Some (map token_of ps)
 
 -- ---- expressions
 
@@ -44,7 +45,7 @@ abbrev pub IsWritableExpression : Expression → Type 0
 IsWritableExpression (integer (pos n)) = Fits n
 IsWritableExpression (integer (negsuc n)) = Fits n
 IsWritableExpression (truth b) = ⊤
-IsWritableExpression (text s) = ⊤
+IsWritableExpression (text s) = is_utf8 s ≡ true
 IsWritableExpression (operation op a b) = IsWritableExpression a × IsWritableExpression b
 IsWritableExpression (inverted a) = IsWritableExpression a
 IsWritableExpression (negated a) = IsWritableExpression a
@@ -196,3 +197,17 @@ pub record IsFitScript (s : Script) : Type 0 where
   pub classes : EachIs IsFitClass s.classes
   pub rules : EachIs (IsFitRule (has_let (pos s.version))) s.rules
   pub items : EachIs IsFitItem s.items
+
+-- the canonical text of a script is read as the script: what was read and what was written have one value in JSON
+abbrev pub ScriptsAreRead : Type 0
+ScriptsAreRead = (s : Script) → IsFitScript s → (r : T.Script) × (read_script (print_script s) ≡ Ok r) × (T.script_data r ≡ script_data s)
+
+-- reading a canonical text and printing what was read changes nothing
+abbrev pub CanonicalIsFixed : Type 0
+CanonicalIsFixed =
+    (text : List ℕ) (r : T.Script) (s : Script) → read_script text ≡ Ok r → T.script_data r ≡ script_data s → IsFitScript s
+    → (again : T.Script) × (read_script (print_script s) ≡ Ok again) × (T.script_data again ≡ T.script_data r)
+
+-- no two scripts with different values have one canonical text
+abbrev pub TextHasOneMeaning : Type 0
+TextHasOneMeaning = (s t : Script) → IsFitScript s → IsFitScript t → print_script s ≡ print_script t → script_data s ≡ script_data t

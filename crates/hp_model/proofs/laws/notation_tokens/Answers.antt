@@ -1,4 +1,4 @@
-use Rattle.hp_model.proofs.NotationLexing.{tokens_are_read}
+use Rattle.hp_model.proofs.NotationSpelt.{tokens_are_read}
 use Rattle.hp_model.proofs.laws.notation_tokens.Goals as goal
 
 pub returns : goal.returns
