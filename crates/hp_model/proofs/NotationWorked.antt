@@ -3,6 +3,7 @@ use Rattle.std.proofs.Common.{◌≡◌, refl, ℕ, List, [], ◌∷◌, ◌++�
 use Rattle.std.specs.Prelude.{⊤}
 use Rattle.std.specs.Fmt.{digits}
 use Rattle.std.specs.Str.{chars, is_utf8}
+use Rattle.std.specs.Str.Lossy.{utf8_valid_len}
 use Rattle.std.specs.Char.{encode_utf8}
 use Rattle.json.specs.Text.{code_unit, short_escape}
 use Rattle.serde_json.specs.Data.{Data}
@@ -20,7 +21,7 @@ use Rattle.hp_model.specs.NotationPlaces.{place_of, read_text}
 
 -- what a proof unfolds to read a text by computation
 unfoldable pub text_on_literals : ⊤
-unfolding digits chars is_utf8 encode_utf8 code_unit short_escape serde_json_on_literals
+unfolding digits chars is_utf8 utf8_valid_len encode_utf8 code_unit short_escape serde_json_on_literals
     reserved_word content lexeme tokens_from tokens chain_from product sum comparison negation conjunction expression expressions_within
     event event_within aggregate statement body bodies_within class condition rule item script line read_script read_line place_of
 text_on_literals = tt
