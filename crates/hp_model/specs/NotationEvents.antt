@@ -2,9 +2,9 @@
 use Rattle.std.specs.Prelude.{ℕ, zero, suc, List, [], ◌∷◌, codes, true, false, Option, Some, None, Ok, Err}
 use Rattle.hp_model.specs.Values.{◌>>=◌}
 use Rattle.hp_model.specs.Json.{beside}
-use Rattle.hp_model.specs.NotationTokens.{Mark, or_mark, then_mark, until_mark, create_mark, update_mark, delete_mark, signal_mark, open_parenthesis, close_parenthesis, mark, word, Tokens, token, place, size}
+use Rattle.hp_model.specs.NotationTokens.{Mark, or_mark, then_mark, until_mark, create_mark, update_mark, delete_mark, signal_mark, open_parenthesis, close_parenthesis, mark, word, Tokens, token, place}
 use Rattle.hp_model.specs.NotationTree.{Node, form, Phrase}
-use Rattle.hp_model.specs.NotationPhrases.{is_mark, is_word, begins, past, passed, name, natural, Operator, chain_from}
+use Rattle.hp_model.specs.NotationPhrases.{is_mark, is_word, begins, past, passed, name, natural, Operator, most_operators, chain_from}
 use Rattle.hp_model.specs.NotationExpressions.{enclosed, too_deep}
 
 -- a free word that begins an event
@@ -69,7 +69,7 @@ abbrev pub event_operator : Tokens → Operator
 event_operator ts = elim (begins (is_mark or_mark) ts) [ true ↦ joint or_mark (codes "or") | false ↦ joint then_mark (codes "seq") ]
 
 unfoldable pub event : (inner : Phrase Node) → Phrase Node
-event inner ts = simple_event inner ts >>= λ p. chain_from (simple_event inner) (event_operator p.1) (size p.1) p.0 p.1
+event inner ts = simple_event inner ts >>= λ p. chain_from (simple_event inner) (event_operator p.1) most_operators p.0 p.1
 
 -- an event of at most this number of levels
 unfoldable pub event_within : ℕ → Phrase Node

@@ -1,10 +1,10 @@
 -- The text notation of scripts: expressions. Operators have levels, from 1 for `or` to 6 for products.
 use Rattle.std.specs.Prelude.{ℕ, zero, suc, pos, neg_ℤ, ◌==◌, Bool, true, false, List, [], ◌∷◌, codes, Some, None, Ok, Err, bytes_eq, if◌then◌else◌}
 use Rattle.hp_model.specs.Values.{◌>>=◌}
-use Rattle.hp_model.specs.NotationTokens.{Mark, or_mark, and_mark, not_mark, true_mark, false_mark, new_mark, old_mark, event_mark, key_mark, open_parenthesis, close_parenthesis, open_bracket, close_bracket, point, equal_sign, unequal_sign, less_sign, at_most_sign, greater_sign, at_least_sign, plus_sign, minus_sign, times_sign, divided_sign, percent_sign, spelling, mark, word, quoted, number, string, token, ending, unreadable, place, size}
+use Rattle.hp_model.specs.NotationTokens.{Mark, or_mark, and_mark, not_mark, true_mark, false_mark, new_mark, old_mark, event_mark, key_mark, open_parenthesis, close_parenthesis, open_bracket, close_bracket, point, equal_sign, unequal_sign, less_sign, at_most_sign, greater_sign, at_least_sign, plus_sign, minus_sign, times_sign, divided_sign, percent_sign, spelling, mark, word, quoted, number, string, token, ending, unreadable, place}
 use Rattle.hp_model.specs.NotationTree as T
 use Rattle.hp_model.specs.NotationTree.{Node, form, Phrase}
-use Rattle.hp_model.specs.NotationPhrases.{is_mark, is_word, is_number, begins, past, passed, name, natural, Operator, with_right, chain_from}
+use Rattle.hp_model.specs.NotationPhrases.{is_mark, is_word, is_number, begins, past, passed, name, natural, Operator, with_right, most_operators, chain_from}
 
 -- ---- operators of two operands
 
@@ -67,9 +67,9 @@ argument at part ts = do
 -- what a part of the event has
 abbrev pub of_part : (at : ℕ) → (part : Node) → Phrase Node
 of_part at part ts = elim (begins (is_mark key_mark) ts) [
-    true ↦ Ok (form at (codes "id") (part ∷ []), past ts)
+  | true ↦ Ok (form at (codes "id") (part ∷ []), past ts)
   | false ↦ elim (begins (is_word (codes "time")) ts) [
-      true ↦ Ok (form at (codes "time") (part ∷ []), past ts)
+    | true ↦ Ok (form at (codes "time") (part ∷ []), past ts)
     | false ↦ elim (begins (is_word (codes "arg")) ts) [ true ↦ argument at part (past ts) | false ↦ Err (place ts) ]
   ]
 ]
@@ -83,13 +83,13 @@ of_chosen_part at ts = do
 -- without a part: the number of occurrences, or what the first part has
 abbrev pub of_first_part : (at first : ℕ) → Phrase Node
 of_first_part at first ts = elim (begins (is_word (codes "count")) ts) [
-    true ↦ Ok (form at (codes "count") [], past ts)
+  | true ↦ Ok (form at (codes "count") [], past ts)
   | false ↦ of_part at (T.integer first (pos 0)) ts
 ]
 
 abbrev pub of_event : (at : ℕ) → Phrase Node
 of_event at ts = elim (begins (is_mark open_bracket) ts) [
-    true ↦ of_chosen_part at ts
+  | true ↦ of_chosen_part at ts
   | false ↦ passed (is_mark point) ts >>= of_first_part at (place ts)
 ]
 
@@ -101,7 +101,7 @@ alone at false x = form at (codes "value") (x ∷ [])
 -- the key or a field of a row
 abbrev pub of_row : (at : ℕ) → (row : Node) → Phrase Node
 of_row at row ts = elim (begins (is_mark key_mark) ts) [
-    true ↦ Ok (form at (codes "key") (row ∷ []), past ts)
+  | true ↦ Ok (form at (codes "key") (row ∷ []), past ts)
   | false ↦ name ts >>= λ f. Ok (form at (codes "of") (row ∷ f.0 ∷ []), f.1)
 ]
 
@@ -142,7 +142,7 @@ negative deeper at ts = primary deeper ts >>= λ p. Ok (form at (codes "neg") (p
 
 abbrev pub unary : Deeper → Phrase Node
 unary deeper ts = elim (begins (is_mark minus_sign) ts) [
-    true ↦ negative deeper (place ts) (past ts)
+  | true ↦ negative deeper (place ts) (past ts)
   | false ↦ elim (begins is_number ts) [ true ↦ natural ts | false ↦ primary deeper ts ]
 ]
 
@@ -150,7 +150,7 @@ unary deeper ts = elim (begins (is_mark minus_sign) ts) [
 
 -- operands with operators between them, grouped to the left
 abbrev pub chain : (operand : Phrase Node) → Operator → Phrase Node
-chain operand op ts = operand ts >>= λ p. chain_from operand op (size p.1) p.0 p.1
+chain operand op ts = operand ts >>= λ p. chain_from operand op most_operators p.0 p.1
 
 unfoldable pub product : Deeper → Phrase Node
 product deeper = chain (unary deeper) (operator 6)
@@ -164,7 +164,7 @@ comparison deeper ts = sum deeper ts >>= λ p. with_right (sum deeper) p.0 p.1 (
 
 unfoldable pub negation : Deeper → Phrase Node
 negation deeper ts = elim (begins (is_mark not_mark) ts) [
-    true ↦ deeper.negation (past ts) >>= λ p. Ok (form (place ts) (codes "not") (p.0 ∷ []), p.1)
+  | true ↦ deeper.negation (past ts) >>= λ p. Ok (form (place ts) (codes "not") (p.0 ∷ []), p.1)
   | false ↦ comparison deeper ts
 ]
 
@@ -185,7 +185,7 @@ expressions_within zero = record { expression = too_deep; conjunction = too_deep
 expressions_within (suc n) = record {
   expression = expression (expressions_within n);
   conjunction = conjunction (expressions_within n);
-  negation = negation (expressions_within n)
+  negation = negation (expressions_within n);
 }
 
 abbrev pub any_expression : Phrase Node

@@ -60,7 +60,7 @@ listed part zero ts = Err (place ts)
 listed part (suc n) ts = do
   p ← part ts
   elim (begins (is_mark comma) p.1) [
-      true ↦ listed part n (past p.1) >>= λ q. Ok (node p.0 q.0, q.1)
+    | true ↦ listed part n (past p.1) >>= λ q. Ok (node p.0 q.0, q.1)
     | false ↦ Ok (node p.0 no_nodes, p.1)
   ]
 
@@ -68,7 +68,7 @@ listed part (suc n) ts = do
 abbrev pub repeated : (begins_part : Token → Bool) → (part : Phrase Node) → ℕ → Phrase Nodes
 repeated begins_part part zero ts = Ok (no_nodes, ts)
 repeated begins_part part (suc n) ts = elim (begins begins_part ts) [
-    true ↦ part ts >>= λ p. repeated begins_part part n p.1 >>= λ q. Ok (node p.0 q.0, q.1)
+  | true ↦ part ts >>= λ p. repeated begins_part part n p.1 >>= λ q. Ok (node p.0 q.0, q.1)
   | false ↦ Ok (no_nodes, ts)
 ]
 
@@ -91,7 +91,16 @@ abbrev pub chained : (operand : Phrase Node) → (more : Node → Phrase Node) �
 chained operand more left ts None = Ok (left, ts)
 chained operand more left ts (Some op) = operand op.1 >>= λ p. more (joined op.0 left p.0) p.1
 
--- operators and operands after a left operand, grouped to the left; at most so many
+-- a chain has at most so many operators, which bounds the depth of its tree
+abbrev pub most_operators : ℕ
+most_operators = 64
+
+-- no operator may follow
+abbrev pub unchained : Node → Tokens → Option (List ℕ × Tokens) → Result (Node × Tokens) ℕ
+unchained left ts None = Ok (left, ts)
+unchained left ts (Some op) = Err (place ts)
+
+-- at most this number of operators and operands after a left operand, grouped to the left
 unfoldable pub chain_from : (operand : Phrase Node) → Operator → ℕ → Node → Phrase Node
-chain_from operand operator zero left ts = Ok (left, ts)
+chain_from operand operator zero left ts = unchained left ts (operator ts)
 chain_from operand operator (suc n) left ts = chained operand (chain_from operand operator n) left ts (operator ts)

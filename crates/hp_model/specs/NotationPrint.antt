@@ -65,6 +65,15 @@ abbrev pub enclosed_if : Bool → (own : Gap → Pieces → Pieces) → Gap → 
 enclosed_if true own gap k = sign gap open_parenthesis (own tight (sign tight close_parenthesis k))
 enclosed_if false own gap k = own gap k
 
+-- parts one after another
+abbrev pub each_part : {A : Type 0} → (write : A → Pieces → Pieces) → List A → Pieces → Pieces
+each_part write [] k = k
+each_part write (x ∷ xs) k = write x (each_part write xs k)
+
+-- parts with a comma before each
+abbrev pub more_parts : {A : Type 0} → (write : A → Pieces → Pieces) → List A → Pieces → Pieces
+more_parts write xs k = each_part (λ x others. sign tight comma (write x others)) xs k
+
 -- ---- expressions
 
 -- the levels of expressions: 3 of `not`, 7 of what begins with `-`, 8 of all other operands
@@ -164,7 +173,7 @@ first_is is (p ∷ k) = is p.token
 
 -- an expression, in parentheses if its first token would be read as another word
 abbrev pub apart_from : (Token → Bool) → Expression → Gap → Pieces → Pieces
-apart_from is e = enclosed_if (first_is is (expression_pieces e tight [])) (expression_pieces e)
+apart_from is e gap k = enclosed_if (first_is is (expression_pieces e gap k)) (expression_pieces e) gap k
 
 -- ---- events
 
@@ -225,21 +234,16 @@ object_pieces c e k = name space c (sign tight open_parenthesis (expression_piec
 abbrev pub assignment_pieces : Assignment → Pieces → Pieces
 assignment_pieces a k = name space a.field (sign space equal_sign (expression_in 5 a.value space k))
 
-abbrev pub more_assignments : List Assignment → Pieces → Pieces
-more_assignments [] k = k
-more_assignments (a ∷ others) k = sign tight comma (assignment_pieces a (more_assignments others k))
-
 abbrev pub assignments_pieces : List Assignment → Pieces → Pieces
 assignments_pieces [] k = k
-assignments_pieces (a ∷ others) k = sign space set_mark (assignment_pieces a (more_assignments others k))
+assignments_pieces (a ∷ others) k = sign space set_mark (assignment_pieces a (more_parts assignment_pieces others k))
 
-abbrev pub more_arguments : List Expression → Pieces → Pieces
-more_arguments [] k = k
-more_arguments (e ∷ es) k = sign tight comma (expression_pieces e space (more_arguments es k))
+abbrev pub argument_pieces : Expression → Pieces → Pieces
+argument_pieces e k = expression_pieces e space k
 
 abbrev pub arguments_pieces : List Expression → Pieces → Pieces
 arguments_pieces [] k = k
-arguments_pieces (e ∷ es) k = sign tight open_parenthesis (expression_pieces e tight (more_arguments es (sign tight close_parenthesis k)))
+arguments_pieces (e ∷ es) k = sign tight open_parenthesis (expression_pieces e tight (more_parts argument_pieces es (sign tight close_parenthesis k)))
 
 abbrev pub is_empty : Body → Bool
 is_empty empty = true
@@ -294,25 +298,20 @@ body_pieces b depth = braced (is_empty b) depth (statements_pieces b (suc depth)
 abbrev pub field_pieces : Field → Pieces → Pieces
 field_pieces f k = name space f.name (sign tight colon (free space (kind_word f.kind) k))
 
-abbrev pub more_fields : List Field → Pieces → Pieces
-more_fields [] k = k
-more_fields (f ∷ fs) k = sign tight comma (field_pieces f (more_fields fs k))
-
 abbrev pub fields_pieces : List Field → Pieces → Pieces
 fields_pieces [] k = sign tight close_brace k
-fields_pieces (f ∷ fs) k = field_pieces f (more_fields fs (sign space close_brace k))
+fields_pieces (f ∷ fs) k = field_pieces f (more_parts field_pieces fs (sign space close_brace k))
 
 abbrev pub class_pieces : Class → Gap → Pieces → Pieces
 class_pieces c gap k = free gap (codes "class") (name space c.name (sign space open_brace (fields_pieces c.fields k)))
 
--- an empty line stands before the first class
-abbrev pub more_classes : List Class → Pieces → Pieces
-more_classes [] k = k
-more_classes (c ∷ cs) k = class_pieces c (line 0) (more_classes cs k)
+abbrev pub later_class_pieces : Class → Pieces → Pieces
+later_class_pieces c k = class_pieces c (line 0) k
 
+-- an empty line stands before the first class
 abbrev pub classes_pieces : List Class → Pieces → Pieces
 classes_pieces [] k = k
-classes_pieces (c ∷ cs) k = class_pieces c paragraph (more_classes cs k)
+classes_pieces (c ∷ cs) k = class_pieces c paragraph (each_part later_class_pieces cs k)
 
 -- the mode `immediate` is left out
 abbrev pub mode_pieces : Coupling → Pieces → Pieces
@@ -326,26 +325,20 @@ abbrev pub closed_pieces : (is_closed : Bool) → Pieces → Pieces
 closed_pieces true k = free space (codes "closed") k
 closed_pieces false k = k
 
-abbrev pub condition_pieces : List Query → Pieces → Pieces
-condition_pieces [] k = k
-condition_pieces (q ∷ qs) k = sign (line 1) if_mark (query_pieces q (condition_pieces qs k))
+abbrev pub condition_pieces : Query → Pieces → Pieces
+condition_pieces q k = sign (line 1) if_mark (query_pieces q k)
 
 abbrev pub rule_pieces : Rule → Pieces → Pieces
 rule_pieces r k =
     free paragraph (codes "rule") (name space r.name (closed_pieces r.is_closed (sign space on_mark (event_pieces r.event space (mode_pieces r.event_mode
-    (condition_pieces r.condition (sign (line 1) do_mark (mode_pieces r.action_mode (body_pieces r.action 1 k)))))))))
-
-abbrev pub rules_pieces : List Rule → Pieces → Pieces
-rules_pieces [] k = k
-rules_pieces (r ∷ rs) k = rule_pieces r (rules_pieces rs k)
+    (each_part condition_pieces r.condition (sign (line 1) do_mark (mode_pieces r.action_mode (body_pieces r.action 1 k)))))))))
 
 abbrev pub item_pieces : Item → Gap → Pieces → Pieces
 item_pieces (transaction b) gap k = free gap (codes "transaction") (body_pieces b 0 k)
 item_pieces (clock t) gap k = free gap (codes "clock") (natural space t k)
 
-abbrev pub items_pieces : List Item → Pieces → Pieces
-items_pieces [] k = k
-items_pieces (i ∷ is) k = item_pieces i paragraph (items_pieces is k)
+abbrev pub later_item_pieces : Item → Pieces → Pieces
+later_item_pieces i k = item_pieces i paragraph k
 
 abbrev pub depth_pieces : Option ℕ → Pieces → Pieces
 depth_pieces None k = k
@@ -353,7 +346,7 @@ depth_pieces (Some n) k = free (line 0) (codes "depth") (natural space n k)
 
 abbrev pub script_pieces : Script → Pieces
 script_pieces s =
-    free tight (codes "version") (natural space s.version (depth_pieces s.depth (classes_pieces s.classes (rules_pieces s.rules (items_pieces s.items [])))))
+    free tight (codes "version") (natural space s.version (depth_pieces s.depth (classes_pieces s.classes (each_part rule_pieces s.rules (each_part later_item_pieces s.items [])))))
 
 -- ---- the text of pieces
 

@@ -140,7 +140,7 @@ transaction at ts = any_body ts >>= λ b. Ok (form at (codes "tx") (b.0 ∷ []),
 
 unfoldable pub item : Phrase Node
 item ts = elim (begins (is_word (codes "transaction")) ts) [
-    true ↦ transaction (place ts) (past ts)
+  | true ↦ transaction (place ts) (past ts)
   | false ↦ passed (is_word (codes "clock")) ts >>= of_number (place ts) (codes "clock")
 ]
 
@@ -175,7 +175,7 @@ script ts = do
 -- an item, or `show`
 unfoldable pub line : Tokens → Result Node ℕ
 line ts = elim (begins (is_word (codes "show")) ts) [
-    true ↦ ended (past ts) >>= λ end. Ok (form (place ts) (codes "show") [])
+  | true ↦ ended (past ts) >>= λ end. Ok (form (place ts) (codes "show") [])
   | false ↦ item ts >>= λ p. ended p.1 >>= λ end. Ok p.0
 ]
 

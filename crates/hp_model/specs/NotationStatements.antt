@@ -107,7 +107,7 @@ pairs ts = elim (begins (is_mark set_mark) ts) [ true ↦ list_of_parts (place t
 -- after the parenthesis
 abbrev pub some_arguments : (at : ℕ) → Phrase Node
 some_arguments at ts = elim (begins (is_mark close_parenthesis) ts) [
-    true ↦ Ok (T.list at no_nodes, past ts)
+  | true ↦ Ok (T.list at no_nodes, past ts)
   | false ↦ list_of_parts at any_expression ts >>= λ p. passed (is_mark close_parenthesis) p.1 >>= λ end. Ok (p.0, end)
 ]
 
@@ -127,7 +127,7 @@ body_after m body ts = elim (begins (is_mark m) ts) [ true ↦ body (past ts) | 
 -- `else if ..` is `else { if .. }`
 abbrev pub else_body : Deeper → (at : ℕ) → Phrase Node
 else_body deeper at ts = elim (begins (is_mark if_mark) ts) [
-    true ↦ deeper.statement ts >>= λ p. Ok (T.list at (node p.0 no_nodes), p.1)
+  | true ↦ deeper.statement ts >>= λ p. Ok (T.list at (node p.0 no_nodes), p.1)
   | false ↦ deeper.body ts
 ]
 
@@ -256,7 +256,7 @@ past_semicolon ts = elim (begins (is_mark semicolon) ts) [ true ↦ past ts | fa
 abbrev pub statements : (statement : Phrase Node) → ℕ → Phrase Nodes
 statements statement zero ts = Err (place ts)
 statements statement (suc n) ts = elim (begins (is_mark close_brace) ts) [
-    true ↦ Ok (no_nodes, past ts)
+  | true ↦ Ok (no_nodes, past ts)
   | false ↦ statement ts >>= λ p. statements statement n (past_semicolon p.1) >>= λ q. Ok (node p.0 q.0, q.1)
 ]
 

@@ -2,6 +2,7 @@
 use Rattle.std.specs.Prelude.{ℕ, zero, suc, ◌+◌, ◌^◌, Bool, true, false, not, ◌&&◌, ◌||◌, ◌==◌, nat_lt, nat_le, List, [], ◌∷◌, ◌++◌, length, take, drop, map, codes, Option, Some, None, option_map, option_and_then, bytes_eq, slice_index, if◌then◌else◌}
 use Rattle.std.specs.Char.{is_ascii_alphabetic, is_ascii_digit, encode_utf8}
 use Rattle.std.specs.Str.{is_utf8}
+use Rattle.std.specs.Str.Lossy.{utf8_valid_len}
 use Rattle.std.specs.Str.Parse.{digits_value}
 use Rattle.std.specs.List.{prefix_len}
 use Rattle.json.specs.Text.{code_unit, short_escape, is_high_surrogate, is_low_surrogate, surrogate_pair}
@@ -101,7 +102,7 @@ reserved =
     ∷ install_mark ∷ enable_mark ∷ disable_mark ∷ remove_mark ∷ fire_mark ∷ []
 
 -- the reserved word that is written so
-abbrev pub reserved_word : List ℕ → Option Mark
+unfoldable pub reserved_word : List ℕ → Option Mark
 reserved_word text = beside text (map with_spelling reserved)
 
 abbrev pub short_symbols : List Mark
@@ -283,16 +284,11 @@ tokens_from end n at [] = end at
 tokens_from end zero at (b ∷ bs) = tokens_at (lexeme b bs) at (λ n. tokens_from end n (suc at) bs)
 tokens_from end (suc n) at (b ∷ bs) = tokens_from end n (suc at) bs
 
--- the longest front of the bytes that is UTF-8, of at most this size
-abbrev pub readable_up_to : ℕ → List ℕ → ℕ
-readable_up_to zero bytes = 0
-readable_up_to (suc n) bytes = elim (is_utf8 (take (suc n) bytes)) [ true ↦ suc n | false ↦ readable_up_to n bytes ]
-
 abbrev pub tokens_of : (is_readable : Bool) → List ℕ → Tokens
 tokens_of true bytes = tokens_from ending 0 0 bytes
-tokens_of false bytes = tokens_from unreadable 0 0 (take (readable_up_to (length bytes) bytes) bytes)
+tokens_of false bytes = tokens_from unreadable 0 0 (take (utf8_valid_len bytes) bytes)
 
--- the tokens of a text, which ends where its bytes aren't UTF-8
+-- the tokens of a text. Where its bytes stop being UTF-8 no token follows
 unfoldable pub tokens : List ℕ → Tokens
 tokens bytes = tokens_of (is_utf8 bytes) bytes
 
