@@ -21,6 +21,17 @@ pub mod EventGrammar
 pub mod StatementGrammar
 pub mod RuleHeads
 pub mod Decode
+pub mod NotationTokens
+pub mod NotationTree
+pub mod NotationPhrases
+pub mod NotationExpressions
+pub mod NotationEvents
+pub mod NotationStatements
+pub mod NotationScripts
+pub mod NotationPlaces
+pub mod NotationForms
+pub mod NotationPrint
+pub mod NotationLaws
 pub mod Output
 pub mod ClassParts
 pub mod Cells
