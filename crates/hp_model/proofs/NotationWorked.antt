@@ -1,6 +1,6 @@
 -- Texts read by computation: what they mean in JSON, and the places of faults.
-use Rattle.std.proofs.Common.{◌≡◌, refl, ℕ, List, [], ◌∷◌, ◌++◌, codes, Option, Some, None, Result, Ok, Err}
-use Rattle.std.specs.Prelude.{⊤}
+use Rattle.std.proofs.Common.{◌≡◌, refl, ℕ, [], ◌∷◌, ◌++◌, codes, Option, Some, None, Result, Ok, Err}
+use Rattle.std.specs.Prelude.{⊤, option_and_then}
 use Rattle.std.specs.Fmt.{digits}
 use Rattle.std.specs.Str.{chars, is_utf8}
 use Rattle.std.specs.Str.Lossy.{utf8_valid_len}
@@ -17,6 +17,8 @@ use Rattle.hp_model.specs.NotationExpressions.{product, sum, comparison, negatio
 use Rattle.hp_model.specs.NotationEvents.{event, event_within}
 use Rattle.hp_model.specs.NotationStatements.{aggregate, statement, body, bodies_within}
 use Rattle.hp_model.specs.NotationScripts.{class, condition, rule, item, script, line, read_script, read_line}
+use Rattle.hp_model.specs.NotationPrint.{print_script, print_item, text_of}
+use Rattle.hp_model.specs.NotationValues.{expression_of, event_of, body_of, item_form, script_form, print_value, print_item_value}
 use Rattle.hp_model.specs.NotationPlaces.{place_of, read_text}
 
 -- what a proof unfolds to read a text by computation
@@ -37,6 +39,15 @@ Means text json = meaning (read_script text) ≡ json_of json
 -- the first fault of the text is at this line and column
 abbrev pub IsFaultyAt : (text : Bytes) → (line column : ℕ) → Type 0
 IsFaultyAt text line column = read_text text ≡ Err (record { line = line; column = column })
+
+-- and to print a value
+unfoldable pub value_on_literals : ⊤
+unfolding text_of print_script print_item expression_of event_of body_of item_form script_form
+value_on_literals = tt
+
+-- the canonical text of this script in JSON
+abbrev pub Prints : (json text : Bytes) → Type 0
+Prints json text = option_and_then print_value (json_of json) ≡ Some text
 
 -- ---- whole scripts
 
@@ -222,3 +233,40 @@ not_utf8 = refl
 pub not_utf8_later : IsFaultyAt (codes "version 1 1\n" ++ ((255 ∷ []))) 1 11
 unfolding text_on_literals
 not_utf8_later = refl
+
+-- ---- canonical texts
+
+pub shop_printed : Prints
+    (codes "{\"version\":1,\"classes\":[[\"product\",[[\"stock\",\"int\"],[\"low\",\"int\"],[\"awaited\",\"bool\"]]],[\"order\",[[\"product\",\"int\"],[\"count\",\"int\"]]]],\"rules\":[[\"take\",[\"create\",\"order\"],\"immediate\",[],\"immediate\",[[\"with\",\"p\",\"product\",[\"new\",0,\"product\"],[[\"update\",\"product\",[\"key\",\"p\"],[[\"stock\",[\"-\",[\"of\",\"p\",\"stock\"],[\"new\",0,\"count\"]]]]]]]]],[\"no_oversell\",[\"update\",\"product\"],\"deferred\",[[\"p\",\"product\",[\"and\",[\"=\",[\"key\",\"p\"],[\"id\",0]],[\"<\",[\"of\",\"p\",\"stock\"],0]]]],\"immediate\",[[\"veto\"]]],[\"reorder\",[\"update\",\"product\"],\"dependent\",[[\"p\",\"product\",[\"and\",[\"=\",[\"key\",\"p\"],[\"id\",0]],[\"and\",[\"<\",[\"of\",\"p\",\"stock\"],[\"of\",\"p\",\"low\"]],[\"not\",[\"of\",\"p\",\"awaited\"]]]]]],\"immediate\",[[\"update\",\"product\",[\"key\",\"p\"],[[\"awaited\",true]]],[\"signal\",\"reorder\",[[\"key\",\"p\"]]]]],[\"matched\",[\"seq\",[\"signal\",\"paid\"],[\"signal\",\"packed\"]],\"deferred\",[[\"o\",\"order\",[\"and\",[\"=\",[\"key\",\"o\"],[\"arg\",0,0]],[\"=\",[\"key\",\"o\"],[\"arg\",1,0]]]]],\"separate\",[[\"emit\",[\"key\",\"o\"]]]],[\"day\",[\"closure\",[\"create\",\"order\"],[\"every\",1440,1440]],\"immediate\",[],\"immediate\",[[\"emit\",[\"count\"]]]]],\"items\":[[\"tx\",[[\"install\",\"take\"],[\"install\",\"no_oversell\"],[\"create\",\"product\",7,[[\"stock\",5],[\"low\",2],[\"awaited\",false]]]]],[\"clock\",1440]]}")
+    (codes "version 1\n\nclass product { stock: int, low: int, awaited: bool }\nclass order { product: int, count: int }\n\nrule take on create order\n  do {\n    with product(new.product) as p {\n      update product(p.key) set stock = p.stock - new.count\n    }\n  }\n\nrule no_oversell on update product deferred\n  if some product p where p.key = event.key and p.stock < 0\n  do {\n    veto\n  }\n\nrule reorder on update product dependent\n  if some product p where p.key = event.key and p.stock < p.low and not p.awaited\n  do {\n    update product(p.key) set awaited = true\n    signal reorder(p.key)\n  }\n\nrule matched on signal paid then signal packed deferred\n  if some order o where o.key = event.arg(0) and o.key = event[1].arg(0)\n  do separate {\n    emit o.key\n  }\n\nrule day on closure(create order until every 1440 from 1440)\n  do {\n    emit event.count\n  }\n\ntransaction {\n  install take\n  install no_oversell\n  create product(7) set stock = 5, low = 2, awaited = false\n}\n\nclock 1440\n")
+unfolding text_on_literals value_on_literals
+shop_printed = refl
+
+pub shop_of_version_4_printed : Prints
+    (codes "{\"version\":4,\"classes\":[[\"product\",[[\"stock\",\"int\"],[\"price\",\"int\"]]],[\"order\",[[\"product\",\"int\"],[\"count\",\"int\"],[\"due\",\"int\"]]]],\"rules\":[[\"known\",[\"create\",\"order\"],\"immediate\",[[\"no\",\"p\",\"product\",[\"=\",[\"key\",\"p\"],[\"new\",0,\"product\"]]]],\"immediate\",[[\"veto\",\"there is no such product\"]],\"closed\"],[\"no_oversell\",[\"update\",\"product\"],\"deferred\",[[\"p\",\"product\",[\"and\",[\"=\",[\"key\",\"p\"],[\"id\",0]],[\"<\",[\"of\",\"p\",\"stock\"],0]]]],\"immediate\",[[\"veto\",[\"of\",\"p\",\"stock\"]]],\"closed\"],[\"late\",[\"every\",60,60],\"immediate\",[[\"let\",\"n\",[\"count\",\"o\",\"order\",[\"<=\",[\"of\",\"o\",\"due\"],[\"now\"]]]],[\"let\",\"worth\",[\"sum\",\"o\",\"order\",[\"<=\",[\"of\",\"o\",\"due\"],[\"now\"]],[\"of\",\"o\",\"count\"]]]],\"immediate\",[[\"if\",[\">\",[\"value\",\"n\"],0],[[\"emit\",[\"value\",\"n\"]],[\"emit\",[\"value\",\"worth\"]]],[]]]]],\"items\":[[\"tx\",[[\"create\",\"product\",7,[[\"stock\",5],[\"price\",30]]],[\"let\",\"k\",[\"next\",\"order\"],[[\"create\",\"order\",[\"value\",\"k\"],[[\"product\",7],[\"count\",2],[\"due\",[\"+\",[\"now\"],1440]]]],[\"emit\",[\"value\",\"k\"]]]]]]]}")
+    (codes "version 4\n\nclass product { stock: int, price: int }\nclass order { product: int, count: int, due: int }\n\nrule known closed on create order\n  if no product p where p.key = new.product\n  do {\n    veto \"there is no such product\"\n  }\n\nrule no_oversell closed on update product deferred\n  if some product p where p.key = event.key and p.stock < 0\n  do {\n    veto p.stock\n  }\n\nrule late on every 60 from 60\n  if let n = count order o where o.due <= now\n  if let worth = sum o.count over order o where o.due <= now\n  do {\n    if n > 0 {\n      emit n\n      emit worth\n    }\n  }\n\ntransaction {\n  create product(7) set stock = 5, price = 30\n  let k = next order {\n    create order(k) set product = 7, count = 2, due = now + 1440\n    emit k\n  }\n}\n")
+unfolding text_on_literals value_on_literals
+shop_of_version_4_printed = refl
+
+-- parentheses stand only where they are needed
+pub parentheses_printed : Prints
+    (codes "{\"version\":1,\"classes\":[],\"rules\":[],\"items\":[[\"tx\",[[\"emit\",[\"and\",[\"or\",[\"of\",\"a\",\"x\"],[\"of\",\"b\",\"x\"]],[\"not\",[\"and\",[\"of\",\"c\",\"x\"],[\"of\",\"d\",\"x\"]]]]],[\"emit\",[\"*\",[\"-\",1,[\"-\",2,3]],4]],[\"emit\",[\"neg\",5]],[\"emit\",[\"neg\",-5]],[\"emit\",[\"neg\",[\"+\",1,2]]],[\"emit\",[\"=\",[\"not\",[\"of\",\"a\",\"x\"]],true]],[\"update\",\"c\",1,[[\"a\",[\"=\",[\"of\",\"b\",\"x\"],1]]]]]]]}")
+    (codes "version 1\n\ntransaction {\n  emit (a.x or b.x) and not (c.x and d.x)\n  emit (1 - (2 - 3)) * 4\n  emit -(5)\n  emit -(-5)\n  emit -(1 + 2)\n  emit (not a.x) = true\n  update c(1) set a = (b.x = 1)\n}\n")
+unfolding text_on_literals value_on_literals
+parentheses_printed = refl
+
+pub words_before_names_printed : Prints
+    (codes "{\"version\":4,\"classes\":[],\"rules\":[],\"items\":[[\"tx\",[[\"let\",\"now_\",[\"+\",[\"value\",\"sum\"],1],[[\"veto\",[\"value\",\"let\"]]]],[\"let\",\"now\",[\"now\"],[[\"emit\",[\"value\",\"now\"]]]]]]]}")
+    (codes "version 4\n\ntransaction {\n  let now_ = (sum + 1) {\n    veto (let)\n  }\n  let `now` = now {\n    emit `now`\n  }\n}\n")
+unfolding text_on_literals value_on_literals
+words_before_names_printed = refl
+
+-- an item on one line
+pub item_printed : option_and_then print_item_value (json_of (codes "[\"tx\",[[\"if\",true,[[\"emit\",1]],[[\"if\",false,[],[[\"abort\"]]]]]]]")) ≡ Some (codes "transaction { if true { emit 1 } else { if false {} else { abort } } }")
+unfolding text_on_literals value_on_literals
+item_printed = refl
+
+-- a value that is no script has no text
+pub no_script_printed : option_and_then print_value (json_of (codes "{\"version\": 1, \"classes\": [], \"rules\": [], \"items\": [[\"clock\", -1]]}")) ≡ None
+unfolding text_on_literals value_on_literals
+no_script_printed = refl

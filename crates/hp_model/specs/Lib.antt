@@ -32,6 +32,7 @@ pub mod NotationPlaces
 pub mod NotationForms
 pub mod NotationPrint
 pub mod NotationLaws
+pub mod NotationValues
 pub mod Output
 pub mod ClassParts
 pub mod Cells
