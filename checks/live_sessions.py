@@ -5,9 +5,10 @@
 
 Each session runs with 1 and 4 workers, with trees and without. Its input is cut into random pieces, each for one read.
 The answers to accepted lines, without their last lines, must be the report on their journal: the script whose items are
-the first line's followed by the accepted ones. So must the state in the answer to the last `["show"]`. Refused lines
-must have exactly their refusal, and each `ok` the number of units. Before that, each kind of line and each refusal has
-a case by name, with the exact bytes.
+the first line's followed by the accepted ones. So must the state in the answer to the last `["show"]`. A line that asks
+for a class's objects or for one object must have their lines in that state. Refused lines must have exactly their
+refusal, and each `ok` the number of units. Before that, each kind of line and each refusal has a case by name, with the
+exact bytes.
 
 HIPAC and HIPAC_LIVE name the programs. The default is the ones that ./hipac and ./hipac-live start. The seeds are
 fixed: session n is the same on each machine. The last line is 'N passed, M failed'.
@@ -139,6 +140,8 @@ class Line:
     text: bytes
     # The item, if it is an accepted one.
     item: object = None
+    # The class, or the class and key, if it asks for objects.
+    excerpt: object = None
     # The whole answer, if it is refused.
     refusal: bytes = b""
 
@@ -169,7 +172,7 @@ def refused_statement(pick):
 # Lines that are refused in any state, each with its refusal.
 NO_ITEMS = [
     (b"", "S1"), (b"  \t", "S1"), (b'["tx",[', "S1"), (b'["tx",[]] []', "S1"), (b"\x00", "S1"),
-    (b'["tx",[["emit","\xff"]]]', "S1"), (b"[]", "S2 /"), (b"7", "S2 /"), (b'"show"', "S2 /"), (b'["show",1]', "S2 /"),
+    (b'["tx",[["emit","\xff"]]]', "S1"), (b"[]", "S2 /"), (b"7", "S2 /"), (b'"show"', "S2 /"), (b'["show",1]', "S2 /1"),
     (b'["tx"]', "S2 /"), (b'{"version":1}', "S2 /"), (b'["tx",{}]', "S2 /1"), (b'["clock",-1]', "S2 /1"),
     (b'["clock","3"]', "S2 /1"), (b'["clock",1.0]', "S3 /1"), (b'["clock",1e400]', "S1"),
 ]
@@ -197,6 +200,7 @@ class SessionMaker:
             self.add_refused(b" " * (MOST + 1 + self.random.randint(0, 9)), "S5 size")
         self.add_others()
         self.lines.append(Line(self.random.choice(SHOW)))
+        self.add_excerpts()
         if self.random.random() < 0.3:
             # (an empty line needs a line feed)
             self.lines.append(Line(b"[", refusal=b"refused S1\n"))
@@ -234,6 +238,12 @@ class SessionMaker:
                 self.add_refused(*self.random.choice(NO_ITEMS))
             if shows:
                 self.lines.append(Line(self.random.choice(SHOW)))
+
+    def add_excerpts(self):
+        """Lines that ask for a class's objects or for one object, after one that shows the whole state."""
+        for name, _ in self.script["classes"][:2]:
+            for excerpt in ([name], [name, self.random.randint(-2, 4)]):
+                self.lines.append(Line(self.text_of(["show", *excerpt]), excerpt=excerpt))
 
     def input(self):
         """The bytes of all lines. Some have a carriage return, and the last line may lack its line feed."""
@@ -282,6 +292,12 @@ def report_of(hipac, journal, tree):
     return b"".join(lines[:final]), b"".join(lines[final + 1 : -1])
 
 
+def objects_in(state, excerpt):
+    """The lines of a class's objects, or of one object, among those of a state."""
+    head = " ".join(["object", *map(str, excerpt)]).encode()
+    return b"".join(line for line in state.splitlines(keepends=True) if line.startswith((head + b" ", head + b"\n")))
+
+
 def look_at(made, answers, units, state):
     """The answers match the lines, by the report on the journal."""
     expect(len(answers), len(made.lines), "answers")
@@ -295,6 +311,8 @@ def look_at(made, answers, units, state):
             bodies.append(body)
             ran += sum(each.startswith(b"unit ") for each in body.splitlines())
             shown = None
+        elif line.excerpt:
+            expect(body, objects_in(shown, line.excerpt), what)
         else:
             expect(body, body if shown is None else shown, f"{what}: the state after no more than refused lines")
             shown = body
@@ -397,6 +415,9 @@ CASES = {
     "the clock goes on": (f'{UP}\n["clock",5]\n["clock",9]\n["clock",9]',
                           "unit 1 committed\nok 1\nunit 2 time 5 committed\nemit 5\nok 2\n"
                           "unit 3 time 9 committed\nemit 9\nok 3\nok 3\n", 0),
+    "a class's objects": later('["show","acct"]', "object acct 1 bal=3\nok 1\n"),
+    "one object": later('["show","acct",1]', "object acct 1 bal=3\nok 1\n"),
+    "an object that there is not": later(' [ "show" , "acct" , 0 ]', "ok 1\n"),
     "a rule base that nothing is in": (f'{script()}\n["show"]', "ok 0\nrule tell absent\nrule wake absent\nok 0\n", 0),
     "the longest line": later(longest(change(5), MOST), "unit 2 committed\nemit 5\nok 2\n"),
     "the longest script": (longest(UP, MOST), "unit 1 committed\nok 1\n", 0),
@@ -406,7 +427,11 @@ CASES = {
     "S1, two values": later('["tx",[]]["tx",[]]', "refused S1\n"),
     "S2, no form": later("{}", "refused S2 /\n"),
     "S2, a veto": later('["tx",[["emit",1],["veto"]]]', "refused S2 /1/1\n"),
-    "S2, show with a part": later('["show",1]', "refused S2 /\n"),
+    "S2, show of no class": later('["show",1]', "refused S2 /1\n"),
+    "S4, show of an unknown class": later('["show","item"]', "refused S4 /1\n"),
+    "S2, show of no key": later('["show","acct","1"]', "refused S2 /2\n"),
+    "S3, show of no whole key": later('["show","acct",1.0]', "refused S3 /2\n"),
+    "S2, show with too many parts": later('["show","acct",1,2]', "refused S2 /\n"),
     "S2, a clock that goes back": (f'{UP}\n["clock",3]\n["clock",2]\n["clock",3]\n',
                                    "unit 1 committed\nok 1\nok 1\nrefused S2 /1\nok 1\n", 0),
     "S3": later(emit(1.5), "refused S3 /1/0/1\n"),

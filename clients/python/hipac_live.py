@@ -6,7 +6,7 @@
     with RuleBase(Path("rules.json")) as base:
         unit = base.tx([["update", "item", 7, [["stock", 1]]]])
         print(unit.ending, unit.emits)
-        print(base.show().find("item", 7)["stock"])
+        print(base.get("item", 7)["stock"])
 
 `docs/LIVE.md` describes the lines and the answers, `docs/SCRIPT.md` the statements of a transaction. A statement is
 given as the list that a script has, and a value of the language is an int, a bool or a str.
@@ -843,6 +843,14 @@ class RuleBase:
     def show(self) -> State:
         """The objects and the rules as they are."""
         return self._ask(["show"]).state
+
+    def get(self, class_name: str, key: int) -> Optional[Object]:
+        """The object as it is, or None if there is none. The cost doesn't grow with the number of objects."""
+        return self._ask(["show", class_name, key]).state.find(class_name, key)
+
+    def rows(self, class_name: str) -> List[Object]:
+        """The objects of a class as they are, in rising key order. The cost goes with their number."""
+        return self._ask(["show", class_name]).state.objects
 
     def snapshot(self, script: Optional[Script] = None, *, lose_pasts: bool = False) -> List[bytes]:
         """The lines of a journal whose rule base stands as this one does: a script, and items if it is too long.

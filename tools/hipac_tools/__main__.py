@@ -7,7 +7,7 @@ import os
 import sys
 from dataclasses import dataclass
 
-from .command import DONE, WRONG_WORDS
+from .command import DONE, FAILED, WRONG_WORDS
 from .near import nearest
 
 
@@ -27,6 +27,7 @@ WORDS = {
     "graph": Word("graph", "draws which rules can trigger which"),
     "view": Word("view", "shows what a script's transactions did"),
     "why": Word("why", "says why a rule acted, or didn't"),
+    "faults": Word("faults", "lists the conditions and actions that ended with a fault"),
     "journal": Word("journal", "writes the script of a journal"),
     "snapshot": Word("journal", "writes a new rule base that stands as a journal's", "main_snapshot"),
 }
@@ -53,15 +54,23 @@ def main(arguments: list[str]) -> int:
 
 
 def run() -> int:
-    """Runs `main`. A reader that stops early, such as `head`, is no fault."""
+    """Runs `main`. A reader that stops early, such as `head`, is no fault; any other failure to write is one. Each word
+    reports the files that it can't read or write itself, so only standard output is left."""
+    if sys.stdout is None:
+        return unwritten("it is closed")
     sys.stdout.reconfigure(errors="backslashreplace")
     try:
         status = main(sys.argv[1:])
         sys.stdout.flush()
         return status
-    except BrokenPipeError:
+    except OSError as fault:
         os.dup2(os.open(os.devnull, os.O_WRONLY), sys.stdout.fileno())
-        return DONE
+        return DONE if isinstance(fault, BrokenPipeError) else unwritten(fault.strerror)
+
+
+def unwritten(why: str) -> int:
+    print(f"hipac-tools: standard output can't be written: {why}", file=sys.stderr)
+    return FAILED
 
 
 if __name__ == "__main__":

@@ -1,30 +1,31 @@
 """A script with its report, and the reasons for the report's nodes.
 
-The reasons come from the course (`course.py`) if it gives the program's report line by line. If it doesn't, or if the
-script does more than the course follows, `derived` gives the reasons that the report's tree alone shows, and `doubt`
-says so.
+The reasons come from the course (`course.py`), whose report must be the program's line by line. If the script does more
+than the course follows, `derived` gives the reasons that the report's tree alone shows, and `doubt` says so.
 """
 
 from __future__ import annotations
 
-from dataclasses import dataclass
-from typing import Any, Dict, List, Optional, Set
+from dataclasses import dataclass, field
+from itertools import zip_longest
+from typing import Any, Dict, Iterable, List, Optional, Set, Tuple
 
-from . import events, language, program, report, rulebase
-from .command import FAILED, REFUSED, WRONG_WORDS
+from . import journal, language, pasts, program, report, rulebase
+from .command import DIFFERENT, FAILED, REFUSED, WRONG_WORDS, is_journal
 from .course import Course, STEPS, TooLong
 from .notes import Note, Signal
+from .pasts import Hearing
 from .places import Places
 from .positions import NotJson
 from .report import Fire, Operation, Report
 from .values import Primitive
 
 TOO_LONG = "The script does more than is followed here"
-DIFFERENT = "The report isn't the one that following the script gives"
 
 
 class NoAccount(Exception):
-    """There is nothing to explain: the script is refused, or the report isn't one. `status` is the exit status."""
+    """There is nothing to explain: the script is refused, the report isn't one, or it isn't the one that following the
+    script gives. `status` is the exit status."""
 
     def __init__(self, words: str, status: int):
         super().__init__(words)
@@ -33,26 +34,30 @@ class NoAccount(Exception):
 
 @dataclass
 class Account:
+    """`heard` are the hearings of the rules that were watched."""
+
     base: rulebase.RuleBase
     report: Report
     places: Places
     doubt: Optional[str] = None
+    heard: Dict[str, List[Hearing]] = field(default_factory=dict)
 
     @property
     def rules(self) -> Dict[str, rulebase.Rule]:
         return {rule.name: rule for rule in self.base.rules}
 
     def mode_of_action(self, rule: str) -> str:
-        """The mode of a rule's action; None for a rule that only another script's report names."""
+        """The mode of a rule's action. Of a script that is too long to follow the report may name other rules."""
         return self.rules[rule].ca if rule in self.rules else "not immediate"
 
 
-def account_of(script_bytes: bytes, report_text: Optional[str] = None, watch: Optional[str] = None,
+def account_of(script_bytes: bytes, report_text: Optional[str] = None, watch: Iterable[str] = (),
                steps: int = STEPS) -> Account:
-    """Runs the program if no report is given, reads the report, and notes why things happened in it."""
+    """Runs the program if no report is given, reads the report, and notes why things happened in it. A journal is
+    explained as the script of its accepted lines."""
     is_own = report_text is None
     if report_text is None:
-        report_text = _run(script_bytes)
+        script_bytes, report_text = _run(script_bytes)
     try:
         text = script_bytes.decode("utf-8")
         base, places = rulebase.read(text), Places(text)
@@ -63,27 +68,48 @@ def account_of(script_bytes: bytes, report_text: Optional[str] = None, watch: Op
         raise NoAccount(f"the report can't be read: {fault}", REFUSED)
     account = Account(base, found, places)
     try:
-        followed = Course(base, watch, steps).report()
+        course = Course(base, [name for name in watch if name in account.rules], steps)
+        followed = course.report()
     except TooLong:
         return derived(account, TOO_LONG, is_own)
-    except (LookupError, TypeError, ValueError, AttributeError, RecursionError):
-        # A script that the program would refuse, with a report given for it.
-        return derived(account, DIFFERENT, is_own)
+    except (LookupError, TypeError, ValueError, AttributeError, RecursionError) as fault:
+        # A script that the program would refuse, with a report given for it; or a fault of the course.
+        raise _different(is_own, f"following the script ends with {type(fault).__name__}")
     if followed != found:
-        if report.write(found) == report.write(followed, trees=False):
-            raise NoAccount("the report has no trees: make it with ./hipac --tree", REFUSED)
-        return derived(account, DIFFERENT, is_own)
-    return Account(base, followed, places)
+        raise _how_different(followed, found, is_own)
+    return Account(base, followed, places, None, course.heard)
 
 
-def _run(script_bytes: bytes) -> str:
+def _how_different(followed: Report, found: Report, is_own: bool) -> NoAccount:
+    if report.write(found) == report.write(followed, trees=False):
+        return NoAccount("the report has no trees: make it with ./hipac --tree", REFUSED)
+    lines = zip_longest(report.write(found).split("\n"), report.write(followed).split("\n"), fillvalue="")
+    number, one, other = next((number, *pair) for number, pair in enumerate(lines, 1) if pair[0] != pair[1])
+    return _different(is_own, f"line {number} is `{one.strip()}`, and by following the script `{other.strip()}`")
+
+
+def _different(is_own: bool, where: str) -> NoAccount:
+    if is_own:
+        return NoAccount(f"the tools follow this script otherwise than the program runs it: {where}. This is a fault "
+                         "of the tools or of the program; please report it with the script", DIFFERENT)
+    return NoAccount(f"the report isn't this script's: {where}", DIFFERENT)
+
+
+def _run(script_bytes: bytes) -> Tuple[bytes, str]:
+    """The script, and the program's report on it."""
+    if is_journal(script_bytes):
+        try:
+            ran = journal.run(script_bytes)
+        except journal.NoJournal as fault:
+            raise NoAccount(str(fault), fault.status) from None
+        return ran.script_text.encode(), ran.report_text
     ended = program.run(script_bytes, ["--tree"])
     if ended.status == REFUSED:
         raise NoAccount(f"the script is {ended.output.strip()}; `hipac-tools check` says more", REFUSED)
     if ended.status != 0:
         status = ended.status if ended.status in (WRONG_WORDS, FAILED) else FAILED
         raise NoAccount(f"the program ended with status {ended.status}: {ended.errors.strip()}", status)
-    return ended.output
+    return script_bytes, ended.output
 
 
 def derived(account: Account, doubt: str, is_own: bool) -> Account:
@@ -129,4 +155,4 @@ def _matches(event: Optional[List[Any]], operation: Operation) -> bool:
     if event is None or not operation.on_object:
         return False
     primitive = Primitive(operation.verb, operation.name, operation.key)
-    return any(events.matches(pattern, primitive) for pattern in language.patterns(event))
+    return pasts.mentions(event, primitive)

@@ -11,19 +11,21 @@ from dataclasses import dataclass
 from typing import Optional
 
 from . import program
-from .command import DONE, FAILED, REFUSED, WRONG_WORDS, bytes_of, shown
+from .command import DONE, FAILED, MOST_BYTES, REFUSED, WRONG_WORDS, bytes_of, shown, unknown_option, wrong_words
 from .checking.excerpt import excerpt
-from .checking.faults import Fault, Note, Refused
+from .checking.faults import Fault, Faulty, Note
+from .checking.scope import MOST_FAULTS
 from .checking.script import Script, read_script
 from .positions import Node, NotJson, find, line_and_column, parse
 from .wording import counted
 
-USAGE = """usage: hipac-tools check SCRIPT.json ..
+USAGE = """usage: hipac-tools check [--live] SCRIPT.json ..
 
-Says of each script whether the program accepts it. Of a refused one it says where and why. `-` is standard input.
+Says of each script whether the program accepts it. Of a refused one it says where and why. With --live any transaction
+may follow the script's, as in a rule base that stays up. `-` is standard input.
 The exit status is the program's: 0 accepted, 2 refused, 3 the words are wrong, 4 the program failed."""
 
-MOST_BYTES = 1_048_576
+OPTIONS = ("--live",)
 
 MEANINGS = {
     "S1": "the script is no JSON text",
@@ -37,25 +39,31 @@ MEANINGS = {
 
 @dataclass(frozen=True)
 class Read:
-    """The result of the tool's own reading: the text and its values as far as they can be read, and the first fault."""
+    """The result of the tool's own reading: the text and its values as far as they can be read, and the faults in the
+    order of checks."""
 
     text: str
     root: Optional[Node]
-    script: Optional[Script]
-    fault: Optional[Fault]
+    script: Optional[Script] = None
+    faults: tuple[Fault, ...] = ()
+
+    @property
+    def fault(self) -> Optional[Fault]:
+        """The first fault, which is the program's refusal."""
+        return self.faults[0] if self.faults else None
 
 
 def main(arguments: list[str]) -> int:
     if arguments in (["--help"], ["-h"]):
         print(USAGE)
         return DONE
-    if not arguments or any(argument.startswith("-") and argument != "-" for argument in arguments):
-        print(USAGE, file=sys.stderr)
-        return WRONG_WORDS
-    return max(check(argument) for argument in arguments)
+    names = [argument for argument in arguments if argument not in OPTIONS]
+    if not names or unknown_option(names):
+        return wrong_words("check", USAGE, arguments, OPTIONS)
+    return max(check(name, is_live="--live" in arguments) for name in names)
 
 
-def check(name: str) -> int:
+def check(name: str, is_live: bool = False) -> int:
     """Checks one script, and returns the program's status."""
     try:
         script = bytes_of(name)
@@ -64,7 +72,7 @@ def check(name: str) -> int:
         return WRONG_WORDS
     ended = program.run(script, [])
     if ended.status == DONE:
-        print("\n".join(accepted(shown(name), read(script))))
+        print("\n".join(accepted(shown(name), read(script, is_live))))
     elif ended.status == REFUSED and ended.output.startswith("refused "):
         print("\n".join(refused(shown(name), ended.output[len("refused "):].strip(), read(script))))
     else:
@@ -76,25 +84,25 @@ def check(name: str) -> int:
 # ---- the tool's own reading
 
 
-def read(script: bytes) -> Read:
+def read(script: bytes, is_live: bool = False) -> Read:
     """Reads a script in the order of checks: its size, then its JSON, then its contents."""
     text = script.decode("utf-8", "replace")
     if len(script) > MOST_BYTES:
-        message = f"the script has {len(script):,} bytes, and {MOST_BYTES:,} are the most"
-        return Read("", None, None, Fault("S5 size", 0, 0, message))
+        message = f"a script has at most {MOST_BYTES:,} bytes, and this has more"
+        return Read("", None, None, (Fault("S5 size", 0, 0, message),))
     try:
         text = script.decode("utf-8")
         root = parse(text)
     except UnicodeDecodeError as fault:
         offset = len(script[:fault.start].decode("utf-8"))
         hints = ("a script is saved as UTF-8",)
-        return Read(text, None, None, Fault("S1", offset, offset + 1, "the bytes here are no UTF-8", hints))
+        return Read(text, None, None, (Fault("S1", offset, offset + 1, "the bytes here are no UTF-8", hints),))
     except NotJson as fault:
-        return Read(text, None, None, json_fault(fault))
+        return Read(text, None, None, (json_fault(fault),))
     try:
-        return Read(text, root, read_script(root), None)
-    except Refused as refusal:
-        return Read(text, root, None, refusal.fault)
+        return Read(text, root, read_script(root, is_live))
+    except Faulty as faulty:
+        return Read(text, root, None, tuple(faulty.faults))
 
 
 def json_fault(fault: NotJson) -> Fault:
@@ -114,15 +122,20 @@ def accepted(name: str, own: Read) -> list[str]:
                         counted(script.items, "item")))
     lines = [f"{name}: accepted ({counts})"]
     for warned in sorted(script.warnings, key=lambda warned: warned.place.node.start):
-        node, hints = warned.place.node, (warned.help,) if warned.help else ()
+        node, hints = warned.place.node, tuple(warned.help.split("\n")) if warned.help else ()
         lines += told(name, own.text, warned.word, Fault("", node.start, node.end, warned.message, hints))
     return lines
 
 
 def refused(name: str, refusal: str, own: Read) -> list[str]:
-    """Where and why a script is refused. The tool's own fault is reported only if it is the program's refusal."""
-    fault = own.fault if own.fault is not None and own.fault.refusal == refusal else general_fault(refusal, own)
-    return told(name, own.text, f"refused {refusal}", fault)
+    """Where and why a script is refused. The tool's own faults are reported only if the first is the program's refusal;
+    the others are those that the program would find once the ones before are mended."""
+    if own.fault is None or own.fault.refusal != refusal:
+        return told(name, own.text, f"refused {refusal}", general_fault(refusal, own))
+    lines = [line for fault in own.faults for line in told(name, own.text, f"refused {fault.refusal}", fault)]
+    if len(own.faults) == MOST_FAULTS:
+        lines.append(f"{name}: these are the first {MOST_FAULTS} faults; there may be more")
+    return lines
 
 
 def general_fault(refusal: str, own: Read) -> Fault:

@@ -1,24 +1,98 @@
-"""Shared by the words of the command line: exit statuses, and the bytes of a file."""
+"""Shared by the words of the command line: exit statuses, the bytes of files, what is wrong with the words."""
 
 from __future__ import annotations
 
+import json
 import sys
+from typing import BinaryIO, Iterable, Optional
 
-DONE, REFUSED, WRONG_WORDS, FAILED = 0, 2, 3, 4
+from .near import nearest
+
+DONE, REFUSED, WRONG_WORDS, FAILED, DIFFERENT = 0, 2, 3, 4, 5
 """The program's statuses, which the words give too: all is well, a script that is no script, words that are wrong or a
-file that can't be read, a fault of the program."""
+file that can't be read, a fault of the program or of a device. The last is of the tools alone: a report differs from
+the one that they find by following the script."""
 
 STANDARD_INPUT = "-"
 
+MOST_BYTES = 1_048_576
+"""So many bytes may a script have."""
 
-def bytes_of(name: str) -> bytes:
-    """A file's bytes, or those of standard input."""
+MOST_REPORT_BYTES = 1 << 28
+"""So many bytes of a report are read. A report may be much longer than its script."""
+
+
+def bytes_of(name: str, most: int = MOST_BYTES) -> bytes:
+    """A file's bytes, or those of standard input: all, or one more than the most. So a device that never ends isn't
+    read to its end. A journal is read whole."""
     if name == STANDARD_INPUT:
-        return sys.stdin.buffer.read()
+        return _read_script(sys.stdin.buffer, most)
     with open(name, "rb") as file:
-        return file.read()
+        return _read_script(file, most)
+
+
+def is_journal(content: bytes) -> bool:
+    """Whether these are lines of which the first is a script by itself."""
+    first, _, later = content.partition(b"\n")
+    if not later.strip():
+        return False
+    try:
+        return isinstance(json.loads(first), dict)
+    except (ValueError, RecursionError):
+        return False
+
+
+def _read_script(file: BinaryIO, most: int) -> bytes:
+    content = _read(file, most)
+    if len(content) > most and is_journal(content):
+        content += _read(file, MOST_REPORT_BYTES)
+    return content
+
+
+def _read(file: BinaryIO, most: int) -> bytes:
+    """Reads in pieces, since a pipe may give fewer bytes at once than it has."""
+    pieces, left = [], most + 1
+    while left > 0:
+        piece = file.read(min(left, 1 << 20))
+        if not piece:
+            break
+        pieces.append(piece)
+        left -= len(piece)
+    return b"".join(pieces)
 
 
 def shown(name: str) -> str:
     """A file as messages name it."""
     return "standard input" if name == STANDARD_INPUT else name
+
+
+def wrong_words(word: str, usage: str, arguments: Iterable[str] = (), known: Iterable[str] = ()) -> int:
+    """Says that the words are wrong, and returns the status for it. An unknown option among them is named, with the
+    known one that is nearest to it."""
+    option = unknown_option(arguments, known)
+    if option is not None:
+        meant = nearest(option, [*known, "--help"])
+        question = f": did you mean `{meant}`?" if meant else ""
+        print(f"{word}: there is no option `{option}`{question}\n", file=sys.stderr)
+    print(usage, file=sys.stderr)
+    return WRONG_WORDS
+
+
+def unknown_option(arguments: Iterable[str], known: Iterable[str] = ()) -> Optional[str]:
+    """The first word that looks like an option and is none; `-` alone is standard input."""
+    options = (word for word in arguments if word.startswith("-") and word != STANDARD_INPUT)
+    return next((word for word in options if word not in known), None)
+
+
+def write_file(word: str, name: str, content: bytes) -> int:
+    """Writes a file that the words name, and returns the status: if the file can't be opened, the words are wrong; if
+    it can't be written, the device has failed."""
+    status = WRONG_WORDS
+    try:
+        with open(name, "wb") as file:
+            status = FAILED
+            file.write(content)
+    except OSError as fault:
+        print(f"{word}: {name}: {fault.strerror}", file=sys.stderr)
+        return status
+    return DONE

@@ -9,17 +9,17 @@ from __future__ import annotations
 
 import sys
 from dataclasses import dataclass
-from typing import Any, Callable, Dict, List, Optional, Tuple
+from typing import Any, Callable, Dict, Iterable, List, Optional, Tuple
 
-from . import events, language
-from .notes import ABORT, Dropped, NO_ABORT, Note, Query, Signal, Stop, VETO, Watched
+from . import language, pasts
+from .notes import ABORT, Dropped, Given, NO_ABORT, Note, Query, Signal, Stop, VETO, ancestry
+from .pasts import Hearing, Past
 from .report import (Act, COMMITTED, Emit, End, FinalObject, Fire, Holder, Operation, Report, Sub, Transaction, Unit)
 from .rulebase import Query as Asked, Rule, RuleBase, numbered_items
 from .values import Environment, Fault, Occurrence, Primitive, Row, evaluate, is_int, kind_of, truth, value_text
 
 STEPS = 3_000_000
 RECURSION = 10_000
-STATUS_AFTER = {"install": "enabled", "enable": "enabled", "disable": "disabled", "remove": "absent"}
 
 
 class TooLong(Exception):
@@ -44,7 +44,8 @@ class Vetoing(Exception):
 
 @dataclass
 class Task:
-    """A condition to test, or (with answers) an action to run."""
+    """A condition to test, or (with answers) an action to run. One that runs later keeps the top-level transaction that
+    it was made in."""
 
     rule: Rule
     mode: str
@@ -52,6 +53,7 @@ class Task:
     trigger: Signal
     occurrence: Occurrence
     answers: Optional[Dict[str, List[Row]]] = None
+    made_in: Any = None
     released: bool = False
 
 
@@ -65,11 +67,13 @@ class Mark:
 
 
 class Course:
-    """The state of a running script: objects, rules, their pasts, and the tasks for later."""
+    """The state of a running script: objects, the pasts of rules, and the tasks for later. `heard` are the hearings of
+    the rules to watch."""
 
-    def __init__(self, base: RuleBase, watch: Optional[str] = None, steps: int = STEPS):
+    def __init__(self, base: RuleBase, watch: Iterable[str] = (), steps: int = STEPS):
         self.base = base
-        self.watch = watch
+        self.heard: Dict[str, List[Hearing]] = {name: [] for name in watch}
+        self.signals = 0
         self.steps = steps
         self.limit = base.depth_limit
         self.kinds = {one.name: dict(one.fields) for one in base.classes}
@@ -78,9 +82,7 @@ class Course:
         self.bodies = {rule.name: f"/rules/{number}/5" for number, rule in enumerate(self.rules)}
         self.listeners = _listeners(self.rules)
         self.objects: Dict[str, Dict[int, Dict[str, Any]]] = {name: {} for name in self.kinds}
-        self.status: Dict[str, str] = {rule.name: "absent" for rule in self.rules}
-        self.since: Dict[str, Optional[Operation]] = {rule.name: None for rule in self.rules}
-        self.pasts: Dict[str, Any] = {}
+        self.pasts: Dict[str, Past] = {rule.name: Past() for rule in self.rules}
         self.journal: List[Tuple[Dict[Any, Any], Any, Any]] = []
         self.queued: List[Task] = []
         self.detached: List[Task] = []
@@ -102,7 +104,7 @@ class Course:
         for name in self.kinds:
             for key in sorted(self.objects[name]):
                 result.objects.append(FinalObject(name, key, _texts(self.objects[name][key])))
-        result.rules = [(rule.name, self.status[rule.name]) for rule in self.rules]
+        result.rules = [(rule.name, self.pasts[rule.name].status) for rule in self.rules]
         return result
 
     def _unit(self, result: Report, moment: Optional[int], body: Callable[[], None]) -> None:
@@ -174,9 +176,9 @@ class Course:
         else:
             node.end = stop.end
 
-    def _drop(self, task: Task, why: str, by: Any = None) -> None:
+    def _drop(self, task: Task, why: int, by: Any = None) -> None:
         dropped = Dropped(task.rule.name, task.mode, task.answers is not None, task.trigger, task.occurrence, why, by)
-        self.top.note.dropped.append(dropped)
+        task.made_in.note.dropped.append(dropped)
 
     def _put(self, container: Dict[Any, Any], name: Any, value: Any) -> None:
         self.journal.append((container, name, container.get(name, _NONE)))
@@ -259,7 +261,7 @@ class Course:
             raise Fault("A2", f"`{word} {name} {key}`: there is no {name} {key}")
         return row
 
-    def _say(self, statement: List[Any], path: str, environment: Environment, depth: int) -> None:
+    def _signal_statement(self, statement: List[Any], path: str, environment: Environment, depth: int) -> None:
         arguments = tuple(evaluate(argument, environment) for argument in statement[2])
         self._signal(Primitive("signal", statement[1], arguments=arguments), path, depth)
 
@@ -306,55 +308,58 @@ class Course:
         raise Fault("A8", "the statement `abort`")
 
     def _veto(self, statement: List[Any], path: str, environment: Environment, depth: int) -> None:
-        action = next(node for node in self._round_here() if isinstance(node, (Fire, Act)))
+        action = next(node for node in self._ancestors() if isinstance(node, (Fire, Act)))
         raise Vetoing(Stop(End("A9", action.rule), "its statement `veto`", path))
 
-    def _round_here(self) -> List[Any]:
-        nodes = [self.here]
-        while nodes[-1].note.parent is not None:
-            nodes.append(nodes[-1].note.parent)
-        return nodes
+    def _ancestors(self) -> List[Any]:
+        """The nodes that are open, the innermost first."""
+        return [self.here, *ancestry(self.here)]
 
     # Rules as state
 
     def _set_rule(self, statement: List[Any], path: str, environment: Environment, depth: int) -> None:
         verb, name = statement
-        before = self.status[name]
-        if verb in ("enable", "disable") and before == "absent":
-            raise Fault("A2", f"`{verb} {name}`: rule {name} isn't installed")
+        before = self.pasts[name]
+        if verb in ("enable", "disable"):
+            self._fit_installed(verb, name)
         node = self._add(Operation(verb, name), path)
-        if STATUS_AFTER[verb] == before or (verb == "install" and before == "disabled"):
+        after = before.after(node, self.by_name[name].event)
+        if after is before:
             return
-        self._put(self.status, name, STATUS_AFTER[verb])
-        self._put(self.since, name, node)
-        self._put(self.pasts, name, events.fresh(self.by_name[name].event))
+        self._put(self.pasts, name, after)
+        if name in self.heard:
+            self.heard[name].append(Hearing(before, change=node))
+
+    def _fit_installed(self, verb: str, name: str) -> None:
+        if self.pasts[name].status == pasts.ABSENT:
+            raise Fault("A2", f"`{verb} {name}`: rule {name} isn't installed")
 
     def _fire(self, statement: List[Any], path: str, environment: Environment, depth: int) -> None:
         name = statement[1]
-        if self.status[name] == "absent":
-            raise Fault("A2", f"`fire {name}`: rule {name} isn't installed")
+        self._fit_installed("fire", name)
         if depth + 1 > self.limit:
             raise Fault("A7", f"`fire {name}` would be a firing at depth {depth + 1}, and the limit is {self.limit}")
         rule = self.by_name[name]
-        signal = Signal(None, self.here, path, depth, triggered=[name])
-        self.top.note.signals.append(signal)
+        signal = self._noted(Signal(None, self.here, path, depth, triggered=[name]))
         self._spread([Task(rule, rule.ec, depth + 1, signal, Occurrence((), 0))])
 
     # Signals and firings
 
-    def _signal(self, primitive: Primitive, path: str, depth: int, operation: Optional[Operation] = None) -> None:
-        signal = Signal(primitive, self.here, path, depth, operation)
+    def _noted(self, signal: Signal) -> Signal:
+        signal.number, self.signals = self.signals, self.signals + 1
         self.top.note.signals.append(signal)
-        listening = self._listening(primitive)
-        if self.watch is not None:
-            signal.watched = self._watched(self.by_name[self.watch], primitive, listening)
+        return signal
+
+    def _signal(self, primitive: Primitive, path: str, depth: int, operation: Optional[Operation] = None) -> None:
+        signal = self._noted(Signal(primitive, self.here, path, depth, operation))
+        for name, hearings in self.heard.items():
+            hearings.append(Hearing(self.pasts[name], signal))
         tasks = []
-        for rule in listening:
-            if self.status[rule.name] != "enabled":
-                continue
-            state, occurrence = events.step(rule.event, self.pasts[rule.name], primitive)
-            if not language.has_one_part(rule.event):
-                self._put(self.pasts, rule.name, state)
+        for rule in self._listening(primitive):
+            before = self.pasts[rule.name]
+            after, occurrence = before.after_signal(rule.event, signal)
+            if after is not before:
+                self._put(self.pasts, rule.name, after)
             if occurrence is not None:
                 tasks.append(Task(rule, rule.ec, depth + 1, signal, occurrence))
         signal.triggered = [task.rule.name for task in tasks]
@@ -364,18 +369,11 @@ class Course:
             raise Aborting(Stop(End("A7"), words, path))
         self._spread(tasks)
 
-    def _watched(self, rule: Rule, primitive: Primitive, listening: List[Rule]) -> Watched:
-        watched = Watched(self.status[rule.name], self.since[rule.name], rule in listening)
-        if watched.mentions and watched.status == "enabled":
-            watched.lacking = events.lacking(rule.event, self.pasts[rule.name], primitive)
-        return watched
-
     def _listening(self, primitive: Primitive) -> List[Rule]:
         heard = self.listeners.get((primitive.kind, primitive.name), [])
         if primitive.kind != "time":
             return heard
-        return [rule for rule in heard
-                if any(events.matches(pattern, primitive) for pattern in language.patterns(rule.event))]
+        return [rule for rule in heard if pasts.mentions(rule.event, primitive)]
 
     def _spread(self, tasks: List[Task]) -> None:
         """Queues the deferred tasks, detaches the separate ones, then runs the immediate ones."""
@@ -384,6 +382,7 @@ class Course:
         self._group([task for task in tasks if task.mode == "immediate"])
 
     def _set_aside(self, task: Task) -> None:
+        task.made_in = self.top
         if task.mode == "deferred":
             self.queued.append(task)
         elif task.mode != "immediate":
@@ -421,7 +420,7 @@ class Course:
     def _condition(self, node: Fire, task: Task) -> Optional[Dict[str, List[Row]]]:
         environment = Environment(task.occurrence)
         for asked in task.rule.queries:
-            query = Query(asked.name, asked.class_name, len(self.objects[asked.class_name]))
+            query = Query(asked.name, asked.class_name, len(self.objects[asked.class_name]), _given(asked, environment))
             node.note.queries.append(query)
             try:
                 answer = self._answer(asked, query, environment)
@@ -437,11 +436,17 @@ class Course:
 
     def _answer(self, asked: Asked, query: Query, environment: Environment) -> List[Row]:
         """The rows that fit. If the query asked for one object by its key and it doesn't fit, the note says why."""
-        query.key = self._asked_key(asked, environment)
-        rows = self._rows(asked.class_name, query.key)
-        answer = [row for row in rows
-                  if self._true_of(asked.predicate, environment.naming(asked.name, row), "the predicate")]
-        query.keys = [row.key for row in answer]
+        try:
+            query.key = self._asked_key(asked, environment)
+        except Fault:
+            query.fault_key = min(self.objects[asked.class_name])
+            raise
+        rows, answer = self._rows(asked.class_name, query.key), []
+        for row in rows:
+            query.fault_key = row.key
+            if self._true_of(asked.predicate, environment.naming(asked.name, row), "the predicate"):
+                answer.append(row)
+        query.keys, query.fault_key = [row.key for row in answer], None
         if query.key is not None and rows and not answer:
             here = environment.naming(asked.name, rows[0])
             query.failed = next(test for test in language.conjuncts(asked.predicate) if not evaluate(test, here))
@@ -489,7 +494,7 @@ class Course:
 _NONE = object()
 
 _STATEMENTS: Dict[str, Callable[..., None]] = {
-    "create": Course._create, "update": Course._update, "delete": Course._delete, "signal": Course._say,
+    "create": Course._create, "update": Course._update, "delete": Course._delete, "signal": Course._signal_statement,
     "emit": Course._emit, "if": Course._if, "each": Course._each, "for": Course._for, "with": Course._with,
     "sub": Course._sub, "abort": Course._give_up, "veto": Course._veto, "fire": Course._fire,
     "install": Course._set_rule, "enable": Course._set_rule, "disable": Course._set_rule, "remove": Course._set_rule,
@@ -506,6 +511,12 @@ def _listeners(rules: List[Rule]) -> Dict[Tuple[str, str], List[Rule]]:
             if rule not in heard:
                 heard.append(rule)
     return found
+
+
+def _given(asked: Asked, environment: Environment) -> List[Given]:
+    """What a predicate takes from the queries before its own."""
+    named = {leaf[1] for leaf in language.leaves(asked.predicate) if leaf[0] in language.OF_A_ROW} - {asked.name}
+    return [Given(name, rows[0], len(rows)) for name, rows in environment.answers.items() if name in named]
 
 
 def _values_in(test: Any, environment: Environment) -> List[Tuple[Any, str]]:

@@ -3,7 +3,8 @@
 from __future__ import annotations
 
 from collections import Counter
-from typing import Any, List
+from dataclasses import dataclass
+from typing import Any, Dict, List
 
 from .notes import Dropped, is_idle, undone_by
 from .report import Act, End, Fire
@@ -18,20 +19,34 @@ WORDS = {
 action did nothing; it never ran. An action that is put off counts by what the task that it becomes comes to."""
 
 
-def verdict(tasks: List[Any], dropped: List[Dropped], where: str) -> str:
-    """`was triggered twice in unit 5: it vetoed once and did nothing once`."""
+@dataclass
+class Tally:
+    """How often a rule was triggered in a unit, or fired by a statement, and how often it came to each fate."""
+
+    triggers: int
+    is_by_event: bool
+    fates: Dict[int, int]
+
+
+def tally(tasks: List[Any], dropped: List[Dropped]) -> Tally:
+    """The tally of a rule, from its tasks that ran and those that were dropped."""
     fates = Counter(fate_of(node) for node in tasks)
     acts = sum(1 for node in tasks if isinstance(node, Act))
     untested = sum(1 for one in dropped if not one.is_tested)
     fates[DROPPED] += untested + fates.pop(PUT_OFF, 0) - acts
-    triggers = len(tasks) - acts + untested
-    if triggers == 0:
+    is_by_event = any(_is_by_event(one) for one in [node.note for node in tasks] + dropped)
+    return Tally(len(tasks) - acts + untested, is_by_event, +fates)
+
+
+def verdict(tasks: List[Any], dropped: List[Dropped], where: str) -> str:
+    """`was triggered twice in unit 5: it vetoed once and did nothing once`."""
+    found = tally(tasks, dropped)
+    if found.triggers == 0:
         return f"wasn't triggered {where}"
-    is_event = any(is_by_event(one) for one in [node.note for node in tasks] + dropped)
-    head = f"was {'triggered' if is_event else 'fired'} {times(triggers)} {where}"
-    told = [(WORDS[fate], number) for fate, number in fates.items() if number > 0]
+    head = f"was {'triggered' if found.is_by_event else 'fired'} {times(found.triggers)} {where}"
+    told = [(WORDS[fate], number) for fate, number in found.fates.items()]
     if len(told) == 1:
-        return f"{head}, and {told[0][0]}" + (" each time" if triggers > 1 else "")
+        return f"{head}, and {told[0][0]}" + (" each time" if found.triggers > 1 else "")
     return f"{head}: it " + listed([f"{words} {times(number)}" for words, number in told])
 
 
@@ -52,7 +67,7 @@ def dropped_line(dropped: Dropped) -> str:
     return f"{dropped.rule}{mode} {WORDS[DROPPED]}"
 
 
-def is_by_event(one: Any) -> bool:
+def _is_by_event(one: Any) -> bool:
     """Whether an event made a task, and not a statement `fire`."""
     return one.trigger is None or one.trigger.primitive is not None
 

@@ -13,17 +13,20 @@ from typing import Iterable, Iterator, Sequence
 
 from . import influence, language, oversights, paths, picture
 from . import rulebase as scripts
-from .command import DONE, WRONG_WORDS
+from .command import DONE, unknown_option, write_file, wrong_words
 from .influence import Deeds, Pattern, Reach
 from .printing import event_text, folded, when_text
 from .rulebase import Rule, RuleBase
 
-USAGE = """usage: hipac-tools graph SCRIPT.json [--svg FILE]
+USAGE = """usage: hipac-tools graph SCRIPT.json [--live] [--svg FILE]
 
 Tells which rule may set off which, the cycles among them, the longest chain of firings, and what looks like an
-oversight. With --svg it also draws the picture: by Graphviz where `dot` is installed, else by a layout of its own.
-`-` is standard input.
+oversight. With --live any transaction may follow the script's, as in a rule base that stays up; so it is anyway where
+the script only installs rules and creates objects. With --svg it also draws the picture: by Graphviz where `dot` is
+installed, else by a layout of its own. `-` is standard input.
 The exit status is 0, or 2 where it is no script, or 3 where the words are wrong or a file can't be read or written."""
+
+OPTIONS = ("--live", "--svg")
 
 SETS_OFF, PREPARES, FIRES = "sets off", "prepares", "fires"
 OPERATIONS = {"fire": FIRES, "install": "installs", "enable": "enables", "disable": "disables", "remove": "removes"}
@@ -32,7 +35,8 @@ FIRING_KINDS = (SETS_OFF, FIRES)
 """The kinds of edges along which one firing follows from another, one deeper."""
 
 NONE = ("none",)
-NO_TRANSACTION = ("the script has no transaction: all rules are taken as installed, and all their events as possible",)
+NO_TRANSACTION = "the script has no transaction: all rules are taken as installed, and all their events as possible"
+LATER = "transactions may follow those of the script: all events of its rules are taken as possible"
 NARROWER = 'a predicate that begins with "key of x = .." looks at one object, with "x.field < .." at those that fit'
 MOST_CYCLES = 20
 BOX_WIDTH, MOST_BOX_LINES = 36, 4
@@ -115,38 +119,29 @@ def main(arguments: list[str]) -> int:
     if words in (["--help"], ["-h"]):
         print(USAGE)
         return DONE
+    is_live = "--live" in words
+    if is_live:
+        words.remove("--live")
     target = None
     if "--svg" in words[:-1]:
         place = words.index("--svg")
         target = words[place + 1]
         del words[place:place + 2]
-    if len(words) != 1 or words[0].startswith("-") and words[0] != "-":
-        print(USAGE, file=sys.stderr)
-        return WRONG_WORDS
+    if len(words) != 1 or unknown_option(words):
+        return wrong_words("graph", USAGE, words, OPTIONS)
     try:
-        graph = build(scripts.read_file(words[0]))
+        graph = build(scripts.read_file(words[0]), is_live)
     except scripts.Refused as fault:
         print(fault, file=sys.stderr)
         return fault.status
     sys.stdout.buffer.write(graph_text(graph).encode("utf-8"))
-    return DONE if target is None else _write_picture(graph, target)
+    return DONE if target is None else write_file("graph", target, svg(graph).encode("utf-8"))
 
 
-def _write_picture(graph: Graph, target: str) -> int:
-    """Writes the picture to a file, and returns the exit status."""
-    try:
-        with open(target, "w", encoding="utf-8") as file:
-            file.write(svg(graph))
-    except OSError as fault:
-        print(f"{target}: {fault.strerror}", file=sys.stderr)
-        return WRONG_WORDS
-    return DONE
-
-
-def build(rulebase: RuleBase) -> Graph:
-    """The graph of a script."""
+def build(rulebase: RuleBase, is_live: bool = False) -> Graph:
+    """The graph of a script, which may be the beginning of a rule base that stays up."""
     rules = {rule.name: rule for rule in rulebase.rules}
-    sources = influence.all_deeds(rulebase)
+    sources = influence.all_deeds(rulebase, is_live)
     reach = influence.reach(rulebase, sources)
     nodes = [Node(name) for name in sources if name not in rules]
     nodes += [Node(rule.name, when_text(rule.event), rule.ec, rule.ca, rule.name in reach.firing)
@@ -270,7 +265,8 @@ def graph_text(graph: Graph) -> str:
     edges: dict[str, list[Edge]] = {node.name: [] for node in graph.nodes}
     for edge in graph.edges:
         edges[edge.source].append(edge)
-    sections = [_section("Who may set off whom", NO_TRANSACTION if influence.ANY_SCRIPT in edges else ())]
+    taken = {influence.ANY_SCRIPT: NO_TRANSACTION, influence.ANY_LATER: LATER}
+    sections = [_section("Who may set off whom", [words for source, words in taken.items() if source in edges])]
     sections += [_node_text(node, edges[node.name], couplings) for node in graph.nodes]
     sections += [_cycles_text(graph), _chain_text(graph, couplings), _section("Warnings", graph.warnings or NONE)]
     scans = list(graph.scans)

@@ -17,6 +17,8 @@ THE_SCRIPT = "the script"
 THE_CLOCK = "the clock"
 ANY_SCRIPT = "any script"
 """Stands for all transactions and moments there could be, where a script has no transaction."""
+ANY_LATER = "any later transaction"
+"""Stands for all transactions and moments that could follow those of a script."""
 
 COMMIT = ("commit",)
 
@@ -39,9 +41,12 @@ class Reach:
     firing: frozenset[str]
 
 
-def all_deeds(rulebase: RuleBase) -> dict[str, Deeds]:
-    """The deeds of each source, by its name: first the script and the clock, then the rules in order."""
+def all_deeds(rulebase: RuleBase, is_live: bool = False) -> dict[str, Deeds]:
+    """The deeds of each source, by its name: first the script, the clock and what may follow, then the rules in order.
+    Transactions may follow if the rule base stays up, or if the script's items are only a beginning."""
     sources = _items_deeds(rulebase)
+    if THE_SCRIPT in sources and (is_live or language.is_beginning(rulebase.items)):
+        sources[ANY_LATER] = _later_deeds(rulebase, sources[THE_SCRIPT])
     for rule in rulebase.rules:
         deeds = body_deeds(rule.action)
         if rule.detaches:
@@ -67,18 +72,33 @@ def _items_deeds(rulebase: RuleBase) -> dict[str, Deeds]:
     if not any(word == "tx" for word, _ in rulebase.items):
         installs = {("install", rule.name) for rule in rulebase.rules}
         return {ANY_SCRIPT: Deeds(patterns, installs)}
-    script = Deeds({COMMIT}, set())
+    script, end = Deeds({COMMIT}, set()), _end_of_clock(rulebase)
     for word, content in rulebase.items:
         if word == "tx":
             deeds = body_deeds(content)
             script.events |= deeds.events
             script.operations |= deeds.operations
-    end = max((content for word, content in rulebase.items if word == "clock"), default=0)
     clock = Deeds({one for one in patterns if language.moments_of(list(one), 0, end)}, set())
     if clock.events:
         clock.events.add(COMMIT)
         return {THE_SCRIPT: script, THE_CLOCK: clock}
     return {THE_SCRIPT: script}
+
+
+def _end_of_clock(rulebase: RuleBase) -> int:
+    """The time to which the script moves the clock."""
+    return max((content for word, content in rulebase.items if word == "clock"), default=0)
+
+
+def _later_deeds(rulebase: RuleBase, script: Deeds) -> Deeds:
+    """All that may follow a script: any event but a moment that has passed, and the installation of any rule that the
+    script doesn't install."""
+    patterns = {tuple(one) for rule in rulebase.rules for one in language.patterns(rule.event)}
+    end = _end_of_clock(rulebase)
+    passed = {one for one in patterns
+              if one[0] in ("at", "every") and not language.moments_of(list(one), end, language.GREATEST)}
+    installs = {("install", rule.name) for rule in rulebase.rules} - script.operations
+    return Deeds(patterns - passed | {COMMIT}, installs)
 
 
 def last_patterns(event: Form) -> Iterator[Pattern]:

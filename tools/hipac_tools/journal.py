@@ -14,7 +14,7 @@ from dataclasses import dataclass, field
 from pathlib import Path
 from typing import Any, Iterator, List, Optional, Tuple
 
-from .command import DONE, FAILED, REFUSED, WRONG_WORDS, bytes_of, shown
+from .command import DONE, FAILED, REFUSED, WRONG_WORDS, bytes_of, is_journal, shown, wrong_words
 from .program import REPOSITORY
 
 JOURNAL_USAGE = """usage: hipac-tools journal JOURNAL [--until N]
@@ -56,17 +56,6 @@ class Ran:
     @property
     def report_text(self) -> str:
         return "".join(line + "\n" for line in self.report)
-
-
-def is_journal(content: bytes) -> bool:
-    """Whether these are lines of which the first is a script by itself."""
-    first, _, later = content.partition(b"\n")
-    if not later.strip():
-        return False
-    try:
-        return isinstance(json.loads(first), dict)
-    except (ValueError, RecursionError):
-        return False
 
 
 def program_path() -> str:
@@ -161,7 +150,8 @@ class Words:
 
 def words_of(arguments: List[str]) -> Optional[Words]:
     """The words in any order; None if they are wrong."""
-    left, names, until, lose_pasts = list(arguments), [], None, False
+    left, until, lose_pasts = list(arguments), None, False
+    names: List[str] = []
     while left:
         word = left.pop(0)
         if word == "--until" and left and left[0].isascii() and left[0].isdigit():
@@ -212,8 +202,8 @@ def _main(word: str, usage: str, arguments: List[str], write: Any) -> int:
         return DONE
     words = words_of(arguments)
     if words is None or (words.lose_pasts and word == "journal"):
-        print(usage, file=sys.stderr)
-        return WRONG_WORDS
+        options = ["--until"] if word == "journal" else ["--until", "--lose-pasts"]
+        return wrong_words(word, usage, arguments, options)
     try:
         write(words, run(bytes_of(words.journal), words.until))
     except OSError as fault:

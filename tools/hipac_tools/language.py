@@ -112,6 +112,15 @@ def statements(body: list[Form]) -> Iterator[Form]:
                 yield from statements(part)
 
 
+def is_beginning(items: list[Form]) -> bool:
+    """Whether a script's items only install rules and create objects, and so are the beginning of a rule base that
+    stays up: what its rules wait for comes later."""
+    if not all(word == "tx" for word, _ in items):
+        return False
+    words = {statement[0] for _, body in items for statement in body}
+    return "install" in words and words <= {"install", "create"}
+
+
 # ---- events
 
 def patterns(event: Form) -> Iterator[Form]:

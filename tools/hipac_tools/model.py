@@ -9,22 +9,24 @@ from __future__ import annotations
 from dataclasses import dataclass, field
 from typing import Any, Dict, List, Optional, Tuple
 
-from . import reasons
+from . import faulting, reasons
 from .account import Account
 from .notes import undone_by
 from .places import marked
 from .report import Act, Emit, Fire, Operation, Sub, Transaction, children
-from .wording import sentence
+from .wording import sentence, some_of
 
 TRANSACTION, OPERATION, EMIT, SUB, FIRE, ACT = range(6)
 NOWHERE = -1
+MOST_SIGNALS = 8
 END_PLACES = {TRANSACTION: 4, SUB: 2, FIRE: 5, ACT: 4}
 """Where a node's end stands in its row, for those that have one."""
 
 
 @dataclass
 class PageModel:
-    """Nodes are rows of [kind, parent, texts .., facts]; facts are pairs of a label and a sentence's index."""
+    """Units are rows of [number, moment, transactions, number of faults that last]. Nodes are rows of [kind, parent,
+    texts .., facts]; facts are pairs of a label and a sentence's index."""
 
     units: List[List[Any]] = field(default_factory=list)
     nodes: List[List[Any]] = field(default_factory=list)
@@ -45,16 +47,19 @@ class _Maker:
     def __init__(self, account: Account):
         self.account = account
         self.page = PageModel(doubt=account.doubt)
+        self.tell = reasons.Teller()
         self.sentence_places: Dict[str, int] = {}
         self.node_places: Dict[int, int] = {}
         self.histories: Dict[Tuple[str, int], List[List[int]]] = {}
+        self.signals: Dict[int, List[Any]] = {}
         self.firings: Dict[str, List[int]] = {name: [] for name, _ in account.report.rules}
         self.operations: Dict[str, List[int]] = {name: [] for name, _ in account.report.rules}
 
     def model(self) -> PageModel:
         for unit in self.account.report.units:
             places = [self._transaction(unit.number, transaction) for transaction in unit.transactions]
-            self.page.units.append([unit.number, unit.moment, places])
+            faults = sum(len(faulting.lasting_faults(transaction)) for transaction in unit.transactions)
+            self.page.units.append([unit.number, unit.moment, places, faults])
         self.page.classes = [one.name for one in self.account.base.classes]
         self._objects()
         for name, status in self.account.report.rules:
@@ -63,13 +68,18 @@ class _Maker:
 
     def _transaction(self, unit: int, transaction: Transaction) -> int:
         head = "" if transaction.rule is None else f"{transaction.mode} {transaction.rule}"
-        facts = []
+        facts = [("Fault", words) for words in faulting.leading_sentences(self.account, transaction)]
         if transaction.rule is not None:
             facts.append(("Detached", self._trigger(transaction)))
         if not transaction.end.committed:
-            facts.append(("Aborted", " ".join(reasons.chain(transaction))))
+            facts.append(("Aborted", " ".join(self.tell.chain(transaction))))
+        self.signals = {}
+        for signal in transaction.note.signals:
+            if signal.primitive is not None and signal.primitive.kind == "signal":
+                self.signals.setdefault(id(signal.within), []).append(signal)
+        facts += self._signals_of(transaction)
         for dropped in transaction.note.dropped:
-            facts.append(("Dropped", " ".join(reasons.dropped_sentences(dropped, f"Rule {dropped.rule}"))))
+            facts.append(("Dropped", " ".join(self.tell.dropped(dropped, f"Rule {dropped.rule}"))))
         row = [TRANSACTION, NOWHERE, unit, head, str(transaction.end), transaction.emits]
         place = self._add(transaction, row, facts)
         self.page.nodes[place].append(self._trigger_place(transaction))
@@ -104,16 +114,22 @@ class _Maker:
         facts = [] if isinstance(node, Sub) else self._task(node)
         if not node.end.committed:
             facts.append(("Aborted", self._aborted(node)))
+        facts += self._signals_of(node)
         place = self._add(node, row, facts + self._common(node))
         if not isinstance(node, Sub):
             self.page.nodes[place].append(self._trigger_place(node))
             self.firings.setdefault(node.rule, []).append(place)
         return place
 
+    def _signals_of(self, node: Any) -> List[Tuple[str, str]]:
+        """What was signalled by statements in a node itself; the report has no lines for it."""
+        told = [f"{signal}{reasons.at(signal.path)}" for signal in self.signals.get(id(node), [])]
+        return [("Signals", sentence(some_of(told, MOST_SIGNALS)))] if told else []
+
     def _aborted(self, node: Any) -> str:
         """Why a node aborted; what triggered it is a fact of its own."""
-        told = [] if isinstance(node, Sub) else reasons.trigger_sentences(node, f"Rule {node.rule}")
-        return " ".join(one for one in reasons.chain(node) if one not in told)
+        told = [] if isinstance(node, Sub) else self.tell.trigger_sentences(node, f"Rule {node.rule}")
+        return " ".join(one for one in self.tell.chain(node) if one not in told)
 
     def _task(self, node: Any) -> List[Tuple[str, str]]:
         """What triggered a firing, and how its condition and its action went."""
@@ -121,13 +137,13 @@ class _Maker:
         action = reasons.action_sentence(node, self.account.mode_of_action(node.rule))
         if isinstance(node, Fire):
             end = [action] if node.action == "none" else []
-            facts.append(("Condition", " ".join(reasons.condition_sentences(node) + end)))
+            facts.append(("Condition", " ".join(self.tell.condition(node) + end)))
         if node.end.committed and not (isinstance(node, Fire) and node.action == "none"):
             facts.append(("Action", action))
         return facts
 
     def _trigger(self, node: Any) -> str:
-        trigger = sentence(reasons.trigger_words(node.note.trigger, node.note.occurrence))
+        trigger = sentence(self.tell.trigger(node.note.trigger, node.note.occurrence))
         return " ".join([trigger] + reasons.later_sentences(node))
 
     def _trigger_place(self, node: Any) -> int:

@@ -3,16 +3,16 @@
 from __future__ import annotations
 
 from dataclasses import dataclass, field
-from typing import Any, List, Optional, Tuple
+from typing import Any, List, Optional, Set, Tuple
 
 from .language import Form
-from .report import End, Holder, Operation
-from .values import Occurrence, Primitive
+from .report import End, Holder, Operation, Sub, walk
+from .values import Occurrence, Primitive, Row
 
 
 @dataclass
 class Signal:
-    """One signal, at which rules may be triggered, even if none was."""
+    """One signal, at which rules may be triggered, even if none was. They are numbered through the whole script."""
 
     primitive: Optional[Primitive]
     within: Holder
@@ -20,33 +20,35 @@ class Signal:
     depth: int
     operation: Optional[Operation] = None
     triggered: List[str] = field(default_factory=list)
-    watched: Optional["Watched"] = None
+    number: int = 0
 
     def __str__(self) -> str:
         return str(self.primitive) if self.primitive is not None else "a statement `fire`"
 
 
 @dataclass
-class Watched:
-    """The state of a watched rule at a signal, and why its event, if it mentions the signal, didn't occur."""
+class Given:
+    """An earlier query that a predicate names: the first row of its answer, and how many rows there are."""
 
-    status: str
-    since: Optional[Operation]
-    mentions: bool
-    lacking: str = ""
+    name: str
+    row: Row
+    rows: int
 
 
 @dataclass
 class Query:
-    """What a query of a condition found: the keys of its answer, or its fault. If it asked for one object by its key
-    and that doesn't fit: the first test of its predicate that failed, and the values in it."""
+    """What a query of a condition found: the keys of its answer, or its fault and the key of the object that met it. If
+    it asked for one object by its key and that doesn't fit: the first test of its predicate that failed, and the values
+    in it."""
 
     name: str
     on: str
     objects: int
+    given: List[Given] = field(default_factory=list)
     key: Optional[int] = None
     keys: List[int] = field(default_factory=list)
     fault: Optional[str] = None
+    fault_key: Optional[int] = None
     failed: Form = None
     values: List[Tuple[Form, str]] = field(default_factory=list)
 
@@ -106,12 +108,23 @@ def ancestry(node: Any) -> List[Any]:
 
 
 def is_idle(task: Any) -> bool:
-    """Whether an action ran and neither changed nor signalled anything. That nothing was signalled is only known for
-    a course that was followed."""
-    if task.items or task.note.occurrence is None:
+    """Whether an action ran and neither changed nor signalled anything, in its subtransactions either. That nothing
+    was signalled is only known for a course that was followed."""
+    inner = list(walk(task))
+    if task.note.occurrence is None or not all(isinstance(node, Sub) and node.end.committed for node in inner):
         return False
     top = (ancestry(task) or [task])[-1]
-    return not any(signal.within is task for signal in top.note.signals)
+    return not any(signal.within is node for signal in top.note.signals for node in [task, *inner])
+
+
+def aborted_before(node: Any, around: Set[int]) -> Optional[Any]:
+    """The innermost aborted node, from this one outwards, that had ended when what happened in those around did."""
+    for holder in [node, *ancestry(node)]:
+        if id(holder) in around:
+            return None
+        if not holder.end.committed:
+            return holder
+    return None
 
 
 def undone_by(node: Any) -> Optional[Any]:

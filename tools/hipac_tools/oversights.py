@@ -5,7 +5,7 @@ from __future__ import annotations
 from typing import Iterator, Mapping
 
 from . import language
-from .influence import Deeds, Reach
+from .influence import ANY_LATER, Deeds, Reach
 from .language import Form, asks_part
 from .printing import event_text
 from .rulebase import RuleBase, numbered_items
@@ -36,6 +36,8 @@ def _not_firing(rulebase: RuleBase, sources: dict[str, Deeds], reach: Reach) -> 
             found.append(f"rule {rule.name} is never installed, so it never fires")
             found += [f"rule {rule.name} is {done} by {listed(by_word[word])}, which ends with A2 as it is absent"
                       for word, done in FAILING if word in by_word]
+        elif by_word["install"] == [ANY_LATER]:
+            found.append(f"rule {rule.name} isn't installed by the script, so a later transaction has to install it")
         elif rule.name not in reach.installed:
             found.append(f"rule {rule.name} never fires: it is installed only by rules that never fire, "
                          f"{listed(by_word['install'])}")

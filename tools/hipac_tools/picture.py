@@ -5,6 +5,7 @@ labels. An arrow has a place on each level that it crosses, so that it and its l
 """
 from __future__ import annotations
 
+import re
 import shutil
 import subprocess
 from dataclasses import dataclass, field
@@ -23,6 +24,8 @@ GAP = 28
 LABEL_LEVEL = 3.5 * LINE
 MOST_PLACES = 4000
 """With more places than this on the levels, arrows go straight and only tell their label where they are pointed at."""
+MOST_WIDE = 2
+"""A picture that is so many times wider than high is very wide."""
 MOST_FOR_DOT, MOST_SECONDS = 1000, 30
 """With more arrows than this Graphviz isn't asked, and no longer than this is it waited for."""
 
@@ -57,10 +60,20 @@ def draw(boxes: Sequence[Box], arrows: Sequence[Arrow]) -> str:
 # By Graphviz.
 
 def _drawn_by_dot(program: str, boxes: Sequence[Box], arrows: Sequence[Arrow]) -> str | None:
-    """The layout by `dot`, or None if it fails."""
+    """The layout by `dot`, which keeps arrows off boxes, or None if it fails. Arrows point down; where that makes a
+    very wide picture they point to the right, if that one is less wide."""
+    down = _asked_of_dot(program, dot_source(boxes, arrows))
+    width, height = _size(down)
+    if down is None or width <= MOST_WIDE * height:
+        return down
+    right = _asked_of_dot(program, dot_source(boxes, arrows, "LR"))
+    return right if right is not None and 0 < _size(right)[0] < width else down
+
+
+def _asked_of_dot(program: str, source: str) -> str | None:
     try:
-        ended = subprocess.run([program, "-Tsvg"], input=dot_source(boxes, arrows).encode("utf-8"),
-                               stdout=subprocess.PIPE, stderr=subprocess.DEVNULL, timeout=MOST_SECONDS, check=False)
+        ended = subprocess.run([program, "-Tsvg"], input=source.encode("utf-8"), stdout=subprocess.PIPE,
+                               stderr=subprocess.DEVNULL, timeout=MOST_SECONDS, check=False)
     except (OSError, subprocess.TimeoutExpired):
         return None
     text = ended.stdout.decode("utf-8", "replace")
@@ -68,10 +81,16 @@ def _drawn_by_dot(program: str, boxes: Sequence[Box], arrows: Sequence[Arrow]) -
     return text[start:] if ended.returncode == 0 and start >= 0 else None
 
 
-def dot_source(boxes: Sequence[Box], arrows: Sequence[Arrow]) -> str:
+def _size(svg: str | None) -> tuple[float, float]:
+    """The width and the height that Graphviz gives its picture; nothing if it gives none."""
+    found = re.search(r'<svg width="([0-9.]+)pt" height="([0-9.]+)pt"', svg or "")
+    return (float(found[1]), float(found[2])) if found else (0.0, 0.0)
+
+
+def dot_source(boxes: Sequence[Box], arrows: Sequence[Arrow], direction: str = "TB") -> str:
     """The picture in Graphviz's language."""
     font = f'fontname="{FONT}", fontsize={FONT_SIZE}'
-    lines = ["digraph rules {", f"  node [shape=box, {font}];", f"  edge [{font}];"]
+    lines = ["digraph rules {", f"  rankdir={direction};", f"  node [shape=box, {font}];", f"  edge [{font}];"]
     for box in boxes:
         styles = (["rounded"] if box.is_round else []) + (["dashed"] if box.is_faint else [])
         lines.append(f'  {_dot_text(box.name)} [label={_dot_text(chr(10).join(box.lines))}, color="{box.colour}", '
@@ -289,7 +308,11 @@ class _Layout:
     def _arrow(self, arrow: Arrow, way: list[_Place], ports: tuple[float, float]) -> tuple[str, str]:
         """An arrow as curves from level to level, and its label: all labels are drawn last, so no line crosses one."""
         upper, lower = self._upper_lower(arrow)
+        level_bottom = self.tops[2 * self.levels[upper]] + self._box_height(self.levels[upper])
         points = [(ports[0], self._bottom(upper))]
+        if way[1:-1] and level_bottom > self._bottom(upper):
+            # Straight down first: a box beside may be higher than this one.
+            points.append((ports[0], level_bottom))
         for place in way[1:-1]:
             height = LABEL_LEVEL if place.level % 2 else self._box_height(place.level // 2)
             points += [(place.x, self.tops[place.level]), (place.x, self.tops[place.level] + height)] \
@@ -300,7 +323,9 @@ class _Layout:
             middle = (y + to_y) / 2
             path += f" C {x:.1f} {middle:.1f} {to_x:.1f} {middle:.1f} {to_x:.1f} {to_y:.1f}"
         line = self._line(arrow, path, "end" if upper == arrow.source else "start")
-        return line, self._label(arrow, points[1][0], points[1][1] + 4, "middle") if len(way) > 2 else ""
+        label = way[1:2] if len(way) > 2 else []
+        return line, "".join(self._label(arrow, place.x, self.tops[place.level] + LABEL_LEVEL / 2 + 4, "middle")
+                             for place in label)
 
     def _bottom(self, name: str) -> float:
         return self.tops[2 * self.levels[name]] + self._height(self.boxes[name])

@@ -10,7 +10,7 @@ import sys
 
 from . import language
 from . import rulebase as scripts
-from .command import DONE, WRONG_WORDS
+from .command import DONE, unknown_option, wrong_words
 from .language import Form
 from .rulebase import Rule, RuleBase
 
@@ -50,9 +50,8 @@ def main(arguments: list[str]) -> int:
     if arguments in (["--help"], ["-h"]):
         print(USAGE)
         return DONE
-    if len(arguments) != 1 or arguments[0].startswith("-") and arguments[0] != "-":
-        print(USAGE, file=sys.stderr)
-        return WRONG_WORDS
+    if len(arguments) != 1 or unknown_option(arguments):
+        return wrong_words("print", USAGE, arguments)
     try:
         text = script_text(scripts.read_file(arguments[0]))
     except scripts.Refused as fault:

@@ -1,15 +1,19 @@
-"""Sentences: what a node is, what triggered it, how its condition went, why it aborted, and what undid it."""
+"""Sentences: what a node is, what triggered it, how its condition went, why it aborted, what undid it, and why an event
+didn't occur."""
 
 from __future__ import annotations
 
 from typing import Any, Dict, List, Optional
 
-from .notes import ABORT, Dropped, NO_ABORT, Query, Signal, Stop, ancestry, is_idle, undone_by
+from .answers import Shortfall, Silence, unit_of
+from .language import has_one_part
+from .notes import ABORT, Dropped, Given, NO_ABORT, Query, Signal, Stop, ancestry, is_idle, undone_by
+from .pasts import ABSENT, Candidate, DISABLED, ENABLED, Fate
 from .places import marked
-from .printing import expression_text
-from .report import Act, End, Fire, Sub, Transaction
+from .printing import expression_text, noun_text
+from .report import Act, End, Fire, Operation, Sub, Transaction
 from .values import Occurrence, Primitive, value_text
-from .wording import counted, sentence, some_of
+from .wording import Most, SOME, counted, listed, sentence, some_of
 
 CAUSES = {
     "A1": "a `create` of an object that is there already",
@@ -23,10 +27,7 @@ CAUSES = {
     "A9": "a rule vetoed",
 }
 UNTOLD = "can't be told from the report"
-MOST_PARTS = 6
-MOST_KEYS = 8
-MOST_FIELDS = 6
-LONGEST_VALUE = 40
+STATUS_WORDS = {ABSENT: "wasn't installed", ENABLED: "was enabled", DISABLED: "was disabled"}
 
 
 # ---- things by their names
@@ -50,20 +51,14 @@ def aborted_words(node: Any) -> str:
     return f"{name_of(node)} aborted ({str(node.end).split(' ', 1)[1]})"
 
 
-def deed_words(primitive: Primitive) -> str:
-    """What was signalled, with its values: those that an update changed, or those of the object."""
-    old, new = primitive.old, primitive.new
-    if primitive.kind == "update" and old is not None and new is not None:
-        changes = [f"{name} {_short(old[name])} -> {_short(new[name])}" for name in new if old[name] != new[name]]
-        return f"{primitive} ({some_of(changes, MOST_FIELDS) if changes else 'nothing changed'})"
-    row: Dict[str, Any] = new or old or {}
-    values = some_of([f"{name} {_short(value)}" for name, value in row.items()], MOST_FIELDS)
-    return f"{primitive} ({values})" if values else str(primitive)
+def operation_words(operation: Operation) -> str:
+    """`disable watch in unit 6 (at /items/5/1/0)`."""
+    return f"{operation.verb} {operation.name} in unit {unit_of(operation)}{at(operation.note.path)}"
 
 
-def _short(value: Any) -> str:
-    text = value_text(value)
-    return text if len(text) <= LONGEST_VALUE else text[:LONGEST_VALUE] + ".."
+def since_words(operation: Optional[Operation]) -> str:
+    """Since when a rule has had its status; empty for one that never had an operation."""
+    return "" if operation is None else f", since {operation_words(operation)}"
 
 
 # ---- triggers
@@ -81,22 +76,6 @@ def place_of(signal: Signal) -> str:
     return ", in " + name_of(node)
 
 
-def trigger_words(signal: Optional[Signal], occurrence: Optional[Occurrence] = None) -> str:
-    """What triggered a rule, as the end of a sentence:
-    `triggered by update item 7 (stock 5 -> 3) at /rules/0/5/0, in the action of rule reserve`."""
-    if signal is None:
-        return f"triggered by a signal (which one {UNTOLD})"
-    is_moment = signal.primitive is not None and signal.primitive.kind == "time"
-    path = f" at {marked(signal.path)}" if signal.path and not is_moment else ""
-    if signal.primitive is None:
-        return f"fired by the statement `fire`{path}{place_of(signal)}"
-    words = f"triggered by {deed_words(signal.primitive)}{path}{place_of(signal)}"
-    if occurrence is not None and len(occurrence.parts) > 1:
-        words += f", after {some_of([deed_words(part) for part in occurrence.parts[:-1]], MOST_PARTS)}"
-        words += f"; the count is {occurrence.count}" if occurrence.is_counted else ""
-    return words
-
-
 def later_sentences(firing: Any) -> List[str]:
     """When a firing ran, if that was later than its trigger."""
     if firing.mode == "immediate":
@@ -104,25 +83,6 @@ def later_sentences(firing: Any) -> List[str]:
     who = "Its action" if isinstance(firing, Act) else "It"
     where = "at the end of the transaction" if firing.mode == "deferred" else "in a transaction of its own"
     return [f"{who} is {firing.mode}, so it ran {where}."]
-
-
-def trigger_sentences(firing: Any, who: str) -> List[str]:
-    """What triggered a firing, and when it ran."""
-    note = firing.note
-    if note.trigger is None:
-        return [f"What triggered rule {firing.rule} {UNTOLD}."]
-    return [f"{who} was {trigger_words(note.trigger, note.occurrence)}."] + later_sentences(firing)
-
-
-def origins(firing: Any, who: str = "It") -> List[str]:
-    """The triggers of a firing, of the firing in whose action it was triggered, and so on."""
-    sentences: List[str] = []
-    while firing is not None:
-        sentences += trigger_sentences(firing, who)
-        trigger = firing.note.trigger
-        firing = None if trigger is None else _action_round(trigger.within)
-        who = "" if firing is None else f"Rule {firing.rule}"
-    return sentences
 
 
 def _action_round(node: Any) -> Any:
@@ -135,63 +95,7 @@ def _action_round(node: Any) -> Any:
     return node
 
 
-def dropped_sentences(dropped: Dropped, who: str = "It") -> List[str]:
-    """What triggered a task that never ran, and why it never did."""
-    before = "its action ran" if dropped.is_tested else "its condition was tested"
-    if dropped.why == NO_ABORT:
-        fate = f"It is {dropped.mode} and was dropped, as no transaction round its trigger aborted."
-    elif dropped.why == ABORT:
-        fate = f"It was dropped before {before}, as {aborted_words(dropped.by)}."
-    else:
-        fate = f"It was dropped before {before}, as rule {dropped.by.rule} vetoed first."
-    return [f"{who} was {trigger_words(dropped.trigger, dropped.occurrence)}.", fate]
-
-
-# ---- conditions and actions
-
-def query_words(query: Query, is_one_part: bool) -> str:
-    """What a query found, or why it found nothing."""
-    if query.fault is not None:
-        return f"query {query.name} met a fault: {query.fault}"
-    if query.objects == 0:
-        return f"query {query.name} found nothing, as there is no object of {query.on}"
-    if query.key is None:
-        keys = f"{query.on} {some_of([str(key) for key in query.keys], MOST_KEYS)}" if query.keys else "none that fits"
-        return f"query {query.name} found {keys} among {counted(query.objects, 'object')} of {query.on}"
-    if query.keys:
-        return f"query {query.name} found {query.on} {query.key}"
-    if query.failed is None:
-        return f"query {query.name} found nothing, as there is no {query.on} {query.key}"
-    test = expression_text(query.failed, is_one_part)
-    values = [f"{expression_text(form, is_one_part)} is {value}" for form, value in query.values]
-    where = f" ({some_of(list(dict.fromkeys(values)), MOST_FIELDS)})" if values else ""
-    return f"query {query.name} found nothing, as {test} isn't true of {query.on} {query.key}{where}"
-
-
-def query_sentences(firing: Fire) -> List[str]:
-    """How a condition went, query by query."""
-    occurrence = firing.note.occurrence
-    is_one_part = occurrence is not None and len(occurrence.parts) <= 1
-    queries = [sentence(query_words(query, is_one_part)) for query in firing.note.queries]
-    if queries:
-        return queries
-    if firing.condition == "satisfied":
-        return [] if occurrence is not None else ["Each query found an object."]
-    if firing.condition == "unsatisfied":
-        return [f"A query found nothing; which one {UNTOLD}."]
-    return [f"A query met a fault: {CAUSES[firing.condition.split(' ')[1]]}."]
-
-
-def condition_sentences(firing: Fire) -> List[str]:
-    """Whether a condition was satisfied, and why."""
-    queries = query_sentences(firing)
-    if firing.condition == "satisfied":
-        return ["Its condition was satisfied."] + queries if queries else ["It has no condition."]
-    verdict = "Its condition wasn't satisfied."
-    if firing.condition != "unsatisfied":
-        verdict = f"Its condition ended with a fault ({firing.condition.split(' ')[1]})."
-    return [verdict] + queries
-
+# ---- actions and aborts
 
 def action_sentence(node: Any, mode: str) -> str:
     """The fate of a firing's action, which has that mode."""
@@ -203,8 +107,6 @@ def action_sentence(node: Any, mode: str) -> str:
         return sentence(f"it vetoed{at(node.note.stop.path if node.note.stop else '')}")
     return f"Its action {node.end}. {sentence(stop_words(node.end, node.note.stop))}"
 
-
-# ---- aborts
 
 def stop_words(end: End, stop: Optional[Stop]) -> str:
     """Why a transaction aborted, in a few words, without the chain that leads there."""
@@ -225,11 +127,181 @@ def undone_words(node: Any) -> str:
     return "" if holder is None else aborted_words(holder)
 
 
-def chain(node: Any) -> List[str]:
-    """Sentences from an aborted node back to the statement of the unit's own body where it all began."""
-    stop = node.note.stop
-    sentences = [sentence(stop_words(node.end, stop))]
-    if node.end.cause == "A9" and stop is not None and stop.firing is not None:
-        return sentences + origins(stop.firing)
-    firing = node if isinstance(node, (Fire, Act)) else _action_round(node.note.parent)
-    return sentences + ([] if firing is None else origins(firing, f"Rule {firing.rule}"))
+class Teller:
+    """Sentences that may be long, with how much of them is told."""
+
+    def __init__(self, most: Most = SOME):
+        self.most = most
+
+    # What was signalled
+
+    def deed(self, primitive: Primitive) -> str:
+        """What was signalled, with its values: those that an update changed, or those of the object."""
+        old, new = primitive.old, primitive.new
+        if primitive.kind == "update" and old is not None and new is not None:
+            changes = [f"{name} {self._short(old[name])} -> {self._short(new[name])}" for name in new
+                       if old[name] != new[name]]
+            return f"{primitive} ({some_of(changes, self.most.fields) if changes else 'nothing changed'})"
+        row: Dict[str, Any] = new or old or {}
+        values = some_of([f"{name} {self._short(value)}" for name, value in row.items()], self.most.fields)
+        return f"{primitive} ({values})" if values else str(primitive)
+
+    def _short(self, value: Any) -> str:
+        text = value_text(value)
+        return text if len(text) <= self.most.letters else text[:int(self.most.letters)] + ".."
+
+    def placed_deed(self, signal: Signal, unit: Optional[int]) -> str:
+        """What was signalled, and where; with its unit, if that isn't the one that is spoken of."""
+        number = unit_of(signal.within)
+        return self.deed(signal.primitive) + ("" if number == unit else f" in unit {number}") + at(signal.path)
+
+    def trigger(self, signal: Optional[Signal], occurrence: Optional[Occurrence] = None) -> str:
+        """What triggered a rule, as the end of a sentence:
+        `triggered by update item 7 (stock 5 -> 3) at /rules/0/5/0, in the action of rule reserve`."""
+        if signal is None:
+            return f"triggered by a signal (which one {UNTOLD})"
+        is_moment = signal.primitive is not None and signal.primitive.kind == "time"
+        path = f" at {marked(signal.path)}" if signal.path and not is_moment else ""
+        if signal.primitive is None:
+            return f"fired by the statement `fire`{path}{place_of(signal)}"
+        words = f"triggered by {self.deed(signal.primitive)}{path}{place_of(signal)}"
+        if occurrence is not None and len(occurrence.signals) > 1:
+            unit = unit_of(signal.within)
+            before = [self.placed_deed(part, unit) for part in occurrence.signals[:-1]]
+            words += f", after {some_of(before, self.most.parts)}"
+            words += f"; the count is {occurrence.count}" if occurrence.is_counted else ""
+        return words
+
+    def trigger_sentences(self, firing: Any, who: str) -> List[str]:
+        """What triggered a firing, and when it ran."""
+        note = firing.note
+        if note.trigger is None:
+            return [f"What triggered rule {firing.rule} {UNTOLD}."]
+        return [f"{who} was {self.trigger(note.trigger, note.occurrence)}."] + later_sentences(firing)
+
+    def origins(self, firing: Any, who: str = "It") -> List[str]:
+        """The triggers of a firing, of the firing in whose action it was triggered, and so on."""
+        sentences: List[str] = []
+        while firing is not None:
+            sentences += self.trigger_sentences(firing, who)
+            trigger = firing.note.trigger
+            firing = None if trigger is None else _action_round(trigger.within)
+            who = "" if firing is None else f"Rule {firing.rule}"
+        return sentences
+
+    def dropped(self, dropped: Dropped, who: str = "It") -> List[str]:
+        """What triggered a task that never ran, and why it never did."""
+        before = "its action ran" if dropped.is_tested else "its condition was tested"
+        if dropped.why == NO_ABORT:
+            fate = f"It is {dropped.mode} and was dropped, as no transaction round its trigger aborted."
+        elif dropped.why == ABORT:
+            fate = f"It was dropped before {before}, as {aborted_words(dropped.by)}."
+        else:
+            fate = f"It was dropped before {before}, as rule {dropped.by.rule} vetoed first."
+        return [f"{who} was {self.trigger(dropped.trigger, dropped.occurrence)}.", fate]
+
+    def chain(self, node: Any) -> List[str]:
+        """Sentences from an aborted node back to the statement of the unit's own body where it all began."""
+        stop = node.note.stop
+        sentences = [sentence(stop_words(node.end, stop))]
+        if node.end.cause == "A9" and stop is not None and stop.firing is not None:
+            return sentences + self.origins(stop.firing)
+        firing = node if isinstance(node, (Fire, Act)) else _action_round(node.note.parent)
+        return sentences + ([] if firing is None else self.origins(firing, f"Rule {firing.rule}"))
+
+    # Conditions
+
+    def query(self, query: Query, is_one_part: bool) -> str:
+        """What a query found, or why it found nothing."""
+        given = f", with {listed(map(_given_words, query.given))}" if query.given else ""
+        if query.fault is not None:
+            return f"query {query.name} met a fault at {query.on} {query.fault_key}{given}: {query.fault}"
+        if query.objects == 0:
+            return f"query {query.name} found nothing, as there is no object of {query.on}"
+        if query.key is None:
+            keys = [str(key) for key in query.keys]
+            found = f"{query.on} {some_of(keys, self.most.keys)}" if keys else "none that fits"
+            return f"query {query.name} found {found} among {counted(query.objects, 'object')} of {query.on}{given}"
+        if query.keys:
+            return f"query {query.name} found {query.on} {query.key}{given}"
+        if query.failed is None:
+            return f"query {query.name} found nothing, as there is no {query.on} {query.key}{given}"
+        test = expression_text(query.failed, is_one_part)
+        values = [f"{expression_text(form, is_one_part)} is {value}" for form, value in query.values]
+        where = f" ({some_of(list(dict.fromkeys(values)), self.most.fields)})" if values else ""
+        return f"query {query.name} found nothing, as {test} isn't true of {query.on} {query.key}{where}{given}"
+
+    def queries(self, firing: Fire) -> List[str]:
+        """How a condition went, query by query."""
+        occurrence = firing.note.occurrence
+        is_one_part = occurrence is not None and len(occurrence.signals) <= 1
+        queries = [sentence(self.query(query, is_one_part)) for query in firing.note.queries]
+        if queries:
+            return queries
+        if firing.condition == "satisfied":
+            return [] if occurrence is not None else ["Each query found an object."]
+        if firing.condition == "unsatisfied":
+            return [f"A query found nothing; which one {UNTOLD}."]
+        return [f"A query met a fault: {CAUSES[firing.condition.split(' ')[1]]}."]
+
+    def condition(self, firing: Fire) -> List[str]:
+        """Whether a condition was satisfied, and why."""
+        queries = self.queries(firing)
+        if firing.condition == "satisfied":
+            return ["Its condition was satisfied."] + queries if queries else ["It has no condition."]
+        verdict = "Its condition wasn't satisfied."
+        if firing.condition != "unsatisfied":
+            verdict = f"Its condition ended with a fault ({firing.condition.split(' ')[1]})."
+        return [verdict] + queries
+
+    # Events that didn't occur
+
+    def silence(self, silence: Silence, rule: str) -> List[str]:
+        """Why a rule fired nothing at a signal that its event mentions, and below that what became of the occurrences
+        that could have been of use."""
+        signal, past = silence.signal, silence.past
+        where = f"At {signal}{at(signal.path)}"
+        if past.status != ENABLED:
+            return [f"{where} it {STATUS_WORDS[past.status]}{since_words(past.since)}."]
+        if silence.is_too_deep:
+            return [f"{where} it was triggered, but {listed(signal.triggered)} would have been too deep (A7)."]
+        reasons = dict.fromkeys(_shortfall_words(one, past.since) for one in silence.shortfalls)
+        sentences = [f"{where} its event didn't occur, as {listed(reasons)}."]
+        for shortfall in silence.shortfalls:
+            sentences += [f"{self._candidate(one, rule, unit_of(signal.within))}." for one in shortfall.candidates]
+            sentences += [f"and {shortfall.more} more before"] if shortfall.more else []
+        return sentences
+
+    def _candidate(self, candidate: Candidate, rule: str, unit: int) -> str:
+        """What became of an occurrence, said in a sentence on something in that unit."""
+        signals, by = candidate.occurrence.signals, candidate.by
+        what = sentence(" then ".join([self.deed(one.primitive) for one in signals[:-1]]
+                                      + [self.placed_deed(signals[-1], unit)]))[:-1]
+        if candidate.fate is Fate.TAKEN:
+            return f"{what} was taken by {self.placed_deed(by, unit)}"
+        if candidate.fate is Fate.ENDING:
+            return f"{what} ended the closure itself, so it doesn't count"
+        if candidate.fate is Fate.UNDONE:
+            return f"{what} was undone, as {aborted_words(by)}"
+        if candidate.fate is Fate.FORGOTTEN:
+            return f"{what} was forgotten at {operation_words(by)}"
+        status = DISABLED if by is not None and by.verb == "disable" else ABSENT
+        return f"{what} wasn't heard, as rule {rule} {STATUS_WORDS[status]}{since_words(by)}"
+
+
+def _given_words(given: Given) -> str:
+    """`x = p 1 (the first of 2 rows)`."""
+    return f"{given.name} = {given.row.name} {given.row.key}" + (
+        "" if given.rows == 1 else f" (the first of {given.rows} rows)")
+
+
+def _shortfall_words(shortfall: Shortfall, since: Optional[Operation]) -> str:
+    """What is missing, as the end of a sentence that begins with `as`."""
+    word, first, last = shortfall.lack.event
+    if not shortfall.lack.is_vain:
+        return f"{'the next ' if last[0] == 'every' else ''}{noun_text(last)} has yet to follow"
+    if not shortfall.candidates:
+        return f"there was no {noun_text(first)} before it" + ("" if has_one_part(first) else since_words(since)[1:])
+    if word == "closure" and has_one_part(first) and shortfall.candidates[0].fate is Fate.TAKEN:
+        return f"there was no {noun_text(first)} since the last {noun_text(last)}"
+    return f"no earlier {noun_text(first)} {'is left' if word == 'seq' else 'counts'}"

@@ -10,7 +10,7 @@ import json
 from dataclasses import dataclass
 from typing import Any, Iterator, NoReturn
 
-from . import command, language
+from . import command, journal, language
 from .language import Form
 
 TABLES = {"event": language.EVENTS, "expression": language.EXPRESSIONS, "statement": language.STATEMENTS}
@@ -84,15 +84,20 @@ def read(text: str) -> RuleBase:
 
 
 def read_file(name: str) -> RuleBase:
-    """The script in a file, or `Refused`. `-` is standard input."""
+    """The script in a file, or `Refused`; of a journal the script of its accepted lines. `-` is standard input."""
     shown = command.shown(name)
     try:
-        return read(command.bytes_of(name).decode("utf-8"))
+        content = command.bytes_of(name)
+        if command.is_journal(content):
+            return read(journal.run(content).script_text)
+        if len(content) > command.MOST_BYTES:
+            raise Refused(f"a script has at most {command.MOST_BYTES:,} bytes, and this has more")
+        return read(content.decode("utf-8"))
     except OSError as fault:
         raise Unreadable(f"{shown}: {fault.strerror}") from fault
     except UnicodeDecodeError as fault:
         raise Refused(f"{shown}: this is no text in UTF-8: run ./hipac-tools check on it") from fault
-    except Refused as fault:
+    except (Refused, journal.NoJournal) as fault:
         raise Refused(f"{shown}: {fault}") from fault
 
 

@@ -56,12 +56,16 @@ class Primitive:
 
 @dataclass(frozen=True)
 class Occurrence:
-    """An event's occurrence. For the statement `fire` it has no parts and the count 0. `is_counted` says that it
-    contains a closure, so that the count is more than the number of parts."""
+    """An event's occurrence, by the signals that make it up. For the statement `fire` it has none and the count 0.
+    `is_counted` says that it contains a closure, so that the count is more than the number of parts."""
 
-    parts: Tuple[Primitive, ...]
+    signals: Tuple[Any, ...]
     count: int
     is_counted: bool = False
+
+    @property
+    def parts(self) -> Tuple[Primitive, ...]:
+        return tuple(signal.primitive for signal in self.signals)
 
 
 @dataclass

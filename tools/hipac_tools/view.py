@@ -13,7 +13,9 @@ from typing import Any, Dict, List, Optional
 
 from . import graph, printing
 from .account import Account, NoAccount, account_of
-from .command import DONE, REFUSED, STANDARD_INPUT, WRONG_WORDS, bytes_of, shown
+from .command import (
+    DONE, MOST_REPORT_BYTES, REFUSED, bytes_of, shown, unknown_option, write_file, wrong_words,
+)
 from .model import page_model
 
 USAGE = """usage: hipac-tools view SCRIPT.json [REPORT] [--out FILE.html]
@@ -21,7 +23,10 @@ USAGE = """usage: hipac-tools view SCRIPT.json [REPORT] [--out FILE.html]
 Makes a page that shows the script's units, the tree of what each did, rules, objects and their histories. REPORT is one
 that ./hipac wrote with --tree; where it isn't given the program is run. The page goes to standard output or to FILE.
 For SCRIPT.json or REPORT `-` is standard input.
-The exit status is 0, 2 for a script or a report that can't be shown, 3 for wrong words, 4 where the program failed."""
+The exit status is 0, 2 for a script or a report that can't be shown, 3 for wrong words, 4 where the program failed, 5
+for a report that isn't the one that following the script gives."""
+
+OPTIONS = ("--out",)
 
 PAGE = Path(__file__).with_name("page")
 CODE = ("data.js", "tree.js", "panels.js", "search.js", "overview.js", "main.js")
@@ -42,17 +47,18 @@ def main(arguments: List[str]) -> int:
         return DONE
     words = _words(arguments)
     if words is None:
-        print(USAGE, file=sys.stderr)
-        return WRONG_WORDS
+        return wrong_words("view", USAGE, arguments, OPTIONS)
     try:
         page = page_of(words)
-        if words.out is None:
-            sys.stdout.buffer.write(page)
-        else:
-            Path(words.out).write_bytes(page)
-    except (OSError, NoAccount) as fault:
-        print(f"view: {words.script}: {fault}", file=sys.stderr)
-        return fault.status if isinstance(fault, NoAccount) else REFUSED
+    except NoAccount as fault:
+        print(f"view: {shown(words.script)}: {fault}", file=sys.stderr)
+        return fault.status
+    except OSError as fault:
+        print(f"view: {fault.filename or shown(words.script)}: {fault.strerror}", file=sys.stderr)
+        return REFUSED
+    if words.out is not None:
+        return write_file("view", words.out, page)
+    sys.stdout.buffer.write(page)
     return DONE
 
 
@@ -66,15 +72,22 @@ def _words(arguments: List[str]) -> Optional[Words]:
             return None
         out = names[place + 1]
         del names[place:place + 2]
-    if len(names) not in (1, 2) or any(name.startswith("-") and name != STANDARD_INPUT for name in names):
+    if len(names) not in (1, 2) or unknown_option(names):
         return None
     return Words(names[0], names[1] if len(names) == 2 else None, out)
 
 
 def page_of(words: Words) -> bytes:
-    report_text = None if words.report is None else bytes_of(words.report).decode("utf-8", "replace")
+    report_text = None if words.report is None else _report_text(words.report)
     name = Path(shown(words.script)).name
     return page_text(account_of(bytes_of(words.script), report_text), name).encode("utf-8")
+
+
+def _report_text(name: str) -> str:
+    content = bytes_of(name, MOST_REPORT_BYTES)
+    if len(content) > MOST_REPORT_BYTES:
+        raise NoAccount(f"a report of more than {MOST_REPORT_BYTES:,} bytes isn't read", REFUSED)
+    return content.decode("utf-8", "replace")
 
 
 def page_text(account: Account, name: str) -> str:
@@ -82,6 +95,7 @@ def page_text(account: Account, name: str) -> str:
     base = account.base
     data: Dict[str, Any] = dict(vars(page_model(account)))
     data["name"] = name
+    data["note"] = account.places.note
     data["texts"] = {rule.name: printing.rule_text(rule, base) for rule in base.rules}
     code = "".join(_part(part) for part in CODE)
     parts = {

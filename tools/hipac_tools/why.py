@@ -5,30 +5,33 @@ from __future__ import annotations
 import sys
 import textwrap
 from collections import Counter
-from typing import Any, Dict, Iterator, List, Optional, Tuple
+from typing import Any, Dict, List, Optional
 
-from . import fates, reasons
+from . import fates, faulting, reasons
 from .account import Account, NoAccount, account_of
-from .command import DONE, REFUSED, WRONG_WORDS, bytes_of
+from .answers import RuleAnswer, Silence, rule_answer, status_by_report
+from .command import DONE, REFUSED, WRONG_WORDS, bytes_of, unknown_option, wrong_words
 from .course import STEPS
 from .language import DETACHED
 from .near import nearest
-from .notes import NO_ABORT, Signal, ancestry, undone_by
+from .notes import NO_ABORT
+from .pasts import Past
 from .places import Places
 from .printing import event_text
-from .report import Act, Fire, Operation, Sub, Transaction, Unit, walk
-from .wording import listed, some_of, times
+from .reasons import STATUS_WORDS, Teller
+from .report import Act, Fire, Sub, Transaction, Unit, walk
+from .wording import ALL, Most, SOME, some_of, times
 
-USAGE = """usage: hipac-tools why SCRIPT.json UNIT [RULE]
+USAGE = """usage: hipac-tools why SCRIPT.json UNIT [RULE] [--all]
 
 Says why the unit of that number ended as it did: what aborted, by which cause, and what led there. With a rule it says
 what the rule did in that unit and why, or why it wasn't triggered. Units are numbered from 1, as in the report; `-` is
-standard input.
-The exit status is 0, 2 for a script that is refused, 3 for wrong words, 4 where the program failed."""
+standard input. Of long lists only the first things are told; with --all it is everything.
+The exit status is 0, 2 for a script that is refused, 3 for wrong words, 4 where the program failed, 5 where the program
+gives another report than following the script does."""
 
+EVERYTHING = "--all"
 WIDTH = 110
-MOST_LINES = 12
-STATUS_WORDS = {"absent": "wasn't installed", "enabled": "was enabled", "disabled": "was disabled"}
 
 
 class WrongWords(Exception):
@@ -39,15 +42,16 @@ def main(arguments: List[str]) -> int:
     if arguments in (["--help"], ["-h"]):
         print(USAGE)
         return DONE
-    if len(arguments) not in (2, 3):
-        print(USAGE, file=sys.stderr)
+    most = ALL if EVERYTHING in arguments else SOME
+    words = [word for word in arguments if word != EVERYTHING]
+    if len(words) not in (2, 3) or unknown_option(words):
+        return wrong_words("why", USAGE, arguments, [EVERYTHING])
+    if not words[1].isdigit():
+        print(f"why: {words[1]} is no unit's number; the words are SCRIPT.json UNIT [RULE]", file=sys.stderr)
         return WRONG_WORDS
-    if not arguments[1].isdigit():
-        print(f"why: {arguments[1]} is no unit's number; the words are SCRIPT.json UNIT [RULE]", file=sys.stderr)
-        return WRONG_WORDS
-    name, number = arguments[0], int(arguments[1])
+    name, number = words[0], int(words[1])
     try:
-        text = explanation(bytes_of(name), number, arguments[2] if len(arguments) == 3 else None)
+        text = explanation(bytes_of(name), number, words[2] if len(words) == 3 else None, most)
     except (OSError, NoAccount) as fault:
         print(f"why: {name}: {fault}", file=sys.stderr)
         return fault.status if isinstance(fault, NoAccount) else REFUSED
@@ -58,10 +62,10 @@ def main(arguments: List[str]) -> int:
     return DONE
 
 
-def explanation(script_bytes: bytes, number: int, rule: Optional[str] = None, steps: int = STEPS,
+def explanation(script_bytes: bytes, number: int, rule: Optional[str] = None, most: Most = SOME, steps: int = STEPS,
                 width: int = WIDTH) -> str:
     """The whole answer as one text, its lines folded at a width."""
-    account = account_of(script_bytes, watch=rule, steps=steps)
+    account = account_of(script_bytes, watch=[] if rule is None else [rule], steps=steps)
     if not 1 <= number <= len(account.report.units):
         raise WrongWords(f"there is no unit {number}; the last one is unit {len(account.report.units)}")
     if rule is not None and rule not in account.rules:
@@ -69,22 +73,23 @@ def explanation(script_bytes: bytes, number: int, rule: Optional[str] = None, st
         which = f"did you mean {meant}?" if meant else f"the rules are {', '.join(account.rules)}"
         raise WrongWords(f"there is no rule {rule}; {which}")
     unit = account.report.units[number - 1]
-    lines = Lines(width, account.places)
+    lines = Lines(width, account.places, most)
     if account.doubt is not None:
         lines.say(0, f"{account.doubt}: only what the report itself tells is said here.")
     if rule is None:
-        UnitAnswer(account, unit, lines).write()
+        UnitText(account, unit, lines).write()
     else:
-        RuleAnswer(account, unit, rule, lines).write()
+        RuleText(account, rule_answer(account, unit, rule, most.candidates), lines).write()
     return lines.text()
 
 
 class Lines:
     """Lines of text, folded and indented. They name places of the script by line and column."""
 
-    def __init__(self, width: int, places: Places) -> None:
+    def __init__(self, width: int, places: Places, most: Most = SOME) -> None:
         self.width = width
         self.places = places
+        self.most = most
         self.lines: List[str] = []
 
     def say(self, level: int, words: str) -> None:
@@ -96,14 +101,19 @@ class Lines:
         for sentence in sentences:
             self.say(level, sentence)
 
-    def say_some(self, level: int, sentences: List[str]) -> None:
-        """The first of many sentences, and how many more there are."""
-        for sentence in sentences[:MOST_LINES]:
-            self.say(level, sentence)
-        if len(sentences) > MOST_LINES:
-            self.say(level, f"and {len(sentences) - MOST_LINES} more")
+    def some(self, things: List[Any]) -> List[Any]:
+        """The first of many things."""
+        return things if len(things) <= self.most.lines else things[:int(self.most.lines)]
+
+    def say_more(self, level: int, things: List[Any], what: str = "") -> None:
+        """How many of many things were left out."""
+        if len(things) > self.most.lines:
+            self.say(level, f"and {len(things) - self.most.lines} more{what}")
 
     def text(self) -> str:
+        """All lines; if the places aren't those of the file, the last one says whose they are."""
+        if self.places.note is not None:
+            self.say(0, f"({self.places.note})")
         return "\n".join(self.lines) + "\n"
 
 
@@ -114,13 +124,14 @@ def head_of(unit: Unit, transaction: Transaction) -> str:
     return f"unit {unit.number}{moment} {transaction.end}"
 
 
-class UnitAnswer:
+class UnitText:
     """Why a unit and the transactions of its cascade ended as they did."""
 
     def __init__(self, account: Account, unit: Unit, lines: Lines):
         self.account = account
         self.unit = unit
         self.lines = lines
+        self.tell = Teller(lines.most)
 
     def write(self) -> None:
         for transaction in self.unit.transactions:
@@ -130,16 +141,17 @@ class UnitAnswer:
             for dropped in transaction.note.dropped:
                 if dropped.mode in DETACHED and dropped.why != NO_ABORT:
                     self.lines.say(0, f"{dropped.mode} {dropped.rule} dropped")
-                    self.lines.say_all(1, reasons.dropped_sentences(dropped, f"Rule {dropped.rule}"))
+                    self.lines.say_all(1, self.tell.dropped(dropped, f"Rule {dropped.rule}"))
 
     def _transaction(self, transaction: Transaction) -> None:
         say = self.lines.say
+        self.lines.say_all(1, faulting.leading_sentences(self.account, transaction, self.lines.most))
         if transaction.rule is not None:
             self._task(transaction)
         elif transaction.end.committed:
             say(1, "All of its own statements ran." if self.unit.moment is None else "It ran to its end.")
         if not transaction.end.committed:
-            self.lines.say_all(1, new_in_chain(transaction, transaction))
+            self.lines.say_all(1, self._new_in_chain(transaction, transaction))
         self._inner(transaction)
         self._rules(transaction)
 
@@ -152,7 +164,8 @@ class UnitAnswer:
                      if one.mode not in DETACHED or one.why == NO_ABORT)
         if tasks:
             self.lines.say(1, "Rules:")
-            self.lines.say_some(2, often(tasks))
+            self.lines.say_all(2, self.lines.some(often(tasks)))
+            self.lines.say_more(2, often(tasks))
         is_alone = len(self.unit.transactions) == 1 and not transaction.note.dropped
         if not tasks and is_alone and transaction.end.committed and self.account.doubt is None:
             self.lines.say(1, "No rule was triggered.")
@@ -160,9 +173,9 @@ class UnitAnswer:
     def _task(self, transaction: Transaction) -> None:
         """What triggered a transaction of the cascade, and how its one task went. A veto is explained as the abort."""
         note, task = transaction.note, own_task(transaction)
-        self.lines.say(1, f"Rule {transaction.rule} was {reasons.trigger_words(note.trigger, note.occurrence)}.")
+        self.lines.say(1, f"Rule {transaction.rule} was {self.tell.trigger(note.trigger, note.occurrence)}.")
         if isinstance(task, Fire) and task.condition != "satisfied":
-            self.lines.say(1, " ".join(reasons.condition_sentences(task)))
+            self.lines.say(1, " ".join(self.tell.condition(task)))
         if task.end.cause != "A9":
             self.lines.say(1, reasons.action_sentence(task, self.account.mode_of_action(task.rule)))
 
@@ -172,27 +185,25 @@ class UnitAnswer:
         own = own_task(transaction)
         aborted = [node for node in walk(transaction) if isinstance(node, (Sub, Fire, Act)) and not node.end.committed
                    and not is_part_of_veto(node) and not (node is own and node.end.cause != "A9")]
-        for node in aborted[:MOST_LINES]:
+        for node in self.lines.some(aborted):
             self.lines.say(1, f"Within it {reasons.name_of(node)} {node.end}:")
-            self.lines.say_all(2, new_in_chain(node, transaction))
-        if len(aborted) > MOST_LINES:
-            self.lines.say(1, f"and {len(aborted) - MOST_LINES} more parts aborted within it")
+            self.lines.say_all(2, self._new_in_chain(node, transaction))
+        self.lines.say_more(1, aborted, " parts aborted within it")
+
+    def _new_in_chain(self, node: Any, transaction: Transaction) -> List[str]:
+        """What led to an abort, without what was already said about the origin of a cascade's transaction."""
+        sentences, own = self.tell.chain(node), own_task(transaction)
+        if own is not None:
+            for who in ("It", f"Rule {own.rule}"):
+                known = self.tell.origins(own, who)
+                if sentences[-len(known):] == known:
+                    return sentences[:-len(known)]
+        return sentences
 
 
 def own_task(transaction: Transaction) -> Any:
     """The task of a transaction of a cascade; None for a unit's own transaction."""
     return None if transaction.rule is None else transaction.items[0]
-
-
-def new_in_chain(node: Any, transaction: Transaction) -> List[str]:
-    """What led to an abort, without what was already said about the origin of a cascade's transaction."""
-    sentences, own = reasons.chain(node), own_task(transaction)
-    if own is not None:
-        for who in ("It", f"Rule {own.rule}"):
-            known = reasons.origins(own, who)
-            if sentences[-len(known):] == known:
-                return sentences[:-len(known)]
-    return sentences
 
 
 def is_part_of_veto(node: Any) -> bool:
@@ -203,132 +214,79 @@ def is_part_of_veto(node: Any) -> bool:
     return node.note.parent.end == node.end if stop is None else stop.firing is None
 
 
-class RuleAnswer:
+class RuleText:
     """Why a rule fired in a unit, or why it didn't."""
 
-    def __init__(self, account: Account, unit: Unit, rule: str, lines: Lines):
+    def __init__(self, account: Account, answer: RuleAnswer, lines: Lines):
         self.account = account
-        self.unit = unit
-        self.rule = rule
-        self.event = account.rules[rule].event
+        self.answer = answer
         self.lines = lines
+        self.tell = Teller(lines.most)
 
     def write(self) -> None:
-        tasks = list(self._tasks())
-        dropped = [one for transaction in self.unit.transactions for one in transaction.note.dropped
-                   if one.rule == self.rule]
-        verdict = fates.verdict([node for _, node in tasks], dropped, f"in unit {self.unit.number}")
-        self.lines.say(0, f"rule {self.rule} {verdict}")
-        for transaction, node in tasks[:MOST_LINES]:
+        answer, lines = self.answer, self.lines
+        verdict = fates.verdict([node for _, node in answer.tasks], answer.dropped, f"in unit {answer.unit.number}")
+        lines.say(0, f"rule {answer.rule} {verdict}")
+        for transaction, node in lines.some(answer.tasks):
             self._firing(transaction, node)
-        if len(tasks) > MOST_LINES:
-            self.lines.say(1, f"and {len(tasks) - MOST_LINES} more")
-        for one in dropped[:MOST_LINES]:
-            self.lines.say_all(1, reasons.dropped_sentences(one))
-        if len(dropped) > MOST_LINES:
-            self.lines.say(1, f"and {len(dropped) - MOST_LINES} more were dropped")
-        if not tasks and not dropped:
-            self._silence()
-
-    def _tasks(self) -> Iterator[Tuple[Transaction, Any]]:
-        for transaction in self.unit.transactions:
-            for node in walk(transaction):
-                if isinstance(node, (Fire, Act)) and node.rule == self.rule:
-                    yield transaction, node
+        lines.say_more(1, answer.tasks)
+        for one in lines.some(answer.dropped):
+            lines.say_all(1, self.tell.dropped(one))
+        lines.say_more(1, answer.dropped, " were dropped")
+        if answer.tasks or answer.dropped:
+            self._silences(answer.missed)
+        else:
+            self._never()
 
     def _firing(self, transaction: Transaction, node: Any) -> None:
         say = self.lines.say
         say(1, f"{node}, in {reasons.name_of(transaction)}")
         if isinstance(node, Fire):
-            self.lines.say_all(2, reasons.origins(node))
-            say(2, " ".join(reasons.condition_sentences(node)))
+            self.lines.say_all(2, self.tell.origins(node))
+            say(2, " ".join(self.tell.condition(node)))
         else:
-            self.lines.say_all(2, reasons.trigger_sentences(node, "It"))
-        say(2, reasons.action_sentence(node, self.account.mode_of_action(self.rule)))
+            self.lines.say_all(2, self.tell.trigger_sentences(node, "It"))
+        say(2, reasons.action_sentence(node, self.account.mode_of_action(node.rule)))
         undone = reasons.undone_words(node)
         if undone and node.items:
             say(2, f"What it did was undone, as {undone}.")
 
-    # If it didn't fire
+    def _silences(self, silences: List[Silence]) -> None:
+        for silence in self.lines.some(silences):
+            first, *others = self.tell.silence(silence, self.answer.rule)
+            self.lines.say(1, first)
+            self.lines.say_all(2, others)
+        self.lines.say_more(1, silences)
 
-    def _silence(self) -> None:
-        signals = [signal for transaction in self.unit.transactions for signal in transaction.note.signals
-                   if signal.watched is not None]
+    # If it never fired
+
+    def _never(self) -> None:
+        answer, say = self.answer, self.lines.say
         if self.account.doubt is not None:
-            return self._by_the_report()
-        statuses = {signal.watched.status for signal in signals}
-        self.lines.say(1, f"Its event is: {event_text(self.event)}.")
-        if not signals:
-            return self.lines.say(1, "Nothing was signalled in that unit.")
-        if len(statuses) == 1 and statuses != {"enabled"}:
-            return self._never_enabled(signals)
-        mentioned = [signal for signal in signals if signal.watched.mentions]
-        self.lines.say_some(1, [self._mention(signal) for signal in mentioned])
-        if not mentioned:
-            self.lines.say(1, f"Nothing of that happened. What did: {happened(signals)}.")
+            status = status_by_report(self.account, answer.unit, answer.rule)
+            say(1, f"When the unit began it {STATUS_WORDS[status]}.")
+            return say(1, f"What was signalled in the unit {reasons.UNTOLD}.")
+        say(1, f"Its event is: {event_text(self.account.rules[answer.rule].event)}.")
+        if not answer.silences:
+            return say(1, "Nothing was signalled in that unit.")
+        if answer.throughout is not None:
+            return self._never_enabled(answer.throughout)
+        self._silences(answer.mentioned)
+        if not answer.mentioned:
+            say(1, f"Nothing of that happened. What did: {self._happened(answer.silences)}.")
 
-    def _never_enabled(self, signals: List[Signal]) -> None:
-        watched = signals[0].watched
-        self.lines.say(1, f"It {STATUS_WORDS[watched.status]}{self._since(watched.since)}.")
-        for operation in self._undone_operations():
-            self.lines.say(1, f"The operation {operation.verb} {self.rule} in unit {self._unit_of(operation)}"
-                              f"{reasons.at(operation.note.path)} doesn't count, as it was undone: "
-                              f"{reasons.undone_words(operation)}.")
-        mentioned = [signal for signal in signals if signal.watched.mentions]
-        self.lines.say(1, f"What its event waits for did happen: {happened(mentioned)}." if mentioned else
-                          "Nothing that its event waits for happened either.")
+    def _never_enabled(self, past: Past) -> None:
+        answer, undone = self.answer, self.answer.undone_operation
+        self.lines.say(1, f"It {STATUS_WORDS[past.status]}{reasons.since_words(past.since)}.")
+        if undone is not None:
+            self.lines.say(1, f"The operation {reasons.operation_words(undone)} doesn't count, as it was undone: "
+                              f"{reasons.undone_words(undone)}.")
+        self.lines.say(1, f"What its event waits for did happen: {self._happened(answer.mentioned)}."
+                       if answer.mentioned else "Nothing that its event waits for happened either.")
 
-    def _mention(self, signal: Signal) -> str:
-        watched = signal.watched
-        where = f"At {signal}{reasons.at(signal.path)}"
-        if watched.status != "enabled":
-            return f"{where} it {STATUS_WORDS[watched.status]}{self._since(watched.since)}."
-        if self.rule in signal.triggered:
-            return f"{where} it was triggered, but {listed(signal.triggered)} would have been too deep (A7)."
-        return f"{where} its event didn't occur, as {watched.lacking}."
-
-    def _since(self, operation: Optional[Operation]) -> str:
-        if operation is None:
-            return ""
-        unit = self._unit_of(operation)
-        return f", since {operation.verb} {self.rule} in unit {unit}{reasons.at(operation.note.path)}"
-
-    def _unit_of(self, node: Any) -> int:
-        return ancestry(node)[-1].note.unit
-
-    def _undone_operations(self) -> List[Operation]:
-        """The last operation up to this unit that would have enabled the rule, had it not been undone."""
-        found = [node for node in self._operations(self.unit.number)
-                 if node.verb in ("install", "enable") and undone_by(node) is not None]
-        return found[-1:]
-
-    def _operations(self, until: int) -> Iterator[Operation]:
-        for unit in self.account.report.units[:until]:
-            for transaction in unit.transactions:
-                for node in walk(transaction):
-                    if isinstance(node, Operation) and not node.on_object and node.name == self.rule:
-                        yield node
-
-    def _by_the_report(self) -> None:
-        """What the tree alone shows of a rule that has no line in a unit."""
-        status: Dict[str, str] = {}
-        for node in self._operations(self.unit.number - 1):
-            if undone_by(node) is None:
-                status[self.rule] = after(node.verb, status.get(self.rule, "absent"))
-        self.lines.say(1, f"When the unit began it {STATUS_WORDS[status.get(self.rule, 'absent')]}.")
-        self.lines.say(1, f"What was signalled in the unit {reasons.UNTOLD}.")
-
-
-def after(verb: str, status: str) -> str:
-    """A rule's status after an operation that succeeded."""
-    if verb == "install":
-        return "enabled" if status == "absent" else status
-    return {"enable": "enabled", "disable": "disabled", "remove": "absent"}[verb]
-
-
-def happened(signals: List[Signal]) -> str:
-    """What was signalled, each with how often."""
-    return some_of(often(Counter(str(signal) for signal in signals)), MOST_LINES)
+    def _happened(self, silences: List[Silence]) -> str:
+        """What was signalled, each with how often."""
+        return some_of(often(Counter(str(silence.signal) for silence in silences)), self.lines.most.lines)
 
 
 def often(counts: Dict[str, int]) -> List[str]:

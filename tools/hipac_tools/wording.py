@@ -2,6 +2,8 @@
 
 from __future__ import annotations
 
+import math
+from dataclasses import dataclass
 from typing import Iterable, List
 
 
@@ -11,10 +13,26 @@ def listed(words: Iterable[str], last: str = "and") -> str:
     return words[0] if len(words) == 1 else f"{', '.join(words[:-1])} {last} {words[-1]}"
 
 
-def some_of(things: List[str], most: int) -> str:
+@dataclass(frozen=True)
+class Most:
+    """How much of something long is told. The rest is counted."""
+
+    lines: float = 12
+    candidates: float = 4
+    keys: float = 8
+    parts: float = 6
+    fields: float = 6
+    letters: float = 40
+
+
+SOME, ALL = Most(), Most(*[math.inf] * 6)
+
+
+def some_of(things: List[str], most: float) -> str:
     """The first of many things in one line, with the number of those left out."""
-    shown = ", ".join(things[:most])
-    return shown if len(things) <= most else f"{shown} and {len(things) - most} more"
+    if len(things) <= most:
+        return ", ".join(things)
+    return f"{', '.join(things[:int(most)])} and {len(things) - most} more"
 
 
 def counted(number: int, one: str, more: str = "") -> str:

@@ -37,14 +37,20 @@ def place_of(case: Case) -> tuple[int, int]:
     return len(before), len(before[-1]) + 1
 
 
+def first_of(lines: list[str]) -> list[str]:
+    """The lines of the first fault."""
+    later = (number for number, line in enumerate(lines) if number and line.startswith("script.json:"))
+    return lines[:next(later, len(lines))]
+
+
 class RefusedScripts(unittest.TestCase):
-    """The messages on each script of the table, whose refusal is the program's."""
+    """The messages on each script of the table, whose refusal is the program's. Of several faults the first counts."""
 
     @classmethod
     def setUpClass(cls) -> None:
         cls.refusals = refusals([case.script for case in CASES])
         cls.told = [
-            check.refused("script.json", refusal, check.read(case.script.encode("utf-8")))
+            first_of(check.refused("script.json", refusal, check.read(case.script.encode("utf-8"))))
             for case, refusal in zip(CASES, cls.refusals)]
 
     def test_the_program_refuses_each(self) -> None:
@@ -150,7 +156,7 @@ class Bytes(InDirectory):
     def test_one_byte_too_many(self) -> None:
         status, lines = self.check(b" " * 1_048_577)
         self.assertEqual(status, 2)
-        told = "script.json:1:1: refused S5 size: the script has 1,048,577 bytes, and 1,048,576 are the most"
+        told = "script.json:1:1: refused S5 size: a script has at most 1,048,576 bytes, and this has more"
         self.assertEqual(lines, [told])
 
     def test_as_many_bytes_as_may_be(self) -> None:
@@ -179,6 +185,29 @@ class AcceptedScripts(InDirectory):
     def test_the_examples_have_no_warnings(self) -> None:
         _, output, _ = run_word(check.main, *map(str, sorted((REPOSITORY / "examples").glob("*.json"))))
         self.assertNotIn("warning", output)
+
+    def test_the_order_desk_has_no_warnings(self) -> None:
+        _, output, _ = run_word(check.main, str(REPOSITORY / "examples" / "orders" / "rules.json"))
+        self.assertEqual(output.splitlines()[1:], [])
+
+    def test_a_signal_may_follow_a_beginning(self) -> None:
+        waits = '["r", ["signal", "go"], "immediate", [], "immediate", []]'
+        begins, goes_on = '["tx", [["install", "r"]]]', '["tx", [["install", "r"], ["emit", 1]]]'
+        self.assertEqual(self.check(script(rules=waits, items=begins))[1][1:], [])
+        self.assertEqual(self.warnings(script(rules=waits, items=goes_on)), ["nothing in this script signals `go`"])
+        file = self.directory / "script.json"
+        status, output, _ = run_word(check.main, "--live", str(file))
+        self.assertEqual((status, output.splitlines()[1:]), (0, []))
+
+    def test_a_beginning_is_told_of_rules_that_it_does_not_install_and_of_misspelt_signals(self) -> None:
+        waits = '["r", ["signal", "paid"], "immediate", [], "immediate", []]'
+        tells = '["s", ["signal", "go"], "immediate", [], "immediate", [["signal", "payd", []]]]'
+        _, lines = self.check(script(rules=f"{waits}, {tells}", items='["tx", [["install", "r"]]]'))
+        told = [line.split(": ", 1)[1] for line in lines if line.startswith("script.json:")] + [lines[4]]
+        self.assertEqual(told, [
+            "accepted (2 rules, 2 classes, 1 item)", "warning: nothing in this script signals `paid`",
+            "hint: the rule `s` isn't installed here: a later transaction has to install it",
+            "  did you mean `payd`?"])
 
     def test_counts(self) -> None:
         _, lines = self.check(script(items='["tx", []]'))
@@ -314,7 +343,7 @@ class CommandLine(InDirectory):
     def test_no_words(self) -> None:
         status, output, errors = run_word(check.main)
         self.assertEqual((status, output), (3, ""))
-        self.assertIn("usage: hipac-tools check SCRIPT.json", errors)
+        self.assertIn("usage: hipac-tools check [--live] SCRIPT.json", errors)
 
     def test_an_unknown_option(self) -> None:
         self.assertEqual(run_word(check.main, "--fast")[0], 3)
@@ -322,7 +351,7 @@ class CommandLine(InDirectory):
     def test_help(self) -> None:
         status, output, _ = run_word(check.main, "--help")
         self.assertEqual(status, 0)
-        self.assertIn("usage: hipac-tools check SCRIPT.json", output)
+        self.assertIn("usage: hipac-tools check [--live] SCRIPT.json", output)
 
     def test_a_file_that_is_not_there(self) -> None:
         status, output, errors = run_word(check.main, str(self.directory / "none.json"))

@@ -3,9 +3,11 @@
 import copy
 import json
 import unittest
+from unittest import mock
 
-from hipac_tools import program, report
-from hipac_tools.account import DIFFERENT, TOO_LONG, account_of
+from hipac_tools import course, program, report
+from hipac_tools.account import NoAccount, TOO_LONG, account_of
+from hipac_tools.command import DIFFERENT
 from hipac_tools.report import Fire, walk
 
 from .large_script import large_script
@@ -136,9 +138,23 @@ class DoubtTest(unittest.TestCase):
         self.assertEqual(account.doubt, TOO_LONG)
         self.assertEqual(self.fired(account), ["update acct 1", "update acct 1", "None"])
 
-    def test_a_report_of_another_script_is_doubted(self):
-        account = account_of(json.dumps(self.SCRIPT).encode(), "unit 1 committed\nfinal\nend\n")
-        self.assertEqual(account.doubt, DIFFERENT)
+    def test_a_report_of_another_script_is_an_error(self):
+        with self.assertRaises(NoAccount) as caught:
+            account_of(json.dumps(self.SCRIPT).encode(), "unit 1 committed\nfinal\nend\n")
+        self.assertEqual(caught.exception.status, DIFFERENT)
+        self.assertEqual(str(caught.exception), "the report isn't this script's: line 2 is `final`, and by following "
+                                                "the script `emit 1`")
+
+    def test_a_course_that_differs_from_the_program_is_an_error(self):
+        with mock.patch.dict(course._STATEMENTS, emit=lambda *_: None), self.assertRaises(NoAccount) as caught:
+            account_of(json.dumps(self.SCRIPT).encode())
+        self.assertEqual(caught.exception.status, DIFFERENT)
+        self.assertIn("line 2 is `emit 1`, and by following the script `op install tell`", str(caught.exception))
+
+    def test_a_course_that_fails_is_an_error(self):
+        with mock.patch.dict(course._STATEMENTS, emit=lambda *_: {}["emit"]), self.assertRaises(NoAccount) as caught:
+            account_of(json.dumps(self.SCRIPT).encode())
+        self.assertEqual(caught.exception.status, DIFFERENT)
 
     def test_a_rule_that_a_statement_fires_has_no_trigger_by_the_tree_alone(self):
         script = copy.deepcopy(self.SCRIPT)

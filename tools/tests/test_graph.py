@@ -11,7 +11,7 @@ from pathlib import Path
 from xml.etree import ElementTree
 
 from hipac_tools import command, graph, program, rulebase
-from tests.making import COUPLINGS, EXAMPLES, RandomRuns, rule, script
+from tests.making import COUPLINGS, EXAMPLES, REPOSITORY, RandomRuns, rule, script
 
 SIGNAL_S, SIGNAL_T = ["signal", "s"], ["signal", "t"]
 
@@ -70,7 +70,8 @@ class Edges(unittest.TestCase):
     def test_rule_operations(self) -> None:
         for word, kind in [("install", "installs"), ("enable", "enables"), ("disable", "disables"),
                            ("remove", "removes"), ("fire", "fires")]:
-            found = edges([rule("a", SIGNAL_S, [[word, "b"]]), rule("b", SIGNAL_T, [])], [["tx", [[word, "a"]]]])
+            items = [["tx", [["emit", 1], [word, "a"]]]]
+            found = edges([rule("a", SIGNAL_S, [[word, "b"]]), rule("b", SIGNAL_T, [])], items)
             self.assertEqual(found, {("a", kind, "b", ""), ("the script", kind, "a", "")})
 
     def test_moments(self) -> None:
@@ -108,7 +109,7 @@ class Cycles(unittest.TestCase):
     def test_a_cycle_of_one_and_cycles_that_share_rules(self) -> None:
         rules = [rule("a", SIGNAL_S, [["signal", "s", []], ["signal", "t", []]]),
                  rule("b", SIGNAL_T, [["signal", "s", []]]), rule("c", SIGNAL_T, [["signal", "s", []]])]
-        cycles = built(rules, [installed("a", "b", "c")]).cycles
+        cycles = built(rules, [installed("a", "b", "c"), ["tx", [["emit", 1]]]]).cycles
         self.assertEqual([cycle.path for cycle in cycles], ["a -> a", "a -> b -> a", "a -> c -> a"])
         self.assertEqual({cycle.breaks for cycle in cycles}, {()})
         self.assertFalse(any(cycle.may_turn for cycle in cycles))
@@ -198,6 +199,73 @@ class Chains(unittest.TestCase):
             may_fire = {node.name for node in found.nodes if node.is_rule and node.may_fire}
             self.assertLessEqual(fired, may_fire, f"seed {seed}")
         self.assertGreater(met, 5)
+
+
+class Beginnings(unittest.TestCase):
+    """Scripts that transactions may follow, as in a rule base that stays up."""
+
+    def test_of_the_order_desk_all_rules_may_fire(self) -> None:
+        found = graph.build(rulebase.read_file(str(REPOSITORY / "examples" / "orders" / "rules.json")))
+        self.assertTrue(all(node.may_fire for node in found.nodes))
+        self.assertEqual(found.warnings, [])
+        self.assertTrue(found.chain.endless and found.may_meet_limit)
+        told = {(edge.source, edge.target) for edge in found.edges if edge.kind == "sets off"}
+        self.assertLessEqual({("any later transaction", "complaints"), ("take", "no_oversell")}, told)
+        self.assertIn("  transactions may follow those of the script: all events of its rules are taken as possible\n",
+                      graph.graph_text(found))
+
+    def test_only_what_installs_and_creates_alone_is_a_beginning(self) -> None:
+        rules, created = [rule("a", SIGNAL_S, [])], ["create", "c", 1, [["f", 0]]]
+        for body, is_one in (([["install", "a"]], True), ([["install", "a"], created], True), ([created], False),
+                             ([["install", "a"], ["signal", "t", []]], False), ([["install", "a"], ["abort"]], False),
+                             ([["install", "a"], ["sub", [created], []]], False)):
+            found = built(rules, [["tx", body]])
+            self.assertEqual("any later transaction" in [node.name for node in found.nodes], is_one, body)
+            self.assertEqual(found.nodes[-1].may_fire, is_one, body)
+        self.assertFalse(built(rules, [installed("a"), ["clock", 1]]).nodes[-1].may_fire)
+
+    def test_any_script_may_be_said_to_be_one(self) -> None:
+        rules = [rule("a", SIGNAL_S, [["signal", "t", []]]), rule("b", SIGNAL_T, []), rule("c", ["at", 5], []),
+                 rule("d", ["every", 2, 9], [])]
+        text = script(rules, [installed("a", "b", "c"), ["clock", 5]])
+        with tempfile.TemporaryDirectory() as folder:
+            file = Path(folder, "x.json")
+            file.write_text(text, encoding="utf-8")
+            told = [graph.graph_text(graph.build(rulebase.read(text), is_live)) for is_live in (False, True)]
+            for words, wanted in (([str(file)], told[0]), (["--live", str(file)], told[1]),
+                                  ([str(file), "--live"], told[1])):
+                output = io.TextIOWrapper(io.BytesIO(), encoding="utf-8")
+                with redirect_stdout(output):
+                    self.assertEqual(graph.main(words), 0)
+                output.flush()
+                self.assertEqual(output.buffer.getvalue().decode("utf-8"), wanted)
+        self.assertIn("a (immediate), on signal s, never fires", told[0])
+        self.assertNotIn("never fires", told[1])
+        self.assertIn("""
+any later transaction
+  signal s sets off a (immediate)
+  signal t sets off b (immediate)
+  every 9 moments from moment 2 sets off d (immediate)
+  installs d
+""", told[1])
+        self.assertIn("rule d isn't installed by the script, so a later transaction has to install it", told[1])
+
+    def test_random_runs_keep_to_the_graph_of_their_beginning(self) -> None:
+        """What follows a beginning makes no rule fire that never fires by its graph, and meets no A7 that it rules
+        out."""
+        met = 0
+        for seed in range(30):
+            text = RandomRuns(seed).script()
+            begun = json.loads(text)
+            begun["items"] = begun["items"][:1]
+            if not begun["items"][0][1]:
+                continue
+            found, output = graph.build(rulebase.read(json.dumps(begun))), report(text)
+            met += "A7" in output
+            self.assertTrue(found.may_meet_limit or "A7" not in output, f"seed {seed}: {text}")
+            fired = set(re.findall(r"^ *(?:fire|act|separate|dependent|exclusive) (\w+)", output, re.MULTILINE))
+            self.assertLessEqual(fired, {node.name for node in found.nodes if node.is_rule and node.may_fire})
+        self.assertGreater(met, 2)
 
 
 class Oversights(unittest.TestCase):

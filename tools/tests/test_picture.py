@@ -2,6 +2,8 @@
 from __future__ import annotations
 
 import os
+import re
+import shutil
 import tempfile
 import unittest
 from pathlib import Path
@@ -29,6 +31,33 @@ def boxes_of(root: ElementTree.Element) -> list[tuple[float, float, float, float
     """Left, top, right and bottom of each box."""
     sides = ([float(one.get(side, "0")) for side in ("x", "y", "width", "height")] for one in root.iter(SVG + "rect"))
     return [(left, top, left + width, top + height) for left, top, width, height in sides]
+
+
+def points_of(path: str) -> list[tuple[float, float]]:
+    """Points along a path of curves."""
+    numbers = [float(number) for number in re.findall(r"-?[0-9.]+", path)]
+    ends = list(zip(numbers[::2], numbers[1::2]))
+    found, start = [], ends[0]
+    for first, second, end in zip(ends[1::3], ends[2::3], ends[3::3]):
+        for step in range(33):
+            there, back = step / 32, 1 - step / 32
+            weights = (back ** 3, 3 * back * back * there, 3 * back * there * there, there ** 3)
+            corners = (start, first, second, end)
+            found.append((sum(weight * corner[0] for weight, corner in zip(weights, corners)),
+                          sum(weight * corner[1] for weight, corner in zip(weights, corners))))
+        start = end
+    return found
+
+
+def crossings(root: ElementTree.Element) -> list[str]:
+    """The arrows that pass behind a box."""
+    found = []
+    for path in root.iter(SVG + "path"):
+        if path.find(SVG + "title") is not None:
+            found += [path.findtext(SVG + "title", "") for x, y in points_of(path.get("d", ""))
+                      for left, top, right, bottom in boxes_of(root)
+                      if left + 1 < x < right - 1 and top + 1 < y < bottom - 1]
+    return found
 
 
 class OwnLayout(unittest.TestCase):
@@ -59,6 +88,16 @@ class OwnLayout(unittest.TestCase):
         self.assertLess(tops["a"], tops["b"])
         self.assertLess(tops["a"], tops["c"])
 
+    def test_no_arrow_passes_behind_a_box(self) -> None:
+        tall = Box("tall", ("tall", *["line"] * 6))
+        pictures = [own([Box("a", ("a",)), tall, Box("b", ("b",)), *BOXES[3:]],
+                        [Arrow("a", "b", "x"), Arrow("tall", "b", "y"), Arrow("a", "c", "far to the right")])]
+        for seed in range(20):
+            found = graph.build(rulebase.read(RandomRuns(seed).script()))
+            with mock.patch("shutil.which", return_value=None):
+                pictures.append(ElementTree.fromstring(graph.svg(found)))
+        self.assertEqual([crossed for root in pictures for crossed in crossings(root)], [])
+
     def test_nothing_and_very_much(self) -> None:
         self.assertEqual(boxes_of(own([], [])), [])
         boxes = [Box(str(number), (str(number),)) for number in range(120)]
@@ -79,6 +118,16 @@ class Graphviz(unittest.TestCase):
     def test_dot_draws_where_it_is_installed(self) -> None:
         program = """[ "$1" = -Tsvg ] && cat > /dev/null && echo '<?xml version="1.0"?><!DOCTYPE svg><svg><g/></svg>'"""
         self.assertEqual(self.drawn_with(program), "<svg><g/></svg>\n")
+
+    @unittest.skipUnless(shutil.which("dot"), "Graphviz isn't installed")
+    def test_a_very_wide_picture_points_to_the_right(self) -> None:
+        boxes = [Box("all", ("all",))] + [Box(str(number), (str(number), "some text of it")) for number in range(12)]
+        arrows = [Arrow("all", str(number), "an event") for number in range(12)]
+        wide, narrow = picture.draw(boxes, arrows), picture.draw(boxes[:3], arrows[:2])
+        (width, height), (narrow_width, narrow_height) = (
+            [float(number) for number in re.findall(r'(?:width|height)="([0-9.]+)pt"', one)] for one in (wide, narrow))
+        self.assertLess(width, height)
+        self.assertLess(narrow_width, 2 * narrow_height)
 
     def test_a_dot_that_fails_is_not_asked_further(self) -> None:
         for program in ("exit 1", "echo nothing", "echo '<svg/>'; exit 2"):

@@ -15,7 +15,7 @@ from hipac_tools.report import walk
 
 from .made_scripts import TEXTS, made_script
 from .test_report import EXAMPLES
-from .trials import followed
+from .trials import followed, with_paths
 
 SEEDS = range(25)
 FACTS = {FIRE: 6, ACT: 5}
@@ -100,7 +100,7 @@ class ModelTest(unittest.TestCase):
             "items": [["tx", [["install", "low"], ["create", "item", 1, [["stock", 4]]],
                               ["create", "item", 2, [["stock", 2]]]]]]}
         page = page_model(account(script))
-        facts = [{label: page.sentences[place] for label, place in node[FACTS[node[0]]]}
+        facts = [{label: with_paths(page.sentences[place], script) for label, place in node[FACTS[node[0]]]}
                  for node in page.nodes if node[0] in (FIRE, ACT)]
         later = " It is deferred, so it ran at the end of the transaction."
         self.assertEqual(facts, [
@@ -173,11 +173,11 @@ class CommandTest(unittest.TestCase):
         with open(self.path("page.html"), encoding="utf-8") as file:
             self.assertEqual(file.read(), page)
 
-    def test_a_report_of_another_script_is_doubted(self):
+    def test_a_report_of_another_script_is_an_error(self):
         given = self.path("given.report", program.run(EXAMPLES[0].read_bytes(), ["--tree"]).output.encode())
-        status, page, _ = self.run_words(str(EXAMPLES[1]), given)
-        self.assertEqual(status, 0)
-        self.assertEqual(data_of(page)["doubt"], "The report isn't the one that following the script gives")
+        status, page, errors = self.run_words(str(EXAMPLES[1]), given)
+        self.assertEqual((status, page), (5, ""))
+        self.assertIn("the report isn't this script's: line 2 is", errors)
 
     def test_a_report_without_trees_is_refused(self):
         given = self.path("given.report", program.run(EXAMPLES[0].read_bytes(), []).output.encode())

@@ -9,6 +9,8 @@ import unittest
 
 from hipac_tools import places, why
 
+from .trials import with_paths
+
 CLASSES = [["acct", [["bal", "int"], ["open", "bool"]]], ["item", [["stock", "int"]]]]
 ACCOUNT = ["create", "acct", 1, [["bal", 10], ["open", True]]]
 GO = ["signal", "go", []]
@@ -41,7 +43,7 @@ class WhyCase(unittest.TestCase):
     def answer(self, of, unit, rule=None, **more):
         """The answer's lines, none of them folded."""
         text = why.explanation(json.dumps(of).encode(), unit, rule, width=10_000, **more)
-        return [line.strip() for line in text.splitlines()]
+        return [line.strip() for line in with_paths(text, of).splitlines()]
 
     def says(self, of, unit, expected, rule=None, **more):
         self.assertEqual(self.answer(of, unit, rule, **more), expected)
@@ -62,8 +64,13 @@ class PlacesTest(unittest.TestCase):
         self.assertIn("Within it the `sub` at line ", told)
         self.assertNotIn("/items", told)
 
-    def test_a_script_of_one_line_has_paths(self):
-        self.assertIn("note 1 is there already (at /items/0/1/2).", self.answer(json.dumps(self.OF) + "\n"))
+    def test_a_script_of_one_line_has_the_places_of_its_printed_form(self):
+        line = json.dumps(self.OF, indent=4)[:-1].rsplit('"create"', 1)[0].count("\n")
+        told = self.answer(json.dumps(self.OF) + "\n").split("\n")
+        self.assertIn(f"  `create note 1`: note 1 is there already (at line {line}:17).", told)
+        self.assertEqual(told[-2], "(the script is on one line: lines and columns are those that "
+                                   "`python3 -m json.tool` gives it)")
+        self.assertNotIn("/items", "".join(told[:-2]).replace('"see /items/0/1/0"', ""))
 
     def test_only_marked_paths_of_the_script_are_told(self):
         told = places.Places('{"rules": [],\n "items": [["tx", []]]}').told
@@ -110,19 +117,23 @@ class CausesTest(WhyCase):
         self.one([["emit", ["id", 0]]], "A6", "`id` stands where there is no occurrence (at /items/0/1/0).")
         asks = simple("asks", ["signal", "go"], action=[["emit", ["new", 0, "bal"]]])
         self.says(script([asks], [["install", "asks"], GO]), 1, [
-            "unit 1 committed", "All of its own statements ran.", "Within it the action of rule asks aborted A6:",
+            "unit 1 committed",
+            "Though it committed, the action of rule asks ended with a fault (A6). Only the action was undone.",
+            "All of its own statements ran.", "Within it the action of rule asks aborted A6:",
             "Part 0 is signal go [], which has no `new` (at /rules/0/5/0).",
             "Rule asks was triggered by signal go [] at /items/0/1/1, in the unit's own body.",
             "Rules:", "asks failed (A6)"])
         fired = simple("fired", ["signal", "go"], queries=[["a", "acct", ["=", ["key", "a"], ["id", 0]]]])
-        self.assertIn("Its condition ended with a fault (A6). Query a met a fault: `id` asks for part 0, and a rule "
-                      "that `fire` runs has no event.",
+        self.assertIn("Its condition ended with a fault (A6). Query a met a fault at acct 1: `id` asks for part 0, and "
+                      "a rule that `fire` runs has no event.",
                       self.answer(script([fired], install("fired") + [ACCOUNT, ["fire", "fired"]]), 1, "fired"))
 
     def test_a7(self):
         loop = simple("loop", ["signal", "go"], action=[GO])
         self.says(script([loop], [["install", "loop"], GO], depth=1), 1, [
-            "unit 1 committed", "All of its own statements ran.", "Within it the action of rule loop aborted A7:",
+            "unit 1 committed",
+            "Though it committed, the action of rule loop ended with a fault (A7). Only the action was undone.",
+            "All of its own statements ran.", "Within it the action of rule loop aborted A7:",
             "Signal go [] would trigger loop at depth 2, and the limit is 1 (at /rules/0/5/0).",
             "Rule loop was triggered by signal go [] at /items/0/1/1, in the unit's own body.",
             "Rules:", "loop failed (A7)"])
@@ -186,7 +197,9 @@ class CascadeTest(WhyCase):
             "Its condition wasn't satisfied. Query i found nothing, as i.stock < 3 isn't true of item 7 (i.stock is "
             "4).",
             "So it did nothing.",
-            "separate gone committed", "Rule gone " + trigger,
+            "separate gone committed",
+            "Though it committed, the action of rule gone ended with a fault (A2). Only the action was undone.",
+            "Rule gone " + trigger,
             "Its action aborted A2. `delete item 9`: there is no item 9 (at /rules/1/5/0)."])
 
 
@@ -233,7 +246,7 @@ class FiringTest(WhyCase):
         faulty = ["=", ["/", 1, ["-", ["of", "b", "bal"], 10]], 0]
         asks = simple("asks", ["signal", "go"], queries=[["a", "acct", True], ["b", "acct", faulty]])
         self.assertIn("Its condition ended with a fault (A5). Query a found acct 1 among 1 object of acct. "
-                      "Query b met a fault: 1 / 0 divides by zero.",
+                      "Query b met a fault at acct 1: 1 / 0 divides by zero.",
                       self.answer(script([asks], install("asks") + [ACCOUNT, GO]), 1, "asks"))
 
     def trigger(self, event, *statements):
@@ -255,10 +268,16 @@ class FiringTest(WhyCase):
         a, b, more = ["signal", "a", [1]], ["signal", "b", [2]], ["create", "item", 8, [["stock", 1]]]
         self.assertEqual(self.trigger(["seq", ["signal", "a"], ["signal", "b"]], a, b),
                          "It was triggered by signal b [2] at /items/1/1/1, in the unit's own body, after signal a "
-                         "[1].")
+                         "[1] (at /items/1/1/0).")
         self.assertEqual(self.trigger(["closure", ["create", "item"], ["signal", "b"]], more, b),
                          "It was triggered by signal b [2] at /items/1/1/1, in the unit's own body, after create "
-                         "item 8 (stock 1); the count is 2.")
+                         "item 8 (stock 1) (at /items/1/1/0); the count is 2.")
+
+    def test_a_part_of_another_unit_is_told_with_it(self):
+        pair = simple("pair", ["seq", ["signal", "a"], ["signal", "b"]])
+        of = script([pair], install("pair"), [["signal", "a", []]], [["signal", "b", []]])
+        self.assertIn("It was triggered by signal b [] at /items/2/1/0, in the unit's own body, after signal a [] in "
+                      "unit 2 (at /items/1/1/0).", self.answer(of, 3, "pair"))
 
     def test_what_a_statement_fires_is_told(self):
         of = script([simple("tell", ["signal", "go"])], install("tell") + [["fire", "tell"]])
@@ -353,20 +372,20 @@ class SilenceTest(WhyCase):
         of = script([simple("pair", pair)], install("pair"), [["signal", "a", []], ["signal", "b", []]],
                     [["signal", "b", []]])
         self.assertEqual(self.answer(of, 3, "pair")[2:], [
-            "At signal b [] (at /items/2/1/0) its event didn't occur, as each signal a before it is taken by an "
-            "earlier signal b."])
+            "At signal b [] (at /items/2/1/0) its event didn't occur, as no earlier signal a is left.",
+            "Signal a [] in unit 2 (at /items/1/1/0) was taken by signal b [] in unit 2 (at /items/1/1/1)."])
 
     def test_a_closure_that_waits(self):
         batch = ["closure", ["signal", "a"], ["signal", "b"]]
         self.assertEqual(self.mentions(batch, "b", "b", "a", "a"), [
-            "there was no signal a before it.", "there was no signal a since the last signal b.",
+            "there was no signal a before it.", "there was no signal a before it.",
             "signal b has yet to follow.", "signal b has yet to follow."])
 
     def test_events_in_events_that_wait(self):
         pair, batch = ["seq", ["signal", "a"], ["signal", "b"]], ["closure", ["signal", "a"], ["signal", "c"]]
         self.assertEqual(self.mentions(["seq", pair, ["signal", "c"]], "c", "a", "b"), [
-            "there was no (signal a followed by signal b) before it.", "signal b has yet to follow.",
-            "signal c has yet to follow."])
+            "there was no (signal a followed by signal b) before it since install waits in unit 1 (at /items/0/1/0).",
+            "signal b has yet to follow.", "signal c has yet to follow."])
         self.assertEqual(self.mentions(["or", pair, batch], "c", "a", "a"), [
             "there was no signal a before it.", "signal b has yet to follow and signal c has yet to follow.",
             "signal b has yet to follow and signal c has yet to follow."])
@@ -399,6 +418,153 @@ class SilenceTest(WhyCase):
 
     def test_nothing_was_signalled(self):
         self.assertIn("Nothing was signalled in that unit.", self.answer(script([self.TELL], [["abort"]]), 1, "tell"))
+
+
+class PastTest(WhyCase):
+    """What became of each occurrence that a sequence or a closure could have been completed with."""
+
+    A, B = ["signal", "a", []], ["signal", "b", []]
+    PAIR = simple("waits", ["seq", ["signal", "a"], ["signal", "b"]])
+    BATCH = simple("waits", ["closure", ["signal", "a"], ["signal", "b"]])
+    LEFT, COUNTS = "as no earlier signal a is left.", "as no earlier signal a counts."
+
+    def told(self, rule, *items, **more):
+        """The sentences on a rule in the last of these units. Unit 1 installs it."""
+        of = script([rule], install("waits"), *items)
+        answer = self.answer(of, len(of["items"]), "waits", **more)
+        self.assertEqual(answer[0], f"rule waits wasn't triggered in unit {len(of['items'])}")
+        said = [line.split(" its event didn't occur, ")[-1] for line in answer[2:]]
+        return [line for line in said if not line.endswith("has yet to follow.")]
+
+    def of_both(self, *items):
+        """The fates, which are the same for the sequence and the closure."""
+        pair, batch = self.told(self.PAIR, *items), self.told(self.BATCH, *items)
+        self.assertEqual((pair[0], batch[0]), (self.LEFT, self.COUNTS))
+        self.assertEqual(pair[1:], batch[1:])
+        return pair[1:]
+
+    def test_an_occurrence_before_a_change_of_status_is_forgotten_there(self):
+        self.assertEqual(self.of_both([self.A], [["disable", "waits"], ["enable", "waits"]], [self.B]), [
+            "Signal a [] in unit 2 (at /items/1/1/0) was forgotten at disable waits in unit 3 (at /items/2/1/0)."])
+
+    def test_an_occurrence_in_an_aborted_sub_is_undone(self):
+        self.assertEqual(self.of_both([["sub", [self.A, ["abort"]], []], self.B]), [
+            "Signal a [] (at /items/1/1/0/1/0) was undone, as the `sub` at /items/1/1/0 aborted (A8)."])
+
+    def test_an_occurrence_in_an_aborted_unit_is_undone(self):
+        self.assertEqual(self.of_both([self.A, ["abort"]], [self.B]), [
+            "Signal a [] in unit 2 (at /items/1/1/0) was undone, as unit 2 aborted (A8)."])
+
+    def test_what_aborts_later_is_not_undone_yet(self):
+        of = script([self.PAIR], install("waits"), [self.A, self.B, self.B, ["abort"]])
+        self.assertEqual(self.answer(of, 2, "waits")[-2:], [
+            "At signal b [] (at /items/1/1/2) its event didn't occur, as no earlier signal a is left.",
+            "Signal a [] (at /items/1/1/0) was taken by signal b [] (at /items/1/1/1)."])
+
+    def test_a_change_of_status_that_was_undone_forgets_nothing(self):
+        of = script([self.PAIR], install("waits"), [self.A],
+                    [["sub", [["disable", "waits"], ["enable", "waits"], ["abort"]], []], self.B])
+        self.assertEqual(self.answer(of, 3, "waits")[0], "rule waits was triggered once in unit 3, and did nothing")
+
+    def test_what_an_undone_signal_took_is_there_again(self):
+        of = script([self.PAIR], install("waits"), [self.A, ["sub", [self.B, ["abort"]], []]], [self.B], [self.B])
+        self.assertEqual(self.answer(of, 3, "waits")[0], "rule waits was triggered once in unit 3, and did nothing")
+        self.assertEqual(self.answer(of, 4, "waits")[-1], "Signal a [] in unit 2 (at /items/1/1/0) was taken by signal "
+                                                          "b [] in unit 3 (at /items/2/1/0).")
+
+    def test_an_occurrence_that_the_rule_did_not_hear(self):
+        self.assertEqual(self.of_both([["disable", "waits"], self.A, ["enable", "waits"]], [self.B]), [
+            "Signal a [] in unit 2 (at /items/1/1/1) wasn't heard, as rule waits was disabled, since disable waits in "
+            "unit 2 (at /items/1/1/0)."])
+        of = script([self.PAIR], [self.A], install("waits") + [self.B])
+        self.assertEqual(self.answer(of, 2, "waits")[-1],
+                         "Signal a [] in unit 1 (at /items/0/1/0) wasn't heard, as rule waits wasn't installed.")
+
+    def test_what_an_end_of_a_closure_took(self):
+        taken = "Signal a [] in unit 2 (at /items/1/1/{}) was taken by signal b [] in unit 2 (at /items/1/1/2)."
+        self.assertEqual(self.told(self.BATCH, [self.A, self.A, self.B], [self.B]), [
+            "as there was no signal a since the last signal b.", taken.format(1), taken.format(0)])
+
+    def test_a_signal_that_ends_its_own_closure(self):
+        both = simple("waits", ["closure", ["signal", "a"], ["or", ["signal", "a"], ["signal", "b"]]])
+        self.assertEqual(self.told(both, [self.A], [self.B]), [
+            self.COUNTS, "Signal a [] in unit 2 (at /items/1/1/0) ended the closure itself, so it doesn't count."])
+
+    def test_each_has_its_own_fate(self):
+        self.assertEqual(self.told(self.PAIR, [self.A, self.B, ["sub", [self.A, ["abort"]], []]], [self.A],
+                                   [["disable", "waits"], ["enable", "waits"], self.B]), [
+            self.LEFT,
+            "Signal a [] in unit 3 (at /items/2/1/0) was forgotten at disable waits in unit 4 (at /items/3/1/0).",
+            "Signal a [] in unit 2 (at /items/1/1/2/1/0) was undone, as the `sub` at /items/1/1/2 aborted (A8).",
+            "Signal a [] in unit 2 (at /items/1/1/0) was taken by signal b [] in unit 2 (at /items/1/1/1)."])
+
+    def test_the_parts_of_a_candidate_are_told(self):
+        triple = simple("waits", ["seq", self.PAIR[1], ["signal", "c"]])
+        self.assertEqual(self.told(triple, [self.A, ["sub", [self.B, ["abort"]], []], ["signal", "c", []]])[-2:], [
+            "as no earlier (signal a followed by signal b) is left.",
+            "Signal a [] then signal b [] (at /items/1/1/1/1/0) was undone, as the `sub` at /items/1/1/1 aborted "
+            "(A8)."])
+
+    def test_the_last_ones_are_told_and_all_on_demand(self):
+        many = [[self.A, self.B] * 6, [self.B]]
+        self.assertEqual(len(self.told(self.PAIR, *many)), 6)
+        self.assertEqual(self.told(self.PAIR, *many)[-1], "and 2 more before")
+        self.assertEqual(len(self.told(self.PAIR, *many, most=why.ALL)), 7)
+
+    def test_each_status_is_told_where_there_were_several(self):
+        of = script([self.PAIR], install("waits"), [["disable", "waits"], self.B, ["enable", "waits"],
+                                                    ["disable", "waits"], self.B])
+        self.assertEqual(self.answer(of, 2, "waits")[2:], [
+            "At signal b [] (at /items/1/1/1) it was disabled, since disable waits in unit 2 (at /items/1/1/0).",
+            "At signal b [] (at /items/1/1/4) it was disabled, since disable waits in unit 2 (at /items/1/1/3)."])
+
+
+class TwoQueriesTest(WhyCase):
+    """A later query is asked with the first row of an earlier one only."""
+
+    CLASSES = [["p", [["n", "int"]]], ["q", [["n", "int"]]]]
+
+    def condition(self, predicate, first=True):
+        asks = simple("asks", ["signal", "go"], queries=[["x", "p", first], ["y", "q", predicate]])
+        rows = [["create", "p", 1, [["n", 1]]], ["create", "p", 2, [["n", 2]]], ["create", "q", 5, [["n", 2]]]]
+        of = script([asks], install("asks") + rows, [GO], classes=self.CLASSES)
+        return next(line for line in self.answer(of, 2, "asks") if line.startswith("Its condition"))
+
+    def test_the_first_row_is_named_with_the_number_of_rows(self):
+        found = "Its condition wasn't satisfied. Query x found p 1, 2 among 2 objects of p. "
+        self.assertEqual(self.condition(["=", ["of", "y", "n"], ["of", "x", "n"]]),
+                         found + "Query y found none that fits among 1 object of q, with x = p 1 (the first of 2 "
+                                 "rows).")
+        self.assertEqual(self.condition(["and", ["=", ["key", "y"], 5], ["=", ["of", "y", "n"], ["of", "x", "n"]]]),
+                         found + "Query y found nothing, as y.n = x.n isn't true of q 5 (y.n is 2, x.n is 1), with x = "
+                                 "p 1 (the first of 2 rows).")
+
+    def test_an_only_row_is_named_alone(self):
+        self.assertEqual(self.condition(["=", ["of", "y", "n"], ["of", "x", "n"]], ["=", ["key", "x"], 2]),
+                         "Its condition was satisfied. Query x found p 2. Query y found q 5 among 1 object of q, with "
+                         "x = p 2.")
+
+    def test_a_query_that_names_no_other_is_told_without(self):
+        self.assertTrue(self.condition(True).endswith(" Query y found q 5 among 1 object of q."))
+
+    def test_a_fault_names_the_row_that_met_it(self):
+        self.assertTrue(self.condition(["=", ["/", 1, ["-", ["of", "x", "n"], 1]], ["key", "y"]]).endswith(
+            "Query y met a fault at q 5, with x = p 1 (the first of 2 rows): 1 / 0 divides by zero."))
+        self.assertTrue(self.condition(True, ["=", ["/", 1, ["-", ["of", "x", "n"], 2]], 9]).endswith(
+            "Query x met a fault at p 2: 1 / 0 divides by zero."))
+
+
+class EverythingTest(WhyCase):
+    def test_what_is_left_out_is_told_on_demand(self):
+        rows = [["create", "item", key, [["stock", key]]] for key in range(80)]
+        asks = simple("asks", ["signal", "go"], queries=[["i", "item", True]])
+        of = script([asks], install("asks") + rows, [GO] * 14)
+        short, full = self.answer(of, 2, "asks"), self.answer(of, 2, "asks", most=why.ALL)
+        found = "Its condition was satisfied. Query i found item "
+        self.assertIn(found + "0, 1, 2, 3, 4, 5, 6, 7 and 72 more among 80 objects of item.", short)
+        self.assertEqual(short[-1], "and 2 more")
+        self.assertIn(found + ", ".join(map(str, range(80))) + " among 80 objects of item.", full)
+        self.assertEqual(len([line for line in full if line.startswith("fire asks")]), 14)
 
 
 class DoubtTest(WhyCase):
@@ -440,6 +606,8 @@ class CommandTest(unittest.TestCase):
             self.assertEqual(self.run_words(good, "tell")[::2], (
                 3, "why: tell is no unit's number; the words are SCRIPT.json UNIT [RULE]\n"))
             self.assertEqual(self.run_words(good)[0], 3)
+            self.assertEqual(self.run_words("--all", good, "1"), self.run_words(good, "1"))
+            self.assertEqual(self.run_words(good, "1", "--al")[0], 3)
             self.assertEqual(self.run_words(os.path.join(folder, "none.json"), "1")[0], 2)
             self.assertEqual(self.run_words("--help")[0], 0)
 

@@ -5,13 +5,17 @@ from __future__ import annotations
 import contextlib
 import io
 import json
+import re
 from concurrent.futures import ThreadPoolExecutor
 from pathlib import Path
 from typing import Callable
 
 from hipac_tools import program, rulebase
 from hipac_tools.course import Course
+from hipac_tools.places import PRINTED, Places, marked
 from hipac_tools.report import Report
+
+from .breaking import paths_of
 
 AT_ONCE = 4
 """So many runs of the program go on at a time."""
@@ -41,6 +45,17 @@ def refusals(texts: list[str]) -> list[str]:
 def followed(script: object) -> Report:
     """The report of the tools' own course of a script."""
     return Course(rulebase.read(json.dumps(script))).report()
+
+
+PLACE = re.compile(r"line\s+(\d+:\d+)")
+
+
+def with_paths(text: str, script: object) -> str:
+    """A text on a script on one line, with paths in place of the lines and columns, and without the note on them."""
+    places = Places(json.dumps(script))
+    paths = ("/" + "/".join(map(str, steps)) for steps in paths_of(script))
+    known = {places.told(marked(path)): path for path in paths}
+    return PLACE.sub(lambda found: known[f"line {found[1]}"], text.replace(f"({PRINTED})\n", ""))
 
 
 def run_word(main: Callable[[list[str]], int], *arguments: str) -> tuple[int, str, str]:

@@ -4,7 +4,7 @@ from __future__ import annotations
 
 import unittest
 
-from hipac_live import Act, Emit, Ending, Fire, ObjectOperation, RuleOperation, Sub
+from hipac_live import Act, Emit, Ending, Fire, ObjectOperation, Refused, RuleOperation, Sub
 
 from .making import ITEM, NOTE, STOCK, RuleBaseTest, installed, rule, script
 
@@ -179,6 +179,15 @@ class StateTest(RuleBaseTest):
         self.assertEqual(state.rules, {"no_oversell": "enabled", "off": "disabled", "never": "absent"})
         self.assertEqual((state.find("item", 5)["stock"], state.find("item", 6)), (50, None))
         self.assertEqual([it.key for it in state.all("item")], [-3, 5, 12])
+        self.assertEqual(base.rows("item"), state.all("item"))
+        self.assertEqual((base.get("item", 5), base.get("item", 6)), (state.find("item", 5), None))
+
+    def test_a_class_and_a_key_that_are_refused(self):
+        base = self.base(STOCK)
+        for ask, code, path in ((lambda: base.rows("none"), "S4", "/1"), (lambda: base.get("item", "7"), "S2", "/2")):
+            with self.assertRaises(Refused) as refused:
+                ask()
+            self.assertEqual((refused.exception.code, refused.exception.path), (code, path))
 
     def test_an_empty_state(self):
         state = self.base(script()).show()

@@ -1,18 +1,17 @@
 -- What is read at one path is read at each.
-use Rattle.std.proofs.Common.{◌≡◌, ℕ, zero, suc, ◌+◌, nat_lt, Bool, true, false, not, ◌&&◌, cond, List, [], ◌∷◌, ◌++◌, length, map, Option, Some, None, Ok, Err, refl, sym, ap, ◌∙◌}
-use Rattle.std.specs.Prelude.{option_and_then, if◌then◌else◌}
+use Rattle.std.proofs.Common.{◌≡◌, ℕ, zero, suc, nat_lt, Bool, true, false, not, ◌&&◌, cond, List, [], ◌∷◌, ◌++◌, length, Option, Some, None, Ok, Err, refl, ap, ◌∙◌}
+use Rattle.std.specs.Prelude.{option_and_then}
 use Rattle.serde_json.specs.Data.{Data, number, boolean, string}
 use Rattle.serde_json.specs.Find.{as_number, as_i64}
 use Rattle.hp_model.specs.Values.{Name, ◌>>=◌}
 use Rattle.hp_model.specs.Expressions.{Expression}
-use Rattle.hp_model.specs.Rules.{Assignment, RuleOperation, Statement, Rule}
-use Rattle.hp_model.specs.Cascade.{transaction, moment}
+use Rattle.hp_model.specs.Rules.{Assignment, Rule}
 use Rattle.hp_model.specs.Refusals.{Path, item_at, Limit, Refusal, Decoded, shaped, whole, known, arguments_limit}
 use Rattle.hp_model.specs.Json.{Form, form_of, pair_of, list_of}
 use Rattle.hp_model.specs.Parts.{name_of, name_at, contains_name, new_name_at, place_of, place_at, integer_at, index_in, index_at, not_below, number_from, list_at, at_most, short_list_at, read_from}
 use Rattle.hp_model.specs.Scopes.{class_names, Scope, fields_of, is_known, row_at, new_row_at}
-use Rattle.hp_model.specs.ExpressionGrammar.{ExpressionForm, number_form, truth_form, text_form, arithmetic_form, comparison_form, negated_form, inverted_form, both_form, either_form, field_form, key_form, new_form, old_form, key_in_form, argument_form, time_form, count_form, expression_form, expression_form_at, text_at, field_of_at, key_of_at, new_field_at, old_field_at, key_in_at, argument_at, time_of_at, operands_at, expression_from, expression_within, expression_at}
-use Rattle.hp_model.specs.StatementGrammar.{assigned_names, assigned_field_at, assignment_at, assignments_at, all_assignments_at, StatementForm, create_form, update_form, delete_form, signal_form, emit_form, if_form, each_form, for_form, with_form, sub_form, abort_form, veto_form, rule_form, fire_form, statement_form, is_veto, allowed, statement_form_at, create_at, update_at, delete_at, arguments_at, signal_at, emit_at, on_rule_at, fire_at, Reading, body_of, statements_by, if_at, each_at, query_at, for_at, with_at, sub_at, statement_from, statement_within, statements_at}
+use Rattle.hp_model.specs.ExpressionGrammar.{ExpressionForm, number_form, truth_form, text_form, arithmetic_form, comparison_form, negated_form, inverted_form, both_form, either_form, field_form, key_form, new_form, old_form, key_in_form, argument_form, time_form, count_form, expression_form, expression_form_at, field_of_at, key_of_at, new_field_at, old_field_at, key_in_at, argument_at, time_of_at, operands_at, expression_from, expression_within, expression_at}
+use Rattle.hp_model.specs.StatementGrammar.{assigned_names, assigned_field_at, assignment_at, assignments_at, all_assignments_at, StatementForm, create_form, update_form, delete_form, signal_form, emit_form, if_form, each_form, for_form, with_form, sub_form, abort_form, veto_form, rule_form, fire_form, statement_form, is_veto, statement_form_at, create_at, update_at, delete_at, arguments_at, signal_at, emit_at, on_rule_at, fire_at, Reading, statements_by, if_at, each_at, query_at, for_at, with_at, sub_at, statement_from, statement_within, statements_at}
 use Rattle.hp_model.specs.Decode.{Schedule, ItemForm, transaction_form, clock_form, item_form, item_form_at, few_moments, due_moments, transaction_at, clock_at, item_from, unit_at}
 use Rattle.hp_script.specs.Requests.{nothing_since}
 

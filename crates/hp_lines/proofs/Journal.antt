@@ -15,12 +15,12 @@ use Rattle.hp_model.specs.Report.{Bytes, transaction_text, units_text}
 use Rattle.hp_model.specs.Output.{text_of}
 use Rattle.hp_report.specs.Text.{final_text}
 use Rattle.hp_script.specs.Scopes.{library_scope}
-use Rattle.hp_script.specs.Requests.{Request, item, state, asks_for_state, nothing_since, item_of, request_at, request_of}
+use Rattle.hp_script.specs.Requests.{Request, item, show, ShowForm, show_form_in, excerpt_from, show_of, nothing_since, item_of, request_from, request_at, request_of}
 use Rattle.hp_script.specs.Timed.{TimedScript, library_at, timed_script_at, timed_script_of, untimed}
 use Rattle.hp_script.proofs.Timed.{untimed_at}
 use Rattle.hp_lines.specs.Lines.{Line}
-use Rattle.hp_lines.specs.Live.{RuleBase, new_base, Stage, unopened, up, closed, Answer, ran, opening_answer, later_answer, answer, stage_after}
-use Rattle.hp_lines.specs.Journal.{item_in, item_for, value_if, body_if, accepted, accepted_bodies, opened_by, IsJournal, Replays, AcceptedLinesReplay}
+use Rattle.hp_lines.specs.Live.{RuleBase, new_base, up, closed, opening_answer, later_answer, stage_after}
+use Rattle.hp_lines.specs.Journal.{item_in, value_if, body_if, accepted, accepted_bodies, AcceptedLinesReplay}
 use Rattle.hp_lines.proofs.Anywhere.{unit_goes}
 use Rattle.hp_lines.proofs.Pieces.{closed_stage}
 
@@ -82,9 +82,13 @@ record IsItem (library : Library) (clock : ℕ) (l : Line) (s : Schedule) : Type
   pub value_is : json_at l ≡ Ok value
   pub reads : unit_at library.rules (library_scope library) [] (nothing_since clock) value ≡ Ok s
 
-item_or_state : (b : Bool) (r : Decoded Request) (s : Schedule) → cond b (Ok state) r ≡ Ok (item s) → r ≡ Ok (item s)
-item_or_state true r s h = cc
-item_or_state false r s h = h
+item_or_show : (library : Library) (clock : ℕ) (d : Data) (form : Option ShowForm) (s : Schedule) → request_from library clock d form ≡ Ok (item s) → item_of library clock d ≡ Ok (item s)
+unfolding show_of
+item_or_show library clock d None s h = h
+item_or_show library clock d (Some form) s h =
+    let shown = both (excerpt_from library form) (λ e. Ok (show e)) (item s) h in
+    let clash : Ok (show shown.first) ≡ Ok (item s) = shown.then_is in
+    cc
 
 abbrev asked_for : Schedule → Decoded Request
 asked_for s = Ok (item s)
@@ -96,7 +100,7 @@ item_read : (library : Library) (clock : ℕ) (l : Line) (s : Schedule) → requ
 unfolding request_of request_at item_of
 item_read library clock l s read =
     let parts = both (json_at l) (request_at library clock) (item s) (unless_ok (nat_lt 1048576 (length l)) (over_limit size_limit) (json_at l >>= request_at library clock) (item s) read) in
-    let asked = item_or_state (asks_for_state parts.first) (item_of library clock parts.first) s parts.then_is in
+    let asked = item_or_show library clock parts.first (show_form_in parts.first) s parts.then_is in
     let schedule = both (unit_at library.rules (library_scope library) [] (nothing_since clock) parts.first) (λ x. Ok (item x)) (item s) asked in
     record { value = parts.first; value_is = parts.is; reads = same_item schedule.first s _ schedule.is schedule.then_is }
 
@@ -162,7 +166,7 @@ step : (with_tree : Bool) (S : State) (path : Path) (base : RuleBase) (before : 
     → Leads_on with_tree S path base before i (value_if (item_in r) (json_at l) ++ accepted with_tree (later_answer with_tree base r).stage ls)
     (body_if (item_in r) (later_answer with_tree base r).body ++ accepted_bodies with_tree (later_answer with_tree base r).stage ls) end
 step with_tree S path base before i l ls end rest leads (Err e) asked ends = rest base before i leads ends
-step with_tree S path base before i l ls end rest leads (Ok state) asked ends = rest base before i leads ends
+step with_tree S path base before i l ls end rest leads (Ok (show excerpt)) asked ends = rest base before i leads ends
 step with_tree S path base before i l ls end rest leads (Ok (item s)) asked ends =
     let read = item_read base.library base.clock l s asked in
     let clock : nothing_since base.clock ≡ nothing_since before.clock = ap nothing_since (sym leads.clock_is) in

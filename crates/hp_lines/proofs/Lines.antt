@@ -1,15 +1,15 @@
 -- Of a line that is too long no more need be kept than tells so.
-use Rattle.std.proofs.Common.{◌≡◌, ℕ, suc, ◌+◌, ◌<◌, ◌≤◌, nat_lt, Bool, true, false, cond, List, [], ◌∷◌, ◌++◌, length, take, Ok, Err, inl, inr, refl, sym, ap, ◌∙◌, arith}
+use Rattle.std.proofs.Common.{◌≡◌, ℕ, ◌<◌, ◌≤◌, Bool, cond, List, length, take, Err, inl, inr, refl, sym, ap, ◌∙◌, arith}
 use Rattle.std.proofs.lemmas.Bool.{cases_lt, lt-ltb}
 use Rattle.std.proofs.lemmas.List.{take_all, length-take-le}
 use Rattle.hp_model.specs.Values.{◌>>=◌}
 use Rattle.hp_model.specs.Rules.{Library}
-use Rattle.hp_model.specs.Refusals.{Decoded, over_limit, size_limit}
+use Rattle.hp_model.specs.Refusals.{over_limit, size_limit}
 use Rattle.hp_model.specs.Decode.{json_at}
 use Rattle.hp_script.specs.Timed.{timed_script_at, timed_script_of}
 use Rattle.hp_script.specs.Requests.{request_at, request_of}
-use Rattle.hp_lines.specs.Lines.{Line, begun, kept_with}
-use Rattle.hp_lines.specs.Live.{RuleBase, Stage, unopened, up, closed, Answer, opening_answer, later_answer, answer, answers, stage_after}
+use Rattle.hp_lines.specs.Lines.{Line}
+use Rattle.hp_lines.specs.Live.{Stage, unopened, up, closed, opening_answer, later_answer, answer}
 
 long_script : (bytes : List ℕ) → 1048576 < length bytes → timed_script_of bytes ≡ Err (over_limit size_limit)
 unfolding timed_script_of

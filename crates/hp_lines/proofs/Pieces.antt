@@ -1,15 +1,10 @@
 -- What is written for bytes that come in pieces: the answers to their lines.
-use Rattle.std.proofs.Common.{◌≡◌, ◌==◌, ℕ, suc, ◌+◌, ◌<◌, ◌≤◌, nat_lt, Bool, true, false, cond, List, [], ◌∷◌, ◌++◌, length, take, slice_index_or, Option, inl, inr, refl, sym, ap, subst, ◌∙◌, append_assoc, append-nil, arith}
-use Rattle.std.specs.Io.KnownBytes.{Appends, Consumes}
-use Rattle.std.proofs.Math.Seq.{take-suc}
+use Rattle.std.proofs.Common.{◌≡◌, ◌==◌, ℕ, suc, nat_lt, Bool, true, false, cond, List, [], ◌∷◌, ◌++◌, length, take, inl, inr, refl, sym, ap, ◌∙◌, append_assoc, arith}
 use Rattle.std.proofs.lemmas.Bool.{cases_lt, lt-ltb, le-ltb}
 use Rattle.std.proofs.lemmas.List.{take_all, take-append-le, length-take-le, length-append}
-use Rattle.std.proofs.KnownBytes.{Appends-nil, Appends-trans, Consumes-nil, Consumes-trans}
-use Rattle.hp_report.specs.Device.{Begins}
 use Rattle.hp_lines.specs.Lines.{Line, begun, lines_from, lines_of, kept_with}
-use Rattle.hp_lines.specs.Live.{Stage, unopened, up, closed, Answer, answer, answers, stage_after, output, Server, new_server, reply, answered, grown, byte_output, next, piece_output, after, end_output}
+use Rattle.hp_lines.specs.Live.{Stage, unopened, closed, Answer, answer, answers, stage_after, output, Server, new_server, reply, answered, grown, byte_output, next, piece_output, after, end_output}
 use Rattle.hp_lines.proofs.Lines.{kept_answer}
-use Rattle.hp_lines.proofs.Kept.{begins_on}
 
 -- ---- pieces
 

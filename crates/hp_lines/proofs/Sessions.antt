@@ -1,9 +1,10 @@
 -- Worked sessions, each with what is answered, proved by computation.
-use Rattle.std.proofs.Common.{◌≡◌, refl, List, [], ◌∷◌, codes, false}
+use Rattle.std.proofs.Common.{◌≡◌, refl, [], ◌∷◌, codes, false}
 use Rattle.hp_model.proofs.Decoding.{script_on_literals}
 use Rattle.hp_model.proofs.Scripts.{lines}
 use Rattle.hp_script.specs.Timed.{library_at, timed_script_at, timed_script_of}
-use Rattle.hp_script.specs.Requests.{item_of, request_at, request_of}
+use Rattle.hp_model.specs.Parts.{place_at, integer_at}
+use Rattle.hp_script.specs.Requests.{excerpt_from, show_of, item_of, request_at, request_of}
 use Rattle.hp_lines.specs.Live.{output}
 
 -- units are numbered on, and a refused line changes nothing
@@ -15,8 +16,14 @@ numbered_on = refl
 -- the state is shown as it is; the last line needs no line feed
 pub shown : output false (codes "{\"version\":1,\"classes\":[[\"acct\",[[\"bal\",\"int\"]]]],\"rules\":[],\"items\":[[\"tx\",[[\"create\",\"acct\",1,[[\"bal\",5]]]]]]}\r\n[\"show\"]")
     ≡ lines (codes "unit 1 committed" ∷ codes "ok 1" ∷ codes "object acct 1 bal=5" ∷ codes "ok 1" ∷ [])
-unfolding script_on_literals library_at timed_script_at timed_script_of item_of request_at request_of
+unfolding script_on_literals library_at timed_script_at timed_script_of excerpt_from show_of item_of request_at request_of
 shown = refl
+
+-- a class's objects are shown, and one object; a class that the library lacks and a key that is no number are refused
+pub parts_shown : output false (codes "{\"version\":1,\"classes\":[[\"acct\",[[\"bal\",\"int\"]]],[\"mark\",[]]],\"rules\":[],\"items\":[[\"tx\",[[\"create\",\"acct\",2,[[\"bal\",7]]],[\"create\",\"mark\",1,[]],[\"create\",\"acct\",-1,[[\"bal\",5]]]]]]}\n[\"show\",\"acct\"]\n[\"show\",\"acct\",2]\n[\"show\",\"mark\",2]\n[\"show\",\"item\"]\n[\"show\",\"acct\",true]\n[\"show\",\"acct\",1,2]")
+    ≡ lines (codes "unit 1 committed" ∷ codes "ok 1" ∷ codes "object acct -1 bal=5" ∷ codes "object acct 2 bal=7" ∷ codes "ok 1" ∷ codes "object acct 2 bal=7" ∷ codes "ok 1" ∷ codes "ok 1" ∷ codes "refused S4 /1" ∷ codes "refused S2 /2" ∷ codes "refused S2 /" ∷ [])
+unfolding script_on_literals library_at timed_script_at timed_script_of excerpt_from show_of item_of request_at request_of place_at integer_at
+parts_shown = refl
 
 -- the clock goes on from where it stands
 pub clock_goes_on : output false (codes "{\"version\":1,\"classes\":[],\"rules\":[],\"items\":[[\"clock\",5]]}\n[\"clock\",4]\n[\"clock\",6]\n")

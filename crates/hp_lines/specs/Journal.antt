@@ -8,14 +8,14 @@ use Rattle.hp_model.specs.Decode.{Schedule, Root, root_of, json_at, decode}
 use Rattle.hp_model.specs.Report.{Bytes}
 use Rattle.hp_model.specs.Output.{text_of}
 use Rattle.hp_report.specs.Text.{final_text}
-use Rattle.hp_script.specs.Requests.{Request, item, state, request_of}
+use Rattle.hp_script.specs.Requests.{Request, item, show, request_of}
 use Rattle.hp_lines.specs.Lines.{Line}
 use Rattle.hp_lines.specs.Live.{RuleBase, Stage, unopened, up, closed, answer, stage_after}
 
 -- the schedule of a line, if the line is an accepted item
 abbrev pub item_in : Decoded Request → Option Schedule
 item_in (Ok (item schedule)) = Some schedule
-item_in (Ok state) = None
+item_in (Ok (show excerpt)) = None
 item_in (Err r) = None
 
 abbrev pub item_for : Stage → Line → Option Schedule

@@ -1,15 +1,15 @@
 -- The answers of a running rule manager to lines.
-use Rattle.std.specs.Prelude.{ℕ, suc, ◌+◌, ◌==◌, Bool, List, [], ◌∷◌, ◌++◌, length, codes, decimal, Ok, Err, if◌then◌else◌}
+use Rattle.std.specs.Prelude.{ℕ, ◌+◌, ◌==◌, Bool, List, [], ◌∷◌, ◌++◌, length, codes, decimal, Ok, Err, if◌then◌else◌}
 use Rattle.hp_model.specs.Rules.{Library}
 use Rattle.hp_model.specs.State.{State, initial_state}
-use Rattle.hp_model.specs.Cascade.{UnitReport, run_units}
+use Rattle.hp_model.specs.Cascade.{run_units}
 use Rattle.hp_model.specs.Refusals.{Decoded}
 use Rattle.hp_model.specs.Decode.{Schedule}
 use Rattle.hp_model.specs.Report.{Bytes, line, units_text}
 use Rattle.hp_model.specs.Output.{refusal_text}
-use Rattle.hp_report.specs.Text.{state_text}
+use Rattle.hp_report.specs.Text.{state_text, class_text, object_text}
 use Rattle.hp_script.specs.Timed.{TimedScript, timed_script_of}
-use Rattle.hp_script.specs.Requests.{Request, item, state, request_of}
+use Rattle.hp_script.specs.Requests.{Excerpt, whole_state, objects_of, object_at, Request, item, show, request_of}
 use Rattle.hp_lines.specs.Lines.{Line, lines_of, kept_with, begun}
 
 -- ---- a running rule base
@@ -57,13 +57,19 @@ abbrev pub opening_answer : (with_tree : Bool) → Decoded TimedScript → Answe
 opening_answer with_tree (Err r) = record { body = []; last = refusal_text r; stage = closed }
 opening_answer with_tree (Ok t) = ran with_tree (new_base t.script.library) (record { units = t.script.units; clock = t.clock })
 
+-- the lines of a part of a state
+abbrev pub excerpt_text : Library → State → Excerpt → Bytes
+excerpt_text library S whole_state = state_text library S.objects S.rules
+excerpt_text library S (objects_of class) = class_text library class S.objects
+excerpt_text library S (object_at class key) = object_text library class key S.objects
+
 abbrev pub later_answer : (with_tree : Bool) → RuleBase → Decoded Request → Answer
 later_answer with_tree base (Err r) = record { body = []; last = refusal_text r; stage = up base }
 later_answer with_tree base (Ok (item schedule)) = ran with_tree base schedule
-later_answer with_tree base (Ok state) =
-    record { body = state_text base.library base.state.objects base.state.rules; last = ok_line base.units; stage = up base }
+later_answer with_tree base (Ok (show excerpt)) =
+    record { body = excerpt_text base.library base.state excerpt; last = ok_line base.units; stage = up base }
 
--- the first line is a script; each later one is an item over its library, or asks for the state
+-- the first line is a script; each later one is an item over its library, or asks for a part of the state
 abbrev pub answer : (with_tree : Bool) → Stage → Line → Answer
 answer with_tree unopened l = opening_answer with_tree (timed_script_of l)
 answer with_tree (up base) l = later_answer with_tree base (request_of base.library base.clock l)

@@ -3,7 +3,6 @@ use Rattle.std.proofs.Common.{◌≡◌, ◌∙◌, ◌++◌, ap, sym, subst, �
 use Rattle.hp_model.specs.Refusals.{Refusal, Decoded}
 use Rattle.hp_model.specs.Decode.{Schedule}
 use Rattle.hp_model.specs.Output.{refusal_text}
-use Rattle.hp_report.specs.Text.{state_text}
 use Rattle.hp_rule.specs.Mapped.{library}
 use Rattle.hp_script.specs.Timed.{TimedScript, timed_script_of}
 use Rattle.hp_script.specs.Requests as R
@@ -29,10 +28,10 @@ pub answers_item : (text : String Global) (old new : RuleBase) (with_tree : Bool
 answers_item text old new with_tree base line s stands read is later =
     answers_by text new with_tree base line (Ok (R.item s)) (asked_of old base line (Ok (R.item s)) stands read) (record { text_is = is; stage_is = later })
 
-pub answers_state : (text : String Global) (kept : RuleBase) (with_tree : Bool) (base : L.RuleBase) (line : List ℕ) → StandsFor kept base → request_of (library kept.library.value) kept.clock line ≡ Ok R.state
-    → string_bytes text ≡ state_text base.library base.state.objects base.state.rules ++ L.ok_line base.units → Answers text (Up kept) (L.answer with_tree (L.up base) line)
-answers_state text kept with_tree base line stands read is =
-    answers_by text kept with_tree base line (Ok R.state) (asked_of kept base line (Ok R.state) stands read) (record { text_is = is; stage_is = stands })
+pub answers_show : (text : String Global) (kept : RuleBase) (with_tree : Bool) (base : L.RuleBase) (line : List ℕ) (e : R.Excerpt) → StandsFor kept base → request_of (library kept.library.value) kept.clock line ≡ Ok (R.show e)
+    → string_bytes text ≡ L.excerpt_text base.library base.state e ++ L.ok_line base.units → Answers text (Up kept) (L.answer with_tree (L.up base) line)
+answers_show text kept with_tree base line e stands read is =
+    answers_by text kept with_tree base line (Ok (R.show e)) (asked_of kept base line (Ok (R.show e)) stands read) (record { text_is = is; stage_is = stands })
 
 pub answers_refusal : (text : String Global) (kept : RuleBase) (with_tree : Bool) (base : L.RuleBase) (line : List ℕ) (r : Refusal) → StandsFor kept base → request_of (library kept.library.value) kept.clock line ≡ Err r
     → string_bytes text ≡ refusal_text r → Answers text (Up kept) (L.answer with_tree (L.up base) line)

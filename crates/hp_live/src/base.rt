@@ -3,9 +3,10 @@
 ghost use Rattle.std.specs.Prelude.{◌≡◌, ◌++◌, List, IfOk, OnOk, map, string_bytes};
 ghost use Rattle.hp_model.specs.Cascade.{run_units};
 ghost use Rattle.hp_model.specs.Decode as D;
-ghost use Rattle.hp_report.specs.Text.{Gains, state_text};
+ghost use Rattle.hp_report.specs.Text.{Gains};
 ghost use Rattle.hp_report.specs.Mapped.{unit_report};
 ghost use Rattle.hp_rule.specs.Mapped.{library as model_library, unit as model_unit};
+ghost use Rattle.hp_script.specs.Asked.{excerpt as model_excerpt};
 ghost use Rattle.hp_script.specs.Mapped.{schedule as model_schedule};
 ghost use Rattle.hp_lines.specs.Live as L;
 ghost use Rattle.hp_live.specs.Kept.{StandsFor};
@@ -13,9 +14,9 @@ ghost use Rattle.hp_live.specs.Running.{with_state, ran_base};
 
 use crate::options::Options;
 use hp_fire::Past;
-use hp_report::{final_statuses, replay_units, state_text, units_text};
+use hp_report::{class_text, final_statuses, object_text, replay_units, state_text, units_text};
 use hp_rule::{Library, Unit};
-use hp_script::Schedule;
+use hp_script::{Excerpt, Schedule};
 use hp_store::Store;
 use hp_top::{Runner, opening};
 use hp_tree::{Objects, UnitReport};
@@ -107,15 +108,31 @@ impl RuleBase {
         Ok(text)
     }
 
-    /// The current state, as the lines of an answer.
-    pub(crate) fn shown(&self, alloc: Global) -> Result<String, AllocError>
+    /// A part of the current state, as the lines of an answer.
+    pub(crate) fn show(&self, alloc: Global, excerpt: Excerpt) -> Result<String, AllocError>
         ensures { IfOk result (λ text. (base : L.RuleBase) → StandsFor self.now base →
-            string_bytes text ≡ state_text base.library base.state.objects base.state.rules ++ L.ok_line base.units) }
+            string_bytes text ≡ L.excerpt_text base.library base.state (model_excerpt excerpt) ++ L.ok_line base.units) }
     {
-        let statuses = final_statuses(alloc, &self.library, &self.store)?;
-        let mut text = state_text(alloc, &self.library, &self.objects, &statuses)?;
+        let mut text = self.excerpt_text(alloc, excerpt)?;
         put_ok(&mut text, self.units)?;
         Ok(text)
+    }
+
+    /// The lines of a part of the current state.
+    fn excerpt_text(&self, alloc: Global, excerpt: Excerpt) -> Result<String, AllocError>
+        ensures { IfOk result (λ text. (base : L.RuleBase) → StandsFor self.now base →
+            string_bytes text ≡ L.excerpt_text base.library base.state (model_excerpt excerpt)) }
+    {
+        match excerpt {
+            Excerpt::State => {
+                let statuses = final_statuses(alloc, &self.library, &self.store)?;
+                state_text(alloc, &self.library, &self.objects, &statuses)
+            }
+            Excerpt::Class(class) => class_text(alloc, &self.library, &self.store, class),
+            Excerpt::Object(class, key) => {
+                object_text(alloc, &self.library, &self.store, class, key)
+            }
+        }
     }
 }
 

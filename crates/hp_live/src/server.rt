@@ -88,7 +88,7 @@ fn answer_later<T: Threads + Sync>(
 {
     match decode_request(alloc, &base.library, base.clock, line) {
         Ok(Request::Item(schedule)) => base.run(rt, alloc, schedule, options),
-        Ok(Request::State) => base.shown(alloc),
+        Ok(Request::Show(excerpt)) => base.show(alloc, excerpt),
         Err(DecodeError::Refused(refusal)) => refusal_text(alloc, &refusal),
         Err(DecodeError::Memory) => Err(AllocError),
     }

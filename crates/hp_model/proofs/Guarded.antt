@@ -16,7 +16,8 @@ use Rattle.hp_model.specs.State.{State, RuleState, with_objects, with_rule, exte
 use Rattle.hp_model.specs.Tree.{Task, Step, condition_step, action_step, Node, Operation, rule_op, create_op, update_op, delete_op, no_items, operation, emission, apply, sub_node, fire_node, act_node, with_action, with_later_action, without_action, with_fault}
 use Rattle.hp_model.specs.Transactions.{End, done, abort_by, veto_by, Course, Work, ends, joined as joined_course, after_end, then_do, with_value, for_each, with_items, closed as closed_course, placed, drained}
 use Rattle.hp_model.specs.Firing.{Firing, Fire, after_firing, siblings, Siblings, course_of, Level, start, triggered, signal_in, Context, with_row, operated, created_if_absent, updated_if_present, deleted_if_present, vetoes, nested, sub_by, choose, run_statement, run_body, run_action, follow, decide, take_step, below_limit, fire_task, changed_row, made_row, checked_kinds, keyed_row, integer_value, boolean_value, values_of, answer_named, named_object, operated_rule, fired_task, start_fired, triggered_by, task_if, triggered_from, deferring, idle, action_course, action_context, action_task, task_environment}
-use Rattle.hp_model.specs.Chains.{completes, triggers_from, signal_triggers, statement_triggers, body_triggers, may_detach, rule_triggers, NotTooDeep, IsShallowCondition}
+use Rattle.hp_model.specs.Chains.{completes, triggers_from, signal_triggers, statement_triggers, body_triggers, may_detach, rule_triggers, NotTooDeep}
+use Rattle.hp_model.specs.Endings.{FaultsOnlyBy}
 use Rattle.hp_model.proofs.Causes.{Plain, value_plain, values_plain, made_plain, checked_plain, keyed_plain, integer_value_plain, boolean_value_plain, object_plain, operated_plain, answer_plain, IsPlainVerdict, verdict_plain}
 
 -- the rank of a task rises with what it starts, so that rounds and generations end
@@ -165,7 +166,7 @@ IsFireable allowed n = (d : ℕ) × IsTrue (allowed d n)
 -- a node of a rule that may fire, whose condition didn't fail because firings would nest too deep
 abbrev pub IsNodeAllowed : (ℕ → ℕ → Bool) → Node → Type 0
 IsNodeAllowed allowed sub_node = ⊤
-IsNodeAllowed allowed (fire_node rule place condition) = IsShallowCondition condition × IsFireable allowed rule
+IsNodeAllowed allowed (fire_node rule place condition) = FaultsOnlyBy NotTooDeep condition × IsFireable allowed rule
 IsNodeAllowed allowed (act_node rule place) = IsFireable allowed rule
 
 -- a fact about a rank, a state and a course from it that the pieces of every course keep, if its tasks may fire

@@ -12,11 +12,13 @@ use Rattle.hp_model.specs.Events.{Event, occurrence_of}
 use Rattle.hp_model.specs.Conditions.{answer}
 use Rattle.hp_model.specs.Rules.{Coupling, immediate, deferred, separate, dependent, exclusive, is_immediate, Assignment, RuleOperation, install, enable, disable, remove, Statement, create, update, delete, signal, emit, when, each, for_answer, with_object, subtransaction, abort, veto, on_rule, fire, Body, empty, ◌then◌, Library, Rule, no_rule, class_at, rule_at}
 use Rattle.hp_model.specs.State.{State, RuleState, object_fits, find_object, rule_state, with_rule, with_status, with_objects, extended_rule, extended, Status, absent, enabled, disabled, IsFit}
-use Rattle.hp_model.specs.Tree.{Task, Step, condition_step, action_step, Node, Operation, create_op, update_op, delete_op, rule_op, Items, no_items, operation, emission, detachment, node, append, apply, sub_node}
-use Rattle.hp_model.specs.Transactions.{Detached, End, done, abort_by, veto_by, Course, Work, ends, joined, after_end, then_do, with_value, for_each, with_items, survivor_by, survivors, closed_by, closed, placed, detachments, detached_of, unreleased}
+use Rattle.hp_model.specs.Tree.{Task, Step, condition_step, action_step, Node, Operation, create_op, update_op, delete_op, rule_op, no_items, operation, emission, apply, sub_node}
+use Rattle.hp_model.specs.Transactions.{Detached, End, done, abort_by, veto_by, Course, Work, ends, joined, after_end, then_do, with_value, for_each, with_items, survivor_by, survivors, closed_by, closed, placed, detached_of, unreleased}
 use Rattle.hp_model.specs.Firing.{Firing, Fire, after_firing, siblings, Siblings, course_of, Level, start, triggered, signal_in, Context, with_row, operated, created_if_absent, updated_if_present, deleted_if_present, vetoes, nested, sub_by, choose, run_statement, run_body, changed_row, made_row, checked_kinds, keyed_row, integer_value, boolean_value, values_of, answer_named, named_object, operated_rule, fired_task, start_fired, triggered_by, task_if, triggered_from}
 use Rattle.hp_model.specs.Ranges.{expression_fits, assignments_fit, statement_fits, body_fits, IsFitLibrary}
-use Rattle.hp_model.specs.Kinds.{Declared, signature_of, covers, is_declared, is_fired, columns_of, columns_by, Scope, with_name, is_only, sort_of, assignments_kinded, all_assigned, statement_kinded, body_kinded, query_classes, is_calm, is_statement_calm, is_body_calm, is_node_calm, CauseOf, IsKindedNode, IsKinded, ArePastsDeclared}
+use Rattle.hp_model.specs.Kinds.{Declared, signature_of, covers, is_declared, is_fired, columns_of, columns_by, Scope, with_name, is_only, sort_of, assignments_kinded, all_assigned, statement_kinded, body_kinded, query_classes, is_calm, is_statement_calm, is_body_calm, is_node_calm, CauseOf, KindedCause, ArePastsDeclared}
+use Rattle.hp_model.specs.Endings.{NodeHasOnly, TreeHasOnly}
+use Rattle.hp_model.proofs.Endings.{only_append, only_detachments}
 use Rattle.hp_model.proofs.Induction.{firing_course}
 use Rattle.hp_model.proofs.FitValues.{Gives, Gives-any, each_to, each_append, each_filter, each_map, ValueFits, KeyedFits, RowsFit, PrimitiveFits, OptionFits, EnvironmentFits, AnswersFit, values_give, answer_gives}
 use Rattle.hp_model.proofs.FitRows.{made_gives, checked_gives, ChangesFit, object_changed, key_gives, keyed_gives, object_gives, kinds_are, fields_at}
@@ -26,18 +28,7 @@ use Rattle.hp_model.proofs.KindValues.{Safe-value, Safe-cause, Safe-weaker, Part
 use Rattle.hp_model.proofs.KindEvents.{Well, MayBeWell, occurrence_well, parts_open}
 use Rattle.hp_model.proofs.KindRows.{Sound, not_first, not_second, any_sound, integer_sound, boolean_sound, arguments_sound, row_sound, made_sound, checked_sound, RowsOf, answer_sound, bound_typed, AnswersTyped, answer_named_typed, object_sound, operated_sound}
 
--- ---- trees
-
-pub kinded_append : (library : Library) (a b : Items) → IsKinded library a → IsKinded library b → IsKinded library (append a b)
-kinded_append library no_items b h k = k
-kinded_append library (operation op rest) b h k = kinded_append library rest b h k
-kinded_append library (emission v rest) b h k = kinded_append library rest b h k
-kinded_append library (detachment t rest) b h k = kinded_append library rest b h k
-kinded_append library (node what end inside rest) b h k = (h.0, kinded_append library rest b h.1 k)
-
-kinded_detachments : (library : Library) (ts : List Task) → IsKinded library (detachments ts)
-kinded_detachments library [] = tt
-kinded_detachments library (t ∷ ts) = kinded_detachments library ts
+-- ---- ends
 
 abbrev pub IsKindedEnd : (calm : Bool) → End → Type 0
 IsKindedEnd calm done = ⊤
@@ -97,7 +88,7 @@ module _ (library : Library) (d : Declared) where
     pub state : Good c.state
     pub queued : TasksTyped c.queued
     pub detached : DetachedTyped c.detached
-    pub items : IsKinded library c.items
+    pub items : TreeHasOnly (KindedCause library) c.items
     pub end : IsKindedEnd calm c.end
 
   pub weaker_course : (a b : Bool) (c : Course) → (a ≡ false → b ≡ false) → CourseTyped a c → CourseTyped b c
@@ -180,7 +171,7 @@ module _ (library : Library) (d : Declared) where
     state = k.state;
     queued = each_append TaskTyped b.queued c.queued h.queued k.queued;
     detached = each_append (λ (x : Detached). TaskTyped x.task) b.detached c.detached h.detached k.detached;
-    items = kinded_append library b.items c.items h.items k.items;
+    items = only_append (KindedCause library) b.items c.items h.items k.items;
     end = k.end;
   }
 
@@ -212,7 +203,7 @@ module _ (library : Library) (d : Declared) where
   survivors_typed (x ∷ xs) h = survivor_typed x.task.place x (survivors xs) h.0 (survivors_typed xs h.1)
 
   -- what a transaction from a state gives, as a part of another course
-  pub closed_typed : {calm inner : Bool} (e : End) (S : State) (c : Course) (what : Node) (last : End) → IsKindedNode library what → IsKindedEnd calm last → IsKindedEnd (is_node_calm library what) e → Good S → CourseTyped inner c → CourseTyped calm (nested what (closed_by e S c) last)
+  pub closed_typed : {calm inner : Bool} (e : End) (S : State) (c : Course) (what : Node) (last : End) → NodeHasOnly (KindedCause library) what → IsKindedEnd calm last → IsKindedEnd (is_node_calm library what) e → Good S → CourseTyped inner c → CourseTyped calm (nested what (closed_by e S c) last)
   closed_typed done S c what last is plain ended good h = record { state = h.state; queued = h.queued; detached = h.detached; items = (((is, tt), h.items), tt); end = plain }
   closed_typed (abort_by x) S c what last is plain ended good h = record { state = good; queued = tt; detached = survivors_typed c.detached h.detached; items = (((is, ended), h.items), tt); end = plain }
   closed_typed (veto_by r) S c what last is plain ended good h = record { state = good; queued = tt; detached = survivors_typed c.detached h.detached; items = (((is, (tt, λ e. cc)), h.items), tt); end = plain }
@@ -222,7 +213,7 @@ module _ (library : Library) (d : Declared) where
     state = good;
     queued = each_filter TaskTyped _ ts h;
     detached = each_map TaskTyped (λ (x : Detached). TaskTyped x.task) unreleased (detached_of ts) (λ t k. k) (each_filter TaskTyped _ ts h);
-    items = kinded_detachments library (detached_of ts);
+    items = only_detachments (KindedCause library) (detached_of ts);
     end = tt;
   }
 

@@ -39,6 +39,7 @@ any_left test (x ∷ xs) ys h = either_is (test x) (list_any test xs) h (IsTrue 
     or_first : (a b : Bool) → a ≡ true → (a || b) ≡ true
     or_first true b e = refl
     or_first false b e = cc
+
     or_second : (a b : Bool) → b ≡ true → (a || b) ≡ true
     or_second true b e = refl
     or_second false b e = e

@@ -1,5 +1,5 @@
 -- Firings, top-level transactions and units of a kinded library end with no cause of a kind.
-use Rattle.std.proofs.Common.{arith, ◌≡◌, refl, sym, subst, ℕ, zero, suc, ◌+◌, List, [], ◌∷◌, length, map, Option, None, Some, Bool, true, false, ◌-◌, IsTrue}
+use Rattle.std.proofs.Common.{arith, ◌≡◌, refl, sym, subst, ℕ, zero, suc, ◌+◌, List, [], ◌∷◌, length, Option, None, Some, Bool, true, false, ◌-◌, IsTrue}
 use Rattle.std.proofs.lemmas.Bool.{and_parts}
 use Rattle.std.specs.Prelude.{replicate}
 use Rattle.std.specs.Bool.{then_some}
@@ -8,12 +8,14 @@ use Rattle.hp_model.specs.Occurrences.{commit_reached, moment_reached}
 use Rattle.hp_model.specs.Conditions.{Answers, Verdict, satisfied, unsatisfied, faulty, verdict}
 use Rattle.hp_model.specs.Rules.{Coupling, immediate, deferred, separate, dependent, exclusive, Query, Library, Rule, no_rule, rule_at}
 use Rattle.hp_model.specs.State.{State, initial_state, with_status, absent, RuleState}
-use Rattle.hp_model.specs.Tree.{Task, Ending, committed, aborted, Step, condition_step, action_step, Node, sub_node, fire_node, act_node, without_action, with_fault, with_action, with_later_action, Items, no_items, operation, emission, detachment, node, without_detachments}
+use Rattle.hp_model.specs.Tree.{Task, Ending, committed, aborted, Step, condition_step, action_step, Node, sub_node, fire_node, act_node, without_action, with_fault, with_action, with_later_action}
 use Rattle.hp_model.specs.Transactions.{Detached, End, done, abort_by, veto_by, Course, Work, then_do, drained, placed, Closed, closed, closed_by}
 use Rattle.hp_model.specs.Firing.{Fire, siblings, course_of, signal_in, run_action, follow, decide, take_step, below_limit, level_at, fire_task, deferring, idle, action_course, action_context, action_task, task_environment, nested}
-use Rattle.hp_model.specs.Cascade.{Unit, transaction, moment, no_context, unit_work, task_work, most_rounds, next_round, rounds, top_course, top, veto_end, Transaction, generation, due_by, due, cascade, run_unit, run_units, transactions_of, transaction_report, TransactionReport}
+use Rattle.hp_model.specs.Cascade.{Unit, transaction, moment, no_context, unit_work, task_work, most_rounds, next_round, rounds, top_course, top, veto_end, Transaction, generation, due_by, due, cascade, run_unit, run_units, transactions_of}
 use Rattle.hp_model.specs.Ranges.{expression_fits, body_fits, unit_fits, IsFitLibrary}
-use Rattle.hp_model.specs.Kinds.{Declared, is_declared, is_fired, Scope, no_scope, queries_kinded, with_queries, query_classes, is_condition_calm, rule_scope, rule_kinded, rules_kinded, library_kinded, body_kinded, unit_kinded, is_body_calm, is_node_calm, IsEndingOf, IsKindedEnding, IsKindedNode, IsKinded, AreKinded, IsKindedReport, KindsHold, NeverOfKinds}
+use Rattle.hp_model.specs.Kinds.{Declared, is_declared, is_fired, Scope, no_scope, queries_kinded, with_queries, query_classes, is_condition_calm, rule_scope, rule_kinded, rules_kinded, library_kinded, body_kinded, unit_kinded, is_body_calm, is_node_calm, NotOfKinds, CauseOf, KindedCause, KindsHold, NeverOfKinds}
+use Rattle.hp_model.specs.Endings.{EndsOnlyBy, NodeHasOnly, TreeHasOnly, TransactionsHaveOnly, ReportHasOnly}
+use Rattle.hp_model.proofs.Endings.{reports_only}
 use Rattle.hp_model.proofs.Induction.{firing_course}
 use Rattle.hp_model.proofs.FitValues.{each_append, OccurrenceFits, AnswersFit}
 use Rattle.hp_model.proofs.FitStates.{objects_of_fit, initial_fits}
@@ -24,7 +26,7 @@ use Rattle.hp_model.proofs.KindRows.{AnswersTyped, VerdictTyped, verdict_typed, 
 use Rattle.hp_model.proofs.KindCourses.{IsKindedEnd, weaker_course, Good, OccurredWell, StepTyped, TaskTyped, TasksTyped, DetachedTyped, CourseTyped, WorkTyped, FireTyped, BelowTyped, ContextTyped, joined_typed, then_do_typed, closed_typed, placed_typed, siblings_typed, signal_typed, body_typed}
 
 -- how a top-level transaction ends, without what is said of arithmetic
-ending_kinded : (e : Ending) → IsEndingOf false e → IsKindedEnding e
+ending_kinded : (e : Ending) → EndsOnlyBy (CauseOf false) e → EndsOnlyBy NotOfKinds e
 ending_kinded committed h = tt
 ending_kinded (aborted c) h = h.0
 
@@ -79,7 +81,7 @@ module _ (library : Library) (d : Declared) (known : IsFitLibrary library) (kind
   abbrev Occurred : Task → Type 0
   Occurred t = OccurrenceFits library t.occurrence × OccurredWell library d t.rule t.occurrence
 
-  run_action_typed : (what : Node) → IsKindedNode library what → (below : Option Fire) (t : Task) → is_node_calm library what ≡ is_body_calm (rule_at library t.rule).action → (answers : Answers) (S : State) → BelowTyped library d below → Occurred t → AnswersFit answers
+  run_action_typed : (what : Node) → NodeHasOnly (KindedCause library) what → (below : Option Fire) (t : Task) → is_node_calm library what ≡ is_body_calm (rule_at library t.rule).action → (answers : Answers) (S : State) → BelowTyped library d below → Occurred t → AnswersFit answers
       → AnswersTyped library (query_classes (rule_at library t.rule).condition) answers → Good library d S → CourseTyped library d true (firing_course (run_action what (at_level library t.depth below) t answers S))
   run_action_typed what is below t same answers S fires occurred fit h good =
       let c = action_course (at_level library t.depth below) t answers S in
@@ -102,7 +104,7 @@ module _ (library : Library) (d : Declared) (known : IsFitLibrary library) (kind
   follow_typed dependent below t answers S fires occurred fit h good = deferring_typed dependent t answers S occurred fit h good
   follow_typed exclusive below t answers S fires occurred fit h good = deferring_typed exclusive t answers S occurred fit h good
 
-  idle_typed : (what : Node) → IsKindedNode library what → (S : State) → Good library d S → CourseTyped library d true (firing_course (idle what S))
+  idle_typed : (what : Node) → NodeHasOnly (KindedCause library) what → (S : State) → Good library d S → CourseTyped library d true (firing_course (idle what S))
   idle_typed what is S good = record { state = good; queued = tt; detached = tt; items = (((is, tt), tt), tt); end = tt }
 
   decide_typed : (v : Verdict) (below : Option Fire) (t : Task) (S : State) → BelowTyped library d below → Occurred t → VerdictFits v → VerdictTyped library (query_classes (rule_at library t.rule).condition) (is_condition_calm (rule_at library t.rule).condition) v → Good library d S
@@ -169,8 +171,8 @@ module _ (library : Library) (d : Declared) (known : IsFitLibrary library) (kind
   pub record TopTyped (c : Closed) : Type 0 where
     pub state : Good library d c.state
     pub detached : DetachedTyped library d c.detached
-    pub ending : IsKindedEnding c.ending
-    pub items : IsKinded library c.items
+    pub ending : EndsOnlyBy NotOfKinds c.ending
+    pub items : TreeHasOnly (KindedCause library) c.items
 
   top_typed : (depth : ℕ) (work : Work) → WorkTyped library d false work → (S : State) → Good library d S → TopTyped (top library depth work S)
   top_typed depth work h S good =
@@ -190,7 +192,7 @@ module _ (library : Library) (d : Declared) (known : IsFitLibrary library) (kind
   due_typed (x ∷ xs) h = due_one (due_by x.task.place x.released) x.task (due xs) h.0 (due_typed xs h.1)
 
   generation_typed : (ts : List Task) → TasksTyped library d ts → (S : State) → Good library d S
-      → (Good library d (generation library ts S).state × DetachedTyped library d (generation library ts S).detached) × AreKinded library (generation library ts S).transactions
+      → (Good library d (generation library ts S).state × DetachedTyped library d (generation library ts S).detached) × TransactionsHaveOnly (KindedCause library) (generation library ts S).transactions
   generation_typed [] h S good = ((good, tt), tt)
   generation_typed (t ∷ ts) h S good =
       let first = top_typed t.depth (task_work library t) (task_work_typed t h.0) S good in
@@ -198,17 +200,17 @@ module _ (library : Library) (d : Declared) (known : IsFitLibrary library) (kind
       let rest = generation_typed ts h.1 after.state first.state in
       ((rest.0.0, each_append (λ (x : Detached). TaskTyped library d x.task) after.detached (generation library ts after.state).detached first.detached rest.0.1), ((first.ending, first.items), rest.1))
 
-  cascade_typed : (n : ℕ) (ts : List Task) → TasksTyped library d ts → (S : State) → Good library d S → Good library d (cascade n library ts S).state × AreKinded library (transactions_of (cascade n library ts S))
+  cascade_typed : (n : ℕ) (ts : List Task) → TasksTyped library d ts → (S : State) → Good library d S → Good library d (cascade n library ts S).state × TransactionsHaveOnly (KindedCause library) (transactions_of (cascade n library ts S))
   cascade_typed zero ts h S good = (good, tt)
   cascade_typed (suc n) [] h S good = (good, tt)
   cascade_typed (suc n) (t ∷ ts) h S good =
       let g = generation library (t ∷ ts) S in
       let here = generation_typed (t ∷ ts) h S good in
       let rest = cascade_typed n (due g.detached) (due_typed g.detached here.0.1) g.state here.0.0 in
-      (rest.0, each_append (λ (x : Transaction). IsKindedEnding x.ending × IsKinded library x.items) g.transactions (transactions_of (cascade n library (due g.detached) g.state)) here.1 rest.1)
+      (rest.0, each_append (λ (x : Transaction). EndsOnlyBy NotOfKinds x.ending × TreeHasOnly (KindedCause library) x.items) g.transactions (transactions_of (cascade n library (due g.detached) g.state)) here.1 rest.1)
 
   pub unit_typed : (u : Unit) → IsTrue (unit_fits library u) → IsTrue (unit_kinded library d u) → (S : State) → Good library d S
-      → AreKinded library (transactions_of (run_unit library u S)) × Good library d (run_unit library u S).state
+      → TransactionsHaveOnly (KindedCause library) (transactions_of (run_unit library u S)) × Good library d (run_unit library u S).state
   unit_typed u fit h S good =
       let own = top library 0 (unit_work library u) S in
       let first = top_typed 0 (unit_work library u) (unit_work_typed u fit h) S good in
@@ -222,23 +224,12 @@ kinds_hold library d known kinded u fit h S state declared =
     let end = unit_typed library d known kinded u fit h S (record { fit = state; declared = declared }) in
     (end.0, end.1.declared)
 
-without_kinded : (library : Library) (items : Items) → IsKinded library items → IsKinded library (without_detachments items)
-without_kinded library no_items h = tt
-without_kinded library (operation op rest) h = without_kinded library rest h
-without_kinded library (emission v rest) h = without_kinded library rest h
-without_kinded library (detachment t rest) h = without_kinded library rest h
-without_kinded library (node what end inside rest) h = ((h.0.0, without_kinded library inside h.0.1), without_kinded library rest h.1)
-
-reports_kinded : (library : Library) (ts : List Transaction) → AreKinded library ts → AllByRecursion (λ (t : TransactionReport). IsKindedEnding t.ending × IsKinded library t.items) (map transaction_report ts)
-reports_kinded library [] h = tt
-reports_kinded library (t ∷ ts) h = ((h.0.0, without_kinded library t.items h.0.1), reports_kinded library ts h.1)
-
 units_kinded : (library : Library) (d : Declared) → IsFitLibrary library → IsTrue (library_kinded library d) → (us : List Unit) → AllByRecursion (λ u. IsTrue (unit_fits library u)) us
-    → AllByRecursion (λ u. IsTrue (unit_kinded library d u)) us → (S : State) → Good library d S → AllByRecursion (IsKindedReport library) (run_units library us S).units
+    → AllByRecursion (λ u. IsTrue (unit_kinded library d u)) us → (S : State) → Good library d S → AllByRecursion (ReportHasOnly (KindedCause library)) (run_units library us S).units
 units_kinded library d known kinded [] fit h S good = tt
 units_kinded library d known kinded (u ∷ us) fit h S good =
     let here = unit_typed library d known kinded u fit.0 h.0 S good in
-    (reports_kinded library (transactions_of (run_unit library u S)) here.0, units_kinded library d known kinded us fit.1 h.1 (run_unit library u S).state here.1)
+    (reports_only (KindedCause library) (transactions_of (run_unit library u S)) here.0, units_kinded library d known kinded us fit.1 h.1 (run_unit library u S).state here.1)
 
 none_declared : (d : Declared) (n : ℕ) → AllByRecursion (λ (r : RuleState). AllByRecursion (λ p. IsTrue (is_declared d p)) r.past) (replicate n (with_status absent))
 none_declared d zero = tt

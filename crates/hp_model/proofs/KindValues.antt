@@ -215,13 +215,13 @@ below_safe : {C : Cause → Type 0} (o p : Option Sort) → are_ordered o p ≡ 
 below_safe o p e a b typed typed' Q numbers texts =
     either_is (is_only integer_kind o && is_only integer_kind p) (is_only text_kind o && is_only text_kind p) e _
     (λ h. let parts = and_parts (is_only integer_kind o) (is_only integer_kind p) h in
-      Safe-then (only_gives integer_kind o a typed parts.0) λ v hv.
-      Safe-then (only_gives integer_kind p b typed' parts.1) λ w hw.
-      Safe-then (numbers v w hv hw) λ c _. Safe-value (boolean c) refl)
+    Safe-then (only_gives integer_kind o a typed parts.0) λ v hv.
+    Safe-then (only_gives integer_kind p b typed' parts.1) λ w hw.
+    Safe-then (numbers v w hv hw) λ c _. Safe-value (boolean c) refl)
     (λ h. let parts = and_parts (is_only text_kind o) (is_only text_kind p) h in
-      Safe-then (only_gives text_kind o a typed parts.0) λ v hv.
-      Safe-then (only_gives text_kind p b typed' parts.1) λ w hw.
-      Safe-then (texts v w hv hw) λ c _. Safe-value (boolean c) refl)
+    Safe-then (only_gives text_kind o a typed parts.0) λ v hv.
+    Safe-then (only_gives text_kind p b typed' parts.1) λ w hw.
+    Safe-then (texts v w hv hw) λ c _. Safe-value (boolean c) refl)
 
 alike_safe : {C : Cause → Type 0} (o p : Option Sort) → are_alike o p ≡ true → (a b : Outcome Value) → Typed C o a → Typed C p b
     → (Q : Value → Value → Outcome Bool) → ((k : Kind) (v w : Value) → IsOf k v → IsOf k w → Safe C (λ _. ⊤) (Q v w))
@@ -372,7 +372,7 @@ common_chosen test (q ∷ r ∷ rs) s p e h =
     either_is (matches q p) (list_any (λ x. matches x p) (r ∷ rs)) h (Chosen test p s)
     (λ is. (q, parts.0, is, parts.2, λ v k. subst (λ x. IsTrue (has_sort x v)) parts.4 (meets_left parts.0 parts.1 v k)))
     (λ more. let rest = common_chosen test (r ∷ rs) parts.1 p parts.3 more in
-      (rest.0, rest.1, rest.2, rest.3, λ v k. subst (λ x. IsTrue (has_sort x v)) parts.4 (meets_right parts.0 parts.1 v (rest.4 v k))))
+    (rest.0, rest.1, rest.2, rest.3, λ v k. subst (λ x. IsTrue (has_sort x v)) parts.4 (meets_right parts.0 parts.1 v (rest.4 v k))))
 
 common_found : (test : Pattern → Option Sort) (o : Option (List Pattern)) (s : Sort) → common_at test o ≡ Some s → (qs : List Pattern) × (o ≡ Some qs) × (common test qs ≡ Some s)
 common_found test None s e = cc

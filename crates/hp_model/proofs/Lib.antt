@@ -2,6 +2,7 @@ pub mod Scripts
 pub mod Rows
 pub mod Chained
 pub mod Decoding
+pub mod Endings
 pub mod Causes
 pub mod Guarded
 pub mod Induction
@@ -46,3 +47,13 @@ pub mod KindRows
 pub mod KindCourses
 pub mod KindUnits
 pub mod KindWorked
+pub mod NotationWorked
+pub mod NotationLexing
+pub mod NotationReadings
+pub mod NotationExpressionsRead
+pub mod NotationEventsRead
+pub mod NotationPartsRead
+pub mod NotationStatementsRead
+pub mod NotationScriptsRead
+pub mod NotationSpelt
+pub mod NotationRead

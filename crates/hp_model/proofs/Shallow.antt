@@ -1,35 +1,27 @@
 -- Where each chain of firings is short enough, none nests too deep, and a cascade has few generations.
-use Rattle.std.proofs.Common.{arith, ◌≡◌, refl, subst, ℕ, zero, suc, ◌+◌, ◌*◌, ◌-◌, ◌<◌, ◌≤◌, List, [], ◌∷◌, length, None, Bool, ◌&&◌, IsTrue, nat_lt, map}
+use Rattle.std.proofs.Common.{arith, ◌≡◌, refl, subst, ℕ, zero, suc, ◌+◌, ◌*◌, ◌-◌, ◌<◌, ◌≤◌, List, [], ◌∷◌, length, None, Bool, ◌&&◌, IsTrue, nat_lt}
 use Rattle.std.proofs.lemmas.Bool.{and_parts, and_from}
 use Rattle.std.specs.List.{AllByRecursion, list_all, slice_index_or}
 use Rattle.hp_model.specs.Rules.{Rule, no_rule, Library, rule_at}
 use Rattle.hp_model.specs.State.{State, initial_state}
-use Rattle.hp_model.specs.Tree.{Task, Node, sub_node, fire_node, act_node, Items, no_items, operation, emission, detachment, node, append, without_detachments}
-use Rattle.hp_model.specs.Transactions.{End, done, abort_by, veto_by, Course, closed_by, detachments, detached_of}
-use Rattle.hp_model.specs.Cascade.{Unit, unit_work, top, Transaction, alone, generation, due, cascade, run_unit, most_rounds, transactions_of, transaction_report, TransactionReport, run_units}
-use Rattle.hp_model.specs.Chains.{rule_triggers, unit_triggers, rule_within, unit_within, IsShallowNode, IsShallowEnding, IsShallow, AreShallow, IsShallowReport, ChainsBound, BoundsEachUnit, BoundsEachScript, BoundsGrow, NeverTooDeep}
+use Rattle.hp_model.specs.Tree.{Task, Node, sub_node, fire_node, act_node}
+use Rattle.hp_model.specs.Transactions.{End, done, abort_by, veto_by, Course, closed_by, detached_of}
+use Rattle.hp_model.specs.Cascade.{Unit, unit_work, top, Transaction, alone, generation, due, cascade, run_unit, most_rounds, transactions_of, run_units}
+use Rattle.hp_model.specs.Chains.{rule_triggers, unit_triggers, rule_within, unit_within, NotTooDeep, ChainsBound, BoundsEachUnit, BoundsEachScript, BoundsGrow, NeverTooDeep}
+use Rattle.hp_model.specs.Endings.{everywhere, EndsOnlyBy, NodeHasOnly, TreeHasOnly, TransactionsHaveOnly, ReportHasOnly}
+use Rattle.hp_model.proofs.Endings.{only_append, only_detachments, reports_only}
 use Rattle.hp_model.proofs.Guarded.{rank}
 use Rattle.hp_model.proofs.Guarded.{Guard, IsAllowed, IsNodeAllowed, IsPlainEnd, KeptBy, Passes}
 use Rattle.hp_model.proofs.GuardedTops.{rank_small, AreDue, due_new, unit_leaves, generation_leaves, unit_each}
 
 -- ---- trees
 
-shallow_append : (a b : Items) → IsShallow a → IsShallow b → IsShallow (append a b)
-shallow_append no_items b h k = k
-shallow_append (operation op rest) b h k = shallow_append rest b h k
-shallow_append (emission v rest) b h k = shallow_append rest b h k
-shallow_append (detachment t rest) b h k = shallow_append rest b h k
-shallow_append (node what end inside rest) b h k = (h.0, shallow_append rest b h.1 k)
-
-shallow_detachments : (ts : List Task) → IsShallow (detachments ts)
-shallow_detachments [] = tt
-shallow_detachments (t ∷ ts) = shallow_detachments ts
-
 -- a course that has ended, and all ends in its tree
 abbrev Shallow : ℕ → State → Course → Type 0
-Shallow n S c = IsPlainEnd c.end × IsShallow c.items
+Shallow n S c = IsPlainEnd c.end × TreeHasOnly (everywhere NotTooDeep) c.items
 
-closed_shallow : (e : End) (S : State) (c : Course) → IsPlainEnd e → IsShallow c.items → IsShallowEnding (closed_by e S c).ending × IsShallow (closed_by e S c).items
+closed_shallow : (e : End) (S : State) (c : Course) → IsPlainEnd e → TreeHasOnly (everywhere NotTooDeep) c.items
+    → EndsOnlyBy NotTooDeep (closed_by e S c).ending × TreeHasOnly (everywhere NotTooDeep) (closed_by e S c).items
 closed_shallow done S c h k = (tt, k)
 closed_shallow (abort_by x) S c h k = (h, k)
 closed_shallow (veto_by r) S c h k = (tt, k)
@@ -63,7 +55,7 @@ depth_by library most t (suc k) e h = omega (arith, e)
 pub depth_bound : (library : Library) (most : ℕ) (t : Task) → IsAllowed library (may_fire library most) t → t.depth ≤ most
 depth_bound library most t ok = depth_by library most t (suc most - t.depth) refl ok.0
 
-node_shallow : (library : Library) (most : ℕ) (what : Node) → IsNodeAllowed (may_fire library most) what → IsShallowNode what
+node_shallow : (library : Library) (most : ℕ) (what : Node) → IsNodeAllowed (may_fire library most) what → NodeHasOnly (everywhere NotTooDeep) what
 node_shallow library most sub_node h = tt
 node_shallow library most (fire_node rule place condition) h = h.0
 node_shallow library most (act_node rule place) h = tt
@@ -79,12 +71,12 @@ module _ (library : Library) (most : ℕ) (few : most ≤ library.depth_limit) w
   shallow = record {
     at_end = λ n S e plain. (plain, tt);
     at_limit = λ n S t deep ok. absurd (let low = depth_bound library most t ok in omega (arith, low, deep, few));
-    at_join = λ n S c d h k. (k.0, shallow_append c.items d.items h.1 k.1);
+    at_join = λ n S c d h k. (k.0, only_append (everywhere NotTooDeep) c.items d.items h.1 k.1);
     at_emission = λ n S v. (tt, tt);
     at_operation = λ n S op. (tt, tt);
     at_rule = λ n S op m r. (tt, tt);
     at_signal = λ n S p c h. h;
-    at_tasks = λ n S ts h. (tt, shallow_detachments (detached_of ts));
+    at_tasks = λ n S ts h. (tt, only_detachments (everywhere NotTooDeep) (detached_of ts));
     at_node = λ n S c what e may plain h. (plain, (let k = closed_shallow c.end S c h.0 h.1 in ((node_shallow library most what may, k.0), k.1), tt));
     at_drain = λ n S c h. (tt, h.1);
     at_ending = λ n S c e plain h. (plain, h.1);
@@ -112,13 +104,13 @@ module _ (library : Library) (most : ℕ) (few : most ≤ library.depth_limit) w
   pub unit_passes : (u : Unit) → IsTrue (unit_within library most u) → Passes (may_fire library most) 1 (unit_triggers library u)
   unit_passes u h = let same : most ≡ suc most - 1 = omega arith in subst (λ k. IsTrue (list_all (λ n. rule_within library k (rule_at library n)) (unit_triggers library u))) same h
 
-  unit_shallow : (u : Unit) → IsTrue (unit_within library most u) → (S : State) → AreShallow (transactions_of (run_unit library u S)) × (length (run_unit library u S).generations ≤ 2 * most + 1)
+  unit_shallow : (u : Unit) → IsTrue (unit_within library most u) → (S : State) → TransactionsHaveOnly (everywhere NotTooDeep) (transactions_of (run_unit library u S)) × (length (run_unit library u S).generations ≤ 2 * most + 1)
   unit_shallow u ok S =
       let first = alone None (top library 0 (unit_work library u) S) in
       let left = unit_leaves library (may_fire library most) guard u S (unit_passes u ok) in
       let count : 1 + length (cascade (most_rounds library) library (due first.detached) first.state).generations ≤ 2 * most + 1 =
       cascade_few (most_rounds library) 1 (due first.detached) first.state (omega arith) (due_new limit May 1 first.detached left) in (
-        unit_each library (may_fire library most) guard Shallow shallow (λ (t : Transaction). IsShallowEnding t.ending × IsShallow t.items)
+        unit_each library (may_fire library most) guard Shallow shallow (λ (t : Transaction). EndsOnlyBy NotTooDeep t.ending × TreeHasOnly (everywhere NotTooDeep) t.items)
             (λ S c h. closed_shallow c.end S c h.0 h.1) (λ t may S c h. closed_shallow c.end S c h.0 h.1) u S (unit_passes u ok),
         omega (arith, count),
       )
@@ -162,27 +154,16 @@ bounds_grow library (suc most) rule h =
 
 -- ---- reports
 
-without_shallow : (items : Items) → IsShallow items → IsShallow (without_detachments items)
-without_shallow no_items h = tt
-without_shallow (operation op rest) h = without_shallow rest h
-without_shallow (emission v rest) h = without_shallow rest h
-without_shallow (detachment t rest) h = without_shallow rest h
-without_shallow (node what end inside rest) h = ((h.0.0, without_shallow inside h.0.1), without_shallow rest h.1)
-
-reports_shallow : (ts : List Transaction) → AreShallow ts → AllByRecursion (λ (t : TransactionReport). IsShallowEnding t.ending × IsShallow t.items) (map transaction_report ts)
-reports_shallow [] h = tt
-reports_shallow (t ∷ ts) h = ((h.0.0, without_shallow t.items h.0.1), reports_shallow ts h.1)
-
 pub bounds_each_script : BoundsEachScript
 bounds_each_script library most h [] = refl
 bounds_each_script library most h (u ∷ us) =
     and_from (unit_within library most u) (list_all (unit_within library most) us) (bounds_each_unit library most h u) (bounds_each_script library most h us)
 
-units_shallow : (library : Library) (us : List Unit) (S : State) → IsTrue (list_all (unit_within library library.depth_limit) us) → AllByRecursion IsShallowReport (run_units library us S).units
+units_shallow : (library : Library) (us : List Unit) (S : State) → IsTrue (list_all (unit_within library library.depth_limit) us) → AllByRecursion (ReportHasOnly (everywhere NotTooDeep)) (run_units library us S).units
 units_shallow library [] S h = tt
 units_shallow library (u ∷ us) S h =
     let parts = and_parts (unit_within library library.depth_limit u) (list_all (unit_within library library.depth_limit) us) h in (
-      reports_shallow (transactions_of (run_unit library u S)) (chains_bound library library.depth_limit (omega arith) u parts.0 S).0,
+      reports_only (everywhere NotTooDeep) (transactions_of (run_unit library u S)) (chains_bound library library.depth_limit (omega arith) u parts.0 S).0,
       units_shallow library us (run_unit library u S).state parts.1,
     )
 

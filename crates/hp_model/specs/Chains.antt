@@ -7,8 +7,9 @@ use Rattle.hp_model.specs.Occurrences.{Primitive, created, updated, deleted, sig
 use Rattle.hp_model.specs.Events.{Event, pattern_event, or_event, seq_event, closure_event, matches}
 use Rattle.hp_model.specs.Rules.{is_detached, Statement, create, update, delete, signal, emit, when, each, for_answer, with_object, subtransaction, abort, veto, on_rule, fire, Body, empty, ◌then◌, Rule, Library, rule_at}
 use Rattle.hp_model.specs.State.{State}
-use Rattle.hp_model.specs.Tree.{Task, Ending, committed, aborted, Condition, without_action, with_fault, with_action, with_later_action, Node, sub_node, fire_node, act_node, Items, no_items, operation, emission, detachment, node}
-use Rattle.hp_model.specs.Cascade.{Unit, transaction, moment, Transaction, transactions_of, run_unit, TransactionReport, UnitReport, Script, evaluate}
+use Rattle.hp_model.specs.Tree.{Task, Node, sub_node, fire_node, act_node, Items, no_items, operation, emission, detachment, node}
+use Rattle.hp_model.specs.Cascade.{Unit, transaction, moment, Transaction, transactions_of, run_unit, Script, evaluate}
+use Rattle.hp_model.specs.Endings.{everywhere, TransactionsHaveOnly, ReportHasOnly}
 
 -- ---- what may trigger what
 
@@ -89,8 +90,9 @@ script_within most script = list_all (unit_within script.library most) script.un
 abbrev pub is_safe_script : Script → Bool
 is_safe_script script = script_within script.library.depth_limit script
 
--- ---- trees in which nothing nests too deep
+-- ---- the cause that chains bound
 
+-- a cause other than that firings would nest too deep
 abbrev pub NotTooDeep : Cause → Type 0
 NotTooDeep exists = ⊤
 NotTooDeep missing = ⊤
@@ -102,42 +104,13 @@ NotTooDeep depth_exceeded = ⊥
 NotTooDeep requested = ⊤
 NotTooDeep (vetoed rule) = ⊤
 
-abbrev pub IsShallowEnding : Ending → Type 0
-IsShallowEnding committed = ⊤
-IsShallowEnding (aborted c) = NotTooDeep c
-
-abbrev pub IsShallowCondition : Condition → Type 0
-IsShallowCondition without_action = ⊤
-IsShallowCondition (with_fault c) = NotTooDeep c
-IsShallowCondition with_action = ⊤
-IsShallowCondition with_later_action = ⊤
-
-abbrev pub IsShallowNode : Node → Type 0
-IsShallowNode sub_node = ⊤
-IsShallowNode (fire_node rule place condition) = IsShallowCondition condition
-IsShallowNode (act_node rule place) = ⊤
-
--- no transaction in the tree ended because firings would nest too deep, and no condition did
-abbrev pub IsShallow : Items → Type 0
-IsShallow no_items = ⊤
-IsShallow (operation op rest) = IsShallow rest
-IsShallow (emission v rest) = IsShallow rest
-IsShallow (detachment t rest) = IsShallow rest
-IsShallow (node what end inside rest) = ((IsShallowNode what × IsShallowEnding end) × IsShallow inside) × IsShallow rest
-
-abbrev pub AreShallow : List Transaction → Type 0
-AreShallow ts = AllByRecursion (λ (t : Transaction). IsShallowEnding t.ending × IsShallow t.items) ts
-
-abbrev pub IsShallowReport : UnitReport → Type 0
-IsShallowReport u = AllByRecursion (λ (t : TransactionReport). IsShallowEnding t.ending × IsShallow t.items) u.transactions
-
 -- ---- the laws
 
 -- where each chain from a unit has at most so many firings, and so many may nest, none nests too deep, whatever the
 -- state is, and the number of generations is bounded
 abbrev pub ChainsBound : Type 0
 ChainsBound = (library : Library) (most : ℕ) → most ≤ library.depth_limit → (unit : Unit) → IsTrue (unit_within library most unit) → (S : State)
-    → AreShallow (transactions_of (run_unit library unit S)) × (length (run_unit library unit S).generations ≤ 2 * most + 1)
+    → TransactionsHaveOnly (everywhere NotTooDeep) (transactions_of (run_unit library unit S)) × (length (run_unit library unit S).generations ≤ 2 * most + 1)
 
 -- a bound of the library's chains is one for each unit, and so for each script
 abbrev pub BoundsEachUnit : Type 0
@@ -148,7 +121,7 @@ BoundsEachScript = (library : Library) (most : ℕ) → IsTrue (library_within l
 
 -- a safe script never meets the depth limit
 abbrev pub NeverTooDeep : Type 0
-NeverTooDeep = (script : Script) → IsTrue (is_safe_script script) → AllByRecursion IsShallowReport (evaluate script).units
+NeverTooDeep = (script : Script) → IsTrue (is_safe_script script) → AllByRecursion (ReportHasOnly (everywhere NotTooDeep)) (evaluate script).units
 
 -- a bound of all chains stays one if it grows
 abbrev pub BoundsGrow : Type 0

@@ -11,9 +11,10 @@ use Rattle.hp_model.specs.Expressions.{Comparison, equal, unequal, less, at_most
 use Rattle.hp_model.specs.Rules.{Query, Assignment, Statement, create, update, delete, signal, emit, when, each, for_answer, with_object, subtransaction, abort, veto, on_rule, fire, Body, empty, ◌then◌, Rule, Library, class_at, rule_at}
 use Rattle.hp_model.specs.Firing.{kind_in}
 use Rattle.hp_model.specs.State.{State, RuleState, IsFit}
-use Rattle.hp_model.specs.Tree.{Ending, committed, aborted, Condition, without_action, with_fault, with_action, with_later_action, Node, sub_node, fire_node, act_node, Items, no_items, operation, emission, detachment, node}
+use Rattle.hp_model.specs.Tree.{Node, sub_node, fire_node, act_node}
 use Rattle.hp_model.specs.Ranges.{IsFitLibrary, unit_fits}
-use Rattle.hp_model.specs.Cascade.{Unit, transaction, moment, Transaction, transactions_of, run_unit, TransactionReport, UnitReport, Script, evaluate}
+use Rattle.hp_model.specs.Cascade.{Unit, transaction, moment, transactions_of, run_unit, Script, evaluate}
+use Rattle.hp_model.specs.Endings.{Ended, whole_transaction, inner_node, condition_of, TransactionsHaveOnly, ReportHasOnly}
 
 -- ---- sorts, and what is declared
 
@@ -331,8 +332,9 @@ abbrev pub unit_kinded : Library → Declared → Unit → Bool
 unit_kinded library d (transaction body) = body_kinded library d no_scope [] body
 unit_kinded library d (moment t) = true
 
--- ---- trees in which nothing ends because of a kind
+-- ---- the causes that kinds leave
 
+-- a cause other than a wrong kind and a missing part
 abbrev pub NotOfKinds : Cause → Type 0
 NotOfKinds exists = ⊤
 NotOfKinds missing = ⊤
@@ -344,10 +346,6 @@ NotOfKinds depth_exceeded = ⊤
 NotOfKinds requested = ⊤
 NotOfKinds (vetoed rule) = ⊤
 
-abbrev pub IsKindedEnding : Ending → Type 0
-IsKindedEnding committed = ⊤
-IsKindedEnding (aborted c) = NotOfKinds c
-
 abbrev pub is_arithmetic : Cause → Bool
 is_arithmetic overflow = true
 is_arithmetic divide_by_zero = true
@@ -357,41 +355,18 @@ is_arithmetic c = false
 abbrev pub CauseOf : (calm : Bool) → Cause → Type 0
 CauseOf calm c = NotOfKinds c × (is_arithmetic c ≡ true → calm ≡ false)
 
-abbrev pub IsEndingOf : (calm : Bool) → Ending → Type 0
-IsEndingOf calm committed = ⊤
-IsEndingOf calm (aborted c) = CauseOf calm c
-
 -- whether what runs in the node is calm
 abbrev pub is_node_calm : Library → Node → Bool
 is_node_calm library sub_node = false
 is_node_calm library (fire_node rule place condition) = is_body_calm (rule_at library rule).action
 is_node_calm library (act_node rule place) = is_body_calm (rule_at library rule).action
 
--- a condition ends with no cause of a kind; with no cause at all if it is calm
-abbrev pub IsKindedCondition : (calm : Bool) → Condition → Type 0
-IsKindedCondition calm without_action = ⊤
-IsKindedCondition calm (with_fault c) = NotOfKinds c × (calm ≡ false)
-IsKindedCondition calm with_action = ⊤
-IsKindedCondition calm with_later_action = ⊤
-
-abbrev pub IsKindedNode : Library → Node → Type 0
-IsKindedNode library sub_node = ⊤
-IsKindedNode library (fire_node rule place condition) = IsKindedCondition (is_condition_calm (rule_at library rule).condition) condition
-IsKindedNode library (act_node rule place) = ⊤
-
--- no transaction in the tree ended because of a kind or a part, and no condition did
-abbrev pub IsKinded : Library → Items → Type 0
-IsKinded library no_items = ⊤
-IsKinded library (operation op rest) = IsKinded library rest
-IsKinded library (emission v rest) = IsKinded library rest
-IsKinded library (detachment t rest) = IsKinded library rest
-IsKinded library (node what end inside rest) = ((IsKindedNode library what × IsEndingOf (is_node_calm library what) end) × IsKinded library inside) × IsKinded library rest
-
-abbrev pub AreKinded : Library → List Transaction → Type 0
-AreKinded library ts = AllByRecursion (λ (t : Transaction). IsKindedEnding t.ending × IsKinded library t.items) ts
-
-abbrev pub IsKindedReport : Library → UnitReport → Type 0
-IsKindedReport library u = AllByRecursion (λ (t : TransactionReport). IsKindedEnding t.ending × IsKinded library t.items) u.transactions
+-- no cause of a kind ends anything. A calm action ends with none of arithmetic either, and a calm condition with none at
+-- all
+abbrev pub KindedCause : Library → Ended → Cause → Type 0
+KindedCause library whole_transaction c = NotOfKinds c
+KindedCause library (inner_node what) c = CauseOf (is_node_calm library what) c
+KindedCause library (condition_of rule) c = NotOfKinds c × (is_condition_calm (rule_at library rule).condition ≡ false)
 
 -- ---- the laws
 
@@ -403,10 +378,10 @@ ArePastsDeclared d S = AllByRecursion (λ (r : RuleState). AllByRecursion (λ p.
 abbrev pub KindsHold : Type 0
 KindsHold = (library : Library) (d : Declared) → IsFitLibrary library → IsTrue (library_kinded library d) → (unit : Unit) → IsTrue (unit_fits library unit) → IsTrue (unit_kinded library d unit)
     → (S : State) → IsFit library S → ArePastsDeclared d S
-    → AreKinded library (transactions_of (run_unit library unit S)) × ArePastsDeclared d (run_unit library unit S).state
+    → TransactionsHaveOnly (KindedCause library) (transactions_of (run_unit library unit S)) × ArePastsDeclared d (run_unit library unit S).state
 
 -- a kinded script never meets a wrong kind or a part that the occurrence lacks
 abbrev pub NeverOfKinds : Type 0
 NeverOfKinds = (script : Script) (d : Declared) → IsFitLibrary script.library → AllByRecursion (λ u. IsTrue (unit_fits script.library u)) script.units
     → IsTrue (library_kinded script.library d) → AllByRecursion (λ u. IsTrue (unit_kinded script.library d u)) script.units
-    → AllByRecursion (IsKindedReport script.library) (evaluate script).units
+    → AllByRecursion (ReportHasOnly (KindedCause script.library)) (evaluate script).units

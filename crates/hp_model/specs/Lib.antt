@@ -10,6 +10,7 @@ pub mod Tree
 pub mod Transactions
 pub mod Firing
 pub mod Cascade
+pub mod Endings
 pub mod Report
 pub mod Refusals
 pub mod Json
@@ -20,6 +21,18 @@ pub mod EventGrammar
 pub mod StatementGrammar
 pub mod RuleHeads
 pub mod Decode
+pub mod NotationTokens
+pub mod NotationTree
+pub mod NotationPhrases
+pub mod NotationExpressions
+pub mod NotationEvents
+pub mod NotationStatements
+pub mod NotationScripts
+pub mod NotationPlaces
+pub mod NotationForms
+pub mod NotationPrint
+pub mod NotationLaws
+pub mod NotationValues
 pub mod Output
 pub mod ClassParts
 pub mod Cells

@@ -3,3 +3,4 @@ pub mod Ends
 pub mod Known
 pub mod Lines
 pub mod TreeLines
+pub mod StoredLines

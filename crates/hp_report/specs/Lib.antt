@@ -4,5 +4,6 @@ pub mod Exits
 pub mod Faults
 pub mod Mapped
 pub mod Named
+pub mod Stored
 pub mod Text
 pub mod Watched

@@ -12,6 +12,7 @@ mod output;
 mod parts;
 mod report;
 mod status;
+mod stored;
 mod text;
 mod watched;
 
@@ -23,4 +24,5 @@ pub use output::{WriteFault, write_text};
 pub use parts::{state_text, units_text};
 pub use report::{Report, RuleStatus, write_report};
 pub use status::{Status, exit_code};
+pub use stored::{class_text, object_text};
 pub use watched::Watched;

@@ -36,7 +36,7 @@ mod version;
 pub use decoding::decode;
 pub use hp_rule::{Limit, Member, PathStep};
 pub use refusal::{DecodeError, Refusal};
-pub use request::{Request, decode_request};
+pub use request::{Excerpt, Request, decode_request};
 pub use schedule::Schedule;
 pub use script::Script;
 pub use shown::refusal_text;

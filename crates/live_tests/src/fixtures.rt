@@ -27,6 +27,10 @@ const LINES: &str = r#"["tx", [["install", "nobody"]]]
 ["clock", 8]
 ["clock", 7]
 ["show"]
+["show", "acct", 1]
+["show", "acct", 2]
+["show", "acct"]
+["show", "acc"]
 ["clock", 9]"#;
 
 /// The answers to the session.
@@ -45,6 +49,12 @@ object acct 1 bal=6
 rule reports enabled
 rule wakes enabled
 ok 3
+object acct 1 bal=6
+ok 3
+ok 3
+object acct 1 bal=6
+ok 3
+refused S4 /1
 unit 4 time 9 committed
 emit 9
 ok 4

@@ -1,7 +1,7 @@
 //! Lines to a rule base, read or refused.
 
 use hp_rule::Library;
-use hp_script::{DecodeError, Request, Script, decode, decode_request, refusal_text};
+use hp_script::{DecodeError, Excerpt, Request, Script, decode, decode_request, refusal_text};
 use std::alloc::Global;
 use std::process::Abort;
 use std::sync::Arc;
@@ -15,10 +15,19 @@ const BASE: &str = r#"{
   "items": [["clock", 5]]
 }"#;
 
+/// An excerpt in words.
+fn name_of(alloc: Global, excerpt: Excerpt) -> Result<String, Fail> {
+    match excerpt {
+        Excerpt::State => Ok(String::from_str(alloc, "state")?),
+        Excerpt::Class(class) => Ok(format!(in alloc; "class {class}")?),
+        Excerpt::Object(class, key) => Ok(format!(in alloc; "object {class} {key}")?),
+    }
+}
+
 /// The line for a refused request, without its line feed, or else how many units it has, and the time after it.
 fn asked(alloc: Global, library: &Arc<Library>, clock: u64, line: &str) -> Result<String, Fail> {
     match decode_request(alloc, library, clock, line.as_bytes()) {
-        Ok(Request::State) => Ok(String::from_str(alloc, "state")?),
+        Ok(Request::Show(excerpt)) => name_of(alloc, excerpt),
         Ok(Request::Item(schedule)) => {
             let count = schedule.units.len();
             let clock = schedule.clock;
@@ -69,7 +78,17 @@ fn reads_a_line_with_spaces_and_a_carriage_return(rt: HostRuntime) -> Result<(),
 #[test]
 fn reads_a_question_for_the_state(rt: HostRuntime) -> Result<(), Fail> {
     expect(&rt, rt.alloc(), r#"["show"]"#, "state")?;
-    expect(&rt, rt.alloc(), r#"["show", 1]"#, "refused S2 /")
+    expect(&rt, rt.alloc(), r#"["show", "acct"]"#, "class 0")?;
+    expect(&rt, rt.alloc(), r#"["show", "acct", -7]"#, "object 0 -7")
+}
+
+#[test]
+fn refuses_a_question_for_what_there_is_not(rt: HostRuntime) -> Result<(), Fail> {
+    expect(&rt, rt.alloc(), r#"["show", 1]"#, "refused S2 /1")?;
+    expect(&rt, rt.alloc(), r#"["show", "acc"]"#, "refused S4 /1")?;
+    expect(&rt, rt.alloc(), r#"["show", "acct", "7"]"#, "refused S2 /2")?;
+    expect(&rt, rt.alloc(), r#"["show", "acct", 7.5]"#, "refused S3 /2")?;
+    expect(&rt, rt.alloc(), r#"["show", "acct", 7, 8]"#, "refused S2 /")
 }
 
 #[test]

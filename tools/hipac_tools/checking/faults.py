@@ -30,11 +30,19 @@ class Fault:
 
 
 class Refused(Exception):
-    """The first fault in the order of checks was found."""
+    """A fault was found: the part of the script that has it isn't read further."""
 
     def __init__(self, fault: Fault):
         super().__init__(fault.message)
         self.fault = fault
+
+
+class Faulty(Exception):
+    """A script was read, and has these faults, in the order of checks."""
+
+    def __init__(self, faults: list[Fault]):
+        super().__init__(faults[0].message)
+        self.faults = faults
 
 
 @dataclass(frozen=True)

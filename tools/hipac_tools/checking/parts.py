@@ -4,7 +4,7 @@ from __future__ import annotations
 
 import re
 from dataclasses import dataclass
-from typing import Iterable, Mapping, Optional
+from typing import Iterable, Iterator, Mapping, Optional
 
 from ..language import GREATEST, LEAST, MOST_NAME_BYTES, MOST_PLACE, NAME_LETTERS, is_name
 from ..near import NO_HABITS, nearest
@@ -48,6 +48,15 @@ def list_at(place: Place, what: str, items: str) -> list[Place]:
     if not isinstance(place.node.value, list):
         raise place.wrong_shape(f"{what} must be a list of {items}, and this is {kind_of(place.node)}")
     return place.items()
+
+
+def up_to_bare(places: Iterable[Place]) -> Iterator[Place]:
+    """The items of a list of lists, up to the first that is no list. Brackets are missing there, so what is behind it
+    isn't what it seems to be."""
+    for place in places:
+        yield place
+        if not isinstance(place.node.value, list):
+            return
 
 
 @dataclass(frozen=True)

@@ -3,10 +3,15 @@
 from __future__ import annotations
 
 from dataclasses import dataclass, field, replace
-from typing import Mapping, Optional
+from typing import Callable, Mapping, Optional, TypeVar
 
 from ..language import Form
-from .faults import Note, Place
+from .faults import Fault, Note, Place, Refused
+
+Result = TypeVar("Result")
+
+MOST_FAULTS = 20
+"""So many faults of a script are told at once."""
 
 
 @dataclass(frozen=True)
@@ -34,7 +39,7 @@ class Row:
 @dataclass(frozen=True)
 class Warned:
     """Something that the program accepts and that can't be meant (a warning), or that could be better (a hint); `help`
-    may be empty."""
+    may be empty, or several lines."""
 
     place: Place
     message: str
@@ -42,21 +47,46 @@ class Warned:
     word: str = "warning"
 
 
+class Enough(Exception):
+    """So many faults were found that no more are told."""
+
+
 @dataclass
 class Gathered:
-    """What the advice at the end rests on."""
+    """The faults that were found, and what the advice at the end rests on."""
 
+    faults: list[Fault] = field(default_factory=list)
+    is_doubtful: bool = False
+    """Whether a class, a field or a rule couldn't be read, so that a name which seems to be unknown may be its."""
+    is_rule_doubtful: bool = False
+    """The same of a query of the rule that is read."""
     warnings: list[Warned] = field(default_factory=list)
     awaited: dict[str, Place] = field(default_factory=dict)
     """The signals that rules wait for, each with its first place."""
     signalled: set[str] = field(default_factory=set)
     installed: set[str] = field(default_factory=set)
 
+    def go_on(self, read: Callable[[], Result], otherwise: Optional[Result] = None) -> Optional[Result]:
+        """Reads a part of the script. A fault in it is kept, and the reading goes on behind that part."""
+        try:
+            return read()
+        except Refused as refusal:
+            self.keep(refusal.fault)
+            return otherwise
+
+    def keep(self, fault: Fault) -> None:
+        """Keeps a fault; what may only follow from an earlier one is left out."""
+        if self.faults and fault.refusal.startswith("S4") and (self.is_doubtful or self.is_rule_doubtful):
+            return
+        self.faults.append(fault)
+        if len(self.faults) == MOST_FAULTS:
+            raise Enough
+
     def warn(self, place: Place, message: str, help: str = "") -> None:
         self.warnings.append(Warned(place, message, help))
 
-    def hint(self, place: Place, message: str) -> None:
-        self.warnings.append(Warned(place, message, word="hint"))
+    def hint(self, place: Place, message: str, help: str = "") -> None:
+        self.warnings.append(Warned(place, message, help, "hint"))
 
 
 @dataclass(frozen=True)

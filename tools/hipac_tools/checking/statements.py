@@ -13,7 +13,7 @@ from .faults import Place
 from .forms import PAIR, STATEMENTS
 from .parts import (
     Limit, did_you_mean, first_word, form_at, known_name_at, list_at, name_at, names_there, new_name_at,
-    shape_at, short_list_at,
+    shape_at, short_list_at, up_to_bare,
 )
 from .scope import Class, Row, Scope
 
@@ -26,8 +26,8 @@ def read_body(place: Place, scope: Scope, level: int = 1, what: str = "a body") 
     if first_word(place.node) in STATEMENTS.words:
         raise statements[0].wrong_shape("a body is a list of statements, and this is a statement's word",
                                         "put the statement into a list of its own: [[word, ..]]")
-    for statement in statements:
-        read_statement(statement, scope, level)
+    for statement in up_to_bare(statements):
+        scope.gathered.go_on(lambda: read_statement(statement, scope, level))
 
 
 def read_statement(place: Place, scope: Scope, level: int) -> None:
@@ -59,10 +59,10 @@ def read_key(place: Place, scope: Scope) -> None:
 
 def read_create(parts: list[Place], scope: Scope, level: int) -> None:
     made = read_class(parts[0], scope)
-    read_key(parts[1], scope)
+    scope.gathered.go_on(lambda: read_key(parts[1], scope))
     named = read_pairs(parts[2], made, scope)
     missing = [field for field in made.kinds if field not in named]
-    if missing:
+    if missing and len(named) == len(parts[2].node.items):
         fields = listed([f"`{field}`" for field in missing])
         lacking = f"{fields} is missing" if len(missing) == 1 else f"{fields} are missing"
         raise parts[2].bad_name(f"`create` names each field; {lacking}", notes=made.declared())
@@ -70,7 +70,7 @@ def read_create(parts: list[Place], scope: Scope, level: int) -> None:
 
 def read_update(parts: list[Place], scope: Scope, level: int) -> None:
     changed = read_class(parts[0], scope)
-    read_key(parts[1], scope)
+    scope.gathered.go_on(lambda: read_key(parts[1], scope))
     read_pairs(parts[2], changed, scope)
 
 
@@ -80,18 +80,22 @@ def read_delete(parts: list[Place], scope: Scope, level: int) -> None:
 
 
 def read_pairs(place: Place, changed: Class, scope: Scope) -> dict[str, Place]:
-    """The fields that the pairs name, each once and one of the class's."""
+    """The fields that the pairs name, each once and one of the class's. A pair with a fault names none."""
     named: dict[str, Place] = {}
-    for pair in list_at(place, "the pairs", "pairs [field, expression]"):
-        field_place, value_place = shape_at(pair, PAIR, outside=place)
-        field = new_name_at(field_place, "a field's name", "a pair for the field", named)
-        if field not in changed.kinds:
-            message = f"the class `{changed.name}` has no field `{field}`"
-            raise field_place.bad_name(message, which_field(field, changed), notes=changed.declared())
-        read_expression(value_place, scope)
-        warn_of_kind(value_place, field, changed.kinds[field], scope)
-        named[field] = field_place
+    for pair in up_to_bare(list_at(place, "the pairs", "pairs [field, expression]")):
+        scope.gathered.go_on(lambda: read_pair(pair, place, changed, scope, named))
     return named
+
+
+def read_pair(pair: Place, pairs: Place, changed: Class, scope: Scope, named: dict[str, Place]) -> None:
+    field_place, value_place = shape_at(pair, PAIR, outside=pairs)
+    field = new_name_at(field_place, "a field's name", "a pair for the field", named)
+    if field not in changed.kinds:
+        message = f"the class `{changed.name}` has no field `{field}`"
+        raise field_place.bad_name(message, which_field(field, changed), notes=changed.declared())
+    read_expression(value_place, scope)
+    warn_of_kind(value_place, field, changed.kinds[field], scope)
+    named[field] = field_place
 
 
 def which_field(field: str, changed: Class) -> str:
@@ -116,7 +120,7 @@ def warn_of_kind(place: Place, field: str, kind: str, scope: Scope) -> None:
 def read_signal(parts: list[Place], scope: Scope, level: int) -> None:
     scope.gathered.signalled.add(name_at(parts[0], "a signal's name"))
     for argument in short_list_at(parts[1], "the arguments", "expressions", ARGUMENTS):
-        read_expression(argument, scope)
+        scope.gathered.go_on(lambda: read_expression(argument, scope))
 
 
 def read_emit(parts: list[Place], scope: Scope, level: int) -> None:
@@ -133,8 +137,9 @@ def read_rule_operation(word: str, parts: list[Place], scope: Scope) -> None:
 
 
 def read_if(parts: list[Place], scope: Scope, level: int) -> None:
-    read_expression(parts[0], scope)
-    read_body(parts[1], scope, level + 1)
+    go_on = scope.gathered.go_on
+    go_on(lambda: read_expression(parts[0], scope))
+    go_on(lambda: read_body(parts[1], scope, level + 1))
     read_body(parts[2], scope, level + 1)
 
 
@@ -147,7 +152,7 @@ def read_each(parts: list[Place], scope: Scope, level: int) -> None:
     """The predicate and the body know the variable."""
     name = new_row_at(parts[0], scope)
     inner = scope.with_row(Row(name, read_class(parts[1], scope), parts[0], False))
-    read_predicate(parts[2], inner, name, f"`each` `{name}`")
+    scope.gathered.go_on(lambda: read_predicate(parts[2], inner, name, f"`each` `{name}`"))
     read_body(parts[3], inner, level + 1)
 
 
@@ -156,7 +161,7 @@ def read_with(parts: list[Place], scope: Scope, level: int) -> None:
     name = new_row_at(parts[0], scope)
     row = Row(name, read_class(parts[1], scope), parts[0], False)
     hint = "it names the row that this key finds, and is known after it"
-    read_expression(parts[2], replace(scope, not_yet={name: hint}))
+    scope.gathered.go_on(lambda: read_expression(parts[2], replace(scope, not_yet={name: hint})))
     read_body(parts[3], scope.with_row(row), level + 1)
 
 
@@ -179,7 +184,7 @@ def for_what_else(name: str, queries: list[str], scope: Scope) -> str:
 
 
 def read_sub(parts: list[Place], scope: Scope, level: int) -> None:
-    read_body(parts[0], scope, level + 1)
+    scope.gathered.go_on(lambda: read_body(parts[0], scope, level + 1))
     read_body(parts[1], scope, level + 1, "`otherwise`")
 
 

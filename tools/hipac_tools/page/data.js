@@ -5,7 +5,7 @@
 const data = JSON.parse(document.getElementById("data").textContent);
 const [TRANSACTION, OPERATION, EMIT, SUB, FIRE, ACT] = [0, 1, 2, 3, 4, 5];
 const NOWHERE = -1;
-const [NO_ABORT, INNER_ABORT, TOP_ABORT] = [0, 1, 2];
+const [NO_ABORT, INNER_ABORT, TOP_ABORT, ANY_FAULT] = [0, 1, 2, 3];
 const FACTS = [6, 5, 3, 3, 6, 5];
 const END = [4, NOWHERE, NOWHERE, 2, 5, 4];
 const ON_OBJECTS = ["create", "update", "delete"];
@@ -22,12 +22,16 @@ const objectsByName = new Map(data.objects.map((object) => [object[0] + " " + ob
 const kindOf = (place) => nodes[place][0];
 const endOf = (place) => (END[kindOf(place)] < 0 ? "" : nodes[place][END[kindOf(place)]]);
 const isAborted = (place) => endOf(place).startsWith("aborted");
+const isFault = (place) => kindOf(place) === FIRE && nodes[place][4].startsWith("fault");
+const faultsOfUnit = (unit) => data.units[unit][3];
 const rawFactsOf = (place) => nodes[place][FACTS[kindOf(place)]];
 const factsOf = (place) => rawFactsOf(place).map(([label, sentence]) => [label, data.sentences[sentence]]);
 const triggerOf = (place) => nodes[place][FACTS[kindOf(place)] + 1] ?? NOWHERE;
 const unitNumber = (place) => data.units[unitOf[place]][0];
 const rootOf = (place) => data.units[unitOf[place]][2][0];
 const insideOf = (place) => inside[place] || [];
+
+const countFacts = (place, label) => rawFactsOf(place).filter((one) => one[0] === label).length;
 
 function fact(place, label) {
   const found = rawFactsOf(place).find((one) => one[0] === label);

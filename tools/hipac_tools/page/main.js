@@ -10,9 +10,9 @@ function address(text, keep) {
 
 /* Shows a node. `keep` says whether the way back should lead to what was shown before. */
 function choose(place, keep) {
+  showTab("details");
   reveal(place);
   showDetails(place);
-  showTab("details");
   drawOverview();
   address("node " + place, keep);
 }
@@ -43,14 +43,18 @@ function goToAddress() {
 function summary() {
   const own = data.units.map((unit) => unit[2][0]);
   const aborted = own.filter(isAborted).length;
+  const faulty = data.units.filter((unit, at) => faultsOfUnit(at) > 0).length;
   const parts = [data.units.length + " units", own.length - aborted + " committed", aborted + " aborted",
-    data.rules.length + " rules", data.objects.filter((object) => object[2] !== null).length + " objects at the end"];
+    ...(faulty ? [faulty + " with faults"] : []), data.rules.length + " rules", data.objects.filter((object) => object[2] !== null).length + " objects at the end"];
   return parts.join(" \u00b7 ");
 }
 
 const KEYS = {
   "/": () => { searchBox.focus(); searchBox.select(); },
-  Escape: () => treeBox.focus(),
+  Escape: () => {
+    if (treeBox.clientHeight === 0) showTab("details");
+    treeBox.focus();
+  },
   n: () => moveAbort(1),
   p: () => moveAbort(-1),
   "?": () => byId("help").showModal(),
@@ -74,6 +78,7 @@ byId("keys").addEventListener("click", () => byId("help").showModal());
 byId("show-all").addEventListener("click", () => showUnits(NO_ABORT));
 byId("show-any").addEventListener("click", () => showUnits(INNER_ABORT));
 byId("show-top").addEventListener("click", () => showUnits(TOP_ABORT));
+byId("show-faults").addEventListener("click", () => showUnits(ANY_FAULT));
 byId("next-abort").addEventListener("click", () => moveAbort(1));
 byId("former-abort").addEventListener("click", () => moveAbort(-1));
 byId("open-all").addEventListener("click", () => {
@@ -82,7 +87,7 @@ byId("open-all").addEventListener("click", () => {
 });
 byId("close-all").addEventListener("click", () => { tree.open.clear(); layOut(); });
 window.addEventListener("popstate", goToAddress);
-window.addEventListener("resize", () => { drawRows(); drawOverview(); });
+window.addEventListener("resize", () => { drawRows(); drawOverview(); fitAgain(); });
 window.matchMedia("(prefers-color-scheme: dark)").addEventListener("change", drawOverview);
 
 function start() {
@@ -91,6 +96,12 @@ function start() {
     byId("doubt").textContent = data.doubt + ": only what the report itself tells is shown here.";
     byId("doubt").hidden = false;
   }
+  if (data.note) {
+    const note = data.note[0].toUpperCase() + data.note.slice(1) + ".";
+    byId("note").append(...sentenceElement("p", "", note).childNodes);
+    byId("note").hidden = false;
+  }
+  byId("show-faults").hidden = !data.units.some((unit, at) => faultsOfUnit(at) > 0);
   if (data.units.length <= 12) data.units.forEach((unit) => tree.open.add(unit[2][0]));
   listRules();
   listObjects();

@@ -1,4 +1,5 @@
-/* The strip of all units in time: one bar each, red where the unit aborted, with a second bar below for its cascade. */
+/* The strip of all units in time: one bar each, red where the unit aborted, with a mark above where it committed with a
+   fault, and a second bar below for its cascade. */
 
 const overview = byId("overview");
 
@@ -15,6 +16,8 @@ function drawOverview() {
   const bar = Math.max(1, step - (step > 3 ? 2 : 0));
   const colours = { calm: colour("--good"), cascade: colour("--accent"), bad: colour("--bad") };
   for (const isBad of [false, true]) drawBars(pen, step, bar, colours, isBad);
+  pen.fillStyle = colour("--doubt");
+  data.units.forEach((unit, at) => { if (faultsOfUnit(at) > 0) pen.fillRect(at * step, 0, Math.max(2, bar), 3); });
   if (tree.active !== NOWHERE) {
     pen.fillStyle = colour("--ink");
     pen.fillRect(unitOf[tree.active] * step, 31, Math.max(3, bar), 3);

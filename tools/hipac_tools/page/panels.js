@@ -4,12 +4,16 @@ const PIECE = 200;
 const TABS = ["details", "rules", "objects", "graph"];
 
 function showTab(name) {
+  const main = document.querySelector("main");
+  const former = main.dataset.tab;
+  main.dataset.tab = name;
   for (const tab of TABS) {
     const isShown = tab === name;
     byId("tab-" + tab).setAttribute("aria-selected", isShown);
     byId("tab-" + tab).tabIndex = isShown ? 0 : -1;
     byId("panel-" + tab).hidden = !isShown;
   }
+  if (former !== name) { fitAgain(); drawRows(); drawOverview(); }
 }
 
 function fill(name, parts) {
@@ -97,7 +101,7 @@ function facts(place) {
   if (node[0] === EMIT) rows.unshift(["Value", node[2]]);
   if (node[0] === TRANSACTION) rows.push(["Within it", contents(place)]);
   for (const [label, sentence] of rows) {
-    const style = label === "Aborted" || label === "Undone" ? "bad" : "";
+    const style = { Aborted: "bad", Undone: "bad", Fault: "doubt" }[label] ?? "";
     const isPlain = label === "Row" || label === "Value";
     const content = isPlain ? element("dd", "name", sentence) : sentenceElement("dd", style, sentence);
     made.append(element("dt", "", label), content);
@@ -230,13 +234,45 @@ byId("tabs").addEventListener("keydown", (event) => {
   byId("tab-" + name).focus();
 });
 
+/* The picture begins as wide as its box, or smaller, and stays so until somebody makes it smaller or larger. Its whole
+   height is seen too where its text stays readable. */
+const LEAST_FOR_HEIGHT = 0.6;
+const [LEAST_ZOOM, MOST_ZOOM] = [0.1, 4];
 let zoom = 1;
-function zoomGraph(factor) {
+let isFitted = true;
+
+function setZoom(factor) {
   const picture = byId("graph").querySelector("svg");
   if (!picture) return;
-  zoom = Math.min(4, Math.max(0.2, zoom * factor));
-  picture.style.transformOrigin = "0 0";
-  picture.style.transform = "scale(" + zoom + ")";
+  zoom = Math.min(MOST_ZOOM, Math.max(LEAST_ZOOM, factor));
+  picture.style.width = naturalSize(picture)[0] * zoom + "px";
+}
+
+function zoomGraph(factor) {
+  isFitted = false;
+  setZoom(zoom * factor);
+}
+
+function fitGraph() {
+  const box = byId("graph");
+  const picture = box.querySelector("svg");
+  isFitted = true;
+  if (!picture || box.clientWidth === 0) return;
+  const [width, height] = naturalSize(picture);
+  const space = getComputedStyle(box);
+  const across = (box.clientWidth - parseFloat(space.paddingLeft) - parseFloat(space.paddingRight)) / width;
+  const down = (box.clientHeight - parseFloat(space.paddingTop) - parseFloat(space.paddingBottom)) / height;
+  setZoom(Math.min(1, across, Math.max(down, LEAST_FOR_HEIGHT)));
+}
+
+function fitAgain() {
+  if (isFitted) fitGraph();
+}
+
+/* The width and the height in dots: Graphviz gives them in points. */
+function naturalSize(picture) {
+  const dots = picture.getAttribute("width").endsWith("pt") ? 4 / 3 : 1;
+  return [parseFloat(picture.getAttribute("width")) * dots, parseFloat(picture.getAttribute("height")) * dots];
 }
 
 /* The names of rules in the picture open the rules. */
@@ -252,6 +288,7 @@ function wireGraph() {
       if (event.key === "Enter" || event.key === " ") { event.preventDefault(); showRule(name); }
     });
   }
+  byId("fit").addEventListener("click", fitGraph);
   byId("larger").addEventListener("click", () => zoomGraph(1.25));
   byId("smaller").addEventListener("click", () => zoomGraph(0.8));
 }

@@ -12,7 +12,7 @@ const rowsBox = byId("rows");
 /* All lines that are to be seen were the tree not cut off by its box: [place, level, position, number of siblings]. */
 function layOut() {
   tree.lines = [];
-  const units = data.units.filter((unit, number) => worstOf[number] >= tree.least);
+  const units = data.units.filter((unit, number) => isShown(number));
   const waiting = [];
   const put = (places, level) => {
     for (let at = places.length - 1; at >= 0; at -= 1) waiting.push([places[at], level, at + 1, places.length]);
@@ -27,6 +27,11 @@ function layOut() {
   while (tree.active !== NOWHERE && !tree.placeToLine.has(tree.active)) tree.active = parents[tree.active];
   rowsBox.style.height = tree.lines.length * ROW + "px";
   drawRows();
+}
+
+/* Whether a unit has what is asked for: an abort, or a fault that lasts. */
+function isShown(unit) {
+  return tree.least === ANY_FAULT ? faultsOfUnit(unit) > 0 : worstOf[unit] >= tree.least;
 }
 
 /* Elements of lines that look as before stay where they are: a press of the mouse and its release must meet one
@@ -73,6 +78,8 @@ function rowElement(at) {
   if (insideOf(place).length > 0) row.setAttribute("aria-expanded", tree.open.has(place));
   for (const [style, text] of said(place)) if (text) row.append(piece(style, text));
   if (undoneBy[place] !== NOWHERE) row.append(element("span", "say chip warn", "undone"));
+  const faults = countFacts(place, "Fault");
+  if (faults > 0) row.append(element("span", "say chip warn", faults === 1 ? "fault" : "faults"));
   row.append(element("span", "say reason", reasonOf(place)));
   return row;
 }
@@ -81,10 +88,14 @@ function rowElement(at) {
 const LEFT_OUT = [/ \(at [^)]*\)/g, /, in the unit's own body/g, /; `(ec|ca)` is [^.]*/g, /`/g];
 
 function reasonOf(place) {
-  const reason = fact(place, "Aborted") || fact(place, "Detached") || fact(place, "Trigger");
+  const reason = fact(place, "Fault") || fact(place, "Aborted") || fact(place, "Detached") || fact(place, "Trigger");
+  const isSilent = !reason && insideOf(place).length === 0;
+  if (isSilent && fact(place, "Signals")) return shortened(fact(place, "Signals"));
   if (!reason && kindOf(place) === TRANSACTION && !tree.open.has(place)) return contents(place);
-  return LEFT_OUT.reduce((text, left) => text.replace(left, ""), reason);
+  return shortened(reason);
 }
+
+const shortened = (sentence) => LEFT_OUT.reduce((text, left) => text.replace(left, ""), sentence);
 
 function rowStyle(place, level) {
   const styles = ["row"];
@@ -142,7 +153,7 @@ function reveal(place) {
     tree.open.add(round);
   }
   tree.active = place;
-  if (worstOf[unitOf[place]] < tree.least) showUnits(NO_ABORT);
+  if (!isShown(unitOf[place])) showUnits(NO_ABORT);
   else if (closed) layOut();
   bringIntoView(tree.placeToLine.get(place));
   drawRows();
@@ -155,10 +166,10 @@ function bringIntoView(at) {
   else if (top > last) treeBox.scrollTop += top + ROW - last;
 }
 
-/* Shows the units whose worst abort is at least this one. */
+/* Shows the units whose worst abort is at least this one, or those with a fault. */
 function showUnits(least) {
   tree.least = least;
-  ["show-all", "show-any", "show-top"].forEach((id, at) => byId(id).setAttribute("aria-pressed", at === least));
+  ["show-all", "show-any", "show-top", "show-faults"].forEach((id, at) => byId(id).setAttribute("aria-pressed", at === least));
   layOut();
 }
 
@@ -172,7 +183,7 @@ function moveBy(lines) {
 function moveAbort(step) {
   const start = tree.active === NOWHERE ? (step > 0 ? -1 : nodes.length) : tree.active;
   for (let place = start + step; place >= 0 && place < nodes.length; place += step) {
-    if (isAborted(place)) return choose(place, false);
+    if (isAborted(place) || isFault(place)) return choose(place, false);
   }
 }
 

@@ -55,7 +55,7 @@ pub fn put_object(
 }
 
 /// The line of an object.
-fn put_object_line(
+pub fn put_object_line(
     alloc: Global,
     out: &mut String,
     names: &Names<'_>,

@@ -2,9 +2,10 @@ use Rattle.std.proofs.Common.{◌≡◌, Ok, Err}
 use Rattle.std.proofs.lemmas.Result.{IfOk-weaker}
 use Rattle.hp_rule.specs.Mapped.{library}
 use Rattle.hp_script.specs.Mapped.{schedule, refusal}
+use Rattle.hp_script.specs.Asked.{excerpt}
 use Rattle.hp_script.specs.Requests as R
 use Rattle.hp_script.specs.Requests.{request_of}
-use Rattle.hp_live.proofs.Asked.{both_ok, answers_item, answers_state, answers_refusal}
+use Rattle.hp_live.proofs.Asked.{both_ok, answers_item, answers_show, answers_refusal}
 use Rattle.hp_live.proofs.server.answer_later.Goals as goal
 
 pub returns-in-Ok-Item : goal.returns-in-Ok-Item
@@ -15,11 +16,12 @@ returns-in-Ok-Item g c =
     both_ok c.run.result _ _ _ c.run.ensures.text c.run.ensures.state
     (λ text is later now stands. answers_item text kept c.run.new.self c.args.options.tree now c.args.line.now s stands read (is now stands) (later now stands))
 
-pub returns-in-Ok-State : goal.returns-in-Ok-State
-returns-in-Ok-State g c =
+pub returns-in-Ok-Show : goal.returns-in-Ok-Show
+returns-in-Ok-Show g c =
     let kept = c.args.base.now in
-    let read : request_of (library kept.library.value) kept.clock c.args.line.now ≡ Ok R.state = rw c.in-Ok-State.field-0-is at c.in-Ok-State.ensures.reads in
-    IfOk-weaker c.shown.result _ _ (λ text is now stands. answers_state text kept c.args.options.tree now c.args.line.now stands read (is now stands)) c.shown.ensures
+    let e = excerpt c.in-Ok-Show.excerpt in
+    let read : request_of (library kept.library.value) kept.clock c.args.line.now ≡ Ok (R.show e) = rw c.in-Ok-Show.field-0-is at c.in-Ok-Show.ensures.reads in
+    IfOk-weaker c.show.result _ _ (λ text is now stands. answers_show text kept c.args.options.tree now c.args.line.now e stands read (is now stands)) c.show.ensures
 
 pub returns-in-Err-Refused : goal.returns-in-Err-Refused
 returns-in-Err-Refused g c =

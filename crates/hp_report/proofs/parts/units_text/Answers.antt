@@ -1,4 +1,4 @@
-use Rattle.std.proofs.Common.{rules, ◌≡◌, ◌∙◌, ◌++◌, ap, map, string_bytes}
+use Rattle.std.proofs.Common.{rules, ◌≡◌, ◌∙◌, ◌++◌, ap, map}
 use Rattle.hp_model.specs.Report.{Bytes, units_text}
 use Rattle.hp_report.specs.Mapped as model
 use Rattle.hp_report.proofs.AnyDepth.{same_units}

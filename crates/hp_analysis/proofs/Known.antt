@@ -1,0 +1,86 @@
+-- Each rule of a well-formed library triggers rules of the library only.
+use Rattle.std.proofs.Common.{arith, ◌≡◌, refl, sym, subst, ℕ, pos, suc, ◌+◌, ◌<◌, List, [], ◌∷◌, ◌++◌, length, Bool, true, false, ◌&&◌, IsTrue, nat_lt}
+use Rattle.std.specs.Prelude.{if◌then◌else◌, Ok}
+use Rattle.std.specs.List.{list_all}
+use Rattle.std.proofs.lemmas.Bool.{and_parts, and_from, lt-ltb}
+use Rattle.std.proofs.lemmas.List.Folds.{list_all-append}
+use Rattle.hp_model.specs.Values.{Name, ClassDef}
+use Rattle.hp_model.specs.Occurrences.{Primitive, created, updated, deleted, signalled, commit_reached}
+use Rattle.hp_model.specs.Rules.{Rule, Library, Statement, create, update, delete, signal, emit, when, each, for_answer, with_object, subtransaction, abort, veto, on_rule, fire, Body, empty, ◌then◌}
+use Rattle.hp_model.specs.Checked.{Scope, library_check, action_scope, query_names}
+use Rattle.hp_model.specs.Chains.{completes, triggers_from, signal_triggers, statement_triggers, body_triggers, may_detach, rule_triggers}
+use Rattle.hp_rule.specs.WellNamed.{IsWellNamed, knows_expression, knows_class, knows_row, knows_event, knows_queries, knows_statement, knows_body, knows_rule}
+use Rattle.hp_rule.proofs.WellNamedLemmas.{library_is_well_named}
+use Rattle.hp_analysis.proofs.Within.{knows_targets}
+
+module _ (library : Library) where
+  abbrev below : ℕ → Bool
+  below n = nat_lt n (length library.rules)
+
+  both_below : (a b : List ℕ) → IsTrue (list_all below a) → IsTrue (list_all below b) → IsTrue (list_all below (a ++ b))
+  both_below a b h k = subst IsTrue (sym (list_all-append below a b)) (and_from (list_all below a) (list_all below b) h k)
+
+  listed_below : (n : ℕ) (rules : List Rule) (p : Primitive) → n + length rules ≡ length library.rules → IsTrue (list_all below (triggers_from n rules p))
+  listed_below n [] p e = refl
+  listed_below n (rule ∷ rules) p e =
+      let here : n < length library.rules = omega (arith, e) in
+      by (completes rule.event p) (lt-ltb n (length library.rules) here) (listed_below (suc n) rules p (omega (arith, e)))
+    where
+      by : (b : Bool) → IsTrue (below n) → IsTrue (list_all below (triggers_from (suc n) rules p)) → IsTrue (list_all below (if b then n ∷ triggers_from (suc n) rules p else triggers_from (suc n) rules p))
+      by true here rest = and_from (below n) (list_all below (triggers_from (suc n) rules p)) here rest
+      by false here rest = rest
+
+  signal_below : (p : Primitive) → IsTrue (list_all below (signal_triggers library p))
+  signal_below p = listed_below 0 library.rules p (omega arith)
+
+  module _ (scope : Scope) (same : scope.rules ≡ length library.rules) where
+    mutual
+      statement_below : (names : List Name) (s : Statement) → IsTrue (knows_statement scope names s) → IsTrue (list_all below (statement_triggers library s))
+      statement_below names (create class key assignments) h = signal_below (created class (pos 0) [])
+      statement_below names (update class key assignments) h = signal_below (updated class (pos 0) [] [])
+      statement_below names (delete class key) h = signal_below (deleted class (pos 0) [])
+      statement_below names (signal name arguments) h = signal_below (signalled name [])
+      statement_below names (emit e) h = refl
+      statement_below names (when e a b) h =
+          let parts = and_parts (knows_body scope names a) (knows_body scope names b) (and_parts (knows_expression names e) (knows_body scope names a && knows_body scope names b) h).1 in
+          both_below (body_triggers library a) (body_triggers library b) (body_below names a parts.0) (body_below names b parts.1)
+      statement_below names (each x class predicate body) h =
+          body_below (x ∷ names) body
+          (and_parts (knows_expression (x ∷ names) predicate) (knows_body scope (x ∷ names) body) (and_parts (knows_class scope class) (knows_expression (x ∷ names) predicate && knows_body scope (x ∷ names) body) h).1).1
+      statement_below names (for_answer x body) h = body_below names body (and_parts _ (knows_body scope names body) h).1
+      statement_below names (with_object x class key body) h =
+          body_below (x ∷ names) body
+          (and_parts (knows_expression names key) (knows_body scope (x ∷ names) body) (and_parts (knows_class scope class) (knows_expression names key && knows_body scope (x ∷ names) body) h).1).1
+      statement_below names (subtransaction body otherwise) h =
+          let parts = and_parts (knows_body scope names body) (knows_body scope names otherwise) h in
+          both_below (body_triggers library body) (body_triggers library otherwise) (body_below names body parts.0) (body_below names otherwise parts.1)
+      statement_below names abort h = refl
+      statement_below names veto h = refl
+      statement_below names (on_rule op n) h = refl
+      statement_below names (fire n) h = and_from (below n) true (subst (λ count. IsTrue (nat_lt n count)) same h) refl
+
+      body_below : (names : List Name) (b : Body) → IsTrue (knows_body scope names b) → IsTrue (list_all below (body_triggers library b))
+      body_below names empty h = refl
+      body_below names (s then rest) h =
+          let parts = and_parts (knows_statement scope names s) (knows_body scope names rest) h in
+          both_below (statement_triggers library s) (body_triggers library rest) (statement_below names s parts.0) (body_below names rest parts.1)
+
+  rule_below : (r : Rule) → IsTrue (knows_rule library.classes (length library.rules) r) → IsTrue (knows_targets library r)
+  rule_below r h =
+      let action = action_scope library.classes (length library.rules) r.condition in
+      let body = (and_parts (knows_queries (length library.classes) [] r.condition) (knows_body action (query_names r.condition) r.action)
+      (and_parts (knows_event (length library.classes) r.event) (knows_queries (length library.classes) [] r.condition && knows_body action (query_names r.condition) r.action) h).1).1 in
+      both_below (body_triggers library r.action) (if may_detach r then signal_triggers library commit_reached else []) (body_below action refl (query_names r.condition) r.action body) (commit (may_detach r))
+    where
+      commit : (b : Bool) → IsTrue (list_all below (if b then signal_triggers library commit_reached else []))
+      commit true = signal_below commit_reached
+      commit false = refl
+
+  rules_below : (rules : List Rule) → IsTrue (list_all (knows_rule library.classes (length library.rules)) rules) → IsTrue (list_all (knows_targets library) rules)
+  rules_below [] h = refl
+  rules_below (r ∷ rs) h =
+      let parts = and_parts (knows_rule library.classes (length library.rules) r) (list_all (knows_rule library.classes (length library.rules)) rs) h in
+      and_from (knows_targets library r) (list_all (knows_targets library) rs) (rule_below r parts.0) (rules_below rs parts.1)
+
+pub targets_known : (library : Library) → library_check library ≡ Ok tt → list_all (knows_targets library) library.rules ≡ true
+targets_known library checked = rules_below library library.rules (library_is_well_named library checked).rules_know

@@ -1,0 +1,5 @@
+pub mod Known
+pub mod Least
+pub mod Marks
+pub mod Reaching
+pub mod Within

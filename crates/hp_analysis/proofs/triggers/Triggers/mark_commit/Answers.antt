@@ -1,0 +1,10 @@
+use Rattle.std.proofs.Common.{ap, ◌∙◌}
+use Rattle.hp_rule.specs.Libraries as libraries
+use Rattle.hp_analysis.specs.Sets.{marked}
+use Rattle.hp_analysis.proofs.Marks.{commit_listed}
+use Rattle.hp_analysis.proofs.triggers.Triggers.mark_commit.Goals as goal
+
+pub returns : goal.returns
+returns c =
+    let self = c.args.self.now in
+    c.mark_all.ensures ∙ ap (λ ns. marked ns c.args.set.now.items) (c.of_commit.ensures ∙ commit_listed self.listeners (libraries.library self.library.now) self.of_rules)

@@ -1,0 +1,5 @@
+pub mod Listeners
+pub mod Sets
+pub mod Reached
+pub mod Tables
+pub mod Checking

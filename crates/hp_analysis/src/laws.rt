@@ -1,0 +1,14 @@
+//! Laws of what the graph gives.
+
+ghost use Rattle.hp_analysis.specs.Reached.{ReachedIsLeast, UnreachedNeverFire};
+
+/// The rules that are reached are the least set that has what the units trigger, and what each of its rules may
+/// trigger.
+pub fn reached_is_least()
+    ensures { ReachedIsLeast }
+{}
+
+/// The units fire no rule that isn't reached, whatever the state is.
+pub fn unreached_never_fire()
+    ensures { UnreachedNeverFire }
+{}
