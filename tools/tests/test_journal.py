@@ -3,6 +3,7 @@
 from __future__ import annotations
 
 import json
+import os
 import subprocess
 import sys
 import tempfile
@@ -25,9 +26,9 @@ def content(lines=LINES) -> bytes:
 
 
 def hipac_tools(*words: str, given: bytes = b"") -> subprocess.CompletedProcess:
-    how = {"cwd": program.REPOSITORY, "input": given, "capture_output": True, "check": False}
-    return subprocess.run([sys.executable, "-m", "hipac_tools", *words],
-                          env={**__import__("os").environ, "PYTHONPATH": str(program.REPOSITORY / "tools")}, **how)
+    environment = {**os.environ, "PYTHONPATH": str(program.REPOSITORY / "tools")}
+    return subprocess.run([sys.executable, "-m", "hipac_tools", *words], input=given, env=environment,
+                          cwd=program.REPOSITORY, capture_output=True, check=False)
 
 
 class JournalTest(unittest.TestCase):
@@ -66,6 +67,19 @@ class JournalTest(unittest.TestCase):
         self.assertFalse(journal.is_journal(content([SCRIPT])))
         self.assertFalse(journal.is_journal(json.dumps(SCRIPT, indent=1).encode()))
 
+    def test_the_other_words_take_a_journal(self):
+        """They say of it what they say of its script, and of one that no script could hold."""
+        padded = [*LINES, *[["tx", [["emit", "x" * 1000]] * 100]] * 12]
+        for lines in (LINES, padded):
+            given = content(lines)
+            script = hipac_tools("journal", "-", given=given).stdout
+            for words in (["why", "-", "7"], ["graph", "-"], ["faults", "-"], ["view", "-"]):
+                with self.subTest(words, size=len(given)):
+                    ended = hipac_tools(*words, given=given)
+                    self.assertEqual((ended.returncode, ended.stderr), (0, b""))
+                    if lines is LINES:
+                        self.assertEqual(ended.stdout, hipac_tools(*words, given=script).stdout)
+
 
 class SnapshotTest(unittest.TestCase):
     def test_a_snapshot_stands_as_the_journal(self):
@@ -82,8 +96,8 @@ class SnapshotTest(unittest.TestCase):
         self.assertEqual(hipac_tools("snapshot", "-", "--until", "7", given=lines).returncode, 0)
 
     def test_a_journal_longer_than_a_script(self):
-        many = [["tx", [["create", "item", 1000 * part + key, [["stock", key]]] for key in range(1000, 2000)]]
-                for part in range(40)]
+        many = [["tx", [["create", "item", 1000 * part + key, [["stock", key]]] for key in range(1000)]]
+                for part in range(1, 31)]
         with tempfile.TemporaryDirectory() as folder:
             path = Path(folder, "journal")
             path.write_bytes(content([SCRIPT, *many]))
