@@ -1,17 +1,18 @@
 #!/usr/bin/env python3
 """Compares what `hipac-tools why` says of scripts with a plain, slow account from the definitions.
 
-    checks/accounts.py [--scripts N] [--jobs N]
+    checks/accounts.py [--scripts N] [--first N] [--jobs N]
 
 For each script the program's report with trees must be the one of the definitions (definitions.py and
 definitions_run.py). Then each fact that `why` and `view` tell is compared with the plain account (plain_account.py): of
 each node its trigger with the parts of the occurrence, each query of its condition, why it aborted, what undid it and
-what it came to; each dropped task; and for each rule in each unit how often it was triggered, its status at each
-signal, and what became of each occurrence that its event could have been completed with. The same facts are worded, and
-each kind of sentence must occur.
+what it came to; each fault that lasts; each dropped task; and for each rule in each unit how often it was triggered,
+its status at each signal, and what became of each occurrence that its event could have been completed with. The same
+facts are worded, and each kind of sentence must occur.
 
-The scripts are the examples and N random ones. HIPAC names the program; the default is the one that ./hipac
-starts. The seeds are fixed: script n is the same on each machine. The last line is 'N passed, M failed'.
+The scripts are N random ones, from number 0 on or from `--first` on, and with number 0 the examples too. HIPAC names
+the program; the default is the one that ./hipac starts. The seeds are fixed: script n is the same on each machine. The
+last line is 'N passed, M failed'.
 """
 
 import argparse
@@ -32,7 +33,7 @@ sys.dont_write_bytecode = True
 import definitions_run  # noqa: E402 (they lie in tools/ and checks/)
 import plain_account  # noqa: E402
 from hipac_tools import account as accounts  # noqa: E402
-from hipac_tools import fates, why  # noqa: E402
+from hipac_tools import fates, faulting, report, why  # noqa: E402
 from hipac_tools.answers import rule_answer, status_by_report  # noqa: E402
 from hipac_tools.command import REFUSED  # noqa: E402
 from hipac_tools.model import page_model  # noqa: E402
@@ -65,6 +66,7 @@ SENTENCES = [
     "ran at the end of the transaction", "ran in a transaction of its own", "so it was put off", "So it did nothing",
     "Its action committed", "ran and changed nothing", "It vetoed", "was undone, as", "as no transaction round its",
     "before its condition was tested, as unit", "before its action ran, as", "vetoed first",
+    "Though it committed, the condition of", "Though it committed, the action of",
     "acted in vain", "failed once", "each time", "vetoed once", "and was dropped", "wasn't triggered in",
     *(f"aborted {cause}" for cause in ("A1", "A2", "A3", "A4", "A5", "A6", "A7", "A8", r"A9 \w+")),
 ]
@@ -153,20 +155,23 @@ class ToolFacts:
                 "queries": [query_facts(query) for query in note.queries],
                 "fate": fates.WORDS[fates.fate_of(node)] if is_task else None}
 
+    def fault_facts(self):
+        return [(self.place(fault.node), fault.is_condition, fault.cause) for unit in self.account.report.units
+                for transaction in unit.transactions for fault in faulting.lasting_faults(transaction)]
+
     def dropped_facts(self):
         whys = {ABORT: "abort", VETO: "veto", NO_ABORT: "no abort"}
         return sorted((self.place(node), one.rule, one.mode, one.is_tested, one.trigger.number, numbers(one.occurrence),
                        whys[one.why], self.place(one.by) or ()) for node in self.nodes for one in node.note.dropped)
 
-    def rule_facts(self, unit, rule):
-        answer = rule_answer(self.account, unit, rule, math.inf)
+    def rule_facts(self, unit, answer):
         tally = fates.tally([node for _, node in answer.tasks], answer.dropped)
         return {"silences": [self._silence(silence) for silence in answer.silences],
                 "fates": {fates.WORDS[fate]: number for fate, number in tally.fates.items()},
                 "is by event": tally.is_by_event,
                 "throughout": answer.throughout and (answer.throughout.status, self.place(answer.throughout.since)),
                 "undone operation": self.place(answer.undone_operation),
-                "status by the trees": status_by_report(self.account, unit, rule),
+                "status by the trees": status_by_report(self.account, unit, answer.rule),
                 "triggers": tally.triggers}
 
     def _silence(self, one):
@@ -206,41 +211,54 @@ def plain_signals(run):
             for one in run.signals]
 
 
-def differences(run, account):
+def answers_of(account):
+    """All that `why` can be asked of rules: each unit with the answer for each rule, in full."""
+    return [(unit, [rule_answer(account, unit, rule, math.inf) for rule in account.rules])
+            for unit in account.report.units]
+
+
+def differences(run, account, answers):
     """The facts that differ, each with what the tools say and what the definitions say."""
     tools = ToolFacts(account)
     pairs = [("signals", tools.signal_facts(), plain_signals(run)),
-             ("dropped", tools.dropped_facts(), plain_account.dropped_facts(run))]
+             ("dropped", tools.dropped_facts(), plain_account.dropped_facts(run)),
+             ("faults", tools.fault_facts(), plain_account.fault_facts(run))]
     ours, plain = tools.node_facts(), plain_account.node_facts(run)
     pairs.append(("places", sorted(ours), sorted(plain)))
     pairs += [(f"node {place} {what}", ours[place][what], plain[place][what])
               for place in ours if place in plain for what in ours[place]]
-    for unit in account.report.units:
-        for number, rule in enumerate(run.rules):
-            ours, plain = tools.rule_facts(unit, rule[0]), plain_account.rule_facts(run, unit.number, number)
-            pairs += [(f"unit {unit.number} rule {rule[0]} {what}", ours[what], plain[what]) for what in plain]
+    for unit, of_rules in answers:
+        for number, answer in enumerate(of_rules):
+            ours, plain = tools.rule_facts(unit, answer), plain_account.rule_facts(run, unit.number, number)
+            pairs += [(f"unit {unit.number} rule {answer.rule} {what}", ours[what], plain[what]) for what in plain]
     return [pair for pair in pairs if pair[1] != pair[2]]
 
 
-def derived_differences(run, account):
+def derived_differences(run, account, output):
     """The same of what the trees alone show: each trigger that is told is the right one."""
-    tools = ToolFacts(accounts.derived(account, accounts.TOO_LONG, True))
+    alone = accounts.Account(account.base, report.read(output), account.places)
+    tools = ToolFacts(accounts.derived(alone, accounts.TOO_LONG, True))
     plain = plain_account.node_facts(run)
     said = [(tools.place(node), tools.place(node.note.trigger.operation)) for node in tools.nodes if node.note.trigger]
     right = [(place, plain_account.place(run.signals[plain[place]["trigger"][0]].operation)) for place, _ in said]
     return [("triggers by the trees", said, right)] if said != right else []
 
 
-def worded(account):
+class Unfolded(why.Lines):
+    """Lines of any length."""
+
+    def say(self, level, words):
+        self.lines.append(self.places.told(words))
+
+
+def worded(account, answers):
     """All that `why` says on a script, and the page of `view`."""
-    texts = [" ".join(page_model(account).sentences)]
-    for unit in account.report.units:
-        lines = why.Lines(math.inf, account.places, ALL)
+    lines = Unfolded(math.inf, account.places, ALL)
+    for unit, of_rules in answers:
         why.UnitText(account, unit, lines).write()
-        for rule in account.rules:
-            why.RuleText(account, rule_answer(account, unit, rule, ALL.candidates), lines).write()
-        texts.append(lines.text())
-    return "\n".join(texts)
+        for answer in of_rules:
+            why.RuleText(account, answer, lines).write()
+    return "\n".join(page_model(account).sentences + lines.lines)
 
 
 def tried(command, which):
@@ -267,9 +285,9 @@ def compared(command, script):
         account = accounts.account_of(text, output.decode(), watch=[rule[0] for rule in script["rules"]])
     except accounts.NoAccount as fault:
         return [str(fault)], Counter()
-    found = differences(run, account)
-    words = worded(account)
-    found += derived_differences(run, accounts.account_of(text, output.decode()))
+    answers = answers_of(account)
+    found = differences(run, account, answers) + derived_differences(run, account, output.decode())
+    words = worded(account, answers)
     kinds = Counter(kind for kind in SENTENCES if re.search(kind, words))
     return [f"{what}: `why` has {ours}, the definitions {plain}" for what, ours, plain in found], kinds
 
@@ -277,10 +295,12 @@ def compared(command, script):
 def main():
     parser = argparse.ArgumentParser()
     parser.add_argument("--scripts", type=int, default=5000)
+    parser.add_argument("--first", type=int, default=0)
     parser.add_argument("--jobs", type=int, default=os.cpu_count())
     options = parser.parse_args()
     command, failed, kinds = command_of("hipac"), 0, Counter()
-    scripts = written() + list(range(options.scripts))
+    scripts = [] if options.first else written()
+    scripts += range(options.first, options.first + options.scripts)
     with concurrent.futures.ProcessPoolExecutor(options.jobs) as pool:
         for which, (wrong, told) in zip(scripts, pool.map(tried, [command] * len(scripts), scripts, chunksize=8)):
             failed += bool(wrong)

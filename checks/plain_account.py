@@ -77,6 +77,18 @@ def _is_idle(run, node):
     return all(item.word == "sub" and not item.cause and _is_idle(run, item) for item in node.items)
 
 
+def fault_facts(run):
+    """The conditions and actions that ended with a fault and weren't undone, in order of time."""
+    found = []
+    for _, transactions in run.units:
+        for node in (node for top in transactions for node in _walk(top) if not undoing(node.parent)):
+            if node.condition.startswith("fault "):
+                found.append((node.number, True, node.condition[len("fault "):]))
+            elif node.word in ("fire", "act") and node.cause in ("A1", "A2", "A3", "A4", "A5", "A6", "A7"):
+                found.append((node.number, False, node.cause))
+    return found
+
+
 def dropped_facts(run):
     """The dropped tasks, each with the transaction in which it was made."""
     return sorted((one.top.number, run.rules[one.task.rule][0], one.task.place, one.task.answers is not None,

@@ -47,7 +47,7 @@ class Account:
         return {rule.name: rule for rule in self.base.rules}
 
     def mode_of_action(self, rule: str) -> str:
-        """The mode of a rule's action; None for a rule that only another script's report names."""
+        """The mode of a rule's action. Of a script that is too long to follow the report may name other rules."""
         return self.rules[rule].ca if rule in self.rules else "not immediate"
 
 

@@ -2,6 +2,7 @@
 
 from __future__ import annotations
 
+import math
 from dataclasses import dataclass
 from itertools import islice
 from typing import Any, Iterator, List, Optional, Tuple
@@ -93,7 +94,7 @@ def _shortfall(heard: List[pasts.Hearing], number: int, lack: Lack, most: float)
     if not lack.is_vain:
         return Shortfall(lack, [])
     found = pasts.candidates(heard, number, lack)
-    first = list(found if most == float("inf") else islice(found, int(most)))
+    first = list(found if most == math.inf else islice(found, int(most)))
     return Shortfall(lack, first, sum(1 for _ in found))
 
 

@@ -357,7 +357,7 @@ class Course:
         tasks = []
         for rule in self._listening(primitive):
             before = self.pasts[rule.name]
-            after, occurrence = before.hearing(rule.event, signal)
+            after, occurrence = before.after_signal(rule.event, signal)
             if after is not before:
                 self._put(self.pasts, rule.name, after)
             if occurrence is not None:

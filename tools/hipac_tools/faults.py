@@ -18,7 +18,8 @@ USAGE = """usage: hipac-tools faults SCRIPT.json
 
 Lists the conditions and actions that ended with a fault, unit by unit: the cause, the place, and what triggered the
 rule. Of a rule that vetoes it says that it didn't. `-` is standard input.
-The exit status is 0, 2 for a script that is refused, 3 for wrong words, 4 where the program failed."""
+The exit status is 0, 2 for a script that is refused, 3 for wrong words, 4 where the program failed, 5 where the program
+gives another report than following the script does."""
 
 
 TELL = reasons.Teller()

@@ -40,7 +40,7 @@ class Past:
             return self
         return Past(status, operation, fresh(event))
 
-    def hearing(self, event: Form, signal: Signal) -> Tuple["Past", Optional[Occurrence]]:
+    def after_signal(self, event: Form, signal: Signal) -> Tuple["Past", Optional[Occurrence]]:
         """The past after one more signal, and the event's occurrence at it, if the rule is enabled and there is one."""
         if self.status != ENABLED:
             return self, None

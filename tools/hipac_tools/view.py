@@ -23,7 +23,8 @@ USAGE = """usage: hipac-tools view SCRIPT.json [REPORT] [--out FILE.html]
 Makes a page that shows the script's units, the tree of what each did, rules, objects and their histories. REPORT is one
 that ./hipac wrote with --tree; where it isn't given the program is run. The page goes to standard output or to FILE.
 For SCRIPT.json or REPORT `-` is standard input.
-The exit status is 0, 2 for a script or a report that can't be shown, 3 for wrong words, 4 where the program failed."""
+The exit status is 0, 2 for a script or a report that can't be shown, 3 for wrong words, 4 where the program failed, 5
+for a report that isn't the one that following the script gives."""
 
 OPTIONS = ("--out",)
 
