@@ -75,22 +75,35 @@ SENTENCES = [
 class AccountMaker(ScriptMaker):
     """Makes scripts whose rules have pasts: sequences and closures of few signals, changes of status, aborts."""
 
+    def script(self):
+        whole = super().script()
+        for _ in range(self.random.randint(2, 8)):
+            moves = [move for _ in range(self.random.randint(1, 5)) for move in self.moves()]
+            whole["items"].append(["tx", moves + ([["abort"]] if self.chance(0.1) else [])])
+        return whole
+
+    def moves(self):
+        """Statements of a transaction that rules hear: a signal, an aborted `sub`, a rule that forgets its past."""
+        rule = self.random.choice(self.rule_names)
+        return self.random.choice([
+            *[[self.heard()]] * 6, [["sub", [self.heard(), ["abort"]], []]], [["sub", [self.heard()], []]],
+            [["sub", [["install", rule], ["disable", rule], ["enable", rule]], []]],
+            [["sub", [["install", rule], ["disable", rule], self.heard(), ["enable", rule]], []]],
+            [["remove", rule], self.heard(), ["install", rule]], [["sub", [["disable", rule], ["abort"]], []]]])
+
     def event(self, level):
-        if level == 0 and self.chance(0.6) or level == 1 and self.chance(0.25):
+        if level == 0 and self.chance(0.7) or level == 1 and self.chance(0.25):
             return [self.pick("seq", "seq", "closure", "closure", "or"), self.event(level + 1), self.event(level + 1)]
-        return self.heard() if self.chance(0.8) else super().event(3)
+        return self.heard()[:2] if self.chance(0.8) else super().event(3)
 
     def heard(self):
-        return ["signal", self.pick("a", "b", "c")]
+        return ["signal", self.pick("a", "b", "c"), []]
 
     def statement(self, known, queries, level, in_action):
-        if self.chance(0.4):
-            return [*self.heard(), [self.number(known, 2) for _ in range(self.random.randint(0, 1))]]
-        if self.chance(0.25):
-            return [self.pick("install", "enable", "disable", "disable", "remove"), self.random.choice(self.rule_names)]
-        if level < 3 and self.chance(0.25):
-            inner = self.body(known, queries, level + 1, in_action)
-            return ["sub", inner + ([["abort"]] if self.chance(0.6) else []), []]
+        if self.chance(0.2):
+            return ["signal", self.pick("a", "b", "c"), [self.number(known, 2)]]
+        if self.chance(0.1):
+            return [self.pick("install", "enable", "disable", "remove"), self.random.choice(self.rule_names)]
         return super().statement(known, queries, level, in_action)
 
     def predicate(self, known):

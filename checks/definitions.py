@@ -5,6 +5,7 @@ occurs is read from that list each time (specs/Events.antt, State.antt, Expressi
 is taken from the tools, so that what they say can be compared with it. definitions_run.py runs whole scripts.
 """
 
+import functools
 from dataclasses import dataclass, replace
 from typing import Any, Optional
 
@@ -67,41 +68,51 @@ def is_pure(event):
     return is_pure(event[1]) and is_pure(event[2]) if event[0] == "or" else event[0] not in ("seq", "closure")
 
 
+def frozen(form):
+    """A form of JSON as nested tuples."""
+    return tuple(map(frozen, form)) if isinstance(form, list) else form
+
+
+def occurrence_of(event, history):
+    """The event's occurrence at the newest place of a history, if it occurs there."""
+    if not history:
+        return None
+    word, *rest = event
+    if word not in ("or", "seq", "closure"):
+        return Occurrence(history[-1:], 1) if matches(event, history[-1]) else None
+    first, second = rest
+    if word == "or":
+        return occurrence_of(first, history) or occurrence_of(second, history)
+    return (_sequence_at if word == "seq" else _closure_at)(event, history)
+
+
+@functools.lru_cache(maxsize=None)
 def at_places(event, history):
     """At each place of a history, oldest first, the event's occurrence there, or None."""
-    if event[0] not in ("or", "seq", "closure"):
-        return [Occurrence((signal,), 1) if matches(event, signal) else None for signal in history]
-    first, second = at_places(event[1], history), at_places(event[2], history)
-    if event[0] == "or":
-        return [a or b for a, b in zip(first, second)]
-    found = []
-    for place in range(len(history)):
-        found.append((_sequence if event[0] == "seq" else _closure)(first[:place], second, place, found))
-    return found
+    return at_places(event, history[:-1]) + (occurrence_of(event, history),) if history else ()
 
 
-def _sequence(first, second, place, found):
+def _sequence_at(event, history):
     """The oldest earlier occurrence of the first event that no earlier occurrence of the sequence has taken."""
-    earlier = [one for one in first if one]
-    taken = sum(1 for one in found if one)
-    if second[place] is None or taken >= len(earlier):
+    _, first, second = event
+    earlier = [one for one in at_places(first, history[:-1]) if one]
+    taken = sum(1 for one in at_places(event, history[:-1]) if one)
+    end = occurrence_of(second, history)
+    if end is None or taken >= len(earlier):
         return None
     oldest = earlier[taken]
-    return Occurrence(oldest.parts + second[place].parts, min(oldest.count + second[place].count, MOST_COUNT))
+    return Occurrence(oldest.parts + end.parts, min(oldest.count + end.count, MOST_COUNT))
 
 
-def _closure(first, second, place, found):
+def _closure_at(event, history):
     """All occurrences of the first event since the last end, with the parts of the last of them."""
-    ends = [earlier for earlier in range(place) if second[earlier]]
-    gathered = [one for one in first[ends[-1] + 1 if ends else 0:] if one]
-    if second[place] is None or not gathered:
+    _, first, second = event
+    ends = [place for place, one in enumerate(at_places(second, history[:-1])) if one]
+    gathered = [one for one in at_places(first, history[:-1])[ends[-1] + 1 if ends else 0:] if one]
+    end = occurrence_of(second, history)
+    if end is None or not gathered:
         return None
-    return Occurrence(gathered[-1].parts + second[place].parts, min(sum(one.count for one in gathered), MOST_COUNT))
-
-
-def occurrence_at_end(event, history):
-    """The event's occurrence at the newest place of a history."""
-    return at_places(event, history)[-1] if history else None
+    return Occurrence(gathered[-1].parts + end.parts, min(sum(one.count for one in gathered), MOST_COUNT))
 
 
 # ---- states (specs/State.antt)

@@ -8,8 +8,8 @@ one clock.
 from dataclasses import dataclass, field, replace
 from typing import Any, Optional
 
-from definitions import (Cause, Environment, Occurrence, RuleState, Signal, State, asked, extended, mentions,
-                         occurrence_at_end, of_kind, operated_rule, text_of, value_of, with_row, with_rule)
+from definitions import (Cause, Environment, Occurrence, RuleState, Signal, State, asked, at_places, extended, frozen,
+                         mentions, occurrence_of, of_kind, operated_rule, text_of, value_of, with_row, with_rule)
 
 DETACHED = ("separate", "dependent", "exclusive")
 DONE = ("done",)
@@ -106,8 +106,9 @@ class Run:
     """A script's run by the definitions: `units` are lists of top-level transactions."""
 
     def __init__(self, script):
+        at_places.cache_clear()
         self.script = script
-        self.rules = script["rules"]
+        self.rules = [[name, frozen(event), *others] for name, event, *others in script["rules"]]
         self.numbers = {rule[0]: number for number, rule in enumerate(self.rules)}
         self.classes = {name: dict(map(tuple, fields)) for name, fields in script["classes"]}
         self.limit = script.get("depth", 8)
@@ -211,7 +212,7 @@ class Run:
         self._note(signal, path, context, state, operation)
         tasks = []
         for number, (rule, here) in enumerate(zip(self.rules, state.rules)):
-            found = occurrence_at_end(rule[1], here.past) if here.status == "enabled" else None
+            found = occurrence_of(rule[1], here.past) if here.status == "enabled" else None
             if found:
                 tasks.append(Task(number, rule[2], context.depth + 1, signal, found, context.node))
         signal.triggered = tuple(self.rules[task.rule][0] for task in tasks)

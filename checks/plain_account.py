@@ -8,7 +8,7 @@ its status.
 from collections import Counter
 
 import definitions
-from definitions import Cause, at_places, is_pure, mentions, occurrence_at_end
+from definitions import Cause, at_places, is_pure, mentions, occurrence_of
 
 ENDLESS = 10 ** 9
 
@@ -212,10 +212,10 @@ def _last_change(run, rule, tick):
 def _lacks(event, past, at):
     """The sequences and closures of which a part occurs at the newest place of a past, and neither they nor anything
     around them."""
-    if is_pure(event) or occurrence_at_end(event, past):
+    if is_pure(event) or occurrence_of(event, past):
         return
     word, first, last = event
-    begins, ends = occurrence_at_end(first, past), occurrence_at_end(last, past)
+    begins, ends = occurrence_of(first, past), occurrence_of(last, past)
     if word != "or" and ends:
         yield at, event, True
     if begins and (word == "seq" or word == "closure" and not ends):
@@ -242,8 +242,8 @@ def _first_at(first, signal, rule):
     if signal.kind == "fire":
         return None
     if signal.rules[rule].status != "enabled":
-        return occurrence_at_end(first, [signal]) if is_pure(first) else None
-    return occurrence_at_end(first, signal.rules[rule].past)
+        return occurrence_of(first, (signal,)) if is_pure(first) else None
+    return occurrence_of(first, signal.rules[rule].past)
 
 
 def _became(run, rule, event, earlier, signal):
