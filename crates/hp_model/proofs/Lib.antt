@@ -56,3 +56,4 @@ pub mod NotationStatementsRead
 pub mod NotationScriptsRead
 pub mod NotationSpelt
 pub mod NotationRead
+pub mod NotationValued

@@ -7,6 +7,7 @@ use Rattle.hp_model.specs.NotationTree as T
 use Rattle.hp_model.specs.NotationScripts.{has_let, read_script}
 use Rattle.hp_model.specs.NotationForms.{Expression, integer, truth, text, operation, inverted, negated, field_of, key_of, value, now, image_field, key_in, time_of, argument, occurrence_count, Event, on_change, on_signal, on_commit, at_moment, every_moment, or_event, then_event, closure_event, Rows, Aggregate, count_of, fold_of, next_key, plain, Assignment, Query, some_rows, no_rows, named_value, Field, Class, Rule, Item, transaction, clock, Script, Statement, set_object, delete, signal, emit, when, each, for_answer, with_object, with_value, subtransaction, abort, veto, veto_with, on_rule, Body, empty, ◌then◌, script_data}
 use Rattle.hp_model.specs.NotationPrint.{Piece, Pieces, text_of, print_script}
+use Rattle.hp_model.specs.NotationValues.{print_value}
 
 -- ---- tokens
 
@@ -211,3 +212,10 @@ CanonicalIsFixed =
 -- no two scripts with different values have one canonical text
 abbrev pub TextHasOneMeaning : Type 0
 TextHasOneMeaning = (s t : Script) → IsFitScript s → IsFitScript t → print_script s ≡ print_script t → script_data s ≡ script_data t
+
+-- ---- scripts in JSON
+
+-- each script that can be written has a text, from which its value is read
+abbrev pub ValuesAreRead : Type 0
+ValuesAreRead = (s : Script) → IsFitScript s
+    → (text : List ℕ) × (r : T.Script) × (print_value (script_data s) ≡ Some text) × (read_script text ≡ Ok r) × (T.script_data r ≡ script_data s)
