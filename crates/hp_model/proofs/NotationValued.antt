@@ -1,5 +1,5 @@
 -- The value of each script that can be written has the script's form.
-use Rattle.std.proofs.Common.{◌≡◌, refl, ap, ◌∙◌, ℕ, zero, suc, ◌<◌, ◌≤◌, ◌^◌, pos, negsuc, Bool, true, false, List, [], ◌∷◌, map, Option, Some, None, arith}
+use Rattle.std.proofs.Common.{◌≡◌, refl, ap, ◌∙◌, ℕ, zero, suc, ◌≤◌, ◌^◌, pos, negsuc, Bool, true, false, List, [], ◌∷◌, map, Option, Some, None, arith}
 use Rattle.std.specs.Prelude.{option_map, option_and_then}
 use Rattle.std.specs.Option.{option_or}
 use Rattle.std.proofs.lemmas.Bool.{lt-ltb}
@@ -17,6 +17,9 @@ use Rattle.hp_model.specs.NotationForms.{Expression, integer, truth, text, Opera
 use Rattle.hp_model.specs.NotationPrint.{print_script, print_item}
 use Rattle.hp_model.specs.NotationValues.{natural_of, of_one, of_two, of_three, each_of, list_form, expression_of, any_expression, event_of, rows_of, aggregate_of_form, aggregate_of, query_of, assignment_of, statement_of_form, body_in, body_of, any_body, field_form, class_form, depth_form, script_with, script_of_version, mode_of, rule_form, item_form, script_form}
 use Rattle.hp_model.specs.NotationLaws.{Fits, IsWritableExpression, expression_levels, IsWritableEvent, event_levels, IsFitExpression, AreFitRows, IsFitAggregate, IsFitQuery, AreFitAssignments, AreFitExpressions, IsFitStatement, IsFitBody, statement_levels, body_levels, EachIs, IsFitField, IsFitClass, IsFitRule, IsFitItem, IsFitDepth, IsFitScript, ValuesAreRead, LinesAreRead}
+use Rattle.hp_model.proofs.NotationExpressionsRead.{levels_positive}
+use Rattle.hp_model.proofs.NotationEventsRead.{event_levels_positive}
+use Rattle.hp_model.proofs.NotationStatementsRead.{body_levels_positive}
 use Rattle.hp_model.proofs.NotationRead.{scripts_are_read, item_line_read}
 
 -- ---- parts
@@ -50,12 +53,6 @@ list_valued : {A : Type 0} (read : Data → Option A) (ds : List Data) (xs : Lis
 list_valued read ds xs e = ap (each_of read) (listed_items ds) ∙ e
 
 -- ---- expressions and events
-
-levels_positive : (y : Expression) → 0 < expression_levels y
-levels_positive (operation op a b) = omega arith
-levels_positive (inverted a) = omega arith
-levels_positive (negated a) = omega arith
-levels_positive y = omega arith
 
 operation_valued : (op : Operator) (a b : Expression) (n : ℕ) → expression_of n (expression_data a) ≡ Some a → expression_of n (expression_data b) ≡ Some b
     → expression_of (suc n) (expression_data (operation op a b)) ≡ Some (operation op a b)
@@ -97,12 +94,6 @@ expression_valued occurrence_count w (suc n) h = refl
 
 any_valued : (e : Expression) → IsFitExpression e → any_expression (expression_data e) ≡ Some e
 any_valued e w = expression_valued e w.0 32 w.1
-
-event_levels_positive : (x : Event) → 0 < event_levels x
-event_levels_positive (or_event a b) = omega arith
-event_levels_positive (then_event a b) = omega arith
-event_levels_positive (closure_event a b) = omega arith
-event_levels_positive x = omega arith
 
 event_valued : (x : Event) → IsWritableEvent x → (n : ℕ) → event_levels x ≤ n → event_of n (event_data x) ≡ Some x
 unfolding event_of
@@ -176,10 +167,6 @@ statement_form n d = option_and_then (λ (f : Form). statement_of_form (body_of 
 
 abbrev StatementsValued : Body → Type 0
 StatementsValued b = (n : ℕ) → body_levels b ≤ suc n → each_of (statement_form n) (listed (body_data b)) ≡ Some (statements_in b)
-
-body_levels_positive : (b : Body) → 0 < body_levels b
-body_levels_positive empty = omega arith
-body_levels_positive (◌then◌ s b) = let one = body_levels_positive b in omega arith
 
 body_by : (b : Body) → StatementsValued b → (n : ℕ) → body_levels b ≤ n → body_of n (array (body_data b)) ≡ Some b
 unfolding body_of
