@@ -7,7 +7,7 @@ use Rattle.hp_model.specs.NotationScripts.{script, item, ended, line, read_scrip
 use Rattle.hp_model.specs.NotationPhrases.{is_word, begins, past}
 use Rattle.hp_model.specs.Values.{◌>>=◌}
 use Rattle.hp_model.specs.NotationPrint.{Pieces, script_pieces, print_script, tight, item_pieces, line_of, print_item}
-use Rattle.hp_model.specs.NotationLaws.{all_tokens, token_of, ScriptsAreRead, CanonicalIsFixed, TextHasOneMeaning, AreSpelt, IsFitItem}
+use Rattle.hp_model.specs.NotationLaws.{all_tokens, token_of, ScriptsAreRead, TextHasOneMeaning, AreSpelt, IsFitItem}
 use Rattle.hp_model.proofs.NotationReadings.{bind_ok, stream}
 use Rattle.hp_model.proofs.NotationScriptsRead.{item_read, script_read}
 use Rattle.hp_model.proofs.NotationSpelt.{line_is_read, text_is_read, spelt_item, spelt_script}
@@ -43,9 +43,6 @@ scripts_are_read s w =
     let found = streamed (tokens (print_script s)) (script_pieces s) (text_is_read (script_pieces s) (spelt_script s w)) in
     let r = script_read s w found.0 in
     (r.read, ap script found.1 ∙ r.reads, r.same)
-
-pub canonical_is_fixed : CanonicalIsFixed
-canonical_is_fixed text r s e same w = let again = scripts_are_read s w in (again.0, again.1, again.2 ∙ sym same)
 
 same_read : (r q : T.Script) (x : Result T.Script ℕ) → x ≡ Ok r → x ≡ Ok q → r ≡ q
 same_read r q x e f = cc

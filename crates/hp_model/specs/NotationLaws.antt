@@ -205,12 +205,6 @@ pub record IsFitScript (s : Script) : Type 0 where
 abbrev pub ScriptsAreRead : Type 0
 ScriptsAreRead = (s : Script) → IsFitScript s → (r : T.Script) × (read_script (print_script s) ≡ Ok r) × (T.script_data r ≡ script_data s)
 
--- reading a canonical text and printing what was read changes nothing
-abbrev pub CanonicalIsFixed : Type 0
-CanonicalIsFixed =
-    (text : List ℕ) (r : T.Script) (s : Script) → read_script text ≡ Ok r → T.script_data r ≡ script_data s → IsFitScript s
-    → (again : T.Script) × (read_script (print_script s) ≡ Ok again) × (T.script_data again ≡ T.script_data r)
-
 -- no two scripts with different values have one canonical text
 abbrev pub TextHasOneMeaning : Type 0
 TextHasOneMeaning = (s t : Script) → IsFitScript s → IsFitScript t → print_script s ≡ print_script t → script_data s ≡ script_data t
@@ -221,6 +215,12 @@ TextHasOneMeaning = (s t : Script) → IsFitScript s → IsFitScript t → print
 abbrev pub ValuesAreRead : Type 0
 ValuesAreRead = (s : Script) → IsFitScript s
     → (text : List ℕ) × (r : T.Script) × (print_value (script_data s) ≡ Some text) × (read_script text ≡ Ok r) × (T.script_data r ≡ script_data s)
+
+-- what was read from a text, if it is a script that can be written, has a canonical text, from which the same is read
+abbrev pub CanonicalIsFixed : Type 0
+CanonicalIsFixed =
+    (text : List ℕ) (r : T.Script) (s : Script) → read_script text ≡ Ok r → T.script_data r ≡ script_data s → IsFitScript s
+    → (canonical : List ℕ) × (again : T.Script) × (print_value (T.script_data r) ≡ Some canonical) × (read_script canonical ≡ Ok again) × (T.script_data again ≡ T.script_data r)
 
 -- ---- lines
 
