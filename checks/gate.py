@@ -98,9 +98,12 @@ class Tree:
             self.write(f"tests/{name}/first.rs", "//! Tests.\n")
         rt = os.path.join(room, "bin", "rt")
         write(rt, FAKE_RT.replace("@NOTES@", self.notes), 0o755)
-        for name in ("apt-get", "chromium", "dot", "mypy", "pyflakes3", "pycodestyle"):
+        for name in ("apt-get", "chromedriver", "dot", "mypy", "pgrep", "pyflakes3", "pycodestyle"):
             write(os.path.join(room, "bin", name), "#!/bin/sh\n", 0o755)
-        self.how = {"cwd": self.top, "env": {**os.environ, "PATH": f"{room}/bin:{os.environ['PATH']}"}}
+        for name in ("jsonschema", "selenium"):
+            write(os.path.join(room, "modules", f"{name}.py"), "")
+        places = {"PATH": f"{room}/bin:{os.environ['PATH']}", "PYTHONPATH": os.path.join(room, "modules")}
+        self.how = {"cwd": self.top, "env": {**os.environ, **places}}
 
     def write(self, path, text, mode=0o644):
         write(os.path.join(self.top, path), text, mode)

@@ -22,9 +22,9 @@ LOGS = os.path.join(repo.BUILT, "test")
 # Seconds between two lines that tell what is at work, where nothing else is told.
 PAUSE = 60
 
-# The command, or else the module, by which a package of Debian's shows itself.
-SIGNS = {"procps": "pgrep", "graphviz": "dot"}
-MODULES = {"python3-jsonschema": "jsonschema"}
+# The command, or the module of Python, by which a package of Debian's shows itself, if that has another name.
+SIGNS = {"procps": "pgrep", "graphviz": "dot", "chromium-driver": "chromedriver"}
+MODULES = {"python3-jsonschema": "jsonschema", "python3-selenium": "selenium"}
 
 # A line that begins to tell of a failure, the most lines of one failure, and the most of one part.
 TELLS = re.compile(r"^(FAILED|FAIL:|ERROR:|Traceback)|\.\.\. FAILED$|: error: ")
@@ -50,12 +50,14 @@ class Part:
 
 @dataclass(frozen=True)
 class Result:
-    """What came of a part: how many passed and failed, the lines that tell of failures, and its seconds."""
+    """What came of a part: how many passed and failed, the lines that tell of failures, how many seconds it took, and
+    for how many a processor worked on it."""
 
     passed: int
     failed: int
     lines: list[str]
     seconds: float = 0.0
+    work: float = 0.0
 
 
 def count_of(part: Part, said: str, status: int) -> tuple[int, int]:
@@ -153,7 +155,8 @@ class Run:
         if result.failed:
             print("\n".join(result.lines), flush=True)
         counts = f"{result.passed} passed, {result.failed} failed"
-        self.say(f"{name}: {counts}, {result.seconds:.0f} seconds ({so_far}, minute {self.minute()})")
+        self.say(f"{name}: {counts}; {result.seconds:.0f} seconds, {result.work:.0f} of one processor "
+                 f"({so_far}, minute {self.minute()})")
 
     def result_of(self, part: Part) -> Result:
         """Runs a part to its end."""
@@ -165,26 +168,26 @@ class Run:
             return Result(0, 1, [f"FAILED {part.name}: not run, since this failed: {' '.join(failed)}"])
         begun = time.monotonic()
         try:
-            status, said = self.run_command(part)
+            status, said, work = self.run_command(part)
         except OSError as error:
             return Result(0, 1, [f"FAILED {part.name}: {error}"])
         passed, failures = count_of(part, said, status)
         seconds = time.monotonic() - begun
         if not failures:
-            return Result(passed, 0, [], seconds)
-        return Result(passed, failures, [f"FAILED {part.name}: status {status}", *telling_lines(said)], seconds)
+            return Result(passed, 0, [], seconds, work)
+        return Result(passed, failures, [f"FAILED {part.name}: status {status}", *telling_lines(said)], seconds, work)
 
-    def run_command(self, part: Part) -> tuple[int, str]:
-        """Runs a part's command: its status, and what it said, which its log keeps."""
+    def run_command(self, part: Part) -> tuple[int, str, float]:
+        """Runs a part's command: its status, what it said, which its log keeps, and the work of processors on it."""
         log = os.path.join(LOGS, f"{part.name}.log")
         with open(log, "w", encoding="utf-8") as file:
             where = os.path.join(repo.TOP, part.folder)
             command = running.start(part.words, cwd=where, env={**os.environ, **part.variables}, stdout=file,
                                     stderr=subprocess.STDOUT, start_new_session=True)
             self.commands[part.name] = command
-            status = command.wait()
+            work = running.wait_and_measure(command)
         with open(log, encoding="utf-8", errors="replace") as read:
-            return status, read.read()
+            return command.returncode, read.read(), work
 
     def install(self, packages: list[str]) -> None:
         """Installs those of these packages that are not there, if this run may."""
@@ -212,9 +215,8 @@ class Run:
             self.say("what failed, once more:")
             for result in failures.values():
                 print("\n".join(result.lines), flush=True)
-        longest = sorted(self.results.items(), key=lambda it: -it[1].seconds)
-        times = ", ".join(f"{name} {result.seconds:.0f}" for name, result in longest)
-        self.say(f"{repo.minutes(time.monotonic() - self.begun)} on {len(os.sched_getaffinity(0))} processors; "
-                 f"seconds: {times}")
+        work = repo.minutes(sum(result.work for result in self.results.values()))
+        self.say(f"{repo.minutes(time.monotonic() - self.begun)} on {len(os.sched_getaffinity(0))} processors, "
+                 f"{work} of one processor")
         print(f"{self.passed} passed, {self.failed} failed", flush=True)
         return 1 if self.failed else 0

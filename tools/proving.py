@@ -85,10 +85,11 @@ def prove(run: Run, crates: list[str], room: str) -> str:
             print(shown, file=log, flush=True)
             if line != listener.verdict:
                 print(shown, flush=True)
-    status = proving.wait()
+    work = running.wait_and_measure(proving)
+    status = proving.returncode
     passed, failed = repo.count_in(listener.verdict) or (0, 0)
     lines = [f"FAILED rt ci: status {status}; it said: {listener.verdict or 'no count'}", *listener.failures]
     if not failed and (status != 0 or not listener.verdict):
         failed = 1
-    run.add("rt_ci", Result(passed, failed, lines[:MOST_LINES], time.monotonic() - begun), "proofs")
+    run.add("rt_ci", Result(passed, failed, lines[:MOST_LINES], time.monotonic() - begun, work), "proofs")
     return folder

@@ -24,6 +24,13 @@ def lines_of(command: subprocess.Popen) -> Iterator[str]:
     yield from command.stdout
 
 
+def wait_and_measure(command: subprocess.Popen) -> float:
+    """Waits for a command's end: the seconds that processors worked for it and what it started."""
+    _, status, used = os.wait4(command.pid, 0)
+    command.returncode = os.waitstatus_to_exitcode(status)
+    return used.ru_utime + used.ru_stime
+
+
 def stop(running: subprocess.Popen) -> None:
     """Ends a command, which then ends its children."""
     if running.poll() is None:

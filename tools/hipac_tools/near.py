@@ -7,7 +7,7 @@ from typing import Iterable, Mapping, Optional
 
 NO_HABITS: Mapping[str, str] = {}
 
-# How alike two words are to be: two of three letters in order is enough, three of four and of six is not.
+# How alike two words are to be, by difflib's ratio. At 0.6 `emit` would be near `commit`.
 LIKENESS = 0.65
 
 
