@@ -176,6 +176,15 @@ def catches_the_dead(tree):
     expect_failure(tree, ["./test"], (QUICK - 2, 1), "FAILED conditions: status 0")
 
 
+def counts_unittests(tree):
+    """Of Python's tests each failure and each error counts, and what was skipped counts as passed."""
+    said = "FAIL: test_one (tests.Some)\nRan 9 tests in 1.0s\n\nFAILED (failures=1, errors=2, skipped=1)\n"
+    tree.note("run.py", f"1\n{said}")
+    expect_failure(tree, ["./test", "tools"], (1 + 6, 3), "FAIL: test_one (tests.Some)")
+    tree.note("run.py", "0\nRan 9 tests in 1.0s\n\nOK (skipped=1)\n")
+    expect(tree.run("./test", "tools")[2], "10 passed, 0 failed", "the count")
+
+
 def catches_missing_programs(tree):
     """If a program isn't made, each part that needs it has failed."""
     tree.note("unproved.py", "1\nerror: no program\n")
@@ -243,6 +252,7 @@ CHECKS = (
     proves_all,
     catches_tests,
     catches_the_dead,
+    counts_unittests,
     catches_missing_programs,
     proves_nothing_in_vain,
     catches_proofs,
