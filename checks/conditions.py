@@ -13,17 +13,12 @@ machine. The last line is 'N passed, M failed'.
 """
 
 import argparse
-import concurrent.futures
 import json
 import os
 import sys
 
-TOP = os.path.dirname(os.path.dirname(os.path.abspath(__file__)))
-sys.path[:0] = [os.path.join(TOP, "tools"), os.path.join(TOP, "checks")]
-sys.dont_write_bytecode = True
-
-from live_sessions import by_pipe, command_of  # noqa: E402 (they lie in tools/ and checks/)
-from tests.made_scripts import ScriptMaker  # noqa: E402
+from harness import Failed, by_pipe, command_of, run_checks
+from tests.made_scripts import ScriptMaker
 
 COMPARISONS = ("=", "<", "<=", ">", ">=")
 # An index holds the first 32 bytes of a text.
@@ -78,28 +73,25 @@ def scanned_rule(rule):
     return [name, event, mode, wrapped, then, scanned(action)]
 
 
-def is_alike(command, seed):
+def alike(command, seed):
+    """The reports of a script are those of the other one."""
     script = ConditionMaker(seed).script()
     other = {**script, "rules": [scanned_rule(rule) for rule in script["rules"]], "items": scanned(script["items"])}
     runs = [(script, "1"), (script, "4"), (other, "1")]
     answers = [by_pipe([*command, "--tree", "--workers", workers], json.dumps(given).encode())
                for given, workers in runs]
-    return all(answer[:2] == answers[-1][:2] for answer in answers) and answers[-1][0] == 0
+    if any(answer[:2] != answers[-1][:2] for answer in answers) or answers[-1][0] != 0:
+        raise Failed("the reports differ, or there is none")
 
 
 def main():
-    parser = argparse.ArgumentParser()
+    parser = argparse.ArgumentParser(description=__doc__, formatter_class=argparse.RawDescriptionHelpFormatter)
     parser.add_argument("--scripts", type=int, default=2000)
     parser.add_argument("--jobs", type=int, default=os.cpu_count())
     options = parser.parse_args()
     command = command_of("hipac")
-    with concurrent.futures.ThreadPoolExecutor(options.jobs) as pool:
-        alike = list(pool.map(lambda seed: is_alike(command, seed), range(options.scripts)))
-    for seed, same in enumerate(alike):
-        if not same:
-            print(f"script {seed}: the reports differ, or there is none")
-    print(f"{sum(alike)} passed, {len(alike) - sum(alike)} failed")
-    return 0 if all(alike) else 1
+    checks = [(f"script {seed}", lambda seed=seed: alike(command, seed)) for seed in range(options.scripts)]
+    return run_checks(checks, options.jobs)
 
 
 if __name__ == "__main__":

@@ -15,7 +15,6 @@ fixed: session n is the same on each machine. The last line is 'N passed, M fail
 """
 
 import argparse
-import concurrent.futures
 import json
 import os
 import random
@@ -28,15 +27,8 @@ import tempfile
 import time
 from dataclasses import dataclass
 
-TOP = os.path.dirname(os.path.dirname(os.path.abspath(__file__)))
-sys.path.insert(0, os.path.join(TOP, "tools"))
-sys.dont_write_bytecode = True
-
-import unproved  # noqa: E402 (it lies in tools/)
-from tests.made_scripts import ScriptMaker  # noqa: E402
-
-# The time limit of one run, in seconds.
-LIMIT = 120
+from harness import ENVIRONMENT, LIMIT, TOP, by_pipe, bytes_of, command_of, expect, run_checks
+from tests.made_scripts import ScriptMaker
 
 # The most bytes of one read of the program: the socket would cut a longer piece.
 MOST_READ = 4096
@@ -45,37 +37,7 @@ MOST_READ = 4096
 MOST = 1_048_576
 
 
-class Failed(Exception):
-    """A check has failed."""
-
-
-def expect(found, wanted, what):
-    if found != wanted:
-        raise Failed(f"{what}: {str(found)[-1500:]!r}, and not {str(wanted)[-1500:]!r}")
-
-
-def bytes_of(path):
-    with open(path, "rb") as file:
-        return file.read()
-
-
 # ---- the programs
-
-
-def key_of(name, *folders):
-    return subprocess.check_output([os.path.join(TOP, "tools", "key"), TOP, name, *folders], text=True).strip()
-
-
-def command_of(name):
-    """The words that start a program, as tools/start does."""
-    named = os.environ.get(name.upper())
-    if named:
-        return [os.path.abspath(named)]
-    proved = os.path.join(TOP, ".built", f"{name}-proved-{key_of(name, 'src', 'specs', 'proofs')}")
-    if os.access(proved, os.X_OK):
-        return [proved]
-    subprocess.run([os.path.join(TOP, "tools", "unproved.py"), name], stdin=subprocess.DEVNULL, check=True)
-    return [*unproved.loader(), os.path.join(TOP, ".built", f"{name}-unproved-{key_of(name, 'src')}", "program")]
 
 
 @dataclass
@@ -84,10 +46,6 @@ class Programs:
 
     hipac: list
     live: list
-
-
-# (otherwise the sanitizer of an unproved program ends it where an allocation is refused)
-ENVIRONMENT = {"ASAN_OPTIONS": "allocator_may_return_null=1"}
 
 
 def started(command, given, wrote, said):
@@ -121,13 +79,6 @@ def ended(running, wrote, said):
         file.seek(0)
         texts.append(file.read())
     return (status, *texts)
-
-
-def by_pipe(command, given):
-    """The same with the input from a pipe, as fast as the program reads it."""
-    how = {"stdout": subprocess.PIPE, "stderr": subprocess.PIPE, "env": ENVIRONMENT}
-    done = subprocess.run(command, input=given, timeout=LIMIT, check=False, **how)
-    return done.returncode, done.stdout, done.stderr
 
 
 # ---- random sessions
@@ -578,18 +529,7 @@ def main():
     parser.add_argument("--jobs", type=int, default=os.cpu_count(), help="how many go on at once (one a processor)")
     words = parser.parse_args()
     programs = Programs(command_of("hipac"), command_of("hipac_live"))
-    passed, failed = 0, 0
-    with concurrent.futures.ThreadPoolExecutor(words.jobs) as pool:
-        running = [(title, pool.submit(check)) for title, check in checks(programs, words.sessions)]
-        for title, one in running:
-            try:
-                one.result()
-                passed += 1
-            except (Failed, OSError, ValueError, subprocess.SubprocessError) as error:
-                failed += 1
-                print(f"FAILED {title}\n  {error}", flush=True)
-    print(f"{passed} passed, {failed} failed")
-    return 1 if failed else 0
+    return run_checks(checks(programs, words.sessions), words.jobs)
 
 
 if __name__ == "__main__":

@@ -31,17 +31,14 @@ import sys
 import tempfile
 import time
 
-TOP = os.path.dirname(os.path.dirname(os.path.abspath(__file__)))
-sys.dont_write_bytecode = True
-
-from edited_functions import body_of, texts_with, together, unique_names  # noqa: E402 (no bytecode is left beside it)
+from edited_functions import body_of, texts_with, together, unique_names
+from harness import TOP, repo
 
 # The folder of the gate's edits, and that of the others.
-FIRST = "must-fail"
-MORE = "more-edits"
+FIRST = repo.GATE_EDITS
+MORE = repo.MORE_EDITS
 
-# What a check reads of a crate.
-PARTS = ("src", "specs", "proofs")
+CRATES = repo.crates()
 
 # The line of an edit that was never tried. It is removed when the prover has refused the edit.
 UNTRIED = "# untried"
@@ -85,42 +82,6 @@ def interrupt(_number, _frame):
     raise Interrupted
 
 
-def lines_of_crates():
-    """The line of each crate in crates.txt."""
-    with open(os.path.join(TOP, "crates.txt"), encoding="utf-8") as file:
-        return {line.split()[0].rstrip(":"): line for line in file if line.partition("#")[0].strip()}
-
-
-def uses():
-    """The crates that each crate uses."""
-    lines = lines_of_crates()
-    named = {name: line.partition("#")[0].partition(":")[2].split() for name, line in lines.items()}
-    return {name: [use for use in words if use in lines] for name, words in named.items()}
-
-
-def in_order(names):
-    """Crates and all that they use, each after those that it uses."""
-    below, order = uses(), []
-
-    def add(name):
-        if name not in order:
-            for use in below[name]:
-                add(use)
-            order.append(name)
-
-    for name in names:
-        add(name)
-    return order
-
-
-def edits(crate, folder):
-    """The paths of a crate's edits in one of its folders."""
-    at = os.path.join(TOP, "crates", crate, folder)
-    if not os.path.isdir(at):
-        return []
-    return [os.path.join(at, name) for name in sorted(os.listdir(at)) if not name.endswith(".md")]
-
-
 def text_of(path):
     with open(path, encoding="utf-8") as file:
         return file.read()
@@ -139,7 +100,7 @@ def edited(crate, path):
     for line in text_of(path).split("\n"):
         if line.startswith("file: "):
             file = line[len("file: ") :].strip()
-            if os.path.normpath(file) != file or not file.startswith(tuple(f"{part}/" for part in PARTS)):
+            if os.path.normpath(file) != file or not file.startswith(tuple(f"{part}/" for part in repo.PARTS)):
                 return None, f"{file} is no file below src/, specs/ or proofs/"
             if not os.path.isfile(os.path.join(TOP, "crates", crate, file)):
                 return None, f"there is no file {file}"
@@ -163,12 +124,13 @@ def edited(crate, path):
 
 
 def apply_all(crates):
-    """Prints for each edit of both folders that does not apply why it doesn't, and returns their number."""
+    """Prints for each edit of both folders that does not apply why it doesn't. Returns how many apply, and how many
+    don't."""
     faults, counts = 0, {FIRST: 0, MORE: 0}
     for crate in crates:
         names = {}
         for folder in (FIRST, MORE):
-            for path in edits(crate, folder):
+            for path in repo.edits(crate, folder):
                 counts[folder] += 1
                 name = os.path.basename(path)
                 why = edited(crate, path)[1]
@@ -177,10 +139,10 @@ def apply_all(crates):
                 names[name] = folder
                 if why:
                     faults += 1
-                    print(f"{crate}/{folder}/{name}: does not apply: {why}", flush=True)
+                    print(f"FAILED {crate}/{folder}/{name}: does not apply: {why}", flush=True)
     whole = f"{counts[FIRST]} edits in {FIRST} and {counts[MORE]} in {MORE}"
     print(f"{whole}: {f'{faults} do not apply' if faults else 'each applies'}", flush=True)
-    return faults
+    return sum(counts.values()) - faults, faults
 
 
 # ---- results of earlier runs
@@ -195,9 +157,9 @@ def toolchain():
 def sum_of(crate, top=TOP):
     """A sum of all that the result of an edit depends on but the edit itself, as the files stand below a folder."""
     whole = hashlib.sha256(toolchain())
-    for name in in_order([crate]):
-        whole.update(repr((name, uses()[name])).encode())
-        for part in PARTS:
+    for name in repo.with_used([crate], CRATES):
+        whole.update(repr((name, CRATES[name].uses)).encode())
+        for part in repo.PARTS:
             for at, folders, files in os.walk(os.path.join(top, "crates", name, part)):
                 folders.sort()
                 for file in sorted(files):
@@ -234,7 +196,7 @@ class Results:
 def homes(crate):
     """Where checks of a crate keep their work, the best first: its room of `./build`, where that has the files as they
     stand, and its own folder."""
-    room, own = os.path.join(TOP, ".built", "rooms", crate), os.path.join(TOP, "crates", crate)
+    room, own = os.path.join(repo.ROOMS, crate), os.path.join(TOP, "crates", crate)
     there = os.path.join(room, "crates", crate)
     if not os.path.isdir(there):
         return [own]
@@ -256,14 +218,6 @@ def at_rest(folder):
         os.close(held)
 
 
-def link(there, here):
-    """Makes a file stand in a second place, without a second copy if the file system can."""
-    try:
-        os.link(there, here)
-    except OSError:
-        shutil.copy2(there, here)
-
-
 def take(crate, part, to, by=shutil.copy2):
     """Copies a part of what checks of a crate kept. The result is the folder that it was taken from, if any."""
     for home in homes(crate):
@@ -279,19 +233,12 @@ def take(crate, part, to, by=shutil.copy2):
 def copy_crates(wanted, to):
     """Copies crates and all that they use, without edits, and the libraries that were built of them. The work on a
     wanted crate is copied in its turn, since it is large."""
-    os.makedirs(to)
-    shutil.copyfile(os.path.join(TOP, "HANDLES"), os.path.join(to, "HANDLES"))
-    with open(os.path.join(to, "crates.txt"), "w", encoding="utf-8") as file:
-        # (`rt` wants a folder for each crate that is listed)
-        file.writelines(line for name, line in lines_of_crates().items() if name in in_order(wanted))
-    lacking = []
-    for crate in in_order(wanted):
-        own, copy = os.path.join(TOP, "crates", crate), os.path.join(to, "crates", crate)
-        for part in PARTS:
-            if os.path.isdir(os.path.join(own, part)):
-                shutil.copytree(os.path.join(own, part), os.path.join(copy, part))
+    lacking, order = [], repo.with_used(wanted, CRATES)
+    repo.copy_crates([CRATES[name] for name in order], to)
+    for crate in order:
+        copy = os.path.join(to, "crates", crate)
         # (`rt` removes a library before it builds it anew, and so doesn't write where a link leads)
-        if not take(crate, "rlib", copy, link) and crate not in wanted:
+        if not take(crate, "rlib", copy, repo.link) and crate not in wanted:
             lacking.append(crate)
             take(crate, "incremental", copy)
     if lacking:
@@ -569,7 +516,7 @@ def try_crate(crate, paths, copy, room, count):
 
 def left_to_try(crate, anew, untried_alone):
     """The edits of a crate that a run has to try, and the number of those that it hasn't."""
-    wanted = [path for path in edits(crate, MORE) if is_untried(path) or not untried_alone]
+    wanted = [path for path in repo.edits(crate, MORE) if is_untried(path) or not untried_alone]
     if not wanted or anew:
         return wanted, 0
     results = Results(crate)
@@ -603,7 +550,7 @@ def try_all(crates, anew, untried_alone):
 def main(words):
     names = [word for word in words if not word.startswith("-")]
     options = {word for word in words if word.startswith("-")}
-    every = in_order(uses())
+    every = repo.with_used(CRATES, CRATES)
     if options - {"--anew", "--untried", "--apply-only"} or set(names) - set(every):
         print(__doc__.strip(), file=sys.stderr)
         return 2
@@ -611,8 +558,9 @@ def main(words):
     for number in SIGNALS:
         signal.signal(number, interrupt)
     try:
-        faults = apply_all(crates)
+        applied, faults = apply_all(crates)
         if "--apply-only" in options:
+            print(f"{applied} passed, {faults} failed")
             return 1 if faults else 0
         return max(try_all(crates, "--anew" in options, "--untried" in options), 1 if faults else 0)
     except Interrupted:

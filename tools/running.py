@@ -1,30 +1,38 @@
-"""Starts and ends rt for the scripts here: it never outlives them."""
+"""Starts and ends commands for the scripts here: none outlives them."""
 
-import ctypes
+from __future__ import annotations
+
+import os
 import signal
 import subprocess
+from collections.abc import Iterator
+from typing import Any
 
-# The code of prctl for: send me this signal when my parent ends, however it ends.
-PARENT_DEATH_SIGNAL = 1
-
-# The time limit for rt to end its children, in seconds.
+# The time limit for a command to end its children, in seconds.
 STOP_LIMIT = 30
 
-LIBC = ctypes.CDLL(None)
+
+def start(words: list[str], **how: Any) -> subprocess.Popen:
+    """Starts a command that gets nothing to read. It is told to end when the thread that started it ends, however that
+    ends."""
+    return subprocess.Popen(["setpriv", "--pdeathsig", "TERM", *words], stdin=subprocess.DEVNULL, **how)
 
 
-def end_with_parent():
-    """Makes the new process end with its parent, even if that is killed."""
-    LIBC.prctl(PARENT_DEATH_SIGNAL, signal.SIGTERM)
+def lines_of(command: subprocess.Popen) -> Iterator[str]:
+    """The lines that a command writes to the pipe that it was started with, as they come."""
+    assert command.stdout
+    yield from command.stdout
 
 
-def start(words, **how):
-    """Starts a command that gets nothing to read."""
-    return subprocess.Popen(words, stdin=subprocess.DEVNULL, preexec_fn=end_with_parent, **how)
+def wait_and_measure(command: subprocess.Popen) -> float:
+    """Waits for a command's end: the seconds that processors worked for it and what it started."""
+    _, status, used = os.wait4(command.pid, 0)
+    command.returncode = os.waitstatus_to_exitcode(status)
+    return used.ru_utime + used.ru_stime
 
 
-def stop(running):
-    """Ends rt, which then ends its children."""
+def stop(running: subprocess.Popen) -> None:
+    """Ends a command, which then ends its children."""
     if running.poll() is None:
         running.terminate()
         try:
@@ -32,3 +40,13 @@ def stop(running):
         except subprocess.TimeoutExpired:
             running.kill()
             running.wait()
+
+
+def stop_group(running: subprocess.Popen) -> None:
+    """Ends a command that has a session of its own, and all that it started."""
+    for number in (signal.SIGTERM, signal.SIGKILL):
+        try:
+            os.killpg(running.pid, number)
+            running.wait(STOP_LIMIT)
+        except (ProcessLookupError, subprocess.TimeoutExpired):
+            continue

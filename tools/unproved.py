@@ -21,10 +21,9 @@ import time
 
 sys.dont_write_bytecode = True
 
-import running  # noqa: E402 (it leaves no file beside it)
-
-TOP = os.path.dirname(os.path.dirname(os.path.abspath(__file__)))
-BUILT = os.path.join(TOP, ".built")
+import repo  # noqa: E402 (they leave no file beside them)
+import running  # noqa: E402
+from repo import BUILT  # noqa: E402
 
 # The number of empty inputs. Each is one more chance to take the program; the first is mostly enough.
 CASES = 20
@@ -46,16 +45,9 @@ class NotMade(Exception):
     """Why no program was made."""
 
 
-def key_of(name):
-    """The checksum of the sources of a program."""
-    words = [os.path.join(TOP, "tools", "key"), TOP, name, "src"]
-    return subprocess.run(words, stdin=subprocess.DEVNULL, stdout=subprocess.PIPE, text=True, check=True).stdout.strip()
-
-
 def loader():
     """The toolchain's own loader and C library, with which rt starts a program that it tries."""
-    said = subprocess.run(["rt", "doc"], stdin=subprocess.DEVNULL, stdout=subprocess.PIPE, text=True, check=True).stdout
-    library = os.path.join(os.path.dirname(said.strip()), "toolchain", "lib")
+    library = os.path.join(os.path.dirname(repo.output_of(["rt", "doc"])), "toolchain", "lib")
     return [os.path.join(library, "ld-linux-x86-64.so.2"), "--inhibit-cache", "--library-path", library]
 
 
@@ -90,7 +82,8 @@ def made_by_try(name, room, words=()):
     for number in range(CASES):
         open(os.path.join(cases, f"empty-{number:02}"), "wb").close()
     command = ["rt", "try", "--cases", cases, "--steps", "1", *words]
-    how = {"cwd": os.path.join(TOP, "crates", name), "env": {**os.environ, "TMPDIR": room}, "stderr": subprocess.STDOUT}
+    how = {"cwd": os.path.join(repo.TOP, "crates", name), "stderr": subprocess.STDOUT}
+    how["env"] = {**os.environ, "TMPDIR": room}
     deadline, is_taken, status = time.monotonic() + MAKE_LIMIT, False, None
     with open(said, "wb") as out:
         trying = running.start(command, stdout=out, **how)
@@ -130,8 +123,7 @@ def is_kept(folder):
 def keep(name):
     """Makes the program of the current sources, and keeps it. If a source changes meanwhile, it is made again."""
     while True:
-        key = key_of(name)
-        kept = os.path.join(BUILT, f"{name}-unproved-{key}")
+        kept = repo.unproved_place(name)
         if is_kept(kept):
             return
         room = tempfile.mkdtemp(prefix=f"making-{name}-", dir=BUILT)
@@ -143,7 +135,7 @@ def keep(name):
             os.chmod(os.path.join(made, "program"), 0o755)
             with open(os.path.join(made, "loader"), "w", encoding="utf-8") as file:
                 file.write("\n".join(loader()) + "\n")
-            if key_of(name) == key:
+            if repo.unproved_place(name) == kept:
                 shutil.rmtree(kept, ignore_errors=True)
                 os.rename(made, kept)
         finally:
@@ -165,7 +157,7 @@ def clear(name):
 
 def main(name):
     signal.signal(signal.SIGTERM, lambda number, _: sys.exit(128 + number))
-    if is_kept(os.path.join(BUILT, f"{name}-unproved-{key_of(name)}")):
+    if is_kept(repo.unproved_place(name)):
         return
     os.makedirs(BUILT, exist_ok=True)
     with open(os.path.join(BUILT, f"{name}-unproved.lock"), "w", encoding="utf-8") as lock:

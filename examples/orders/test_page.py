@@ -22,17 +22,17 @@ class PageTest(DeskTest):
     @classmethod
     def setUpClass(cls) -> None:
         super().setUpClass()
-        cls.browser = Browser(1200, 900)
+        cls.browser = Browser()
         cls.addClassCleanup(cls.browser.close)
 
     def setUp(self) -> None:
         super().setUp()
+        self.browser.size(1200, 900)
         self.serve()
         self.url = f"http://127.0.0.1:{self.port + 1}/"
 
     def tearDown(self) -> None:
-        self.browser.evaluate("1")
-        self.assertEqual(self.browser.faults, [])
+        self.assertEqual(self.browser.faults(), [])
 
     def send(self, action: str, **fields: str) -> str:
         """Fills in the form of a request, and gives what the page then says."""
@@ -66,7 +66,6 @@ class PageTest(DeskTest):
         self.browser.size(390, 800)
         self.browser.open(self.url)
         self.assertLessEqual(self.browser.evaluate("document.documentElement.scrollWidth"), 390)
-        self.browser.size(1200, 900)
 
     def test_a_form_of_another_site(self) -> None:
         request = urllib.request.Request(self.url + "pay", b"number=1", {"Origin": "http://elsewhere"})

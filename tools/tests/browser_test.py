@@ -2,7 +2,7 @@
 
 It isn't among the tests that `unittest discover` finds, since it needs a browser. Run it from `tools` with
 
-    python3 -m unittest tests.browser_test
+    /usr/bin/python3 -m unittest tests.browser_test
 
 Without a Chromium it fails and says so. $VIEW_PICTURES names a folder for pictures of the page, for the documentation.
 """
@@ -50,9 +50,8 @@ class BrowserCase(unittest.TestCase):
         self.browser.dark(False)
 
     def tearDown(self):
-        self.browser.evaluate("1")
-        self.assertEqual(self.browser.faults, [])
-        self.assertEqual([url for url in self.browser.requests if not url.startswith(("file:", "data:"))], [])
+        self.assertEqual(self.browser.faults(), [])
+        self.assertEqual([url for url in self.browser.requests() if not url.startswith(("file:", "data:"))], [])
 
     def selected(self):
         """The line that the tree's keyboard is on, as a person reads it."""
@@ -426,9 +425,9 @@ class PicturesTest(BrowserCase):
         self.browser.size(1200, 760)
         self.browser.click(".row.top .kind", "unit 3")
         self.browser.key("*", "n")
-        self.take(folder, "view-tree.png", "treeBox.scrollTop = 15 * 28; document.activeElement.blur()")
+        self.take(folder, "view-tree.png", "treeBox.scrollTop = 15 * 28, document.activeElement.blur()")
         self.browser.dark(True)
-        self.take(folder, "view-object.png", "showObject('acct 1'); treeBox.scrollTop = 0")
+        self.take(folder, "view-object.png", "showObject('acct 1'), treeBox.scrollTop = 0")
         self.browser.size(390, 760)
         self.take(folder, "view-narrow-graph.png", "showTab('graph')")
         self.browser.dark(False)
@@ -437,7 +436,7 @@ class PicturesTest(BrowserCase):
     def take(self, folder, name, first):
         """A picture after these steps, with the mouse out of the way."""
         self.browser.evaluate(first)
-        self.browser.call("Input.dispatchMouseEvent", type="mouseMoved", x=380, y=755)
+        self.browser.point(380, 755)
         self.browser.evaluate("new Promise((done) => requestAnimationFrame(() => setTimeout(done)))")
         self.browser.picture(Path(folder, name))
 

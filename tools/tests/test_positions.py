@@ -6,7 +6,7 @@ import json
 import random
 import unittest
 
-from hipac_tools.near import distance, nearest
+from hipac_tools.near import nearest
 from hipac_tools.positions import NotJson, find, line_and_column, parse
 
 from .trials import accepted_scripts
@@ -70,12 +70,6 @@ class Refusals(unittest.TestCase):
 
 
 class NearWords(unittest.TestCase):
-    def test_distances(self) -> None:
-        pairs = [("", "abc", 3), ("abc", "abc", 0), ("abc", "acb", 1), ("abc", "abd", 1), ("update", "updte", 1)]
-        for first, second, apart in pairs:
-            self.assertEqual(distance(first, second), apart)
-            self.assertEqual(distance(second, first), apart)
-
     def test_the_nearest_word(self) -> None:
         known, habits = ["create", "update", "delete", "x"], {"insert": "create"}
         for word, meant in {"updte": "update", "UPDATE": "update", "crate": "create", "insert": "create"}.items():

@@ -92,7 +92,6 @@ class ModelTest(unittest.TestCase):
         fired = next(node for node in page.nodes if node[0] == FIRE and node[2] == "ceiling")
         self.assertEqual(page.nodes[fired[-1]][2:5], ["update", "acct 1", "bal=-30 limit=0"])
 
-
     def test_a_firing_is_told_in_the_words_of_why(self):
         low = [["i", "item", ["and", ["=", ["key", "i"], ["id", 0]], ["<", ["of", "i", "stock"], 3]]]]
         script = {"version": 1, "classes": [["item", [["stock", "int"]]]], "rules": [

@@ -2,8 +2,6 @@
 #![tactic(auto)]
 
 mod running;
-#[cfg(test)]
-mod tests;
 
 use hp_report::{Watched, exit_code};
 use hp_words::{options_of, word_code};

@@ -57,3 +57,4 @@ pub mod NotationStatementsRead
 pub mod NotationScriptsRead
 pub mod NotationSpelt
 pub mod NotationRead
+pub mod NotationValued

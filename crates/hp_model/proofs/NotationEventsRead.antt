@@ -12,7 +12,7 @@ use Rattle.hp_model.specs.NotationEvents.{simple_event, joint, event_operator, e
 use Rattle.hp_model.specs.NotationForms.{Change, creation, change, deletion, Event, on_change, on_signal, on_commit, at_moment, every_moment, or_event, then_event, closure_event, event_data, form_data}
 use Rattle.hp_model.specs.NotationPrint.{Gap, tight, space, Pieces, at_gap, sign, enclosed_if, first_is, is_or, is_then, event_pieces}
 use Rattle.hp_model.specs.NotationLaws.{IsWritableEvent, event_levels}
-use Rattle.hp_model.proofs.NotationReadings.{bind_ok, stream, Reading, Chaining, Grows, chain_on, ends, name_cases, begins-stream}
+use Rattle.hp_model.proofs.NotationReadings.{bind_ok, stream, Reading, Chaining, Grows, chain_on, ends, name_cases, begins-stream, grows_enclosed}
 
 -- whether a token joins two events
 abbrev pub joins_events : Token → Bool
@@ -32,10 +32,6 @@ no_event_operator k o h =
     ∙ no_joint then_mark (codes "seq") k o parts.1
 
 -- ---- what an event writes comes before what follows
-
-grows_enclosed : (b : Bool) (f : Gap → Pieces → Pieces) → Grows f → Grows (enclosed_if b f)
-grows_enclosed true f g gap k = omega (arith, g tight (sign tight close_parenthesis k))
-grows_enclosed false f g gap k = g gap k
 
 pub grows_event : (x : Event) → Grows (event_pieces x)
 grows_event (on_change c x) gap k = omega arith
@@ -110,34 +106,34 @@ module _ (l levels : ℕ) (some : 0 < levels) (f : Gap → Pieces → Pieces) (d
             ∙ ends (simple_event (event_within l)) (event_operator rest) most_operators r.node rest (no_event_operator k r.next h);
       }
 
-levels_positive : (x : Event) → 0 < event_levels x
-levels_positive (or_event a b) = omega arith
-levels_positive (then_event a b) = omega arith
-levels_positive (closure_event a b) = omega arith
-levels_positive x = omega arith
+pub event_levels_positive : (x : Event) → 0 < event_levels x
+event_levels_positive (or_event a b) = omega arith
+event_levels_positive (then_event a b) = omega arith
+event_levels_positive (closure_event a b) = omega arith
+event_levels_positive x = omega arith
 
 record Own (x : Event) (l : ℕ) : Type 0 where
-  simple : (is_or x || is_then x) ≡ false → SimpleBy l (event_levels x) (levels_positive x) (event_pieces x) (event_data x)
-  or_left : is_then x ≡ false → LeftBy l (event_levels x) (levels_positive x) (event_pieces x) (event_data x) or_mark (codes "or")
-  then_left : is_or x ≡ false → LeftBy l (event_levels x) (levels_positive x) (event_pieces x) (event_data x) then_mark (codes "seq")
-  whole : WholeBy l (event_levels x) (levels_positive x) (event_pieces x) (event_data x)
+  simple : (is_or x || is_then x) ≡ false → SimpleBy l (event_levels x) (event_levels_positive x) (event_pieces x) (event_data x)
+  or_left : is_then x ≡ false → LeftBy l (event_levels x) (event_levels_positive x) (event_pieces x) (event_data x) or_mark (codes "or")
+  then_left : is_or x ≡ false → LeftBy l (event_levels x) (event_levels_positive x) (event_pieces x) (event_data x) then_mark (codes "seq")
+  whole : WholeBy l (event_levels x) (event_levels_positive x) (event_pieces x) (event_data x)
 
 abbrev Owned : Event → Type 0
 Owned x = (l : ℕ) → l < 64 → event_levels x ≤ l + 1 → Own x l
 
-own_simple : (x : Event) (l : ℕ) → SimpleBy l (event_levels x) (levels_positive x) (event_pieces x) (event_data x) → Own x l
+own_simple : (x : Event) (l : ℕ) → SimpleBy l (event_levels x) (event_levels_positive x) (event_pieces x) (event_data x) → Own x l
 own_simple x l by = record {
   simple = λ _. by;
-  or_left = λ _. or_left_of l (event_levels x) (levels_positive x) (event_pieces x) (event_data x) by;
-  then_left = λ _. then_left_of l (event_levels x) (levels_positive x) (event_pieces x) (event_data x) by;
-  whole = whole_of l (event_levels x) (levels_positive x) (event_pieces x) (event_data x) by;
+  or_left = λ _. or_left_of l (event_levels x) (event_levels_positive x) (event_pieces x) (event_data x) by;
+  then_left = λ _. then_left_of l (event_levels x) (event_levels_positive x) (event_pieces x) (event_data x) by;
+  whole = whole_of l (event_levels x) (event_levels_positive x) (event_pieces x) (event_data x) by;
 }
 
 module _ (x : Event) (own : Owned x) where
   -- in parentheses, which nest a level deeper
-  parenthesized : (l : ℕ) → l < 64 → event_levels x ≤ l → SimpleBy l (event_levels x) (levels_positive x) (enclosed_if true (event_pieces x)) (event_data x)
+  parenthesized : (l : ℕ) → l < 64 → event_levels x ≤ l → SimpleBy l (event_levels x) (event_levels_positive x) (enclosed_if true (event_pieces x)) (event_data x)
   unfolding event_within
-  parenthesized zero few h gap k o = absurd (omega (arith, levels_positive x))
+  parenthesized zero few h gap k o = absurd (omega (arith, event_levels_positive x))
   parenthesized (suc l) few h gap k o =
       let r = (own l (omega arith) (omega arith)).whole tight (sign tight close_parenthesis k) (λ i. o (suc i)) refl in
       record {
@@ -148,16 +144,16 @@ module _ (x : Event) (own : Owned x) where
       }
 
   module _ (l : ℕ) (few : l < 64) (h : event_levels x ≤ l) where
-    as_simple : (b : Bool) → (is_or x || is_then x) ≡ b → SimpleBy l (event_levels x) (levels_positive x) (enclosed_if b (event_pieces x)) (event_data x)
+    as_simple : (b : Bool) → (is_or x || is_then x) ≡ b → SimpleBy l (event_levels x) (event_levels_positive x) (enclosed_if b (event_pieces x)) (event_data x)
     as_simple true e = parenthesized l few h
     as_simple false e = (own l few (omega arith)).simple e
 
-    on_left_of_or : (b : Bool) → is_then x ≡ b → LeftBy l (event_levels x) (levels_positive x) (enclosed_if b (event_pieces x)) (event_data x) or_mark (codes "or")
-    on_left_of_or true e = or_left_of l (event_levels x) (levels_positive x) (enclosed_if true (event_pieces x)) (event_data x) (parenthesized l few h)
+    on_left_of_or : (b : Bool) → is_then x ≡ b → LeftBy l (event_levels x) (event_levels_positive x) (enclosed_if b (event_pieces x)) (event_data x) or_mark (codes "or")
+    on_left_of_or true e = or_left_of l (event_levels x) (event_levels_positive x) (enclosed_if true (event_pieces x)) (event_data x) (parenthesized l few h)
     on_left_of_or false e = (own l few (omega arith)).or_left e
 
-    on_left_of_then : (b : Bool) → is_or x ≡ b → LeftBy l (event_levels x) (levels_positive x) (enclosed_if b (event_pieces x)) (event_data x) then_mark (codes "seq")
-    on_left_of_then true e = then_left_of l (event_levels x) (levels_positive x) (enclosed_if true (event_pieces x)) (event_data x) (parenthesized l few h)
+    on_left_of_then : (b : Bool) → is_or x ≡ b → LeftBy l (event_levels x) (event_levels_positive x) (enclosed_if b (event_pieces x)) (event_data x) then_mark (codes "seq")
+    on_left_of_then true e = then_left_of l (event_levels x) (event_levels_positive x) (enclosed_if true (event_pieces x)) (event_data x) (parenthesized l few h)
     on_left_of_then false e = (own l few (omega arith)).then_left e
 
 module _ (a b : Event) (left : Owned a) (right : Owned b) where
@@ -205,7 +201,7 @@ module _ (a b : Event) (left : Owned a) (right : Owned b) where
 
   closure_by : (l : ℕ) → l < 64 → event_levels (closure_event a b) ≤ l + 1 → SimpleBy l (event_levels (closure_event a b)) (omega arith) (event_pieces (closure_event a b)) (event_data (closure_event a b))
   unfolding event_within
-  closure_by zero few h gap k o = absurd (omega (arith, levels_positive a))
+  closure_by zero few h gap k o = absurd (omega (arith, event_levels_positive a))
   closure_by (suc l) few h gap k o =
       let after = sign tight close_parenthesis k in
       let one = (left l (omega arith) (omega arith)).whole tight (sign space until_mark (event_pieces b space after)) (λ i. o (suc (suc i))) refl in

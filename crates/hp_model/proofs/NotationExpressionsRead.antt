@@ -1,5 +1,5 @@
 -- The canonical text of an expression is read as the expression.
-use Rattle.std.proofs.Common.{◌≡◌, refl, ap, ◌∙◌, ℕ, zero, suc, ◌+◌, ◌*◌, ◌<◌, ◌≤◌, ◌^◌, max, ℤ, pos, negsuc, Bool, true, false, List, [], ◌∷◌, length, codes, Result, Ok, Err, arith}
+use Rattle.std.proofs.Common.{◌≡◌, refl, ap, ◌∙◌, ℕ, zero, suc, ◌+◌, ◌*◌, ◌<◌, ◌≤◌, ◌^◌, max, ℤ, pos, negsuc, Bool, true, false, List, [], ◌∷◌, length, codes, Result, Ok, arith}
 use Rattle.std.specs.Prelude.{nat_lt, bytes_eq}
 use Rattle.std.proofs.lemmas.Bool.{lt-ltb}
 use Rattle.serde_json.specs.Data.{Data, string}
@@ -12,12 +12,9 @@ use Rattle.hp_model.specs.NotationExpressions.{Deeper, level_of, operator, row_f
 use Rattle.hp_model.specs.NotationForms.{Expression, integer, truth, text, Operator, either, both, equal, unequal, less, at_most, greater, at_least, plus, minus, times, quotient, remainder, operator_mark, operation, inverted, negated, Image, new_image, old_image, field_of, key_of, value, now, image_field, key_in, time_of, argument, occurrence_count, expression_data, form_data, natural_data}
 use Rattle.hp_model.specs.NotationPrint.{Gap, tight, space, Pieces, at_gap, sign, free, name, natural, value_token_of, enclosed_if, part_pieces, expression_level, left_level, right_level, negated_level, expression_pieces, expression_in}
 use Rattle.hp_model.specs.NotationLaws.{Fits, IsWritableExpression, expression_levels}
-use Rattle.hp_model.proofs.NotationReadings.{stream, mark_binding, binding, no_point, Reading, ReadsBy, ChainsBy, Grows, begins_chain, ends_chain, chain_step, one_side, two_sides, two_sides_read, enclosed_cases, name_cases}
+use Rattle.hp_model.proofs.NotationReadings.{stream, mark_binding, binding, no_point, Reading, ReadsBy, ChainsBy, Grows, begins_chain, ends_chain, chain_step, one_side, two_sides, two_sides_read, enclosed_cases, name_cases, no_fault, grows_enclosed}
 
 -- ---- what was read at one level is read at the next looser one
-
-no_fault : {A : Type 0} → {x : A} {n : ℕ} → Err n ≡ Ok x → ⊥
-no_fault e = cc
 
 -- no operand begins with `-` or is a number
 unary_reads : (deeper : Deeper) (ts : Tokens) (r : Node × Tokens) → primary deeper ts ≡ Ok r → unary deeper ts ≡ Ok r
@@ -229,10 +226,6 @@ module _ (x : Expression) (own : Owned x) where
     after_minus = enclosed_cases (negated_level x) 8 written (λ g. ReadsBy (primary deep) 9 g dat) (λ _. parenthesized l few h) (λ above. mine.operand above)
 
 -- ---- what an expression writes comes before what follows
-
-grows_enclosed : (b : Bool) (f : Gap → Pieces → Pieces) → Grows f → Grows (enclosed_if b f)
-grows_enclosed true f g gap k = omega (arith, g tight (sign tight close_parenthesis k))
-grows_enclosed false f g gap k = g gap k
 
 grows_part : (i : ℕ) (k : Pieces) → length k ≤ length (part_pieces i k)
 grows_part zero k = omega arith

@@ -19,12 +19,13 @@ use Rattle.hp_model.specs.NotationLaws.{IsSpelt, AreSpelt, all_tokens, token_of}
 
 -- ---- lists
 
-run_to : (p : ℕ → Bool) (xs : List ℕ) (c : ℕ) (r : List ℕ) → list_all p xs ≡ true → p c ≡ false → prefix_len p (xs ++ c ∷ r) ≡ length xs
-run_to p [] c r all stop = rw stop refl
-run_to p (x ∷ xs) c r all stop =
+-- the run of what passes goes on to the rest, where nothing passes
+run_to : (p : ℕ → Bool) (xs r : List ℕ) → list_all p xs ≡ true → prefix_len p r ≡ 0 → prefix_len p (xs ++ r) ≡ length xs
+run_to p [] r all stop = stop
+run_to p (x ∷ xs) r all stop =
     let parts = and_parts _ _ all in
-    let others = run_to p xs c r parts.1 stop in
-    ap (λ b. cond b (1 + prefix_len p (xs ++ c ∷ r)) 0) parts.0 ∙ omega arith
+    let others = run_to p xs r parts.1 stop in
+    ap (λ b. cond b (1 + prefix_len p (xs ++ r)) 0) parts.0 ∙ omega arith
 
 drop_seam : (xs ys : List ℕ) → drop (length xs) (xs ++ ys) ≡ ys
 drop_seam [] ys = refl
@@ -56,23 +57,23 @@ reads_by e at t more b bs r is on = (on.0, ap (λ l. tokens_at l at (λ n. token
 
 -- ---- words
 
-word_found : (b : ℕ) (bs : List ℕ) (c : ℕ) (r : List ℕ) → is_name (b ∷ bs) ≡ true → is_name_byte c ≡ false
-    → lexeme b (bs ++ c ∷ r) ≡ found (word_token (b ∷ bs) (reserved_word (b ∷ bs))) (length bs)
+word_found : (b : ℕ) (bs r : List ℕ) → is_name (b ∷ bs) ≡ true → prefix_len is_name_byte r ≡ 0
+    → lexeme b (bs ++ r) ≡ found (word_token (b ∷ bs) (reserved_word (b ∷ bs))) (length bs)
 unfolding lexeme
-word_found b bs c r ok stop =
+word_found b bs r ok stop =
     let parts = and_parts _ _ ok in
     let size = and_parts _ _ parts.1 in
     let short : nat_le (suc (length bs)) 32 ≡ true = le-leb _ 32 (ltb-true (length bs) 32 size.0) in
     let alphabetic : is_ascii_alphabetic b ≡ true = parts.0 in
     let begins : beginning b ≡ letter = rw alphabetic refl in
     let t = word_token (b ∷ bs) (reserved_word (b ∷ bs)) in
-    ap (λ k. lexeme_at k b (bs ++ c ∷ r)) begins ∙ ap (λ n. word_lexeme (b ∷ take n (bs ++ c ∷ r)) n) (run_to is_name_byte bs c r size.1 stop)
-    ∙ ap (λ w. word_lexeme (b ∷ w) (length bs)) (take-append_seam bs (c ∷ r)) ∙ ap (λ s. if s then found t (length bs) else faulty 0) short
+    ap (λ k. lexeme_at k b (bs ++ r)) begins ∙ ap (λ n. word_lexeme (b ∷ take n (bs ++ r)) n) (run_to is_name_byte bs r size.1 stop)
+    ∙ ap (λ w. word_lexeme (b ∷ w) (length bs)) (take-append_seam bs r) ∙ ap (λ s. if s then found t (length bs) else faulty 0) short
 
-word_read : (e : ℕ → Tokens) (at : ℕ) (w : List ℕ) (c : ℕ) (r : List ℕ) → is_name w ≡ true → is_name_byte c ≡ false
-    → Reads e at (word_token w (reserved_word w)) (w ++ c ∷ r) (c ∷ r)
-word_read e at [] c r ok stop = absurd (true≢false (sym ok))
-word_read e at (b ∷ bs) c r ok stop = reads_by e at _ (length bs) b (bs ++ c ∷ r) (c ∷ r) (word_found b bs c r ok stop) (passes e (suc at) bs (c ∷ r))
+word_read : (e : ℕ → Tokens) (at : ℕ) (w r : List ℕ) → is_name w ≡ true → prefix_len is_name_byte r ≡ 0
+    → Reads e at (word_token w (reserved_word w)) (w ++ r) r
+word_read e at [] r ok stop = absurd (true≢false (sym ok))
+word_read e at (b ∷ bs) r ok stop = reads_by e at _ (length bs) b (bs ++ r) r (word_found b bs r ok stop) (passes e (suc at) bs r)
 
 quoted_found : (b : ℕ) (bs r : List ℕ) → is_name (b ∷ bs) ≡ true → lexeme 96 ((b ∷ bs) ++ 96 ∷ r) ≡ found (quoted (b ∷ bs)) (suc (length (b ∷ bs)))
 unfolding lexeme
@@ -82,7 +83,7 @@ quoted_found b bs r ok =
     let short : nat_le (suc (length bs)) 32 ≡ true = le-leb _ 32 (ltb-true (length bs) 32 size.0) in
     let whole = (b ∷ bs) ++ 96 ∷ r in
     ap (λ s. if s then quoted_word_lexeme whole (suc (word_rest (bs ++ 96 ∷ r))) else faulty 1) parts.0
-    ∙ ap (λ n. quoted_word_lexeme whole (suc n)) (run_to is_name_byte bs 96 r size.1 refl)
+    ∙ ap (λ n. quoted_word_lexeme whole (suc n)) (run_to is_name_byte bs (96 ∷ r) size.1 refl)
     ∙ ap (λ w. if nat_le (length (b ∷ w)) 32 then (if slice_index (drop (length bs) (bs ++ 96 ∷ r)) 0 == 96 then found (quoted (b ∷ w)) (suc (suc (length bs))) else faulty (suc (suc (length bs)))) else faulty 0) (take-append_seam bs (96 ∷ r))
     ∙ ap (λ s. if s then (if slice_index (drop (length bs) (bs ++ 96 ∷ r)) 0 == 96 then found (quoted (b ∷ bs)) (suc (suc (length bs))) else faulty (suc (suc (length bs)))) else faulty 0) short
     ∙ ap (λ l. if slice_index l 0 == 96 then found (quoted (b ∷ bs)) (suc (suc (length bs))) else faulty (suc (suc (length bs)))) (drop_seam bs (96 ∷ r))
@@ -102,6 +103,14 @@ all_ascii_digits (d ∷ ds) h =
 no_digit : (c : ℕ) → is_name_byte c ≡ false → is_ascii_digit c ≡ false
 no_digit c h = (or_parts _ _ (or_parts _ _ (or_parts _ _ h).0).0).0
 
+stops : (b : Bool) (n : ℕ) → cond b (1 + n) 0 ≡ 0 → b ≡ false
+stops true n e = absurd (omega arith)
+stops false n e = refl
+
+no_digits : (r : List ℕ) → prefix_len is_name_byte r ≡ 0 → prefix_len is_ascii_digit r ≡ 0
+no_digits [] h = refl
+no_digits (c ∷ r) h = ap (λ b. cond b (1 + prefix_len is_ascii_digit r) 0) (no_digit c (stops (is_name_byte c) (prefix_len is_name_byte r) h))
+
 digit_begins : (b : ℕ) → (48 ≤ b) × (b ≤ 57) → beginning b ≡ digit
 digit_begins b range =
     let upper : (nat_le 65 b && nat_le b 90) ≡ false = rw (lt-leb 65 b (omega arith)) refl in
@@ -110,18 +119,18 @@ digit_begins b range =
     let is_digit : is_ascii_digit b ≡ true = and_from _ _ (le-leb 48 b range.0) (le-leb b 57 range.1) in
     rw (no_letter, is_digit) refl
 
-number_found : (b : ℕ) (bs : List ℕ) (c : ℕ) (r : List ℕ) → AllDigits 10 (b ∷ bs) → ((b == 48) && nat_lt 0 (length bs)) ≡ false
-    → digits_value 10 (b ∷ bs) ≤ 2 ^ 63 → is_name_byte c ≡ false → lexeme b (bs ++ c ∷ r) ≡ found (number (digits_value 10 (b ∷ bs))) (length bs)
+number_found : (b : ℕ) (bs r : List ℕ) → AllDigits 10 (b ∷ bs) → ((b == 48) && nat_lt 0 (length bs)) ≡ false
+    → digits_value 10 (b ∷ bs) ≤ 2 ^ 63 → prefix_len is_name_byte r ≡ 0 → lexeme b (bs ++ r) ≡ found (number (digits_value 10 (b ∷ bs))) (length bs)
 unfolding lexeme
-number_found b bs c r all first small stop =
+number_found b bs r all first small stop =
     let fits : nat_lt (2 ^ 63) (digits_value 10 (b ∷ bs)) ≡ false = le-ltb _ _ small in
-    ap (λ k. lexeme_at k b (bs ++ c ∷ r)) (digit_begins b (digit_from_value b all.0))
-    ∙ ap (λ n. number_lexeme (b ∷ take n (bs ++ c ∷ r)) n) (run_to is_ascii_digit bs c r (all_ascii_digits bs all.1) (no_digit c stop))
-    ∙ ap (λ w. number_lexeme (b ∷ w) (length bs)) (take-append_seam bs (c ∷ r))
+    ap (λ k. lexeme_at k b (bs ++ r)) (digit_begins b (digit_from_value b all.0))
+    ∙ ap (λ n. number_lexeme (b ∷ take n (bs ++ r)) n) (run_to is_ascii_digit bs r (all_ascii_digits bs all.1) (no_digits r stop))
+    ∙ ap (λ w. number_lexeme (b ∷ w) (length bs)) (take-append_seam bs r)
     ∙ ap (λ s. if s then faulty 0 else found (number (digits_value 10 (b ∷ bs))) (length bs)) (or_from _ _ first fits)
 
-number_read : (e : ℕ → Tokens) (at n c : ℕ) (r : List ℕ) → n ≤ 2 ^ 63 → is_name_byte c ≡ false → Reads e at (number n) (decimal n ++ c ∷ r) (c ∷ r)
-number_read e at n c r small stop = go (decimal n) refl (cases_lt 0 n)
+number_read : (e : ℕ → Tokens) (at n : ℕ) (r : List ℕ) → n ≤ 2 ^ 63 → prefix_len is_name_byte r ≡ 0 → Reads e at (number n) (decimal n ++ r) r
+number_read e at n r small stop = go (decimal n) refl (cases_lt 0 n)
   where
     numeral : (0 < length (decimal n)) × AllDigits 10 (decimal n) × (digits_value 10 (decimal n) ≡ n)
     numeral = let h = decimal_is_IsNumeral n (omega arith) in (h.0.0, h.0.1, h.1)
@@ -139,12 +148,12 @@ number_read e at n c r small stop = go (decimal n) refl (cases_lt 0 n)
         go_zero true = refl
         go_zero false = refl
 
-    go : (ds : List ℕ) → decimal n ≡ ds → (0 < n) ⊎ (n ≤ 0) → Reads e at (number n) (ds ++ c ∷ r) (c ∷ r)
+    go : (ds : List ℕ) → decimal n ≡ ds → (0 < n) ⊎ (n ≤ 0) → Reads e at (number n) (ds ++ r) r
     go [] is which = absurd (omega (arith, subst (λ l. 0 < length l) is numeral.0))
     go (b ∷ bs) is which =
         let value : digits_value 10 (b ∷ bs) ≡ n = subst (λ l. digits_value 10 l ≡ n) is numeral.2 in
-        let found_it = number_found b bs c r (subst (AllDigits 10) is numeral.1) (first b bs is which) (omega arith) stop in
-        subst (λ k. Reads e at (number k) ((b ∷ bs) ++ c ∷ r) (c ∷ r)) value (reads_by e at _ (length bs) b (bs ++ c ∷ r) (c ∷ r) found_it (passes e (suc at) bs (c ∷ r)))
+        let found_it = number_found b bs r (subst (AllDigits 10) is numeral.1) (first b bs is which) (omega arith) stop in
+        subst (λ k. Reads e at (number k) ((b ∷ bs) ++ r) r) value (reads_by e at _ (length bs) b (bs ++ r) r found_it (passes e (suc at) bs r))
 
 -- ---- texts
 
@@ -232,13 +241,24 @@ abbrev is_angle : Token → Bool
 is_angle t = is_mark less_sign t || is_mark greater_sign t
 
 -- a byte doesn't continue a token
-record Follows (t : Token) (c : ℕ) : Type 0 where
+record FollowsByte (t : Token) (c : ℕ) : Type 0 where
   word : is_wordlike t ≡ true → is_name_byte c ≡ false
   angle : is_angle t ≡ true → (c == 61) ≡ false
 
 -- some bytes begin with one that doesn't continue a token
 abbrev Starts : Token → List ℕ → Type 0
-Starts t bytes = (c : ℕ) × (r : List ℕ) × (bytes ≡ c ∷ r) × Follows t c
+Starts t bytes = (c : ℕ) × (r : List ℕ) × (bytes ≡ c ∷ r) × FollowsByte t c
+
+-- some bytes, or none, don't continue a token
+record Follows (t : Token) (r : List ℕ) : Type 0 where
+  word : is_wordlike t ≡ true → prefix_len is_name_byte r ≡ 0
+  angle : is_angle t ≡ true → (slice_index r 0 == 61) ≡ false
+
+follows_end : (t : Token) → Follows t []
+follows_end t = record { word = λ _. refl; angle = λ _. refl }
+
+follows : (t : Token) (bytes : List ℕ) → Starts t bytes → Follows t bytes
+follows t bytes s = subst (Follows t) (sym s.2) (record { word = λ h. ap (λ b. cond b (1 + prefix_len is_name_byte s.1) 0) (s.3.word h); angle = λ h. s.3.angle h })
 
 starts_apart : (t : Token) (c : ℕ) (r : List ℕ) → is_name_byte c ≡ false → (c == 61) ≡ false → Starts t (c ∷ r)
 starts_apart t c r p q = (c, r, refl, record { word = λ _. p; angle = λ _. q })
@@ -351,85 +371,87 @@ gap_starts t u space rest spelt false is = starts_apart t 32 _ refl refl
 gap_starts t u (line d) rest spelt false is = starts_apart t 10 _ refl refl
 gap_starts t u paragraph rest spelt false is = starts_apart t 10 _ refl refl
 
-text_starts : (t : Token) (ps : Pieces) → AreSpelt ps → Starts t (text_after (Some t) ps ++ 10 ∷ [])
-text_starts t [] spelt = starts_apart t 10 [] refl refl
-text_starts t (p ∷ ps) spelt =
+text_follows : (t : Token) (ps : Pieces) (tail : List ℕ) → AreSpelt ps → Follows t tail → Follows t (text_after (Some t) ps ++ tail)
+text_follows t [] tail spelt f = f
+text_follows t (p ∷ ps) tail spelt f =
     let first = gap_starts t p.token p.gap (text_after (Some p.token) ps) spelt.0 (would_join t p.token) refl in
-    (first.0, first.1 ++ 10 ∷ [], ap (λ l. l ++ 10 ∷ []) first.2, first.3)
+    follows t _ (first.0, first.1 ++ tail, ap (λ l. l ++ tail) first.2, first.3)
 
 -- ---- all tokens
 
-mark_read : (e : ℕ → Tokens) (at : ℕ) (m : Mark) (c : ℕ) (r : List ℕ) → Follows (mark m) c → Reads e at (mark m) (spelling m ++ c ∷ r) (c ∷ r)
+mark_read : (e : ℕ → Tokens) (at : ℕ) (m : Mark) (r : List ℕ) → Follows (mark m) r → Reads e at (mark m) (spelling m ++ r) r
 unfolding reserved_word tokens_from lexeme
-mark_read e at on_mark c r f = word_read e at (codes "on") c r refl (f.word refl)
-mark_read e at if_mark c r f = word_read e at (codes "if") c r refl (f.word refl)
-mark_read e at do_mark c r f = word_read e at (codes "do") c r refl (f.word refl)
-mark_read e at where_mark c r f = word_read e at (codes "where") c r refl (f.word refl)
-mark_read e at as_mark c r f = word_read e at (codes "as") c r refl (f.word refl)
-mark_read e at set_mark c r f = word_read e at (codes "set") c r refl (f.word refl)
-mark_read e at else_mark c r f = word_read e at (codes "else") c r refl (f.word refl)
-mark_read e at otherwise_mark c r f = word_read e at (codes "otherwise") c r refl (f.word refl)
-mark_read e at then_mark c r f = word_read e at (codes "then") c r refl (f.word refl)
-mark_read e at until_mark c r f = word_read e at (codes "until") c r refl (f.word refl)
-mark_read e at and_mark c r f = word_read e at (codes "and") c r refl (f.word refl)
-mark_read e at or_mark c r f = word_read e at (codes "or") c r refl (f.word refl)
-mark_read e at not_mark c r f = word_read e at (codes "not") c r refl (f.word refl)
-mark_read e at true_mark c r f = word_read e at (codes "true") c r refl (f.word refl)
-mark_read e at false_mark c r f = word_read e at (codes "false") c r refl (f.word refl)
-mark_read e at new_mark c r f = word_read e at (codes "new") c r refl (f.word refl)
-mark_read e at old_mark c r f = word_read e at (codes "old") c r refl (f.word refl)
-mark_read e at event_mark c r f = word_read e at (codes "event") c r refl (f.word refl)
-mark_read e at key_mark c r f = word_read e at (codes "key") c r refl (f.word refl)
-mark_read e at immediate_mark c r f = word_read e at (codes "immediate") c r refl (f.word refl)
-mark_read e at deferred_mark c r f = word_read e at (codes "deferred") c r refl (f.word refl)
-mark_read e at separate_mark c r f = word_read e at (codes "separate") c r refl (f.word refl)
-mark_read e at dependent_mark c r f = word_read e at (codes "dependent") c r refl (f.word refl)
-mark_read e at exclusive_mark c r f = word_read e at (codes "exclusive") c r refl (f.word refl)
-mark_read e at create_mark c r f = word_read e at (codes "create") c r refl (f.word refl)
-mark_read e at update_mark c r f = word_read e at (codes "update") c r refl (f.word refl)
-mark_read e at delete_mark c r f = word_read e at (codes "delete") c r refl (f.word refl)
-mark_read e at signal_mark c r f = word_read e at (codes "signal") c r refl (f.word refl)
-mark_read e at emit_mark c r f = word_read e at (codes "emit") c r refl (f.word refl)
-mark_read e at each_mark c r f = word_read e at (codes "each") c r refl (f.word refl)
-mark_read e at for_mark c r f = word_read e at (codes "for") c r refl (f.word refl)
-mark_read e at with_mark c r f = word_read e at (codes "with") c r refl (f.word refl)
-mark_read e at sub_mark c r f = word_read e at (codes "sub") c r refl (f.word refl)
-mark_read e at abort_mark c r f = word_read e at (codes "abort") c r refl (f.word refl)
-mark_read e at veto_mark c r f = word_read e at (codes "veto") c r refl (f.word refl)
-mark_read e at install_mark c r f = word_read e at (codes "install") c r refl (f.word refl)
-mark_read e at enable_mark c r f = word_read e at (codes "enable") c r refl (f.word refl)
-mark_read e at disable_mark c r f = word_read e at (codes "disable") c r refl (f.word refl)
-mark_read e at remove_mark c r f = word_read e at (codes "remove") c r refl (f.word refl)
-mark_read e at fire_mark c r f = word_read e at (codes "fire") c r refl (f.word refl)
-mark_read e at open_brace c r f = (suc at, refl)
-mark_read e at close_brace c r f = (suc at, refl)
-mark_read e at open_parenthesis c r f = (suc at, refl)
-mark_read e at close_parenthesis c r f = (suc at, refl)
-mark_read e at open_bracket c r f = (suc at, refl)
-mark_read e at close_bracket c r f = (suc at, refl)
-mark_read e at comma c r f = (suc at, refl)
-mark_read e at colon c r f = (suc at, refl)
-mark_read e at semicolon c r f = (suc at, refl)
-mark_read e at point c r f = (suc at, refl)
-mark_read e at equal_sign c r f = (suc at, refl)
-mark_read e at unequal_sign c r f = (suc (suc at), refl)
-mark_read e at less_sign c r f = (suc at, rw (f.angle refl) refl)
-mark_read e at at_most_sign c r f = (suc (suc at), refl)
-mark_read e at greater_sign c r f = (suc at, rw (f.angle refl) refl)
-mark_read e at at_least_sign c r f = (suc (suc at), refl)
-mark_read e at plus_sign c r f = (suc at, refl)
-mark_read e at minus_sign c r f = (suc at, refl)
-mark_read e at times_sign c r f = (suc at, refl)
-mark_read e at divided_sign c r f = (suc at, refl)
-mark_read e at percent_sign c r f = (suc at, refl)
+mark_read e at on_mark r f = word_read e at (codes "on") r refl (f.word refl)
+mark_read e at if_mark r f = word_read e at (codes "if") r refl (f.word refl)
+mark_read e at do_mark r f = word_read e at (codes "do") r refl (f.word refl)
+mark_read e at where_mark r f = word_read e at (codes "where") r refl (f.word refl)
+mark_read e at as_mark r f = word_read e at (codes "as") r refl (f.word refl)
+mark_read e at set_mark r f = word_read e at (codes "set") r refl (f.word refl)
+mark_read e at else_mark r f = word_read e at (codes "else") r refl (f.word refl)
+mark_read e at otherwise_mark r f = word_read e at (codes "otherwise") r refl (f.word refl)
+mark_read e at then_mark r f = word_read e at (codes "then") r refl (f.word refl)
+mark_read e at until_mark r f = word_read e at (codes "until") r refl (f.word refl)
+mark_read e at and_mark r f = word_read e at (codes "and") r refl (f.word refl)
+mark_read e at or_mark r f = word_read e at (codes "or") r refl (f.word refl)
+mark_read e at not_mark r f = word_read e at (codes "not") r refl (f.word refl)
+mark_read e at true_mark r f = word_read e at (codes "true") r refl (f.word refl)
+mark_read e at false_mark r f = word_read e at (codes "false") r refl (f.word refl)
+mark_read e at new_mark r f = word_read e at (codes "new") r refl (f.word refl)
+mark_read e at old_mark r f = word_read e at (codes "old") r refl (f.word refl)
+mark_read e at event_mark r f = word_read e at (codes "event") r refl (f.word refl)
+mark_read e at key_mark r f = word_read e at (codes "key") r refl (f.word refl)
+mark_read e at immediate_mark r f = word_read e at (codes "immediate") r refl (f.word refl)
+mark_read e at deferred_mark r f = word_read e at (codes "deferred") r refl (f.word refl)
+mark_read e at separate_mark r f = word_read e at (codes "separate") r refl (f.word refl)
+mark_read e at dependent_mark r f = word_read e at (codes "dependent") r refl (f.word refl)
+mark_read e at exclusive_mark r f = word_read e at (codes "exclusive") r refl (f.word refl)
+mark_read e at create_mark r f = word_read e at (codes "create") r refl (f.word refl)
+mark_read e at update_mark r f = word_read e at (codes "update") r refl (f.word refl)
+mark_read e at delete_mark r f = word_read e at (codes "delete") r refl (f.word refl)
+mark_read e at signal_mark r f = word_read e at (codes "signal") r refl (f.word refl)
+mark_read e at emit_mark r f = word_read e at (codes "emit") r refl (f.word refl)
+mark_read e at each_mark r f = word_read e at (codes "each") r refl (f.word refl)
+mark_read e at for_mark r f = word_read e at (codes "for") r refl (f.word refl)
+mark_read e at with_mark r f = word_read e at (codes "with") r refl (f.word refl)
+mark_read e at sub_mark r f = word_read e at (codes "sub") r refl (f.word refl)
+mark_read e at abort_mark r f = word_read e at (codes "abort") r refl (f.word refl)
+mark_read e at veto_mark r f = word_read e at (codes "veto") r refl (f.word refl)
+mark_read e at install_mark r f = word_read e at (codes "install") r refl (f.word refl)
+mark_read e at enable_mark r f = word_read e at (codes "enable") r refl (f.word refl)
+mark_read e at disable_mark r f = word_read e at (codes "disable") r refl (f.word refl)
+mark_read e at remove_mark r f = word_read e at (codes "remove") r refl (f.word refl)
+mark_read e at fire_mark r f = word_read e at (codes "fire") r refl (f.word refl)
+mark_read e at open_brace r f = (suc at, refl)
+mark_read e at close_brace r f = (suc at, refl)
+mark_read e at open_parenthesis r f = (suc at, refl)
+mark_read e at close_parenthesis r f = (suc at, refl)
+mark_read e at open_bracket r f = (suc at, refl)
+mark_read e at close_bracket r f = (suc at, refl)
+mark_read e at comma r f = (suc at, refl)
+mark_read e at colon r f = (suc at, refl)
+mark_read e at semicolon r f = (suc at, refl)
+mark_read e at point r f = (suc at, refl)
+mark_read e at equal_sign r f = (suc at, refl)
+mark_read e at unequal_sign r f = (suc (suc at), refl)
+mark_read e at less_sign [] f = (suc at, refl)
+mark_read e at less_sign (c ∷ r) f = (suc at, rw (f.angle refl) refl)
+mark_read e at at_most_sign r f = (suc (suc at), refl)
+mark_read e at greater_sign [] f = (suc at, refl)
+mark_read e at greater_sign (c ∷ r) f = (suc at, rw (f.angle refl) refl)
+mark_read e at at_least_sign r f = (suc (suc at), refl)
+mark_read e at plus_sign r f = (suc at, refl)
+mark_read e at minus_sign r f = (suc at, refl)
+mark_read e at times_sign r f = (suc at, refl)
+mark_read e at divided_sign r f = (suc at, refl)
+mark_read e at percent_sign r f = (suc at, refl)
 
-token_read : (e : ℕ → Tokens) (at : ℕ) (t : Token) (c : ℕ) (r : List ℕ) → IsSpelt t → Follows t c → Reads e at t (token_text t ++ c ∷ r) (c ∷ r)
-token_read e at (mark m) c r spelt f = mark_read e at m c r f
-token_read e at (word w) c r spelt f = subst (λ o. Reads e at (word_token w o) (w ++ c ∷ r) (c ∷ r)) spelt.1 (word_read e at w c r spelt.0 (f.word refl))
-token_read e at (quoted x) c r spelt f = subst (λ l. Reads e at (quoted x) (96 ∷ l) (c ∷ r)) (sym (append_assoc x (96 ∷ []) (c ∷ r))) (quoted_read e at x (c ∷ r) spelt)
-token_read e at (number n) c r spelt f = number_read e at n c r spelt (f.word refl)
-token_read e at (string s) c r spelt f =
-    subst (λ l. Reads e at (string s) (34 ∷ l) (c ∷ r)) (sym (append_assoc (flat_map escaped s) (34 ∷ []) (c ∷ r))) (string_read e at s (c ∷ r))
+token_read : (e : ℕ → Tokens) (at : ℕ) (t : Token) (r : List ℕ) → IsSpelt t → Follows t r → Reads e at t (token_text t ++ r) r
+token_read e at (mark m) r spelt f = mark_read e at m r f
+token_read e at (word w) r spelt f = subst (λ o. Reads e at (word_token w o) (w ++ r) r) spelt.1 (word_read e at w r spelt.0 (f.word refl))
+token_read e at (quoted x) r spelt f = subst (λ l. Reads e at (quoted x) (96 ∷ l) r) (sym (append_assoc x (96 ∷ []) r)) (quoted_read e at x r spelt)
+token_read e at (number n) r spelt f = number_read e at n r spelt (f.word refl)
+token_read e at (string s) r spelt f =
+    subst (λ l. Reads e at (string s) (34 ∷ l) r) (sym (append_assoc (flat_map escaped s) (34 ∷ []) r)) (string_read e at s r)
 
 spaces_passed : (e : ℕ → Tokens) (at n : ℕ) (r : List ℕ) → GoesOn e (tokens_from e 0 at (replicate n 32 ++ r)) r
 unfolding tokens_from lexeme
@@ -443,20 +465,33 @@ gap_passed e at space r = (suc at, refl)
 gap_passed e at (line d) r = spaces_passed e (suc at) (2 * d) r
 gap_passed e at paragraph r = (suc (suc at), refl)
 
-pieces_read : (before : Option Token) (at : ℕ) (ps : Pieces) → AreSpelt ps → all_tokens (tokens_from ending 0 at (text_after before ps ++ 10 ∷ [])) ≡ Some (map token_of ps)
+-- what stands after the last piece has no token: nothing, or a line feed
+pub record IsTail (tail : List ℕ) : Type 0 where
+  follows_all : (t : Token) → Follows t tail
+  is_blank : (at : ℕ) → all_tokens (tokens_from ending 0 at tail) ≡ Some []
+
+pub no_tail : IsTail []
+unfolding tokens_from
+no_tail = record { follows_all = follows_end; is_blank = λ at. refl }
+
+pub line_feed_tail : IsTail (10 ∷ [])
 unfolding tokens_from lexeme
-pieces_read before at [] spelt = refl
-pieces_read before at (p ∷ ps) spelt =
+line_feed_tail = record { follows_all = λ t. follows t (10 ∷ []) (starts_apart t 10 [] refl refl); is_blank = λ at. refl }
+
+pieces_read : (before : Option Token) (at : ℕ) (ps : Pieces) (tail : List ℕ) → IsTail tail → AreSpelt ps
+    → all_tokens (tokens_from ending 0 at (text_after before ps ++ tail)) ≡ Some (map token_of ps)
+pieces_read before at [] tail end spelt = end.is_blank at
+pieces_read before at (p ∷ ps) tail end spelt =
     let t = p.token in
     let rest = text_after (Some t) ps in
     let g = gap_after before t p.gap in
-    let first = text_starts t ps spelt.1 in
-    let gap = gap_passed ending at g (token_text t ++ (rest ++ 10 ∷ [])) in
-    let one = subst (λ l. Reads ending gap.0 t (token_text t ++ l) l) (sym first.2) (token_read ending gap.0 t first.0 first.1 spelt.0 first.3) in
-    let whole : (gap_text g ++ (token_text t ++ rest)) ++ 10 ∷ [] ≡ gap_text g ++ (token_text t ++ (rest ++ 10 ∷ []))
-    = append_assoc (gap_text g) (token_text t ++ rest) (10 ∷ []) ∙ ap (λ l. gap_text g ++ l) (append_assoc (token_text t) rest (10 ∷ [])) in
-    ap (λ l. all_tokens (tokens_from ending 0 at l)) whole ∙ ap all_tokens (gap.1 ∙ one.1) ∙ ap (option_map (λ others. t ∷ others)) (pieces_read (Some t) one.0 ps spelt.1)
+    let gap = gap_passed ending at g (token_text t ++ (rest ++ tail)) in
+    let one = token_read ending gap.0 t (rest ++ tail) spelt.0 (text_follows t ps tail spelt.1 (end.follows_all t)) in
+    let whole : (gap_text g ++ (token_text t ++ rest)) ++ tail ≡ gap_text g ++ (token_text t ++ (rest ++ tail))
+    = append_assoc (gap_text g) (token_text t ++ rest) tail ∙ ap (λ l. gap_text g ++ l) (append_assoc (token_text t) rest tail) in
+    ap (λ l. all_tokens (tokens_from ending 0 at l)) whole ∙ ap all_tokens (gap.1 ∙ one.1)
+    ∙ ap (option_map (λ others. t ∷ others)) (pieces_read (Some t) one.0 ps tail end spelt.1)
 
-pub tokens_read : (ps : Pieces) → AreSpelt ps → is_utf8 (text_of ps ++ 10 ∷ []) ≡ true → all_tokens (tokens (text_of ps ++ 10 ∷ [])) ≡ Some (map token_of ps)
+pub tokens_read : (ps : Pieces) (tail : List ℕ) → IsTail tail → AreSpelt ps → is_utf8 (text_of ps ++ tail) ≡ true → all_tokens (tokens (text_of ps ++ tail)) ≡ Some (map token_of ps)
 unfolding tokens text_of
-tokens_read ps spelt utf8 = ap (λ b. all_tokens (tokens_of b (text_after None ps ++ 10 ∷ []))) utf8 ∙ pieces_read None 0 ps spelt
+tokens_read ps tail end spelt utf8 = ap (λ b. all_tokens (tokens_of b (text_after None ps ++ tail))) utf8 ∙ pieces_read None 0 ps tail end spelt

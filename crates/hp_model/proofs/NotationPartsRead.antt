@@ -14,7 +14,7 @@ use Rattle.hp_model.specs.NotationStatements.{aggregate_word, word_aggregate, ag
 use Rattle.hp_model.specs.NotationForms.{Expression, truth, expression_data, Rows, Aggregate, count_of, fold_of, total, least, greatest, next_key, plain, aggregate_data, Assignment, assignment_data, form_data, list_data}
 use Rattle.hp_model.specs.NotationPrint.{Gap, tight, space, Pieces, at_gap, sign, free, name, value_token, value_token_of, enclosed_if, first_is, more_parts, expression_pieces, expression_in, predicate_pieces, rows_pieces, begins_aggregate, aggregate_pieces, binding_pieces, object_pieces, assignment_pieces, assignments_pieces, argument_pieces, arguments_pieces}
 use Rattle.hp_model.specs.NotationLaws.{IsFitExpression, AreFitRows, IsFitAggregate, AreFitAssignments, AreFitExpressions}
-use Rattle.hp_model.proofs.NotationReadings.{bind_ok, stream, size-stream, binding, Reading, name_cases, begins-stream, ListsBy, lists_one, lists_more}
+use Rattle.hp_model.proofs.NotationReadings.{bind_ok, stream, size-stream, binding, Reading, name_cases, begins-stream, ListsBy, lists_one, lists_more, no_fault}
 use Rattle.hp_model.proofs.NotationExpressionsRead.{grows_expression, grows_in, any_expression_read, any_sum_read, enclosed_expression_read}
 
 -- ---- names
@@ -247,9 +247,6 @@ arguments_listed e (x ∷ es) w gap k h none =
     let qs = expression_pieces x space (more_parts argument_pieces es k) in
     lists_more any_expression (expression_data e) (map expression_data (x ∷ es)) (expression_pieces e gap (sign tight comma qs)) qs k (omega (arith, grows_expression e gap (sign tight comma qs)))
     (λ o. any_expression_read e w.0.0 w.0.1 gap (sign tight comma qs) o (omega arith)) (arguments_listed x es w.1 space k h none)
-
-no_fault : {A : Type 0} → {x : A} {n : ℕ} → Err n ≡ Ok x → ⊥
-no_fault e = cc
 
 -- no expression begins with `)`
 not_closed : (ts : Tokens) (r : Node × Tokens) → any_expression ts ≡ Ok r → begins (is_mark close_parenthesis) ts ≡ false

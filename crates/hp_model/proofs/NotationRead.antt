@@ -1,13 +1,16 @@
 -- Canonical texts are read as what they were written of.
-use Rattle.std.proofs.Common.{◌≡◌, refl, sym, ap, ◌∙◌, ℕ, zero, suc, List, [], ◌∷◌, map, Option, Some, None, option_map, Result, Ok}
-use Rattle.hp_model.specs.NotationTokens.{Token, Tokens, token, ending, unreadable, tokens}
+use Rattle.hp_model.specs.NotationForms.{Item, transaction, clock, item_data}
+use Rattle.std.proofs.Common.{◌≡◌, refl, sym, ap, ◌∙◌, ℕ, zero, suc, List, [], ◌∷◌, map, Option, Some, None, option_map, Result, Ok, Bool, true, false, codes}
+use Rattle.hp_model.specs.NotationTokens.{Token, Tokens, token, ending, unreadable, place, tokens}
 use Rattle.hp_model.specs.NotationTree as T
-use Rattle.hp_model.specs.NotationScripts.{script, read_script}
-use Rattle.hp_model.specs.NotationPrint.{Pieces, script_pieces, print_script}
-use Rattle.hp_model.specs.NotationLaws.{all_tokens, token_of, ScriptsAreRead, CanonicalIsFixed, TextHasOneMeaning}
-use Rattle.hp_model.proofs.NotationReadings.{stream}
-use Rattle.hp_model.proofs.NotationScriptsRead.{script_read}
-use Rattle.hp_model.proofs.NotationSpelt.{tokens_are_read, spelt_script}
+use Rattle.hp_model.specs.NotationScripts.{script, item, ended, line, read_script, read_line}
+use Rattle.hp_model.specs.NotationPhrases.{is_word, begins, past}
+use Rattle.hp_model.specs.Values.{◌>>=◌}
+use Rattle.hp_model.specs.NotationPrint.{Pieces, script_pieces, print_script, tight, item_pieces, line_of, print_item}
+use Rattle.hp_model.specs.NotationLaws.{all_tokens, token_of, ScriptsAreRead, TextHasOneMeaning, AreSpelt, IsFitItem}
+use Rattle.hp_model.proofs.NotationReadings.{bind_ok, stream}
+use Rattle.hp_model.proofs.NotationScriptsRead.{item_read, script_read}
+use Rattle.hp_model.proofs.NotationSpelt.{line_is_read, text_is_read, spelt_item, spelt_script}
 
 -- tokens that are those of some pieces are their stream, at some offsets
 pub streamed : (ts : Tokens) (ps : Pieces) → all_tokens ts ≡ Some (map token_of ps) → (o : ℕ → ℕ) × (ts ≡ stream o ps)
@@ -37,12 +40,9 @@ streamed (token at t ts) (p ∷ ps) e = join (streamed ts ps (others (all_tokens
 pub scripts_are_read : ScriptsAreRead
 unfolding read_script print_script
 scripts_are_read s w =
-    let found = streamed (tokens (print_script s)) (script_pieces s) (tokens_are_read (script_pieces s) (spelt_script s w)) in
+    let found = streamed (tokens (print_script s)) (script_pieces s) (text_is_read (script_pieces s) (spelt_script s w)) in
     let r = script_read s w found.0 in
     (r.read, ap script found.1 ∙ r.reads, r.same)
-
-pub canonical_is_fixed : CanonicalIsFixed
-canonical_is_fixed text r s e same w = let again = scripts_are_read s w in (again.0, again.1, again.2 ∙ sym same)
 
 same_read : (r q : T.Script) (x : Result T.Script ℕ) → x ≡ Ok r → x ≡ Ok q → r ≡ q
 same_read r q x e f = cc
@@ -52,3 +52,31 @@ text_has_one_meaning s t v w e =
     let one = scripts_are_read s v in
     let two = scripts_are_read t w in
     sym one.2 ∙ ap T.script_data (same_read one.0 two.0 (read_script (print_script s)) one.1 (ap read_script e ∙ two.1)) ∙ two.2
+
+-- ---- lines
+
+spelt_line : (ps : Pieces) → AreSpelt ps → AreSpelt (line_of ps)
+spelt_line [] s = s
+spelt_line (p ∷ ps) s = (s.0, spelt_line ps s.1)
+
+line_tokens : (ps : Pieces) → map token_of (line_of ps) ≡ map token_of ps
+line_tokens [] = refl
+line_tokens (p ∷ ps) = ap (λ l. p.token ∷ l) (line_tokens ps)
+
+no_show : (i : Item) (o : ℕ → ℕ) → begins (is_word (codes "show")) (stream o (item_pieces i tight [])) ≡ false
+no_show (transaction b) o = refl
+no_show (clock t) o = refl
+
+line_phrase : Tokens → Bool → Result T.Node ℕ
+line_phrase ts is_show = elim is_show as (λ _. Result T.Node ℕ) [
+  | true ↦ ended (past ts) >>= λ end. Ok (T.form (place ts) (codes "show") [])
+  | false ↦ item ts >>= λ p. ended p.1 >>= λ end. Ok p.0
+]
+
+pub item_line_read : (i : Item) → IsFitItem i → (n : T.Node) × (read_line (print_item i) ≡ Ok n) × (T.data_of n ≡ item_data i)
+unfolding read_line print_item line line_phrase
+item_line_read i w =
+    let ps = item_pieces i tight [] in
+    let found = streamed (tokens (print_item i)) ps (line_is_read (line_of ps) (spelt_line ps (spelt_item i w tight [] tt)) ∙ ap Some (line_tokens ps)) in
+    let r = item_read i w tight [] found.0 in
+    (r.node, ap line found.1 ∙ ap (line_phrase (stream found.0 ps)) (no_show i found.0) ∙ bind_ok _ _ _ r.reads, r.same)

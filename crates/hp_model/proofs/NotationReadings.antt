@@ -1,15 +1,18 @@
 -- How phrases read the tokens of pieces, and how readings compose.
-use Rattle.std.proofs.Common.{◌≡◌, refl, sym, ap, ◌∙◌, subst, ℕ, zero, suc, ◌+◌, ◌<◌, ◌≤◌, Bool, true, false, List, [], ◌∷◌, length, Option, Some, None, Result, Ok, arith, inl, inr, ◌⊎◌}
+use Rattle.std.proofs.Common.{Err, ◌≡◌, refl, sym, ap, ◌∙◌, subst, ℕ, zero, suc, ◌+◌, ◌<◌, ◌≤◌, Bool, true, false, List, [], ◌∷◌, length, Option, Some, None, Result, Ok, arith, inl, inr, ◌⊎◌}
 use Rattle.std.specs.Prelude.{nat_lt}
 use Rattle.std.proofs.lemmas.Bool.{cases_lt, lt-ltb, le-ltb, ne_eqb, eq-eqb}
 use Rattle.serde_json.specs.Data.{Data, no_items, item}
 use Rattle.hp_model.specs.Values.{◌>>=◌}
-use Rattle.hp_model.specs.NotationTokens.{Mark, point, comma, spelling, reserved_word, Token, mark, word, quoted, number, string, Tokens, token, ending, size}
+use Rattle.hp_model.specs.NotationTokens.{Mark, point, comma, close_parenthesis, spelling, reserved_word, Token, mark, word, quoted, number, string, Tokens, token, ending, size}
 use Rattle.hp_model.specs.NotationTree.{Node, Nodes, no_nodes, node, data_of, items_of, Phrase}
 use Rattle.hp_model.specs.NotationPhrases.{is_mark, begins, past, listed, repeated, Operator, joined, with_right, most_operators, unchained, chained, chain_from}
 use Rattle.hp_model.specs.NotationExpressions.{level_of, operator, chain}
 use Rattle.hp_model.specs.NotationForms.{items, form_data}
 use Rattle.hp_model.specs.NotationPrint.{Gap, tight, space, Pieces, sign, enclosed_if, name_token, token_of_name, first_is}
+
+pub no_fault : {A : Type 0} → {x : A} {n : ℕ} → Err n ≡ Ok x → ⊥
+no_fault e = cc
 
 pub bind_ok : {A B : Type 0} (r : Result A ℕ) (x : A) (f : A → Result B ℕ) → r ≡ Ok x → (r >>= f) ≡ f x
 bind_ok r x f e = ap (λ q. q >>= f) e
@@ -100,6 +103,10 @@ ChainsBy operand op P p levels f d = (gap : Gap) (k : Pieces) (o : ℕ → ℕ) 
 -- what f writes has more pieces than those that follow
 abbrev pub Grows : (Gap → Pieces → Pieces) → Type 0
 Grows f = (gap : Gap) (k : Pieces) → length k < length (f gap k)
+
+pub grows_enclosed : (b : Bool) (f : Gap → Pieces → Pieces) → Grows f → Grows (enclosed_if b f)
+grows_enclosed true f g gap k = omega (arith, g tight (sign tight close_parenthesis k))
+grows_enclosed false f g gap k = g gap k
 
 -- ---- chains
 

@@ -341,7 +341,7 @@ rules_read lets (r ∷ rs) w k none =
 natural_is : (gap : Gap) (n : ℕ) (k : Pieces) (o : ℕ → ℕ) → n < 2 ^ 63 → P.natural (stream o (natural gap n k)) ≡ Ok (T.integer (o 0) (pos n), stream (λ i. o (suc i)) k)
 natural_is gap n k o h = ap (P.number_at (o 0) n (stream (λ i. o (suc i)) k)) (lt-ltb n (2 ^ 63) h)
 
-item_read : (i : Item) → IsFitItem i → (gap : Gap) (k : Pieces) (o : ℕ → ℕ) → Reading item (item_data i) (stream o (item_pieces i gap k)) k
+pub item_read : (i : Item) → IsFitItem i → (gap : Gap) (k : Pieces) (o : ℕ → ℕ) → Reading item (item_data i) (stream o (item_pieces i gap k)) k
 unfolding item
 item_read (transaction b) w gap k o =
     let r = any_body_read b w.0 w.1 0 k (λ i. o (suc i)) in

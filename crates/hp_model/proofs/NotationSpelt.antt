@@ -1,8 +1,8 @@
 -- The pieces of a script that can be written are spelt, and the text of spelt pieces is UTF-8.
-use Rattle.std.proofs.Common.{◌≡◌, refl, sym, ◌∙◌, ℕ, zero, suc, ◌*◌, ◌<◌, ◌≤◌, pos, negsuc, Bool, true, false, ◌&&◌, ◌||◌, nat_lt, List, [], ◌∷◌, ◌++◌, codes, decimal, replicate, IsUtf8, Option, Some, None, inl, inr, ◌⊎◌, arith}
+use Rattle.std.proofs.Common.{ap, subst, append-nil, map, ◌≡◌, refl, sym, ◌∙◌, ℕ, zero, suc, ◌*◌, ◌<◌, ◌≤◌, pos, negsuc, Bool, true, false, ◌&&◌, ◌||◌, nat_lt, List, [], ◌∷◌, ◌++◌, codes, decimal, replicate, IsUtf8, Option, Some, None, inl, inr, ◌⊎◌, arith}
 use Rattle.std.specs.Prelude.{nat_le, bytes_eq}
 use Rattle.std.specs.List.{list_all}
-use Rattle.std.specs.Str.{IsAscii}
+use Rattle.std.specs.Str.{is_utf8, IsAscii}
 use Rattle.std.proofs.lemmas.Bool.{and_parts, and_right, or_from, cases_lt, lt-leb, ne_eqb, true≢false}
 use Rattle.std.proofs.lemmas.Str.{IsUtf8-append, IsUtf8-nil, IsUtf8-from_ascii, is_utf8-from_IsUtf8, IsUtf8-from_is_utf8}
 use Rattle.std.proofs.lemmas.Fmt.{IsAscii-decimal}
@@ -12,11 +12,11 @@ use Rattle.hp_model.specs.Values.{Kind, integer_kind, boolean_kind, text_kind}
 use Rattle.hp_model.specs.Rules.{Coupling, immediate, deferred, separate, dependent, exclusive}
 use Rattle.hp_model.specs.Report.{quoted as quoted_text}
 use Rattle.hp_model.specs.Parts.{is_name, is_name_byte}
-use Rattle.hp_model.specs.NotationTokens.{Mark, on_mark, else_mark, otherwise_mark, close_parenthesis, Token, mark, word, quoted, number, string, spelling, reserved_word}
+use Rattle.hp_model.specs.NotationTokens.{Mark, on_mark, else_mark, otherwise_mark, close_parenthesis, Token, mark, word, quoted, number, string, spelling, reserved_word, tokens}
 use Rattle.hp_model.specs.NotationForms.{Expression, integer, truth, text, operation, inverted, negated, field_of, key_of, value, now, image_field, key_in, time_of, argument, occurrence_count, Event, on_change, on_signal, on_commit, at_moment, every_moment, or_event, then_event, closure_event, Rows, Fold, total, least, greatest, fold_word, Aggregate, count_of, fold_of, next_key, plain, Query, some_rows, no_rows, named_value, Assignment, Statement, set_object, delete, signal, emit, when, each, for_answer, with_object, with_value, subtransaction, abort, veto, veto_with, on_rule, Body, empty, ◌then◌, Field, kind_word, Class, Rule, Item, transaction, clock, Script}
 use Rattle.hp_model.specs.NotationPrint.{Gap, tight, space, line, paragraph, Pieces, sign, name_token, token_of_name, value_token, value_token_of, enclosed_if, first_is, each_part, more_parts, part_pieces, expression_level, left_level, right_level, negated_level, expression_pieces, is_or, is_then, event_pieces, predicate_pieces, rows_pieces, begins_aggregate, aggregate_pieces, binding_pieces, query_pieces, object_pieces, assignment_pieces, assignments_pieces, argument_pieces, arguments_pieces, is_empty, braced, body_after, is_let, statement_pieces, statements_pieces, body_pieces, field_pieces, fields_pieces, class_pieces, later_class_pieces, classes_pieces, mode_pieces, closed_pieces, condition_pieces, rule_pieces, item_pieces, later_item_pieces, depth_pieces, script_pieces, token_text, gap_text, gap_after, text_after, text_of}
-use Rattle.hp_model.specs.NotationLaws.{Fits, IsSpelt, AreSpelt, IsWritableExpression, IsWritableEvent, IsFitExpression, AreFitRows, IsFitAggregate, IsFitQuery, AreFitAssignments, AreFitExpressions, IsFitStatement, IsFitBody, EachIs, IsFitField, IsFitClass, IsFitRule, IsFitItem, IsFitDepth, IsFitScript, TokensAreRead}
-use Rattle.hp_model.proofs.NotationLexing.{tokens_read}
+use Rattle.hp_model.specs.NotationLaws.{Fits, IsSpelt, AreSpelt, IsWritableExpression, IsWritableEvent, IsFitExpression, AreFitRows, IsFitAggregate, IsFitQuery, AreFitAssignments, AreFitExpressions, IsFitStatement, IsFitBody, EachIs, IsFitField, IsFitClass, IsFitRule, IsFitItem, IsFitDepth, IsFitScript, TokensAreRead, all_tokens, token_of}
+use Rattle.hp_model.proofs.NotationLexing.{no_tail, line_feed_tail, tokens_read}
 
 -- ---- the text of spelt pieces is UTF-8
 
@@ -80,17 +80,24 @@ gap_utf8 space = IsUtf8-are_ascii (32 ∷ []) refl
 gap_utf8 (line d) = ascii_then 10 _ (omega arith) (spaces_utf8 (2 * d))
 gap_utf8 paragraph = IsUtf8-are_ascii (10 ∷ 10 ∷ []) refl
 
-text_utf8 : (before : Option Token) (ps : Pieces) → AreSpelt ps → IsUtf8 (text_after before ps ++ 10 ∷ [])
-text_utf8 before ps spelt = IsUtf8-append (text_after before ps) (10 ∷ []) (go before ps spelt) (IsUtf8-are_ascii (10 ∷ []) refl)
-  where
-    go : (before : Option Token) (ps : Pieces) → AreSpelt ps → IsUtf8 (text_after before ps)
-    go before [] spelt = IsUtf8-nil
-    go before (p ∷ ps) spelt =
-        IsUtf8-append _ _ (gap_utf8 (gap_after before p.token p.gap)) (IsUtf8-append _ _ (token_utf8 p.token spelt.0) (go (Some p.token) ps spelt.1))
+text_utf8 : (before : Option Token) (ps : Pieces) → AreSpelt ps → IsUtf8 (text_after before ps)
+text_utf8 before [] spelt = IsUtf8-nil
+text_utf8 before (p ∷ ps) spelt =
+    IsUtf8-append _ _ (gap_utf8 (gap_after before p.token p.gap)) (IsUtf8-append _ _ (token_utf8 p.token spelt.0) (text_utf8 (Some p.token) ps spelt.1))
+
+pub line_is_read : (ps : Pieces) → AreSpelt ps → all_tokens (tokens (text_of ps)) ≡ Some (map token_of ps)
+unfolding text_of
+line_is_read ps spelt =
+    subst (λ l. all_tokens (tokens l) ≡ Some (map token_of ps)) (append-nil (text_after None ps))
+    (tokens_read ps [] no_tail spelt (ap is_utf8 (append-nil (text_after None ps)) ∙ is_utf8-from_IsUtf8 _ (text_utf8 None ps spelt)))
+
+pub text_is_read : (ps : Pieces) → AreSpelt ps → all_tokens (tokens (text_of ps ++ 10 ∷ [])) ≡ Some (map token_of ps)
+unfolding text_of
+text_is_read ps spelt =
+    tokens_read ps (10 ∷ []) line_feed_tail spelt (is_utf8-from_IsUtf8 _ (IsUtf8-append _ _ (text_utf8 None ps spelt) (IsUtf8-are_ascii (10 ∷ []) refl)))
 
 pub tokens_are_read : TokensAreRead
-unfolding text_of
-tokens_are_read ps spelt = tokens_read ps spelt (is_utf8-from_IsUtf8 _ (text_utf8 None ps spelt))
+tokens_are_read ps spelt = (line_is_read ps spelt, text_is_read ps spelt)
 
 -- ---- words and names
 

@@ -1,5 +1,5 @@
 -- The canonical text of statements and bodies is read as these.
-use Rattle.std.proofs.Common.{◌≡◌, refl, ap, ◌∙◌, ℕ, zero, suc, ◌<◌, ◌≤◌, Bool, true, false, List, [], ◌∷◌, length, map, codes, Result, Ok, Err, arith}
+use Rattle.std.proofs.Common.{◌≡◌, refl, ap, ◌∙◌, ℕ, zero, suc, ◌<◌, ◌≤◌, Bool, true, false, List, [], ◌∷◌, length, map, codes, Result, Ok, arith}
 use Rattle.serde_json.specs.Data.{string, array, item}
 use Rattle.hp_model.specs.Values.{◌>>=◌}
 use Rattle.hp_model.specs.NotationTokens.{Mark, where_mark, as_mark, set_mark, else_mark, otherwise_mark, not_mark, true_mark, false_mark, new_mark, old_mark, event_mark, close_brace, open_parenthesis, close_parenthesis, comma, semicolon, minus_sign, Token, mark, word, quoted, number, string as string_token, Tokens, token, ending, unreadable, place, size}
@@ -12,7 +12,7 @@ use Rattle.hp_model.specs.NotationStatements.{Deeper, begins_message, past_semic
 use Rattle.hp_model.specs.NotationForms.{Expression, truth, expression_data, Rows, Aggregate, count_of, fold_of, next_key, plain, Assignment, create, update, install, enable, disable, remove, fire, Statement, set_object, delete, signal, emit, when, each, for_answer, with_object, with_value, subtransaction, abort, veto, veto_with, on_rule, Body, empty, ◌then◌, assignment_data, statement_data, body_data, form_data, list_data}
 use Rattle.hp_model.specs.NotationPrint.{Gap, tight, space, line, Pieces, sign, free, name, enclosed_if, first_is, expression_pieces, predicate_pieces, rows_pieces, begins_aggregate, aggregate_pieces, binding_pieces, object_pieces, assignment_pieces, more_parts, assignments_pieces, argument_pieces, arguments_pieces, is_empty, braced, body_after, is_let, statement_pieces, statements_pieces, body_pieces}
 use Rattle.hp_model.specs.NotationLaws.{IsFitExpression, AreFitAssignments, IsFitStatement, IsFitBody, statement_levels, body_levels}
-use Rattle.hp_model.proofs.NotationReadings.{bind_ok, stream, size-stream, token_binding, Reading, begins-stream}
+use Rattle.hp_model.proofs.NotationReadings.{bind_ok, stream, size-stream, token_binding, Reading, begins-stream, no_fault, grows_enclosed}
 use Rattle.hp_model.proofs.NotationExpressionsRead.{grows_expression, grows_in, any_expression_read, enclosed_expression_read}
 use Rattle.hp_model.proofs.NotationPartsRead.{Ends, name_is, rows_read, binding_read, object_read, pairs_read, arguments_read}
 
@@ -104,15 +104,11 @@ grows_predicate e k = omega (arith, grows_expression e space k)
 pub grows_rows : (r : Rows) (k : Pieces) → length k < length (rows_pieces r k)
 grows_rows r k = omega (arith, grows_predicate r.predicate k)
 
-grows_enclosed : (b : Bool) (e : Expression) (gap : Gap) (k : Pieces) → length k < length (enclosed_if b (expression_pieces e) gap k)
-grows_enclosed true e gap k = omega (arith, grows_expression e tight (sign tight close_parenthesis k))
-grows_enclosed false e gap k = grows_expression e gap k
-
 grows_aggregate : (a : Aggregate) (k : Pieces) → length k < length (aggregate_pieces a k)
 grows_aggregate (count_of r) k = omega (arith, grows_rows r k)
 grows_aggregate (fold_of f r e) k = let one = grows_rows r k in omega (arith, grows_expression e space (free space (codes "over") (rows_pieces r k)))
 grows_aggregate (next_key c) k = omega arith
-grows_aggregate (plain e) k = grows_enclosed (first_is begins_aggregate (expression_pieces e space k)) e space k
+grows_aggregate (plain e) k = grows_enclosed (first_is begins_aggregate (expression_pieces e space k)) (expression_pieces e) (grows_expression e) space k
 
 pub grows_binding : (x : List ℕ) (a : Aggregate) (k : Pieces) → length k < length (binding_pieces x a k)
 grows_binding x a k = omega (arith, grows_aggregate a k)
@@ -156,7 +152,7 @@ mutual
       omega arith
   grows_statement abort depth k = omega arith
   grows_statement veto depth k = omega arith
-  grows_statement (veto_with e) depth k = omega (arith, grows_enclosed (first_is is_let (expression_pieces e space k)) e space k)
+  grows_statement (veto_with e) depth k = omega (arith, grows_enclosed (first_is is_let (expression_pieces e space k)) (expression_pieces e) (grows_expression e) space k)
   grows_statement (on_rule op x) depth k = omega arith
 
   grows_statements : (b : Body) (depth : ℕ) (k : Pieces) → length k ≤ length (statements_pieces b depth k)
@@ -204,7 +200,7 @@ mutual
   statement_levels_positive (veto_with e) = omega arith
   statement_levels_positive (on_rule op x) = omega arith
 
-  body_levels_positive : (b : Body) → 0 < body_levels b
+  pub body_levels_positive : (b : Body) → 0 < body_levels b
   body_levels_positive empty = omega arith
   body_levels_positive (◌then◌ s b) = let one = body_levels_positive b in omega arith
 
@@ -251,9 +247,6 @@ otherwise_read empty by l h depth k o none = record {
 otherwise_read (◌then◌ s b) by l h depth k o none = let r = by l h depth k (λ i. o (suc i)) in record { node = r.node; next = r.next; same = r.same; reads = r.reads }
 
 -- ---- the message of a veto
-
-no_fault : {A : Type 0} → {x : A} {n : ℕ} → Err n ≡ Ok x → ⊥
-no_fault e = cc
 
 -- what is read as an expression, and doesn't begin with `let`, begins a message
 message_begins : (ts : Tokens) (r : Node × Tokens) → any_expression ts ≡ Ok r → begins is_let ts ≡ false → begins begins_message ts ≡ true

@@ -31,8 +31,8 @@ pub mod NotationScripts
 pub mod NotationPlaces
 pub mod NotationForms
 pub mod NotationPrint
-pub mod NotationLaws
 pub mod NotationValues
+pub mod NotationLaws
 pub mod Output
 pub mod ClassParts
 pub mod Cells

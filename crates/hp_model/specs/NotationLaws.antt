@@ -4,9 +4,10 @@ use Rattle.std.specs.Str.{is_utf8}
 use Rattle.hp_model.specs.Parts.{is_name}
 use Rattle.hp_model.specs.NotationTokens.{Token, mark, word, quoted, number, string, reserved_word, Tokens, token, ending, unreadable, tokens}
 use Rattle.hp_model.specs.NotationTree as T
-use Rattle.hp_model.specs.NotationScripts.{has_let, read_script}
-use Rattle.hp_model.specs.NotationForms.{Expression, integer, truth, text, operation, inverted, negated, field_of, key_of, value, now, image_field, key_in, time_of, argument, occurrence_count, Event, on_change, on_signal, on_commit, at_moment, every_moment, or_event, then_event, closure_event, Rows, Aggregate, count_of, fold_of, next_key, plain, Assignment, Query, some_rows, no_rows, named_value, Field, Class, Rule, Item, transaction, clock, Script, Statement, set_object, delete, signal, emit, when, each, for_answer, with_object, with_value, subtransaction, abort, veto, veto_with, on_rule, Body, empty, ◌then◌, script_data}
-use Rattle.hp_model.specs.NotationPrint.{Piece, Pieces, text_of, print_script}
+use Rattle.hp_model.specs.NotationScripts.{has_let, read_script, read_line}
+use Rattle.hp_model.specs.NotationForms.{Expression, integer, truth, text, operation, inverted, negated, field_of, key_of, value, now, image_field, key_in, time_of, argument, occurrence_count, Event, on_change, on_signal, on_commit, at_moment, every_moment, or_event, then_event, closure_event, Rows, Aggregate, count_of, fold_of, next_key, plain, Assignment, Query, some_rows, no_rows, named_value, Field, Class, Rule, Item, transaction, clock, Script, Statement, set_object, delete, signal, emit, when, each, for_answer, with_object, with_value, subtransaction, abort, veto, veto_with, on_rule, Body, empty, ◌then◌, script_data, item_data}
+use Rattle.hp_model.specs.NotationPrint.{Piece, Pieces, text_of, print_script, print_item}
+use Rattle.hp_model.specs.NotationValues.{print_value, print_item_value}
 
 -- ---- tokens
 
@@ -31,9 +32,11 @@ all_tokens (unreadable at) = None
 abbrev pub token_of : Piece → Token
 token_of p = p.token
 
--- the tokens of the text of some pieces are their tokens, however they are laid out
+-- the tokens of the text of some pieces are their tokens, however they are laid out, and whether or not a line feed ends
+-- the text
 abbrev pub TokensAreRead : Type 0
-TokensAreRead = (ps : Pieces) → AreSpelt ps → all_tokens (tokens (text_of ps ++ 10 ∷ [])) ≡ Some (map token_of ps)
+TokensAreRead = (ps : Pieces) → AreSpelt ps
+    → (all_tokens (tokens (text_of ps)) ≡ Some (map token_of ps)) × (all_tokens (tokens (text_of ps ++ 10 ∷ [])) ≡ Some (map token_of ps))
 
 -- ---- expressions
 
@@ -202,12 +205,26 @@ pub record IsFitScript (s : Script) : Type 0 where
 abbrev pub ScriptsAreRead : Type 0
 ScriptsAreRead = (s : Script) → IsFitScript s → (r : T.Script) × (read_script (print_script s) ≡ Ok r) × (T.script_data r ≡ script_data s)
 
--- reading a canonical text and printing what was read changes nothing
-abbrev pub CanonicalIsFixed : Type 0
-CanonicalIsFixed =
-    (text : List ℕ) (r : T.Script) (s : Script) → read_script text ≡ Ok r → T.script_data r ≡ script_data s → IsFitScript s
-    → (again : T.Script) × (read_script (print_script s) ≡ Ok again) × (T.script_data again ≡ T.script_data r)
-
 -- no two scripts with different values have one canonical text
 abbrev pub TextHasOneMeaning : Type 0
 TextHasOneMeaning = (s t : Script) → IsFitScript s → IsFitScript t → print_script s ≡ print_script t → script_data s ≡ script_data t
+
+-- ---- scripts in JSON
+
+-- each script that can be written has a text, from which its value is read
+abbrev pub ValuesAreRead : Type 0
+ValuesAreRead = (s : Script) → IsFitScript s
+    → (text : List ℕ) × (r : T.Script) × (print_value (script_data s) ≡ Some text) × (read_script text ≡ Ok r) × (T.script_data r ≡ script_data s)
+
+-- what was read from a text, if it is a script that can be written, has a canonical text, from which the same is read
+abbrev pub CanonicalIsFixed : Type 0
+CanonicalIsFixed =
+    (text : List ℕ) (r : T.Script) (s : Script) → read_script text ≡ Ok r → T.script_data r ≡ script_data s → IsFitScript s
+    → (canonical : List ℕ) × (again : T.Script) × (print_value (T.script_data r) ≡ Some canonical) × (read_script canonical ≡ Ok again) × (T.script_data again ≡ T.script_data r)
+
+-- ---- lines
+
+-- the canonical line of an item is read as the item, and is the text of the item's value
+abbrev pub LinesAreRead : Type 0
+LinesAreRead = (i : Item) → IsFitItem i
+    → (n : T.Node) × (print_item_value (item_data i) ≡ Some (print_item i)) × (read_line (print_item i) ≡ Ok n) × (T.data_of n ≡ item_data i)

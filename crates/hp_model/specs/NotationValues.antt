@@ -260,9 +260,12 @@ abbrev pub depth_form : Option Data → Option (Option ℕ)
 depth_form None = Some None
 depth_form (Some d) = option_map Some (natural_of d)
 
+abbrev pub script_with : (version : ℕ) → (depth : Option ℕ) → List Class → List Rule → List Item → Script
+script_with version depth classes rules items = record { version = version; depth = depth; classes = classes; rules = rules; items = items }
+
 abbrev pub script_of_version : Root → ℕ → Option Script
 script_of_version root version = option_and_then
-    (λ depth. of_three (λ classes rules items. record { version = version; depth = depth; classes = classes; rules = rules; items = items })
+    (λ depth. of_three (script_with version depth)
     (list_form class_form root.classes) (list_form (rule_form (has_let (pos version))) root.rules) (list_form item_form root.items))
     (depth_form root.depth)
 

@@ -1,0 +1,279 @@
+#!/usr/bin/env python3
+"""Tests ./test itself, on a small tree with fake checks and a fake rt: what it counts, catches and shows.
+
+    checks/gate.py
+
+The last line is 'N passed, M failed'.
+"""
+
+import os
+import signal
+import subprocess
+import sys
+import tempfile
+import time
+
+from harness import LIMIT, TOP, expect, run_checks
+
+# The scripts that the parts run. Each fake one says what the notes' file of its name has, and ends with the status on
+# the first line of it. (A word ends it by a signal.)
+SCRIPTS = (
+    "checks/refused_growths.py",
+    "checks/more_edits.py",
+    "checks/python.py",
+    "checks/gate.py",
+    "checks/programs.py",
+    "checks/live_sessions.py",
+    "checks/conditions.py",
+    "checks/accounts.py",
+    "examples/orders/test_page.py",
+    "editors/tests/run.py",
+    "tools/unproved.py",
+    "tools/tests/run.py",
+    "tools/tests/browser_test.py",
+    "clients/python/tests/run.py",
+)
+FAKE = r'''#!/usr/bin/env python3
+import os, signal, sys
+notes, name = @NOTES@, @NAME@
+with open(os.path.join(notes, "calls"), "a") as file:
+    file.write(" ".join([name, *sys.argv[1:]]) + "\n")
+path = os.path.join(notes, os.path.basename(name) + ("-proved" if os.environ.get("HIPAC") else ""))
+said = open(path).read() if os.path.exists(path) else "0\n2 passed, 0 failed\n"
+status, _, rest = said.partition("\n")
+print(rest, end="", flush=True)
+if status == "killed":
+    os.kill(os.getpid(), signal.SIGKILL)
+sys.exit(int(status))
+'''
+
+# A fake rt: it lays out nothing, tests pass unless the notes name one, and `rt ci` says what the notes say.
+FAKE_RT = r"""#!/usr/bin/env bash
+notes=@NOTES@
+echo "rt $*" >>"$notes/calls"
+case $1 in
+  try)
+    for file in src/*/*.rt; do
+      name=${file#src/}
+      name=${name%.rt}
+      case $(cat "$notes/broken" 2>/dev/null) in
+        "$name") echo "test ${name//\//::}::it_holds ... FAILED"; echo "    $file:1:1: it doesn't hold" ;;
+        *) echo "test ${name//\//::}::it_holds ... ok" ;;
+      esac
+    done
+    test ! -e "$notes/broken"
+    ;;
+  ci)
+    mkdir -p crates/hipac/out
+    if [ -e "$notes/ci" ]; then cat "$notes/ci"; exit 1; fi
+    echo "rt: all is proved"
+    echo "7 passed, 0 failed"
+    ;;
+esac
+"""
+
+# How many pass in the tree: two in each script and one for each program that is made; each folder of tests has one
+# test, and their layout is one more.
+FOLDERS = ("low_tests", "app_tests")
+QUICK = 2 * (len(SCRIPTS) - 1) + 3 + len(FOLDERS) + 1
+PROVED = QUICK + 7 + 2 * 3
+
+
+class Tree:
+    """A small repository with ./test, fake checks and a fake rt."""
+
+    def __init__(self, room):
+        self.top, self.notes = os.path.join(room, "tree"), os.path.join(room, "notes")
+        os.makedirs(self.notes)
+        for name in ("repo", "running", "parts", "proving", "unit_tests"):
+            self.write(f"tools/{name}.py", text_of(os.path.join(TOP, "tools", f"{name}.py")), 0o755)
+        self.write("test", text_of(os.path.join(TOP, "test")), 0o755)
+        self.write(".ci/run", text_of(os.path.join(TOP, ".ci", "run")), 0o755)
+        for name in SCRIPTS:
+            self.write(name, FAKE.replace("@NOTES@", repr(self.notes)).replace("@NAME@", repr(name)), 0o755)
+        self.write("tools/tests/__init__.py", "")
+        self.write("crates.txt", "low:\napp: low\n")
+        self.write("HANDLES", "Handles allowed: none.\n")
+        self.write("crates/low/src/lib.rt", "//! low\n")
+        self.write("crates/app/src/main.rt", "//! app\n")
+        for name in FOLDERS:
+            self.write(f"tests/{name}/lib.rs", "//! Tests.\n\nmod first;\n")
+            self.write(f"tests/{name}/first.rs", "//! Tests.\n")
+        rt = os.path.join(room, "bin", "rt")
+        write(rt, FAKE_RT.replace("@NOTES@", self.notes), 0o755)
+        for name in ("apt-get", "chromedriver", "dot", "mypy", "pgrep", "pyflakes3", "pycodestyle"):
+            write(os.path.join(room, "bin", name), "#!/bin/sh\n", 0o755)
+        for name in ("jsonschema", "selenium"):
+            write(os.path.join(room, "modules", f"{name}.py"), "")
+        places = {"PATH": f"{room}/bin:{os.environ['PATH']}", "PYTHONPATH": os.path.join(room, "modules")}
+        self.how = {"cwd": self.top, "env": {**os.environ, **places}}
+
+    def write(self, path, text, mode=0o644):
+        write(os.path.join(self.top, path), text, mode)
+
+    def note(self, name, text):
+        write(os.path.join(self.notes, name), text)
+
+    def calls(self):
+        return text_of(os.path.join(self.notes, "calls")).splitlines()
+
+    def run(self, *words):
+        """The status of ./test, the lines that it wrote, and the last of them."""
+        done = subprocess.run(words or ["./test"], stdin=subprocess.DEVNULL, stdout=subprocess.PIPE,
+                              stderr=subprocess.STDOUT, text=True, timeout=LIMIT, check=False, **self.how)
+        lines = done.stdout.splitlines()
+        return done.returncode, lines, lines[-1] if lines else ""
+
+
+def text_of(path):
+    with open(path, encoding="utf-8") as file:
+        return file.read()
+
+
+def write(path, text, mode=0o644):
+    os.makedirs(os.path.dirname(path), exist_ok=True)
+    with open(path, "w", encoding="utf-8") as file:
+        file.write(text)
+    os.chmod(path, mode)
+
+
+def expect_failure(tree, words, counts, told):
+    """A run fails with these counts, and tells of it twice, the second time near its end."""
+    status, lines, last = tree.run(*words)
+    expect((status, last), (1, "{} passed, {} failed".format(*counts)), "\n".join(lines[-30:]))
+    again = lines.index("test: what failed, once more:")
+    expect([any(told in line for line in part) for part in (lines[:again], lines[again:])], [True, True], lines)
+
+
+def counts_all(tree):
+    """The last line counts what all parts count, and nothing is proved."""
+    status, lines, last = tree.run()
+    expect((status, last), (0, f"{QUICK} passed, 0 failed"), "\n".join(lines[-30:]))
+    expect([it for it in tree.calls() if it.startswith("rt ci")], [], "calls of rt ci")
+
+
+def proves_all(tree):
+    """The gate also counts what `rt ci` and the checks of the proved programs count."""
+    status, lines, last = tree.run(".ci/run")
+    expect((status, last), (0, f"{PROVED} passed, 0 failed"), "\n".join(lines[-30:]))
+    calls = tree.calls()
+    proving = calls.index("rt ci")
+    after = [it for it in calls[proving + 1 :]]
+    expect(sorted(after)[0], "checks/conditions.py", after)
+    expect([it for it in after if "--proved" in it],
+           [f"checks/programs.py --proved {tree.top}/crates/hipac/out/hipac"], "the check of the proved program")
+
+
+def catches_tests(tree):
+    """A unit test that fails in any folder of tests is caught and shown, with its own file."""
+    for name in FOLDERS:
+        tree.note("broken", f"{name}/first")
+        expect_failure(tree, ["./test"], (QUICK - 1, 1), f"    tests/{name}/first.rs:1:1: it doesn't hold")
+
+
+def catches_the_dead(tree):
+    """A part that dies counts as one that failed, whatever it counted before."""
+    tree.note("conditions.py", "killed\n2 passed, 0 failed\n")
+    expect_failure(tree, ["./test"], (QUICK, 1), "FAILED conditions: status -9")
+    tree.note("conditions.py", "0\nnothing to say\n")
+    expect_failure(tree, ["./test"], (QUICK - 2, 1), "FAILED conditions: status 0")
+
+
+def counts_unittests(tree):
+    """Of Python's tests each failure and each error counts, and what was skipped counts as passed."""
+    said = "FAIL: test_one (tests.Some)\nRan 9 tests in 1.0s\n\nFAILED (failures=1, errors=2, skipped=1)\n"
+    tree.note("run.py", f"1\n{said}")
+    expect_failure(tree, ["./test", "tools"], (1 + 6, 3), "FAIL: test_one (tests.Some)")
+    tree.note("run.py", "0\nRan 9 tests in 1.0s\n\nOK (skipped=1)\n")
+    expect(tree.run("./test", "tools")[2], "10 passed, 0 failed", "the count")
+
+
+def catches_missing_programs(tree):
+    """If a program isn't made, each part that needs it has failed."""
+    tree.note("unproved.py", "1\nerror: no program\n")
+    status, lines, last = tree.run("./test", "conditions")
+    expect((status, last), (1, "0 passed, 2 failed"), "\n".join(lines))
+
+
+def proves_nothing_in_vain(tree):
+    """Nothing is proved where a quick check has failed."""
+    tree.note("more_edits.py", "1\nFAILED an edit\n5 passed, 1 failed\n")
+    expect_failure(tree, ["./test", "--prove"], (QUICK - 2 + 5, 1), "FAILED an edit")
+    expect([it for it in tree.calls() if it.startswith("rt ci")], [], "calls of rt ci")
+
+
+def catches_proofs(tree):
+    """What `rt ci` refuses counts and is shown, with the reasons that follow; no proved program is checked then."""
+    why = "rt: hp_low/x.edit: BAD EDIT; the first lines of what it said:"
+    tree.note("ci", f"rt: low proved\n{why}\na reason\n5 passed, 2 failed\n")
+    expect_failure(tree, ["./test", "--prove"], (QUICK + 5, 2), "a reason")
+    expect([it for it in tree.calls() if "--proved" in it], [], "checks of the proved program")
+    tree.note("ci", "rt: low proved\n")
+    expect_failure(tree, ["./test", "--prove"], (QUICK, 1), "no count")
+
+
+def catches_wrong_reports(tree):
+    """A check that fails on the proved programs is caught."""
+    tree.note("conditions.py-proved", "1\nFAILED script 3\n1 passed, 1 failed\n")
+    expect_failure(tree, ["./test", "--prove"], (PROVED - 1, 1), "FAILED script 3")
+
+
+def proves_beside_rooms(tree):
+    """Where ./build has left its rooms, `rt ci` runs on a copy of what git knows."""
+    tree.write(".gitignore", ".built/\n")
+    subprocess.run(["git", "init", "-q", "."], cwd=tree.top, check=True)
+    tree.write(".built/rooms/low/crates.txt", "low:\n")
+    status, lines, last = tree.run("./test", "--prove")
+    expect((status, last), (0, f"{PROVED} passed, 0 failed"), "\n".join(lines[-30:]))
+    expect(os.path.exists(os.path.join(tree.top, "crates", "hipac")), False, "whether rt ci ran here")
+
+
+def ends_its_parts(tree):
+    """An interrupt ends the parts at work, and the run has failed."""
+    tree.write("checks/conditions.py", "#!/bin/sh\nsleep 300 & wait\n", 0o755)
+    how = {"stdout": subprocess.PIPE, "stderr": subprocess.STDOUT, "text": True, "start_new_session": True}
+    running = subprocess.Popen(["./test", "conditions"], **how, **tree.how)
+    deadline = time.monotonic() + LIMIT
+    while not os.path.exists(os.path.join(tree.top, ".built", "test", "conditions.log")):
+        expect(time.monotonic() < deadline, True, "whether the part begins in time")
+        time.sleep(0.1)
+    time.sleep(1)
+    running.send_signal(signal.SIGINT)
+    said = running.communicate(timeout=LIMIT)[0]
+    expect((running.returncode, said.splitlines()[-1]), (1, "1 passed, 1 failed"), said)
+
+
+def missing_program(_tree):
+    """`checks/programs.py --proved` fails if there is no such program."""
+    words = [os.path.join(TOP, "checks", "programs.py"), "--proved", "/nowhere"]
+    done = subprocess.run(words, stdout=subprocess.PIPE, text=True, timeout=LIMIT, check=False)
+    expect((done.returncode, done.stdout.splitlines()[-1]), (1, "0 passed, 1 failed"), "status and count")
+
+
+CHECKS = (
+    counts_all,
+    proves_all,
+    catches_tests,
+    catches_the_dead,
+    counts_unittests,
+    catches_missing_programs,
+    proves_nothing_in_vain,
+    catches_proofs,
+    catches_wrong_reports,
+    proves_beside_rooms,
+    ends_its_parts,
+    missing_program,
+)
+
+
+def main():
+    with tempfile.TemporaryDirectory(prefix="gate-") as room:
+        checks = []
+        for check in CHECKS:
+            at = os.path.join(room, check.__name__)
+            checks.append((check.__doc__.split("\n")[0], lambda check=check, at=at: check(Tree(at))))
+        return run_checks(checks, 2)
+
+
+if __name__ == "__main__":
+    sys.exit(main())

@@ -1,0 +1,4 @@
+//! Tests of the program: its command line, and devices that move little at a time or fail.
+
+mod devices;
+mod running;

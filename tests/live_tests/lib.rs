@@ -1,0 +1,4 @@
+//! Tests of the rule base that stays up: whole sessions on devices that transfer little at a time, and that fail.
+
+mod fixtures;
+mod serving;

@@ -1,0 +1,124 @@
+//! Whole runs on devices that transfer little at a time, and that fail.
+
+use super::fixtures::{ANSWERS, EASY, Steps, bytes_until, new_device, session};
+use hp_live::{Fault, Options, Status, serve};
+use hp_report::Watched;
+use std::process::Abort;
+use std::test::Fail;
+use std::thread::Threads;
+
+/// What is written for an input, and how the run ends.
+fn served<R: AllocGlobal + Threads + Sync>(
+    rt: &R,
+    input: &[u8],
+    reads: Steps,
+    writes: Steps,
+) -> (Vec<u8>, Result<Status, Fault>) {
+    let alloc = rt.alloc();
+    let mut reader = Watched::new(new_device(alloc, input, reads));
+    let mut writer = Watched::new(new_device(alloc, b"", writes));
+    let options = Options {
+        workers: 1,
+        tree: false,
+    };
+    let ended = serve(rt, alloc, &mut reader, &mut writer, options);
+    (writer.into_inner().output, ended)
+}
+
+/// The whole input is answered.
+fn expect_answers<R: Abort + AllocGlobal + Threads + Sync>(rt: &R, input: &[u8], reads: Steps) {
+    let (output, ended) = served(rt, input, reads, EASY);
+    assert_eq!(*rt; output.as_slice(), ANSWERS.as_bytes());
+    assert_eq!(*rt; ended, Ok(Status::Reported));
+}
+
+/// A write fails, and what was written is the beginning of the answers.
+fn expect_write_fault<R: Abort + AllocGlobal + Threads + Sync>(
+    rt: &R,
+    input: &[u8],
+    writes: Steps,
+    written: usize,
+) {
+    let (output, ended) = served(rt, input, EASY, writes);
+    assert_eq!(*rt; ended, Err(Fault::Write));
+    assert_eq!(*rt; output.len(), written);
+    assert!(*rt; ANSWERS.as_bytes().starts_with(&output));
+}
+
+/// The complete lines among the first `count` bytes.
+fn whole_lines(input: &[u8], count: usize) -> &[u8] {
+    let mut end = 0usize;
+    for (place, byte) in input.iter().take(count).enumerate() {
+        if *byte == b'\n' {
+            end = place.wrapping_add(1);
+        }
+    }
+    &input[..end.min(input.len())]
+}
+
+#[test]
+fn lines_are_answered_however_they_come(rt: HostRuntime) -> Result<(), Fail> {
+    let input = session(rt.alloc())?;
+    for step in [1usize, 7, 4096] {
+        let reads = Steps {
+            first: step,
+            later: step,
+            fails_at: 0,
+        };
+        expect_answers(&rt, input.as_bytes(), reads);
+    }
+    Ok(())
+}
+
+#[test]
+fn lines_are_answered_wherever_they_are_cut(rt: HostRuntime) -> Result<(), Fail> {
+    let input = session(rt.alloc())?;
+    for first in 1..input.len() {
+        let reads = Steps {
+            first,
+            later: 4096,
+            fails_at: 0,
+        };
+        expect_answers(&rt, input.as_bytes(), reads);
+    }
+    Ok(())
+}
+
+#[test]
+fn a_failed_read_ends_the_run_after_the_lines_before_it(rt: HostRuntime) -> Result<(), Fail> {
+    let input = session(rt.alloc())?;
+    // The last read finds the end of the input.
+    for read in 0..=input.len() {
+        let reads = bytes_until(read.wrapping_add(1));
+        let (output, ended) = served(&rt, input.as_bytes(), reads, EASY);
+        assert_eq!(rt; ended, Err(Fault::Read));
+        let whole = whole_lines(input.as_bytes(), read);
+        let (wanted, _ended) = served(&rt, whole, EASY, EASY);
+        assert_eq!(rt; output, wanted);
+        assert!(rt; ANSWERS.as_bytes().starts_with(&output));
+    }
+    Ok(())
+}
+
+#[test]
+fn a_failed_write_ends_the_run_within_an_answer(rt: HostRuntime) -> Result<(), Fail> {
+    let input = session(rt.alloc())?;
+    for taken in 0..ANSWERS.len() {
+        let writes = bytes_until(taken.wrapping_add(1));
+        expect_write_fault(&rt, input.as_bytes(), writes, taken);
+    }
+    Ok(())
+}
+
+#[test]
+fn a_write_that_takes_nothing_ends_the_run(rt: HostRuntime) -> Result<(), Fail> {
+    let input = session(rt.alloc())?;
+    let writes = Steps {
+        first: 4096,
+        later: 0,
+        fails_at: 0,
+    };
+    let first_answer = "unit 1 committed\nok 1\n";
+    expect_write_fault(&rt, input.as_bytes(), writes, first_answer.len());
+    Ok(())
+}

@@ -1,0 +1,10 @@
+//! Tests of values, patterns, detectors, queries and trees. The expected values are worked out by hand.
+
+mod detectors;
+mod expressions;
+mod fixtures;
+mod parts;
+mod patterns;
+mod postfix;
+mod queries;
+mod trees;
