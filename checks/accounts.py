@@ -89,6 +89,7 @@ class AccountMaker(ScriptMaker):
             *[[self.heard()]] * 6, [["sub", [self.heard(), ["abort"]], []]], [["sub", [self.heard()], []]],
             [["sub", [["install", rule], ["disable", rule], ["enable", rule]], []]],
             [["sub", [["install", rule], ["disable", rule], self.heard(), ["enable", rule]], []]],
+            [["install", rule], ["disable", rule], self.heard(), ["enable", rule], ["disable", rule]],
             [["remove", rule], self.heard(), ["install", rule]], [["sub", [["disable", rule], ["abort"]], []]]])
 
     def event(self, level):
