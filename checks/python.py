@@ -3,8 +3,8 @@
 
     checks/python.py
 
-Mypy looks at the files of GROUPS. The last line is 'N passed, M failed', where each look that finds something has
-failed.
+Mypy looks at the files of GROUPS. (Ruff isn't among Debian's packages.) The last line is 'N passed, M failed', where
+each look that finds something has failed.
 """
 
 import glob
@@ -27,6 +27,7 @@ COMMANDS = {
 # What mypy looks at, each with the folders that its imports are found in.
 GROUPS = {
     "scripts": (["build", "test", "tools/*.py", "checks/*.py", "bench/*.py"], ["tools", "checks", "bench"]),
+    "tests of the tools": (["tools/tests/*.py"], ["tools"]),
 }
 MYPY = ["mypy", "--python-version=3.9", "--ignore-missing-imports", "--follow-imports=silent", "--scripts-are-modules"]
 

@@ -4,13 +4,14 @@ from __future__ import annotations
 
 import copy
 import random
+from typing import Any
 
 WORDS = [
     "updte", "create", "emit", "veto", "clock", "for", "each", "seq", "count", "of", "=", "==", "acct", "x", "y", "bal",
     "go", "immediate", "exclusive", "later", "int", "", "1st", "a-b", "n" * 33, "é" * 600,
 ]
 NUMBERS = [0, 1, -1, 1.5, 1.0, -0.0, 1e30, 17, 1_001, 65_536, 2 ** 63 - 1, 2 ** 63, 2 ** 64, -(2 ** 63), -(2 ** 63) - 1]
-VALUES = NUMBERS + [
+VALUES: list[Any] = NUMBERS + [
     None, True, False, [], {}, [[]], ["veto"], ["count"], ["abort"], ["commit"], ["key", "x"], ["of", "x", "bal"],
     ["arg", 0, 70_000], ["at", -1], ["every", 1, 0], ["emit", 1], ["for", "x", []], ["install", "r"],
     ["fire", "nobody"], ["neg", ["neg", 1]], ["create", "acct", 1, []], ["update", "acct", 1, [["bal", 1], ["bal", 2]]],
@@ -28,7 +29,7 @@ def paths_of(value: object, path: tuple = ()) -> list[tuple]:
     return found
 
 
-def at(value: object, path: tuple) -> object:
+def at(value: Any, path: tuple) -> Any:
     for step in path:
         value = value[step]
     return value

@@ -4,7 +4,7 @@ from __future__ import annotations
 import json
 import random
 from pathlib import Path
-from typing import Any, Callable
+from typing import Any, Callable, Sequence
 
 REPOSITORY = Path(__file__).resolve().parents[2]
 EXAMPLES = sorted((REPOSITORY / "examples").glob("*.json"))
@@ -17,13 +17,13 @@ CONFUSING_TEXTS = ("", "a", '"', "\\", '\\"', "a and b", ", then", "line\nbreak"
 COUPLINGS = ("immediate", "deferred", "separate", "dependent", "exclusive")
 
 
-def script(rules: list, items: list, classes: list = (), version: int = 1, **members: Any) -> str:
+def script(rules: list, items: list, classes: Sequence = (), version: int = 1, **members: Any) -> str:
     """The text of a script."""
     return json.dumps({"version": version, "classes": list(classes), "rules": rules, "items": items, **members})
 
 
 def rule(name: str, event: list, action: list, ec: str = "immediate", ca: str = "immediate",
-         queries: list = ()) -> list:
+         queries: Sequence = ()) -> list:
     """A rule in its JSON form."""
     return [name, event, ec, list(queries), ca, action]
 
@@ -35,7 +35,8 @@ class RandomScripts:
         self.random = random.Random(seed)
 
     def script(self) -> dict:
-        root = {"version": self.random.choice((1, 2)), "classes": self.some(self.class_form), "rules": [], "items": []}
+        root: dict[str, Any] = {"version": self.random.choice((1, 2)), "classes": self.some(self.class_form),
+                                "rules": [], "items": []}
         if self.random.random() < 0.5:
             root["depth"] = self.random.randint(1, 16)
         root["rules"] = self.some(lambda: self.rule(root["version"]))
@@ -119,7 +120,7 @@ class RandomRuns:
         rules = [rule(name, event, self.body(names, 2), self.random.choice(COUPLINGS), self.random.choice(later))
                  for name, event in zip(names, events)]
         installed = [name for name in names if self.random.random() < 0.8]
-        items = [["tx", [["install", name] for name in installed]]]
+        items: list = [["tx", [["install", name] for name in installed]]]
         items += [["tx", self.body(names, 3)] for _ in range(3)] + [["clock", self.random.choice((3, 12))]]
         depth = self.random.choice((1, 2, 3, 4, 8))
         return script(rules, items, [["c", [["f", "int"]]], ["d", []]], version=2, depth=depth)
@@ -127,8 +128,9 @@ class RandomRuns:
     def event(self, depth: int) -> list:
         if depth and self.random.random() < 0.35:
             return [self.random.choice(("or", "seq", "closure")), self.event(depth - 1), self.event(depth - 1)]
-        return self.random.choice((["create", "c"], ["update", "c"], ["delete", "c"], ["create", "d"], ["signal", "s"],
-                                   ["signal", "t"], ["signal", "u"], ["commit"], ["at", 7], ["every", 5, 5]))
+        events: list[list] = [["create", "c"], ["update", "c"], ["delete", "c"], ["create", "d"], ["signal", "s"],
+                              ["signal", "t"], ["signal", "u"], ["commit"], ["at", 7], ["every", 5, 5]]
+        return self.random.choice(events)
 
     def body(self, names: list[str], most: int) -> list:
         return [self.statement(names) for _ in range(self.random.randint(0, most))]
@@ -136,10 +138,11 @@ class RandomRuns:
     def statement(self, names: list[str]) -> list:
         key = self.random.randrange(3)
         other = self.random.choice(names)
-        return self.random.choice((
+        statements: list[list] = [
             ["sub", [["create", "c", key, [["f", 0]]]], [["update", "c", key, []]]],
             ["each", "x", "c", True, [["update", "c", ["key", "x"], [["f", 1]]]]],
             ["sub", [["delete", "c", key]], []],
             ["sub", [["create", "d", key, []]], [["delete", "d", key]]],
             ["signal", "s", []], ["signal", "t", []], ["signal", "u", []],
-            ["sub", [["fire", other]], []], ["install", other]))
+            ["sub", [["fire", other]], []], ["install", other]]
+        return self.random.choice(statements)

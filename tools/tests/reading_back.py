@@ -41,6 +41,7 @@ def unfolded(text: str) -> list[tuple[int, str]]:
 
 def head(line: str) -> dict:
     found = re.fullmatch(r"script of version (\d+), firings nest at most (\d+) deep( \(no depth is given\))?", line)
+    assert found, line
     return {"version": int(found[1]), **({} if found[3] else {"depth": int(found[2])})}
 
 
@@ -89,7 +90,7 @@ def rule_form(words: Words, block: Block) -> list:
     while words.peek(0) in ("if", "and") and words.peek(1) == "some" and words.peek(2) != ".":
         words.take(words.peek(0), "some")
         class_name, row = words.next(), words.next()
-        predicate = True if words.takes("is", "there") else words.take("has") or words.expression()
+        predicate = words.predicate()
         queries.append([row, class_name, predicate])
         if words.is_done():
             words = block.line()
@@ -161,7 +162,7 @@ class Block:
             return ["for", first, self.body(words, indent)]
         row = words.next()
         words.take("that")
-        predicate = True if words.takes("is", "there") else words.take("has") or words.expression()
+        predicate = words.predicate()
         words.take(":")
         return ["each", row, first, predicate, self.body(words, indent)]
 
@@ -247,6 +248,13 @@ class Words:
 
     # Expressions.
 
+    def predicate(self) -> Any:
+        """What each row of a query is tested for, after its name."""
+        if self.takes("is", "there"):
+            return True
+        self.take("has")
+        return self.expression()
+
     def expression(self, level: int = 0) -> Any:
         if level == len(LEVELS):
             return self.atom()
@@ -285,11 +293,11 @@ class Words:
             self.take("of")
             return ["key", self.next()]
         if word in ("its", "the"):
-            what = self.next()
-            if what == "count":
+            name = self.next()
+            if name == "count":
                 return ["count"]
-            return [{"key": "id", "moment": "time"}[what], self.part() if word == "the" else 0]
-        what = self.number() if word == "argument" else self.next()
+            return [{"key": "id", "moment": "time"}[name], self.part() if word == "the" else 0]
+        what: object = self.number() if word == "argument" else self.next()
         part = self.part() if self.peek(0) == "in" else 0
         return ["arg", part, what] if word == "argument" else [word, part, what]
 
@@ -315,7 +323,7 @@ class Words:
         return [word]
 
     def pairs(self) -> list:
-        found = []
+        found: list = []
         if self.takes(",", "changing", "nothing") or not self.takes("with"):
             return found
         while True:

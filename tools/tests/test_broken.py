@@ -9,6 +9,7 @@ from __future__ import annotations
 import json
 import random
 import unittest
+from typing import ClassVar
 
 from hipac_tools import check
 from hipac_tools.positions import NotJson, line_and_column, parse
@@ -23,6 +24,9 @@ TEXTS = 150
 
 
 class BrokenScripts(unittest.TestCase):
+    texts: ClassVar[list[tuple]]
+    refusals: ClassVar[list[str]]
+
     @classmethod
     def setUpClass(cls) -> None:
         chance = random.Random(SEED)

@@ -6,6 +6,7 @@ import os
 import tempfile
 import unittest
 from pathlib import Path
+from typing import ClassVar
 from unittest import mock
 
 from hipac_tools import check, program
@@ -46,6 +47,9 @@ def first_of(lines: list[str]) -> list[str]:
 class RefusedScripts(unittest.TestCase):
     """The messages on each script of the table, whose refusal is the program's. Of several faults the first counts."""
 
+    refusals: ClassVar[list[str]]
+    told: ClassVar[list[list[str]]]
+
     @classmethod
     def setUpClass(cls) -> None:
         cls.refusals = refusals([case.script for case in CASES])
@@ -70,7 +74,8 @@ class RefusedScripts(unittest.TestCase):
         for case in CASES:
             with self.subTest(case.name):
                 fault = check.read(case.script.encode("utf-8")).fault
-                self.assertEqual((fault.refusal, fault.start, fault.end), (case.refusal, case.start, case.end))
+                found = fault and (fault.refusal, fault.start, fault.end)
+                self.assertEqual(found, (case.refusal, case.start, case.end))
 
     def test_the_mark_stands_beneath_the_value(self) -> None:
         for case, lines in zip(CASES, self.told):

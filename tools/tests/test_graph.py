@@ -8,6 +8,7 @@ import tempfile
 import unittest
 from contextlib import redirect_stderr, redirect_stdout
 from pathlib import Path
+from typing import Any
 from xml.etree import ElementTree
 
 from hipac_tools import command, graph, program, rulebase
@@ -16,11 +17,11 @@ from tests.making import COUPLINGS, EXAMPLES, REPOSITORY, RandomRuns, rule, scri
 SIGNAL_S, SIGNAL_T = ["signal", "s"], ["signal", "t"]
 
 
-def built(rules: list, items: list, **members: object) -> graph.Graph:
+def built(rules: list, items: list, **members: Any) -> graph.Graph:
     return graph.build(rulebase.read(script(rules, items, [["c", [["f", "int"]]]], **members)))
 
 
-def edges(rules: list, items: list, **members: object) -> set[tuple[str, str, str, str]]:
+def edges(rules: list, items: list, **members: Any) -> set[tuple[str, str, str, str]]:
     return {(edge.source, edge.kind, edge.target, edge.label) for edge in built(rules, items, **members).edges}
 
 
@@ -58,11 +59,13 @@ class Edges(unittest.TestCase):
 
     def test_composite_events(self) -> None:
         items = [["tx", [["signal", "s", []], ["signal", "t", []]]]]
-        for event, first, second in [(["or", SIGNAL_S, SIGNAL_T], "sets off", "sets off"),
-                                     (["seq", SIGNAL_S, SIGNAL_T], "prepares", "sets off"),
-                                     (["closure", SIGNAL_S, SIGNAL_T], "prepares", "sets off"),
-                                     (["seq", SIGNAL_S, ["or", SIGNAL_S, SIGNAL_T]], "sets off", "sets off"),
-                                     (["closure", ["seq", SIGNAL_T, SIGNAL_S], SIGNAL_T], "prepares", "sets off")]:
+        rows: list[tuple[list, str, str]] = [
+            (["or", SIGNAL_S, SIGNAL_T], "sets off", "sets off"),
+            (["seq", SIGNAL_S, SIGNAL_T], "prepares", "sets off"),
+            (["closure", SIGNAL_S, SIGNAL_T], "prepares", "sets off"),
+            (["seq", SIGNAL_S, ["or", SIGNAL_S, SIGNAL_T]], "sets off", "sets off"),
+            (["closure", ["seq", SIGNAL_T, SIGNAL_S], SIGNAL_T], "prepares", "sets off")]
+        for event, first, second in rows:
             with self.subTest(event=event):
                 self.assertEqual(edges([rule("r", event, [])], items), {
                     ("the script", first, "r", "signal s"), ("the script", second, "r", "signal t")})
@@ -381,11 +384,12 @@ Queries that look at a whole class
 
 class CommandLine(unittest.TestCase):
     def run_word(self, *words: str) -> tuple[int, str, str]:
-        output, errors = io.TextIOWrapper(io.BytesIO(), encoding="utf-8"), io.StringIO()
+        written, errors = io.BytesIO(), io.StringIO()
+        output = io.TextIOWrapper(written, encoding="utf-8")
         with redirect_stdout(output), redirect_stderr(errors):
             status = graph.main(list(words))
         output.flush()
-        return status, output.buffer.getvalue().decode("utf-8"), errors.getvalue()
+        return status, written.getvalue().decode("utf-8"), errors.getvalue()
 
     def test_text_and_picture(self) -> None:
         for example in EXAMPLES:

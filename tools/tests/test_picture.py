@@ -156,7 +156,7 @@ class Examples(unittest.TestCase):
 
 
 class Paths(unittest.TestCase):
-    TARGETS = {"a": ["b", "c"], "b": ["d"], "c": ["d"], "d": ["b", "e"], "e": [], "f": ["f"]}
+    TARGETS: dict[str, list[str]] = {"a": ["b", "c"], "b": ["d"], "c": ["d"], "d": ["b", "e"], "e": [], "f": ["f"]}
 
     def test_shortest_ways(self) -> None:
         self.assertEqual(paths.shortest_way(self.TARGETS, "a", {"e"}), ("a", "b", "d", "e"))

@@ -7,6 +7,7 @@ import json
 import random
 import unittest
 from contextlib import redirect_stderr, redirect_stdout
+from typing import Any, Sequence
 from unittest import mock
 
 from hipac_tools import language, printing, rulebase
@@ -19,7 +20,7 @@ def printed_rule(form: list, version: int = 2) -> str:
     return rule_text(rulebase.read(script([form], [], version=version)).rules[0])
 
 
-def printed_items(items: list, rules: list = ()) -> list[str]:
+def printed_items(items: list, rules: Sequence = ()) -> list[str]:
     return printing.items_texts(rulebase.read(script(list(rules), items)))
 
 
@@ -176,9 +177,10 @@ class Rules(unittest.TestCase):
                 self.assertTrue(asked.endswith(f"if some item i is there {lead} do nothing"))
 
     def test_the_word_before_the_event(self) -> None:
-        for event, words in [(["at", 3], "at moment 3"), (["every", 3, 2], "every 2 moments from moment 3"),
-                             (["signal", "a"], "on signal a"),
-                             (["or", ["at", 3], ["commit"]], "on moment 3 or commit")]:
+        rows: list[tuple[list, str]] = [
+            (["at", 3], "at moment 3"), (["every", 3, 2], "every 2 moments from moment 3"),
+            (["signal", "a"], "on signal a"), (["or", ["at", 3], ["commit"]], "on moment 3 or commit")]
+        for event, words in rows:
             self.assertIn(f"rule r: {words}, at once", printed_rule(rule("r", event, [])))
 
     def test_parts_are_numbered_only_for_a_rule_that_asks(self) -> None:
@@ -265,6 +267,7 @@ def changes(root: dict, chance: random.Random) -> list[dict]:
     duplicated."""
     found = []
     for path, value in leaves(root):
+        others: list[Any]
         if isinstance(value, bool):
             others = [not value]
         elif isinstance(value, int):
@@ -296,11 +299,12 @@ def leaves(value: object, path: tuple = ()) -> list[tuple]:
 
 class CommandLine(unittest.TestCase):
     def run_word(self, *words: str) -> tuple[int, str, str]:
-        output, errors = io.TextIOWrapper(io.BytesIO(), encoding="utf-8"), io.StringIO()
+        written, errors = io.BytesIO(), io.StringIO()
+        output = io.TextIOWrapper(written, encoding="utf-8")
         with redirect_stdout(output), redirect_stderr(errors):
             status = printing.main(list(words))
         output.flush()
-        return status, output.buffer.getvalue().decode("utf-8"), errors.getvalue()
+        return status, written.getvalue().decode("utf-8"), errors.getvalue()
 
     def test_a_script(self) -> None:
         status, output, errors = self.run_word(str(EXAMPLES[0]))

@@ -3,6 +3,7 @@ from __future__ import annotations
 
 import json
 import unittest
+from typing import Any
 
 from hipac_tools import language, rulebase
 from tests.making import EXAMPLES, rule, script
@@ -66,8 +67,8 @@ class Reading(unittest.TestCase):
         self.assertTrue(language.has_one_part(event[1]))
 
 
-def nested(words: list[str]) -> list:
-    inner = 1
+def nested(words: list[str]) -> Any:
+    inner: Any = 1
     for word in words:
         inner = [word, inner]
     return inner

@@ -5,7 +5,7 @@ from __future__ import annotations
 import json
 import random
 import unittest
-from typing import Callable
+from typing import Any
 
 from .breaking import broken
 from .trials import REPOSITORY, accepted_scripts, refusals
@@ -44,7 +44,8 @@ def said(name: str, refusal: str) -> bool:
 
 
 class Schema(unittest.TestCase):
-    valid: Callable[[object], bool]
+    schema: Any
+    valid: Any
 
     @classmethod
     def setUpClass(cls) -> None:
@@ -118,13 +119,13 @@ def unsaid(script: object, refusal: str) -> bool:
     return code == "S4" or rest in UNSAID_LIMITS or rest == "text"
 
 
-def at(script: object, path: str) -> object:
+def at(script: Any, path: str) -> Any:
     for step in path.strip("/").split("/"):
         script = script[int(step)] if isinstance(script, list) else script[step]
     return script
 
 
-def goes_back(script: object, path: str) -> bool:
+def goes_back(script: Any, path: str) -> bool:
     """Whether the path is that of a clock's time, and an earlier item has a later time."""
     steps = path.strip("/").split("/")
     if steps[0] != "items" or len(steps) != 3 or script["items"][int(steps[1])][0] != "clock":

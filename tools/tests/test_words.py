@@ -12,7 +12,8 @@ from .trials import REPOSITORY, run_word
 
 class Words(unittest.TestCase):
     def test_no_word_lists_the_words(self) -> None:
-        for arguments in ([], ["--help"], ["-h"]):
+        rows: list[list[str]] = [[], ["--help"], ["-h"]]
+        for arguments in rows:
             status, output, _ = run_word(words.main, *arguments)
             self.assertEqual(status, 0)
             for name in words.WORDS:

@@ -73,7 +73,8 @@ def printed(command: str) -> str:
 
 def with_outputs(page: str) -> str:
     """The page with each command's output written again."""
-    parts, end, command = [], 0, None
+    parts: list[str] = []
+    end, command = 0, None
     for fenced in FENCED.finditer(page):
         if fenced[1] == "text" and command is not None:
             parts += [page[end:fenced.start(2)], printed(command)]
