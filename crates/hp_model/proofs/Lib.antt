@@ -57,3 +57,4 @@ pub mod NotationScriptsRead
 pub mod NotationSpelt
 pub mod NotationRead
 pub mod NotationValued
+pub mod NotationForms
