@@ -58,3 +58,4 @@ pub mod NotationScriptsRead
 pub mod NotationSpelt
 pub mod NotationRead
 pub mod NotationValued
+pub mod NotationForms

@@ -1,6 +1,6 @@
 -- The value of each script that can be written has the script's form.
-use Rattle.std.proofs.Common.{◌≡◌, refl, ap, ◌∙◌, ℕ, zero, suc, ◌≤◌, ◌^◌, pos, negsuc, Bool, true, false, List, [], ◌∷◌, map, Option, Some, None, arith, sym}
-use Rattle.std.specs.Prelude.{option_map, option_and_then}
+use Rattle.std.proofs.Common.{◌≡◌, refl, ap, ◌∙◌, ℕ, zero, suc, ◌≤◌, ◌^◌, pos, negsuc, Bool, true, false, List, [], ◌∷◌, map, Option, Some, None, arith}
+use Rattle.std.specs.Prelude.{if◌then◌else◌, option_map, option_and_then}
 use Rattle.std.specs.Option.{option_or}
 use Rattle.std.proofs.lemmas.Bool.{lt-ltb}
 use Rattle.serde_json.specs.Data.{Data, string, array}
@@ -15,8 +15,8 @@ use Rattle.hp_model.specs.NotationScripts.{has_let}
 use Rattle.hp_model.specs.NotationForms as F
 use Rattle.hp_model.specs.NotationForms.{Expression, integer, truth, text, Operator, either, both, equal, unequal, less, at_most, greater, at_least, plus, minus, times, quotient, remainder, operation, inverted, negated, field_of, key_of, value, now, Image, image_field, new_image, old_image, key_in, time_of, argument, occurrence_count, expression_data, Change, Event, on_change, creation, change, deletion, on_signal, on_commit, at_moment, every_moment, or_event, then_event, closure_event, event_data, Rows, Fold, total, least, greatest, Aggregate, count_of, fold_of, next_key, plain, aggregate_data, Query, some_rows, no_rows, named_value, query_data, Assignment, assignment_data, Statement, Setting, create, update, set_object, delete, signal, emit, when, each, for_answer, with_object, with_value, subtransaction, abort, veto, veto_with, RuleOperation, install, enable, disable, remove, fire, on_rule, Body, empty, ◌then◌, statement_data, body_data, Field, kind_word, field_data, Class, class_data, Rule, closed_data, rule_data, Item, transaction, clock, item_data, Script, depth_data, script_data, natural_data, items, list_data}
 use Rattle.hp_model.specs.NotationPrint.{print_script, print_item}
-use Rattle.hp_model.specs.NotationValues.{natural_of, of_one, of_two, of_three, each_of, list_form, expression_of, any_expression, event_of, rows_of, aggregate_of_form, aggregate_of, query_of, assignment_of, statement_of_form, body_in, body_of, any_body, field_form, class_form, depth_form, script_with, script_of_version, mode_of, rule_form, item_form, script_form, print_value}
-use Rattle.hp_model.specs.NotationLaws.{Fits, IsWritableExpression, expression_levels, IsWritableEvent, event_levels, IsFitExpression, AreFitRows, IsFitAggregate, IsFitQuery, AreFitAssignments, AreFitExpressions, IsFitStatement, IsFitBody, statement_levels, body_levels, EachIs, IsFitField, IsFitClass, IsFitRule, IsFitItem, IsFitDepth, IsFitScript, ValuesAreRead, CanonicalIsFixed, LinesAreRead}
+use Rattle.hp_model.specs.NotationValues.{fitting, natural_of, of_one, of_two, of_three, each_of, list_form, expression_of, any_expression, event_of, rows_of, aggregate_of_form, aggregate_of, query_of, assignment_of, statement_of_form, body_in, body_of, any_body, field_form, class_form, depth_form, script_with, script_of_version, mode_of, rule_form, item_form, script_form}
+use Rattle.hp_model.specs.NotationLaws.{Fits, IsWritableExpression, expression_levels, IsWritableEvent, event_levels, IsFitExpression, AreFitRows, IsFitAggregate, IsFitQuery, AreFitAssignments, AreFitExpressions, IsFitStatement, IsFitBody, statement_levels, body_levels, EachIs, IsFitField, IsFitClass, IsFitRule, IsFitItem, IsFitDepth, IsFitScript, ValuesAreRead, LinesAreRead}
 use Rattle.hp_model.proofs.NotationExpressionsRead.{levels_positive}
 use Rattle.hp_model.proofs.NotationEventsRead.{event_levels_positive}
 use Rattle.hp_model.proofs.NotationStatementsRead.{body_levels_positive}
@@ -74,10 +74,12 @@ operation_valued remainder a b n p q = rw (p, q) refl
 expression_valued : (e : Expression) → IsWritableExpression e → (n : ℕ) → expression_levels e ≤ n → expression_of n (expression_data e) ≡ Some e
 unfolding expression_of
 expression_valued e w zero h = absurd (omega (arith, levels_positive e))
-expression_valued (integer (pos z)) w (suc n) h = rw (lt-ltb z (2 ^ 63) w) refl
-expression_valued (integer (negsuc z)) w (suc n) h = refl
+expression_valued (integer (pos z)) w (suc n) h =
+    ap (λ b. option_map integer (option_and_then fitting (if b then Some (pos z) else None))) (lt-ltb z (2 ^ 63) w)
+    ∙ ap (λ b. option_map integer (if b then Some (pos z) else None)) (lt-ltb z (2 ^ 63) w)
+expression_valued (integer (negsuc z)) w (suc n) h = rw (lt-ltb z (2 ^ 63) w) refl
 expression_valued (truth b) w (suc n) h = refl
-expression_valued (text s) w (suc n) h = refl
+expression_valued (text s) w (suc n) h = ap (λ b. if b then Some (text s) else None) w
 expression_valued (operation op a b) w (suc n) h = operation_valued op a b n (expression_valued a w.0 n (omega arith)) (expression_valued b w.1 n (omega arith))
 expression_valued (inverted a) w (suc n) h = one_valued _ _ a (expression_valued a w n (omega arith))
 expression_valued (negated a) w (suc n) h = one_valued _ _ a (expression_valued a w n (omega arith))
@@ -249,7 +251,7 @@ unfolding item_form
 item_valued (transaction b) w = one_valued transaction _ b (any_body_valued b w.0 w.1)
 item_valued (clock t) w = one_valued clock _ t (natural_valued t w)
 
-root_valued : (version : Data) (depth : Option Data) (classes rules items : Data)
+pub root_valued : (version : Data) (depth : Option Data) (classes rules items : Data)
     → root_of (root_data version depth classes rules items) ≡ Some (record { version = version; depth = depth; classes = classes; rules = rules; items = items })
 root_valued version None classes rules items = refl
 root_valued version (Some d) classes rules items = refl
@@ -278,11 +280,6 @@ pub values_are_read : ValuesAreRead
 values_are_read s w =
     let r = scripts_are_read s w in
     (print_script s, r.0, ap (option_map print_script) (script_valued s w), r.1, r.2)
-
-pub canonical_is_fixed : CanonicalIsFixed
-canonical_is_fixed bytes r s e same w =
-    let v = values_are_read s w in
-    (v.0, v.1, ap print_value same ∙ v.2, v.3, v.4 ∙ sym same)
 
 pub lines_are_read : LinesAreRead
 lines_are_read i w =

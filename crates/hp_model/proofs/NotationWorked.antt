@@ -234,6 +234,21 @@ pub not_utf8_later : IsFaultyAt (codes "version 1 1\n" ++ ((255 ∷ []))) 1 11
 unfolding text_on_literals
 not_utf8_later = refl
 
+-- a chain has at most 64 operators
+pub too_many_operators : IsFaultyAt (codes "version 1\ntransaction {\n  emit 1+1+1+1+1+1+1+1+1+1+1+1+1+1+1+1+1+1+1+1+1+1+1+1+1+1+1+1+1+1+1+1+1+1+1+1+1+1+1+1+1+1+1+1+1+1+1+1+1+1+1+1+1+1+1+1+1+1+1+1+1+1+1+1+1+1\n}") 3 137
+unfolding text_on_literals
+too_many_operators = refl
+
+-- expressions nest at most 64 deep, and this is the 65th
+pub parentheses_too_deep : IsFaultyAt (codes "version 1\ntransaction {\n  emit ((((((((((((((((((((((((((((((((((((((((((((((((((((((((((((((((1))))))))))))))))))))))))))))))))))))))))))))))))))))))))))))))))\n}") 3 72
+unfolding text_on_literals
+parentheses_too_deep = refl
+
+-- the first token of a body that nests too deep is its brace
+pub bodies_too_deep : IsFaultyAt (codes "version 1\ntransaction { sub { sub { sub { sub { sub { sub { sub { sub { sub { sub { sub { sub { sub { sub { sub { sub { sub { sub { sub { sub { sub { sub { sub { sub { sub { sub { sub { sub { sub { sub { sub { sub { sub { sub { sub { sub { sub { sub { sub { sub { sub { sub { sub { sub { sub { sub { sub { sub { sub { sub { sub { sub { sub { sub { sub { sub { sub { sub { sub { sub { sub { sub { sub { sub { } } } } } } } } } } } } } } } } } } } } } } } } } } } } } } } } } } } } } } } } } } } } } } } } } } } } } } } } } } } } } } } } }") 2 397
+unfolding text_on_literals
+bodies_too_deep = refl
+
 -- ---- canonical texts
 
 pub shop_printed : Prints

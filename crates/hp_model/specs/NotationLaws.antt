@@ -216,11 +216,11 @@ abbrev pub ValuesAreRead : Type 0
 ValuesAreRead = (s : Script) → IsFitScript s
     → (text : List ℕ) × (r : T.Script) × (print_value (script_data s) ≡ Some text) × (read_script text ≡ Ok r) × (T.script_data r ≡ script_data s)
 
--- what was read from a text, if it is a script that can be written, has a canonical text, from which the same is read
+-- each value of JSON that has a canonical text is read from it; so is what was read from another text
 abbrev pub CanonicalIsFixed : Type 0
 CanonicalIsFixed =
-    (text : List ℕ) (r : T.Script) (s : Script) → read_script text ≡ Ok r → T.script_data r ≡ script_data s → IsFitScript s
-    → (canonical : List ℕ) × (again : T.Script) × (print_value (T.script_data r) ≡ Some canonical) × (read_script canonical ≡ Ok again) × (T.script_data again ≡ T.script_data r)
+    (r : T.Script) (canonical : List ℕ) → print_value (T.script_data r) ≡ Some canonical
+    → (again : T.Script) × (read_script canonical ≡ Ok again) × (T.script_data again ≡ T.script_data r)
 
 -- ---- lines
 

@@ -1,9 +1,10 @@
 -- The forms of JSON's values, for the canonical text of a script in JSON. A value that is no form of a script has no text.
 use Rattle.std.specs.Prelude.{ℕ, zero, suc, ℤ, pos, negsuc, Bool, true, false, List, [], ◌∷◌, map, codes, Option, Some, None, option_map, option_and_then, bytes_eq, if◌then◌else◌, ⊤}
 use Rattle.std.specs.Option.{option_or}
+use Rattle.std.specs.Str.{is_utf8}
 use Rattle.serde_json.specs.Data.{Data, number, boolean, string}
 use Rattle.serde_json.specs.Find.{as_str, as_number, as_i64}
-use Rattle.hp_model.specs.Values.{Kind, integer_kind, boolean_kind, text_kind}
+use Rattle.hp_model.specs.Values.{fits_64, Kind, integer_kind, boolean_kind, text_kind}
 use Rattle.hp_model.specs.Rules.{Coupling, immediate, deferred, separate, dependent, exclusive}
 use Rattle.hp_model.specs.Json.{list_of, Form, form_of, pair_of, beside}
 use Rattle.hp_model.specs.Parts.{name_of}
@@ -33,6 +34,10 @@ of_two make a b = option_and_then (λ x. option_map (make x) b) a
 abbrev pub of_three : {A B C D : Type 0} → (A → B → C → D) → Option A → Option B → Option C → Option D
 of_three make a b c = option_and_then (λ x. of_two (make x) b c) a
 
+-- a table of words
+abbrev pub Table : Type 0 → Type 0
+Table A = List (List ℕ × (⊤ → Option A))
+
 -- what a table has for a word, which is made only then
 abbrev pub chosen : {A : Type 0} → Option (⊤ → Option A) → Option A
 chosen None = None
@@ -51,23 +56,30 @@ list_form read d = option_and_then (each_of read) (list_of d)
 abbrev pub with_word : Operator → List ℕ × Operator
 with_word op = (spelling (operator_mark op), op)
 
+abbrev pub all_operators : List Operator
+all_operators = either ∷ both ∷ equal ∷ unequal ∷ less ∷ at_most ∷ greater ∷ at_least ∷ plus ∷ minus ∷ times ∷ quotient ∷ remainder ∷ []
+
 abbrev pub operator_of : List ℕ → Option Operator
-operator_of word = beside word (map with_word (either ∷ both ∷ equal ∷ unequal ∷ less ∷ at_most ∷ greater ∷ at_least ∷ plus ∷ minus ∷ times ∷ quotient ∷ remainder ∷ []))
+operator_of word = beside word (map with_word all_operators)
 
 abbrev pub expression_of_none : List ℕ → Option Expression
 expression_of_none word = beside word ((codes "now", now) ∷ (codes "count", occurrence_count) ∷ [])
 
+abbrev pub expressions_of_one : (operand : Data → Option Expression) → Data → Table Expression
+expressions_of_one operand a =
+    (codes "not", λ _. of_one inverted (operand a)) ∷ (codes "neg", λ _. of_one negated (operand a)) ∷ (codes "key", λ _. of_one key_of (name_of a)) ∷ (codes "value", λ _. of_one value (name_of a)) ∷ (codes "id", λ _. of_one key_in (natural_of a)) ∷ (codes "time", λ _. of_one time_of (natural_of a)) ∷ []
+
 -- the expression of a word and a part, which `operand` reads where it is an expression
 abbrev pub expression_of_one : (operand : Data → Option Expression) → List ℕ → Data → Option Expression
-expression_of_one operand word a = chosen (beside word
-    ((codes "not", λ _. of_one inverted (operand a)) ∷ (codes "neg", λ _. of_one negated (operand a)) ∷ (codes "key", λ _. of_one key_of (name_of a)) ∷ (codes "value", λ _. of_one value (name_of a))
-    ∷ (codes "id", λ _. of_one key_in (natural_of a)) ∷ (codes "time", λ _. of_one time_of (natural_of a)) ∷ []))
+expression_of_one operand word a = chosen (beside word (expressions_of_one operand a))
+
+abbrev pub expressions_of_two : Data → Data → Table Expression
+expressions_of_two a b =
+    (codes "of", λ _. of_two field_of (name_of a) (name_of b)) ∷ (codes "new", λ _. of_two (image_field new_image) (natural_of a) (name_of b)) ∷ (codes "old", λ _. of_two (image_field old_image) (natural_of a) (name_of b)) ∷ (codes "arg", λ _. of_two argument (natural_of a) (natural_of b)) ∷ []
 
 abbrev pub expression_of_two : (operand : Data → Option Expression) → List ℕ → Data → Data → Option Expression
 expression_of_two operand word a b =
-    option_or (option_and_then (λ op. of_two (operation op) (operand a) (operand b)) (operator_of word)) (chosen (beside word
-    ((codes "of", λ _. of_two field_of (name_of a) (name_of b)) ∷ (codes "new", λ _. of_two (image_field new_image) (natural_of a) (name_of b))
-    ∷ (codes "old", λ _. of_two (image_field old_image) (natural_of a) (name_of b)) ∷ (codes "arg", λ _. of_two argument (natural_of a) (natural_of b)) ∷ [])))
+    option_or (option_and_then (λ op. of_two (operation op) (operand a) (operand b)) (operator_of word)) (chosen (beside word (expressions_of_two a b)))
 
 abbrev pub expression_of_form : (operand : Data → Option Expression) → List ℕ → List Data → Option Expression
 expression_of_form operand word [] = expression_of_none word
@@ -75,12 +87,16 @@ expression_of_form operand word (a ∷ []) = expression_of_one operand word a
 expression_of_form operand word (a ∷ b ∷ []) = expression_of_two operand word a b
 expression_of_form operand word parts = None
 
+-- an integer of 64 bits
+abbrev pub fitting : ℤ → Option ℤ
+fitting z = if fits_64 z then Some z else None
+
 -- an expression of at most this number of levels
 unfoldable pub expression_of : ℕ → Data → Option Expression
 expression_of zero d = None
-expression_of (suc n) (number z) = option_map F.integer (as_i64 z)
+expression_of (suc n) (number z) = option_map F.integer (option_and_then fitting (as_i64 z))
 expression_of (suc n) (boolean b) = Some (F.truth b)
-expression_of (suc n) (string s) = Some (F.text s)
+expression_of (suc n) (string s) = if is_utf8 s then Some (F.text s) else None
 expression_of (suc n) d = option_and_then (λ (f : Form). expression_of_form (expression_of n) f.word f.parts) (form_of d)
 
 abbrev pub any_expression : Data → Option Expression
@@ -88,15 +104,19 @@ any_expression = expression_of 32
 
 -- ---- events
 
+abbrev pub events_of_one : Data → Table Event
+events_of_one a =
+    (codes "create", λ _. of_one (on_change creation) (name_of a)) ∷ (codes "update", λ _. of_one (on_change change) (name_of a)) ∷ (codes "delete", λ _. of_one (on_change deletion) (name_of a)) ∷ (codes "signal", λ _. of_one on_signal (name_of a)) ∷ (codes "at", λ _. of_one at_moment (natural_of a)) ∷ []
+
 abbrev pub event_of_one : List ℕ → Data → Option Event
-event_of_one word a = chosen (beside word
-    ((codes "create", λ _. of_one (on_change creation) (name_of a)) ∷ (codes "update", λ _. of_one (on_change change) (name_of a)) ∷ (codes "delete", λ _. of_one (on_change deletion) (name_of a))
-    ∷ (codes "signal", λ _. of_one on_signal (name_of a)) ∷ (codes "at", λ _. of_one at_moment (natural_of a)) ∷ []))
+event_of_one word a = chosen (beside word (events_of_one a))
+
+abbrev pub events_of_two : (part : Data → Option Event) → Data → Data → Table Event
+events_of_two part a b =
+    (codes "every", λ _. of_two every_moment (natural_of a) (natural_of b)) ∷ (codes "or", λ _. of_two or_event (part a) (part b)) ∷ (codes "seq", λ _. of_two then_event (part a) (part b)) ∷ (codes "closure", λ _. of_two closure_event (part a) (part b)) ∷ []
 
 abbrev pub event_of_two : (part : Data → Option Event) → List ℕ → Data → Data → Option Event
-event_of_two part word a b = chosen (beside word
-    ((codes "every", λ _. of_two every_moment (natural_of a) (natural_of b)) ∷ (codes "or", λ _. of_two or_event (part a) (part b)) ∷ (codes "seq", λ _. of_two then_event (part a) (part b))
-    ∷ (codes "closure", λ _. of_two closure_event (part a) (part b)) ∷ []))
+event_of_two part word a b = chosen (beside word (events_of_two part a b))
 
 abbrev pub event_of_form : (part : Data → Option Event) → List ℕ → List Data → Option Event
 event_of_form part word [] = if bytes_eq word (codes "commit") then Some on_commit else None
@@ -156,33 +176,45 @@ query_of lets d = option_and_then (λ ds. option_and_then (query_of_list lets ds
 abbrev pub assignment_of : Data → Option Assignment
 assignment_of d = option_and_then (λ (p : Data × Data). of_two (λ x e. record { field = x; value = e }) (name_of p.0) (any_expression p.1)) (pair_of d)
 
+abbrev pub rule_operations : List (List ℕ × RuleOperation)
+rule_operations = (codes "install", install) ∷ (codes "enable", enable) ∷ (codes "disable", disable) ∷ (codes "remove", remove) ∷ (codes "fire", fire) ∷ []
+
 abbrev pub rule_operation_of : List ℕ → Option RuleOperation
-rule_operation_of word = beside word ((codes "install", install) ∷ (codes "enable", enable) ∷ (codes "disable", disable) ∷ (codes "remove", remove) ∷ (codes "fire", fire) ∷ [])
+rule_operation_of word = beside word rule_operations
 
 abbrev pub statement_of_none : List ℕ → Option Statement
 statement_of_none word = beside word ((codes "abort", abort) ∷ (codes "veto", veto) ∷ [])
 
+abbrev pub statements_of_one : Data → Table Statement
+statements_of_one a =
+    (codes "emit", λ _. of_one emit (any_expression a)) ∷ (codes "veto", λ _. of_one veto_with (any_expression a)) ∷ []
+
 abbrev pub statement_of_one : List ℕ → Data → Option Statement
 statement_of_one word a =
     option_or (option_and_then (λ op. of_one (on_rule op) (name_of a)) (rule_operation_of word))
-    (chosen (beside word ((codes "emit", λ _. of_one emit (any_expression a)) ∷ (codes "veto", λ _. of_one veto_with (any_expression a)) ∷ [])))
+    (chosen (beside word (statements_of_one a)))
+
+abbrev pub statements_of_two : (inner : Data → Option Body) → Data → Data → Table Statement
+statements_of_two inner a b =
+    (codes "delete", λ _. of_two delete (name_of a) (any_expression b)) ∷ (codes "signal", λ _. of_two signal (name_of a) (list_form any_expression b)) ∷ (codes "for", λ _. of_two for_answer (name_of a) (inner b)) ∷ (codes "sub", λ _. of_two subtransaction (inner a) (inner b)) ∷ []
 
 -- `inner` reads the bodies that nest a level deeper
 abbrev pub statement_of_two : (inner : Data → Option Body) → List ℕ → Data → Data → Option Statement
-statement_of_two inner word a b = chosen (beside word
-    ((codes "delete", λ _. of_two delete (name_of a) (any_expression b)) ∷ (codes "signal", λ _. of_two signal (name_of a) (list_form any_expression b))
-    ∷ (codes "for", λ _. of_two for_answer (name_of a) (inner b)) ∷ (codes "sub", λ _. of_two subtransaction (inner a) (inner b)) ∷ []))
+statement_of_two inner word a b = chosen (beside word (statements_of_two inner a b))
+
+abbrev pub statements_of_three : (inner : Data → Option Body) → Data → Data → Data → Table Statement
+statements_of_three inner a b c =
+    (codes "create", λ _. of_three (set_object create) (name_of a) (any_expression b) (list_form assignment_of c)) ∷ (codes "update", λ _. of_three (set_object update) (name_of a) (any_expression b) (list_form assignment_of c)) ∷ (codes "if", λ _. of_three when (any_expression a) (inner b) (inner c)) ∷ (codes "let", λ _. of_three with_value (name_of a) (aggregate_of b) (inner c)) ∷ []
 
 abbrev pub statement_of_three : (inner : Data → Option Body) → List ℕ → Data → Data → Data → Option Statement
-statement_of_three inner word a b c = chosen (beside word
-    ((codes "create", λ _. of_three (set_object create) (name_of a) (any_expression b) (list_form assignment_of c))
-    ∷ (codes "update", λ _. of_three (set_object update) (name_of a) (any_expression b) (list_form assignment_of c))
-    ∷ (codes "if", λ _. of_three when (any_expression a) (inner b) (inner c)) ∷ (codes "let", λ _. of_three with_value (name_of a) (aggregate_of b) (inner c)) ∷ []))
+statement_of_three inner word a b c = chosen (beside word (statements_of_three inner a b c))
+
+abbrev pub statements_of_four : (inner : Data → Option Body) → Data → Data → Data → Data → Table Statement
+statements_of_four inner a b c d =
+    (codes "each", λ _. of_two each (rows_of a b c) (inner d)) ∷ (codes "with", λ _. option_and_then (λ x. of_three (with_object x) (name_of b) (any_expression c) (inner d)) (name_of a)) ∷ []
 
 abbrev pub statement_of_four : (inner : Data → Option Body) → List ℕ → Data → Data → Data → Data → Option Statement
-statement_of_four inner word a b c d = chosen (beside word
-    ((codes "each", λ _. of_two each (rows_of a b c) (inner d))
-    ∷ (codes "with", λ _. option_and_then (λ x. of_three (with_object x) (name_of b) (any_expression c) (inner d)) (name_of a)) ∷ []))
+statement_of_four inner word a b c d = chosen (beside word (statements_of_four inner a b c d))
 
 abbrev pub statement_of_form : (inner : Data → Option Body) → List ℕ → List Data → Option Statement
 statement_of_form inner word [] = statement_of_none word
@@ -249,8 +281,12 @@ rule_in lets ds = None
 abbrev pub rule_form : (lets : Bool) → Data → Option Rule
 rule_form lets d = option_and_then (rule_in lets) (list_of d)
 
+abbrev pub items_of_one : Data → Table Item
+items_of_one a =
+    (codes "tx", λ _. of_one transaction (any_body a)) ∷ (codes "clock", λ _. of_one clock (natural_of a)) ∷ []
+
 abbrev pub item_in : List ℕ → List Data → Option Item
-item_in word (a ∷ []) = chosen (beside word ((codes "tx", λ _. of_one transaction (any_body a)) ∷ (codes "clock", λ _. of_one clock (natural_of a)) ∷ []))
+item_in word (a ∷ []) = chosen (beside word (items_of_one a))
 item_in word parts = None
 
 unfoldable pub item_form : Data → Option Item

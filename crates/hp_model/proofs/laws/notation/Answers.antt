@@ -1,5 +1,6 @@
 use Rattle.hp_model.proofs.NotationRead.{scripts_are_read, text_has_one_meaning}
-use Rattle.hp_model.proofs.NotationValued.{values_are_read, canonical_is_fixed, lines_are_read}
+use Rattle.hp_model.proofs.NotationForms.{canonical_is_fixed}
+use Rattle.hp_model.proofs.NotationValued.{values_are_read, lines_are_read}
 use Rattle.hp_model.proofs.laws.notation.Goals as goal
 
 pub returns-clause-round_trip : goal.returns-clause-round_trip
