@@ -123,8 +123,8 @@ def made(seed):
 
 
 def written():
-    """The scripts that lie in files: the examples, and those of the tests of the tools."""
-    folders = ("examples", "examples/tutorial", "tools/tests/accepted")
+    """The examples."""
+    folders = ("examples", "examples/tutorial")
     return [path for folder in folders for path in sorted(Path(TOP, folder).glob("*.json"))]
 
 
