@@ -2,7 +2,7 @@
 
 It isn't among the tests that `unittest discover` finds, since it needs a browser. Run it from `tools` with
 
-    /usr/bin/python3 -m unittest tests.browser_test
+    python3 -m unittest tests.browser_test
 
 Without a Chromium it fails and says so. $VIEW_PICTURES names a folder for pictures of the page, for the documentation.
 """
@@ -50,8 +50,9 @@ class BrowserCase(unittest.TestCase):
         self.browser.dark(False)
 
     def tearDown(self):
-        self.assertEqual(self.browser.faults(), [])
-        self.assertEqual([url for url in self.browser.requests() if not url.startswith(("file:", "data:"))], [])
+        self.browser.evaluate("1")
+        self.assertEqual(self.browser.faults, [])
+        self.assertEqual([url for url in self.browser.requests if not url.startswith(("file:", "data:"))], [])
 
     def selected(self):
         """The line that the tree's keyboard is on, as a person reads it."""
@@ -321,12 +322,13 @@ class PicturesTest(BrowserCase):
         self.browser.size(1280, 760)
         self.browser.click(".row.top .kind", "unit 3")
         self.browser.key("*", "n")
-        self.browser.evaluate("treeBox.scrollTop = 15 * 28, document.activeElement.blur()")
-        self.browser.point(900, 700)
+        self.browser.evaluate("treeBox.scrollTop = 15 * 28; "
+                              "document.activeElement.blur()")
+        self.browser.call("Input.dispatchMouseEvent", type="mouseMoved", x=900, y=700)
         self.browser.evaluate("new Promise((done) => requestAnimationFrame(() => setTimeout(done)))")
         self.browser.picture(Path(folder, "view-tree.png"))
         self.browser.dark(True)
-        self.browser.evaluate("showObject('acct 1'), treeBox.scrollTop = 0")
+        self.browser.evaluate("showObject('acct 1'); treeBox.scrollTop = 0")
         self.browser.evaluate("new Promise((done) => requestAnimationFrame(() => setTimeout(done)))")
         self.browser.picture(Path(folder, "view-object.png"))
 
