@@ -32,7 +32,7 @@ class PageTest(DeskTest):
         self.url = f"http://127.0.0.1:{self.port + 1}/"
 
     def tearDown(self) -> None:
-        self.assertEqual(self.browser.faults(), [])
+        self.assertEqual(self.browser.faults, [])
 
     def send(self, action: str, **fields: str) -> str:
         """Fills in the form of a request, and gives what the page then says."""

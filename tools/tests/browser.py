@@ -7,13 +7,14 @@ import os
 import shutil
 import time
 from pathlib import Path
+from typing import Any
 
 from selenium import webdriver
 from selenium.webdriver.chrome.service import Service
 from selenium.webdriver.common.action_chains import ActionChains
 from selenium.webdriver.common.keys import Keys
 from selenium.webdriver.support.expected_conditions import staleness_of
-from selenium.webdriver.support.wait import WebDriverWait
+from selenium.webdriver.support.ui import WebDriverWait
 
 PACKAGES = "python3-selenium chromium-driver"
 SECONDS = 30
@@ -41,20 +42,23 @@ def options() -> webdriver.ChromeOptions:
 class Browser:
     """One page of one Chromium."""
 
-    def __init__(self) -> None:
+    def __init__(self, width: int = 1280, height: int = 800) -> None:
         driver = shutil.which("chromedriver")
         if driver is None:
             raise NoBrowser(f"Chromium's driver isn't installed; on Debian: apt-get install -y {PACKAGES}")
         self.driver = webdriver.Chrome(service=Service(driver), options=options())
         self.driver.set_script_timeout(SECONDS)
+        self.size(width, height)
 
     def close(self) -> None:
         self.driver.quit()
 
+    @property
     def faults(self) -> list[str]:
         """The errors in the page since they were asked for last."""
         return [entry["message"] for entry in self.driver.get_log("browser")]
 
+    @property
     def requests(self) -> list[str]:
         """What the page has asked for since that was asked last."""
         events = [json.loads(entry["message"])["message"] for entry in self.driver.get_log("performance")]
@@ -63,61 +67,63 @@ class Browser:
     def open(self, place: str | Path, address: str = "") -> float:
         """Opens a page by its path or its URL, and returns how many milliseconds it took to load and paint all of
         it."""
-        url = str(place) if str(place).startswith("http://") else Path(place).resolve().as_uri()
-        began = time.monotonic()
+        # Otherwise an address within the same page wouldn't load it again.
         self.driver.get("about:blank")
+        began = time.monotonic()
+        url = str(place) if str(place).startswith("http://") else Path(place).resolve().as_uri()
         self.driver.get(url + address)
-        self.evaluate("new Promise((done) => requestAnimationFrame(() => setTimeout(done)))")
-
-    def evaluate(self, expression: str):
-        """The value of an expression in the page, or of what it promises."""
-        return self.driver.execute_script(f"return await ({expression});")
-
-    def text(self, selector: str):
-        return self.evaluate(f"document.querySelector({json.dumps(selector)})?.innerText ?? null")
-
-    def click(self, selector: str, text: str | None = None) -> None:
-        """Clicks with the mouse on the first visible element that matches, with this text if one is given."""
-        found = self.evaluate(f"""(() => {{
-            const text = {json.dumps(text)};
-            const fits = (one) => one.getClientRects().length > 0 && (text === null || one.textContent.trim() === text);
-            const one = [...document.querySelectorAll({json.dumps(selector)})].find(fits);
-            one?.scrollIntoView({{ block: "nearest" }});
-            return one ?? null;
-        }})()""")
-        if found is None:
-            raise AssertionError(f"nothing to click: {selector} {text or ''}")
-        self.actions().click(found).perform()
-
-    def actions(self) -> ActionChains:
-        """What a person does, without a pause between."""
-        return ActionChains(self.driver, duration=0)
+        self._await_paint()
+        return (time.monotonic() - began) * 1000
 
     def follow(self, selector: str) -> None:
         """Clicks on what opens another page, and waits until that is loaded."""
         before = self.driver.find_element("tag name", "html")
         self.click(selector)
         WebDriverWait(self.driver, SECONDS).until(staleness_of(before))
+        WebDriverWait(self.driver, SECONDS).until(lambda _: self.evaluate("document.readyState") == "complete")
+        self._await_paint()
 
-    def point(self, x: int, y: int) -> None:
-        """Moves the mouse to a place of the page's window."""
-        actions = self.actions()
-        actions.w3c_actions.pointer_action.move_to_location(x, y)
-        actions.perform()
+    def _await_paint(self) -> None:
+        self.evaluate("new Promise((done) => requestAnimationFrame(() => setTimeout(done)))")
+
+    def call(self, method: str, **parameters: Any) -> Any:
+        """Calls a method of Chromium's DevTools."""
+        return self.driver.execute_cdp_cmd(method, parameters)
+
+    def evaluate(self, expression: str) -> Any:
+        """The value of an expression in the page, or of what it promises."""
+        answer = self.call("Runtime.evaluate", expression=expression, returnByValue=True, awaitPromise=True)
+        if "exceptionDetails" in answer:
+            raise AssertionError(f"{expression}: {answer['exceptionDetails']}")
+        return answer["result"].get("value")
+
+    def text(self, selector: str) -> Any:
+        return self.evaluate(f"document.querySelector({json.dumps(selector)})?.innerText ?? null")
+
+    def click(self, selector: str, text: str | None = None) -> None:
+        """Clicks with the mouse on the first visible element that matches, with this text if one is given."""
+        found = self.driver.execute_script(f"""
+            const text = {json.dumps(text)};
+            const fits = (one) => one.getClientRects().length > 0 && (text === null || one.textContent.trim() === text);
+            const one = [...document.querySelectorAll({json.dumps(selector)})].find(fits);
+            one?.scrollIntoView({{ block: "nearest" }});
+            return one ?? null;""")
+        if found is None:
+            raise AssertionError(f"nothing to click: {selector} {text or ''}")
+        ActionChains(self.driver, duration=0).click(found).perform()
 
     def key(self, *keys: str) -> None:
-        self.actions().send_keys(*(KEYS.get(key, key) for key in keys)).perform()
+        ActionChains(self.driver).send_keys(*(KEYS.get(key, key) for key in keys)).perform()
 
     def type(self, text: str) -> None:
         self.key(*text)
 
     def dark(self, is_dark: bool) -> None:
         scheme = {"name": "prefers-color-scheme", "value": "dark" if is_dark else "light"}
-        self.driver.execute_cdp_cmd("Emulation.setEmulatedMedia", {"features": [scheme]})
+        self.call("Emulation.setEmulatedMedia", features=[scheme])
 
     def size(self, width: int, height: int) -> None:
-        measures = {"width": width, "height": height, "deviceScaleFactor": 1, "mobile": False}
-        self.driver.execute_cdp_cmd("Emulation.setDeviceMetricsOverride", measures)
+        self.call("Emulation.setDeviceMetricsOverride", width=width, height=height, deviceScaleFactor=1, mobile=False)
 
     def picture(self, path: str | Path) -> None:
         self.driver.save_screenshot(str(path))
