@@ -21,7 +21,7 @@ from .browser import Browser
 from .large_script import UNITS, large_script
 from .made_scripts import TEXTS
 from .test_report import EXAMPLES
-from .trials import followed
+from .trials import REPOSITORY, followed
 
 MOST_MILLISECONDS = 2_000
 MOST_ELEMENTS = 2_500
@@ -87,7 +87,9 @@ class ExamplesTest(BrowserCase):
         self.browser.click(".row.top .kind", "unit 3")
         self.assertIn("aborted A9 solvent", self.selected())
         self.assertIn("Rule solvent vetoed", self.selected())
-        self.assertIn("It was triggered by update acct 1 (bal 70 -> -1) at /items/2/1/0", self.panel("details"))
+        self.assertIn("It was triggered by update acct 1 (bal 70 -> -1) at line ", self.panel("details"))
+        self.assertEqual(self.browser.text("#note"), "The script is on one line: lines and columns are those that "
+                                                     "python3 -m json.tool gives it.")
         self.browser.key("ArrowRight")
         self.assertIn("bal=-1 limit=0 undone", self.selected())
         self.assertIn("undone", self.browser.evaluate("document.querySelector('.row.selected').className"))
@@ -159,6 +161,23 @@ class ExamplesTest(BrowserCase):
                 return self.browser.key("Enter")
         self.fail(f"no way by Tab to {text}")
 
+    def test_a_unit_that_committed_with_a_fault_says_so(self):
+        script = json.loads((REPOSITORY / "examples" / "tutorial" / "04-fault-wrong.json").read_text(encoding="utf-8"))
+        script["items"].append(["tx", [["create", "order", 2, [["customer", 1], ["product", 1], ["count", 1]]]]])
+        self.browser.open(page_of(script, self.folder.name, "fault")[0])
+        self.assertIn("3 committed \u00b7 0 aborted \u00b7 1 with faults", self.browser.text("#summary"))
+        self.browser.click("#show-faults")
+        self.assertEqual(self.browser.evaluate("document.querySelectorAll('.row.top').length"), 1)
+        self.browser.click(".row.top .kind", "unit 2")
+        self.assertIn("committed faults Though it committed, the condition of rule credit", self.selected())
+        self.assertIn("30 * 400000000000000000 is outside 64 bits. So credit didn't veto.", self.panel("details"))
+        self.browser.key("n")
+        self.assertIn("fire credit immediate fault A4 none", self.selected())
+        self.browser.click("#show-all")
+        self.assertEqual(self.browser.evaluate("document.querySelectorAll('.row.top').length"), 3)
+        self.page("constraint")
+        self.assertTrue(self.browser.evaluate("document.getElementById('show-faults').hidden"))
+
     def test_the_graph_opens_rules(self):
         self.page("workflow")
         self.browser.key("4")
@@ -174,7 +193,7 @@ class ExamplesTest(BrowserCase):
         rows = self.browser.evaluate("[...document.querySelectorAll('.row')].map((row) => row.innerText)")
         lines = [re.sub(r"\s+", " ", row) for row in rows]
         place = next(at for at, line in enumerate(lines) if line.startswith("dependent operator committed"))
-        self.assertIn("Triggered by signal burst [2] at /rules/3/5/0/2/0, in the action of rule burst", lines[place])
+        self.assertRegex(lines[place], r"Triggered by signal burst \[2\] at line \d+:\d+, in the action of rule burst")
 
     def test_every_control_has_a_name_and_the_tree_says_what_it_is(self):
         self.page("workflow")
@@ -202,11 +221,85 @@ class ExamplesTest(BrowserCase):
                     self.assertGreaterEqual(self.browser.evaluate(CONTRAST % json.dumps(style)), 4.5, style)
 
     def test_a_narrow_window_shows_both_parts_without_sideways_scrolling(self):
+        for width, height in ((400, 800), (390, 844), (500, 800), (390, 500)):
+            self.browser.size(width, height)
+            self.page("constraint")
+            self.assertEqual(self.browser.evaluate("document.documentElement.scrollWidth"), width)
+            self.browser.click(".row.top .kind", "unit 1")
+            self.assertIn("Within it", self.panel("details"))
+
+    def test_at_390_pixels_the_tree_and_the_details_are_in_view(self):
+        self.browser.size(390, 844)
         self.page("constraint")
-        self.browser.size(400, 800)
-        self.assertEqual(self.browser.evaluate("document.documentElement.scrollWidth"), 400)
-        self.browser.click(".row.top .kind", "unit 1")
-        self.assertIn("Within it", self.panel("details"))
+        self.browser.click(".row.top .kind", "unit 3")
+        for selector, least in (("#tree", 200), ("#panel-details", 300)):
+            top, bottom = self.browser.evaluate(f"""(() => {{
+                const box = document.querySelector("{selector}").getBoundingClientRect();
+                return [box.top, box.bottom]; }})()""")
+            self.assertGreaterEqual(bottom - top, least, selector)
+            self.assertLessEqual(bottom, 844, selector)
+        self.assertEqual(self.browser.evaluate("document.documentElement.scrollHeight"), 844)
+
+    def test_at_500_pixels_the_graph_has_the_room_and_is_fitted(self):
+        self.browser.size(500, 800)
+        self.page("workflow")
+        self.browser.key("4")
+        width, height, wide = self.browser.evaluate("[graph.clientWidth, graph.clientHeight, graph.scrollWidth]")
+        self.assertEqual((width, wide), (500, 500))
+        self.assertGreater(height, 500)
+        self.browser.key("Escape")
+        self.assertEqual(self.focus(), "tree")
+        self.assertGreater(self.browser.evaluate("treeBox.clientHeight"), 150)
+        self.browser.key("4")
+        self.browser.evaluate("choose(nodes.length - 1, true)")
+        top, bottom = self.browser.evaluate("""(() => {
+            const [row, box] = [".row.selected", "#tree"].map((one) => document.querySelector(one));
+            return [row, box].map((one) => one.getBoundingClientRect().bottom); })()""")
+        self.assertLessEqual(top, bottom + 1)
+
+    def test_the_graph_stays_fitted_until_it_is_made_larger(self):
+        self.page("workflow")
+        self.browser.key("4")
+        picture = "document.querySelector('#graph svg').getBoundingClientRect().width"
+        for width in (1280, 1000, 1280):
+            self.browser.size(width, 800)
+            self.browser.evaluate("new Promise((done) => requestAnimationFrame(() => setTimeout(done)))")
+            self.assertLessEqual(self.browser.evaluate("graph.scrollWidth - graph.clientWidth"), 0)
+        fitted = self.browser.evaluate(picture)
+        for _ in range(6):
+            self.browser.click("#larger")
+        larger = self.browser.evaluate(picture)
+        self.assertGreater(larger, 3 * fitted)
+        self.assertGreater(self.browser.evaluate("graph.scrollWidth - graph.clientWidth"), 0)
+        self.browser.key("1", "4")
+        self.assertAlmostEqual(self.browser.evaluate(picture), larger, delta=1)
+        self.browser.click("#fit")
+        self.assertAlmostEqual(self.browser.evaluate(picture), fitted, delta=1)
+
+    def test_the_graph_follows_the_dark_mode(self):
+        for name in ("workflow", "alarm", "constraint"):
+            self.page(name)
+            self.browser.key("4")
+            for is_dark in (False, True):
+                self.browser.dark(is_dark)
+                with self.subTest(page=name, dark=is_dark):
+                    for selector, colour, least in (("text", "fill", 4.5), ("path[stroke]", "stroke", 3)):
+                        count = self.browser.evaluate(f"document.querySelectorAll('#graph svg {selector}').length")
+                        self.assertGreater(count, 1)
+                        for at in range(count):
+                            contrast = self.browser.evaluate(DRAWN_CONTRAST % (selector, at, colour))
+                            self.assertGreaterEqual(contrast, least, (selector, at))
+
+    def test_a_transaction_that_only_signals_shows_its_signals(self):
+        script = {"version": 1, "classes": [], "rules": [], "items": [
+            ["tx", [["signal", "paid", [1, "x"]], ["sub", [["signal", "packed", []]], []]]],
+            ["tx", [["signal", "paid", [2]]]]]}
+        self.browser.open(page_of(script, self.folder.name, "signals", json.dumps(script, indent=1))[0])
+        self.browser.click(".row.top .kind", "unit 2")
+        self.assertRegex(self.selected(), r"^unit 2 committed Signal paid \[2\]\.$")
+        self.assertRegex(self.panel("details"), r"Signals\s+Signal paid \[2\] \(at line \d+:\d+\)\.")
+        self.browser.click(".row .kind", "sub")
+        self.assertRegex(self.selected(), r"^sub committed Signal packed \[\]\.$")
 
 
 READ = (".chip.bad", ".chip.good", ".chip.warn", ".chip", ".kind", ".name", ".reason", "#summary")
@@ -220,6 +313,17 @@ CONTRAST = """(() => {
     .reduce((sum, part, at) => sum + part * [0.2126, 0.7152, 0.0722][at], 0);
   const behind = getComputedStyle(ground ?? document.body).backgroundColor;
   const both = [light(parse(getComputedStyle(one).color)), light(parse(behind))];
+  return (Math.max(...both) + 0.05) / (Math.min(...both) + 0.05);
+})()"""
+
+
+DRAWN_CONTRAST = """(() => {
+  const one = document.querySelectorAll("#graph svg %s")[%d];
+  const parse = (text) => text.match(/[\\d.]+/g).map(Number);
+  const light = ([red, green, blue]) => [red, green, blue].map((part) => part / 255)
+    .map((part) => (part <= 0.03928 ? part / 12.92 : ((part + 0.055) / 1.055) ** 2.4))
+    .reduce((sum, part, at) => sum + part * [0.2126, 0.7152, 0.0722][at], 0);
+  const both = [light(parse(getComputedStyle(one).%s)), light(parse(getComputedStyle(byId("graph")).backgroundColor))];
   return (Math.max(...both) + 0.05) / (Math.min(...both) + 0.05);
 })()"""
 
@@ -319,18 +423,23 @@ class PicturesTest(BrowserCase):
         path = next(path for path in EXAMPLES if path.name == "constraint.json")
         text = path.read_text(encoding="utf-8")
         self.browser.open(page_of(json.loads(text), self.folder.name, "constraint", text)[0])
-        self.browser.size(1280, 760)
+        self.browser.size(1200, 760)
         self.browser.click(".row.top .kind", "unit 3")
         self.browser.key("*", "n")
-        self.browser.evaluate("treeBox.scrollTop = 15 * 28; "
-                              "document.activeElement.blur()")
-        self.browser.call("Input.dispatchMouseEvent", type="mouseMoved", x=900, y=700)
-        self.browser.evaluate("new Promise((done) => requestAnimationFrame(() => setTimeout(done)))")
-        self.browser.picture(Path(folder, "view-tree.png"))
+        self.take(folder, "view-tree.png", "treeBox.scrollTop = 15 * 28; document.activeElement.blur()")
         self.browser.dark(True)
-        self.browser.evaluate("showObject('acct 1'); treeBox.scrollTop = 0")
+        self.take(folder, "view-object.png", "showObject('acct 1'); treeBox.scrollTop = 0")
+        self.browser.size(390, 760)
+        self.take(folder, "view-narrow-graph.png", "showTab('graph')")
+        self.browser.dark(False)
+        self.take(folder, "view-narrow.png", "choose(nodes.findIndex((node, at) => isAborted(at)) + 4, false)")
+
+    def take(self, folder, name, first):
+        """A picture after these steps, with the mouse out of the way."""
+        self.browser.evaluate(first)
+        self.browser.call("Input.dispatchMouseEvent", type="mouseMoved", x=380, y=755)
         self.browser.evaluate("new Promise((done) => requestAnimationFrame(() => setTimeout(done)))")
-        self.browser.picture(Path(folder, "view-object.png"))
+        self.browser.picture(Path(folder, name))
 
 
 if __name__ == "__main__":

@@ -3,3 +3,4 @@ pub mod Least
 pub mod Marks
 pub mod Reaching
 pub mod Within
+pub mod Witnessed

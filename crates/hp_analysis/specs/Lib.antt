@@ -2,4 +2,5 @@ pub mod Listeners
 pub mod Sets
 pub mod Reached
 pub mod Tables
+pub mod Witness
 pub mod Checking

@@ -13,9 +13,9 @@ use std::alloc::{AllocError, Global};
 /// The triggering graph of a library: which rules a firing of each rule may trigger, whatever the state is.
 #[derive(Debug, Drop)]
 pub struct Graph<'a> {
-    triggers: Triggers<'a>,
+    pub(crate) triggers: Triggers<'a>,
     // For each rule the rules that a firing of it may trigger.
-    after: Vec<Vec<bool>>,
+    pub(crate) after: Vec<Vec<bool>>,
     ghost edges: { map (λ (set : Vec Bool). set.items) after.items
         ≡ map (targets (libraries.library triggers.library.now)) (libraries.library triggers.library.now).rules },
 }
@@ -40,7 +40,12 @@ impl<'a> Graph<'a> {
     }
 
     /// Which rules begin no chain of more than k + 1 firings, by those that begin none of more than k.
-    fn next_table(&self, alloc: Global, k: u8, table: &[bool]) -> Result<Vec<bool>, AllocError>
+    pub(crate) fn next_table(
+        &self,
+        alloc: Global,
+        k: u8,
+        table: &[bool],
+    ) -> Result<Vec<bool>, AllocError>
         requires { table.now ≡ within (libraries.library self.now.triggers.library.now) k }
         ensures { IfOk result (λ next. next.items ≡ within (libraries.library self.now.triggers.library.now) (k + 1)) }
     {
@@ -89,7 +94,7 @@ impl<'a> Graph<'a> {
     }
 
     /// The rules that the units' own transactions may trigger.
-    fn begun(&self, alloc: Global, units: &[Unit]) -> Result<Vec<bool>, AllocError>
+    pub(crate) fn begun(&self, alloc: Global, units: &[Unit]) -> Result<Vec<bool>, AllocError>
         ensures { IfOk result (λ set. set.items ≡ begun (libraries.library self.now.triggers.library.now)
             (map unit units.now) (map (λ r. false) (libraries.library self.now.triggers.library.now).rules)) }
     {

@@ -4,6 +4,7 @@
 //! of their length is good for, and `hp_model::laws::others_never_fire` what a set of rules that can be reached is.
 #![tactic(auto)]
 
+mod chain;
 mod forms;
 mod graph;
 pub mod laws;
