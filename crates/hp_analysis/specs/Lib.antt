@@ -1,1 +1,10 @@
+pub mod Declarations
+pub mod Findings
+pub mod KindLaws
+pub mod Kinded
+pub mod Parts
 pub mod Passing
+pub mod Placed
+pub mod Places
+pub mod Readings
+pub mod Scopes
