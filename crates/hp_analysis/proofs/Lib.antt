@@ -4,3 +4,10 @@ pub mod Marks
 pub mod Reaching
 pub mod Within
 pub mod Witnessed
+pub mod Judging
+pub mod Keeping
+pub mod LastQueries
+pub mod Lengths
+pub mod Passed
+pub mod Placing
+pub mod Signatures

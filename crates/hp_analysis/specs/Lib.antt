@@ -4,3 +4,13 @@ pub mod Reached
 pub mod Tables
 pub mod Witness
 pub mod Checking
+pub mod Declarations
+pub mod Findings
+pub mod KindLaws
+pub mod Kinded
+pub mod Parts
+pub mod Passing
+pub mod Placed
+pub mod Places
+pub mod Readings
+pub mod Scopes

@@ -1,12 +1,15 @@
-//! What the rules of a library promise before they run: how deep their firings nest, and which rules can fire.
+//! What the rules of a library promise before they run: how deep their firings nest, which rules can fire, and whether
+//! each value is used as what it is.
 //!
 //! `hp_model/specs/Chains.antt` defines the triggering graph and its chains; `hp_model::laws::chains` says what a bound
 //! of their length is good for, and `hp_model::laws::others_never_fire` what a set of rules that can be reached is.
+//! `Kinds.antt` defines the judgement of kinds, and `hp_model::laws::kinds` says what an accepted library never meets.
 #![tactic(auto)]
 
 mod chain;
 mod forms;
 mod graph;
+mod kinds;
 pub mod laws;
 mod listeners;
 mod numbers;
@@ -14,3 +17,8 @@ mod sets;
 mod triggers;
 
 pub use graph::Graph;
+pub use kinds::check::{check_library, check_unit, is_kinded, is_library_kinded, is_unit_kinded};
+pub use kinds::declaration::Declaration;
+pub use kinds::finding::{Finding, KindError, Reason, Wanted};
+pub use kinds::infer::{Inferred, UnknownArgument, infer};
+pub use kinds::sort::Sort;

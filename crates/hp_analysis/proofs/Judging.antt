@@ -1,0 +1,505 @@
+-- The checks of kinds pass exactly where the judgement holds.
+use Rattle.std.proofs.Common.{◌≡◌, refl, sym, ap, ap₂, ◌∙◌, ℕ, suc, Bool, true, false, ◌&&◌, List, [], ◌∷◌, ◌++◌, Option, Some, None, Result, Ok, Err}
+use Rattle.std.specs.Prelude.{⊤, ◌||◌, bytes_eq, slice_get, is_some, option_map, unwrap_or, if◌then◌else◌}
+use Rattle.std.specs.Bool.{then_some}
+use Rattle.std.specs.Map.{lookup}
+use Rattle.hp_model.specs.Values.{Name, Kind, integer_kind, boolean_kind, text_kind, is_kind, Field, ◌>>=◌}
+use Rattle.hp_model.specs.Events.{Pattern, on_create, on_update, on_delete, on_signal, at_moment, every_moment}
+use Rattle.hp_model.specs.Expressions.{Comparison, equal, unequal, less, at_most, greater, at_least, Expression, constant, arithmetic, negated, inverted, both, either, compared, field_of, key_of, new_field, old_field, key_in, argument, time_of, occurrence_count}
+use Rattle.hp_model.specs.Rules.{Query, Assignment, Statement, create, update, delete, signal, emit, when, each, for_answer, with_object, subtransaction, abort, veto, on_rule, fire, Body, empty, ◌then◌, Rule, Library, class_at}
+use Rattle.hp_model.specs.Firing.{kind_in}
+use Rattle.hp_model.specs.Cascade.{Unit, transaction, moment}
+use Rattle.hp_model.specs.Refusals.{Path, under_root, item_at}
+use Rattle.hp_model.specs.Kinds as K
+use Rattle.hp_model.specs.Kinds.{Sort, only, any, Declared, signature_of, is_fired, Columns, columns_by, Scope, with_name, no_scope, is_only, meets, meet, only_if, common, all_assigned, assignments_kinded, arguments_kinded, statement_kinded, body_kinded, queries_kinded, with_queries, query_classes, rules_kinded, library_kinded, unit_kinded, is_given, gives_sort, sort_of}
+use Rattle.hp_analysis.specs.declared.kinds.finding.KindError.{KindError}
+use Rattle.hp_analysis.specs.declared.kinds.finding.KindError.TheVariants.{Found, Memory}
+use Rattle.hp_analysis.specs.Kinded.{Passes, Judges}
+use Rattle.hp_analysis.specs.Findings as F
+use Rattle.hp_analysis.specs.Findings.{Wanted, Reason, Reasoned, Judged, refused, placed, reasoned, suits, demanded, operand_sort, operands_sort, alike_check, ordered_check, comparable_check, comparison_sort, Reading, read_new, read_old, read_key, read_argument, read_time, argument_sort, read_sort, sort_with, sort_among, sort_at, row_field_sort, row_key_sort, count_sort, expression_check, kind_check, each_check, assignment_check, assignments_check, update_check, create_check, none_missing, next_demand, later_demands, argument_check, arguments_check, emission_check, query_known, both_check, own_check, statement_check, body_check, asked_scope, query_check, condition_check, action_check, parts_check, rule_check, rules_check, library_check, unit_check, unset_field, no_such_field, no_such_argument, unknown_row, not_fired}
+
+-- ---- results
+
+abbrev pub value_in : {A E : Type 0} → Result A E → Option A
+value_in (Ok x) = Some x
+value_in (Err e) = None
+
+abbrev pub passes : {E : Type 0} → Result ⊤ E → Bool
+passes (Ok u) = true
+passes (Err e) = false
+
+then_passes : {E : Type 0} (a b : Result ⊤ E) → passes (a >>= λ _. b) ≡ (passes a && passes b)
+then_passes (Ok u) b = refl
+then_passes (Err e) b = refl
+
+both_pass : {E : Type 0} (a b : Result ⊤ E) (x y : Bool) → passes a ≡ x → passes b ≡ y → passes (a >>= λ _. b) ≡ (x && y)
+both_pass a b x y e f = then_passes a b ∙ ap₂ (λ u v. u && v) e f
+
+abbrev pub chosen : Bool → Path → Reason → Judged ⊤
+chosen b path reason = if b then Ok tt else refused path reason
+
+choice : (b : Bool) (path : Path) (reason : Reason) → passes (chosen b path reason) ≡ b
+choice true path reason = refl
+choice false path reason = refl
+
+-- ---- sorts
+
+each_kind : (P : Kind → Type 0) → P integer_kind → P boolean_kind → P text_kind → (k : Kind) → P k
+each_kind P i b t integer_kind = i
+each_kind P i b t boolean_kind = b
+each_kind P i b t text_kind = t
+
+meets_only : (k l m : Kind) → meets (meets (only k) (only l)) (only m) ≡ meets (only k) (meets (only l) (only m))
+meets_only k l m =
+    let P : Kind → Kind → Kind → Type 0 = λ k l m. meets (meets (only k) (only l)) (only m) ≡ meets (only k) (meets (only l) (only m)) in
+    each_kind (λ k. P k l m)
+    (each_kind (λ l. P integer_kind l m) (each_kind (P integer_kind integer_kind) refl refl refl m) (each_kind (P integer_kind boolean_kind) refl refl refl m) (each_kind (P integer_kind text_kind) refl refl refl m) l)
+    (each_kind (λ l. P boolean_kind l m) (each_kind (P boolean_kind integer_kind) refl refl refl m) (each_kind (P boolean_kind boolean_kind) refl refl refl m) (each_kind (P boolean_kind text_kind) refl refl refl m) l)
+    (each_kind (λ l. P text_kind l m) (each_kind (P text_kind integer_kind) refl refl refl m) (each_kind (P text_kind boolean_kind) refl refl refl m) (each_kind (P text_kind text_kind) refl refl refl m) l)
+    k
+
+only_if_any : (b : Bool) (k : Kind) → meets (only_if b k) any ≡ any
+only_if_any true k = refl
+only_if_any false k = refl
+
+meets_assoc : (s t u : Sort) → meets (meets s t) u ≡ meets s (meets t u)
+meets_assoc any t u = refl
+meets_assoc (only k) any u = refl
+meets_assoc (only k) (only l) any = only_if_any (is_kind k l) k
+meets_assoc (only k) (only l) (only m) = meets_only k l m
+
+meet_assoc : (s t : Sort) (o : Option Sort) → meet (Some (meets s t)) o ≡ meet (Some s) (meet (Some t) o)
+meet_assoc s t None = refl
+meet_assoc s t (Some u) = ap Some (meets_assoc s t u)
+
+-- an operand, and an operator that gives the same kind
+operand_given : (k : Kind) (path : Path) (r : Judged Sort) → value_in (operand_sort k path r) ≡ then_some (is_only k (value_in r)) (only k)
+unfolding operand_sort
+operand_given k path (Err e) = refl
+operand_given k path (Ok s) = by (is_only k (Some s))
+  where
+    by : (b : Bool) → value_in (chosen b path (F.unsuited (F.of_kind k) s) >>= λ _. Ok (only k)) ≡ then_some b (only k)
+    by true = refl
+    by false = refl
+
+is_given_only : (k : Kind) → is_only k (Some (only k)) ≡ true
+is_given_only integer_kind = refl
+is_given_only boolean_kind = refl
+is_given_only text_kind = refl
+
+after_given : (b : Bool) (k : Kind) (a c : Judged Sort) (x : Bool) → value_in a ≡ then_some b (only k) → value_in c ≡ then_some x (only k) → value_in (a >>= λ _. c) ≡ then_some (b && x) (only k)
+after_given true k (Ok s) c x e f = f
+after_given false k (Err r) c x e f = refl
+after_given true k (Err r) c x e f = cc
+after_given false k (Ok s) c x e f = cc
+
+operands_given : (k : Kind) (path : Path) (a b : Judged Sort) → value_in (operands_sort k path a b) ≡ then_some (is_only k (value_in a) && is_only k (value_in b)) (only k)
+unfolding operands_sort
+operands_given k path a b =
+    after_given (is_only k (value_in a)) k (operand_sort k (item_at path 1) a) (operand_sort k (item_at path 2) b) (is_only k (value_in b))
+    (operand_given k (item_at path 1) a) (operand_given k (item_at path 2) b)
+
+suits_given : (k l : Kind) (path : Path) (s : Sort) → value_in (suits k path s >>= λ _. Ok (only l)) ≡ then_some (is_only k (Some s)) (only l)
+suits_given k l path s = by (is_only k (Some s))
+  where
+    by : (b : Bool) → value_in (chosen b path (F.unsuited (F.of_kind k) s) >>= λ _. Ok (only l)) ≡ then_some b (only l)
+    by true = refl
+    by false = refl
+
+or_false : (b : Bool) → (b || false) ≡ b
+or_false true = refl
+or_false false = refl
+
+alike_given : (path : Path) (s t : Sort) → value_in (alike_check path s t >>= λ _. Ok (only boolean_kind)) ≡ then_some (K.are_alike (Some s) (Some t)) (only boolean_kind)
+alike_given path any t = refl
+alike_given path (only k) t = suits_given k boolean_kind (item_at path 2) t
+
+ordered_given : (path : Path) (s t : Sort) → value_in (ordered_check path s t >>= λ _. Ok (only boolean_kind)) ≡ then_some (K.are_ordered (Some s) (Some t)) (only boolean_kind)
+ordered_given path any t = refl
+ordered_given path (only integer_kind) t = suits_given integer_kind boolean_kind (item_at path 2) t ∙ ap (λ b. then_some b (only boolean_kind)) (sym (or_false (is_only integer_kind (Some t))))
+ordered_given path (only boolean_kind) t = refl
+ordered_given path (only text_kind) t = suits_given text_kind boolean_kind (item_at path 2) t
+
+ordered_none : (o : Option Sort) → K.are_ordered o None ≡ false
+ordered_none None = refl
+ordered_none (Some any) = refl
+ordered_none (Some (only integer_kind)) = refl
+ordered_none (Some (only boolean_kind)) = refl
+ordered_none (Some (only text_kind)) = refl
+
+alike_none : (o : Option Sort) → K.are_alike o None ≡ false
+alike_none None = refl
+alike_none (Some any) = refl
+alike_none (Some (only k)) = refl
+
+comparison_given : (op : Comparison) (path : Path) (a b : Judged Sort) → value_in (comparison_sort op path a b) ≡ then_some (K.are_comparable op (value_in a) (value_in b)) (only boolean_kind)
+unfolding comparison_sort
+comparison_given equal path (Err e) b = refl
+comparison_given unequal path (Err e) b = refl
+comparison_given less path (Err e) b = refl
+comparison_given at_most path (Err e) b = refl
+comparison_given greater path (Err e) b = refl
+comparison_given at_least path (Err e) b = refl
+comparison_given equal path (Ok s) (Err e) = ap (λ b. then_some b (only boolean_kind)) (sym (alike_none (Some s)))
+comparison_given unequal path (Ok s) (Err e) = ap (λ b. then_some b (only boolean_kind)) (sym (alike_none (Some s)))
+comparison_given less path (Ok s) (Err e) = ap (λ b. then_some b (only boolean_kind)) (sym (ordered_none (Some s)))
+comparison_given at_most path (Ok s) (Err e) = ap (λ b. then_some b (only boolean_kind)) (sym (ordered_none (Some s)))
+comparison_given greater path (Ok s) (Err e) = ap (λ b. then_some b (only boolean_kind)) (sym (ordered_none (Some s)))
+comparison_given at_least path (Ok s) (Err e) = ap (λ b. then_some b (only boolean_kind)) (sym (ordered_none (Some s)))
+comparison_given equal path (Ok s) (Ok t) = alike_given path s t
+comparison_given unequal path (Ok s) (Ok t) = alike_given path s t
+comparison_given less path (Ok s) (Ok t) = ordered_given path s t
+comparison_given at_most path (Ok s) (Ok t) = ordered_given path s t
+comparison_given greater path (Ok s) (Ok t) = ordered_given path s t
+comparison_given at_least path (Ok s) (Ok t) = ordered_given path s t
+
+-- ---- parts
+
+placed_given : {A : Type 0} (path : Path) (r : Reasoned A) → value_in (placed path r) ≡ value_in r
+placed_given path (Ok x) = refl
+placed_given path (Err e) = refl
+
+reasoned_given : {A : Type 0} (why : Reason) (o : Option A) → value_in (reasoned why o) ≡ o
+reasoned_given why None = refl
+reasoned_given why (Some x) = refl
+
+field_given : (library : Library) (class : ℕ) (f : Name) → value_in (F.field_sort library class f) ≡ K.field_sort library class f
+field_given library class f = by (kind_in (class_at library class).fields f)
+  where
+    by : (o : Option Kind) → value_in (reasoned no_such_field o >>= λ k. Ok (only k)) ≡ option_map only o
+    by None = refl
+    by (Some k) = refl
+
+-- the test of the judgement for a reading
+abbrev pub test_of : Library → Declared → Reading → Pattern → Option Sort
+test_of library d (read_new f) = K.new_sort library f
+test_of library d (read_old f) = K.old_sort library f
+test_of library d read_key = K.key_sort
+test_of library d (read_argument j) = K.argument_sort d j
+test_of library d read_time = K.moment_sort
+
+read_given : (library : Library) (d : Declared) (reading : Reading) (p : Pattern) → value_in (read_sort library d reading p) ≡ test_of library d reading p
+read_given library d (read_new f) (on_create c) = field_given library c f
+read_given library d (read_new f) (on_update c) = field_given library c f
+read_given library d (read_new f) p = refl
+read_given library d (read_old f) (on_update c) = field_given library c f
+read_given library d (read_old f) (on_delete c) = field_given library c f
+read_given library d (read_old f) p = refl
+read_given library d read_key (on_create c) = refl
+read_given library d read_key (on_update c) = refl
+read_given library d read_key (on_delete c) = refl
+read_given library d read_key p = refl
+read_given library d (read_argument j) (on_signal s) = reasoned_given no_such_argument (slice_get (signature_of d s) j)
+read_given library d (read_argument j) p = refl
+read_given library d read_time (at_moment t) = refl
+read_given library d read_time (every_moment first period) = refl
+read_given library d read_time p = refl
+
+module _ (read : Pattern → Reasoned Sort) (test : Pattern → Option Sort) (same : (p : Pattern) → value_in (read p) ≡ test p) where
+  among_with : (s : Sort) (p : Pattern) (ps : List Pattern) → value_in (sort_with read s (p ∷ ps)) ≡ meet (Some s) (common test (p ∷ ps))
+  among_with s p [] = by (read p) (test p) (same p)
+    where
+      by : (r : Reasoned Sort) (o : Option Sort) → value_in r ≡ o → value_in (r >>= λ t. Ok (meets s t)) ≡ meet (Some s) o
+      by (Ok t) o e = ap (meet (Some s)) e
+      by (Err r) o e = ap (meet (Some s)) e
+  among_with s p (q ∷ ps) = by (λ t. among_with (meets s t) q ps) (read p) (test p) (same p)
+    where
+      by : ((t : Sort) → value_in (sort_with read (meets s t) (q ∷ ps)) ≡ meet (Some (meets s t)) (common test (q ∷ ps))) → (r : Reasoned Sort) (o : Option Sort) → value_in r ≡ o → value_in (r >>= λ t. sort_with read (meets s t) (q ∷ ps)) ≡ meet (Some s) (meet o (common test (q ∷ ps)))
+      by later (Ok t) o e = later t ∙ meet_assoc s t (common test (q ∷ ps)) ∙ ap (λ u. meet (Some s) (meet u (common test (q ∷ ps)))) e
+      by later (Err r) o e = ap (λ u. meet (Some s) (meet u (common test (q ∷ ps)))) e
+
+  among_given : (ps : List Pattern) → value_in (sort_among read ps) ≡ common test ps
+  among_given [] = refl
+  among_given (p ∷ []) = by (read p) (test p) (same p)
+    where
+      by : (r : Reasoned Sort) (o : Option Sort) → value_in r ≡ o → value_in (r >>= λ s. Ok s) ≡ o
+      by (Ok t) o e = e
+      by (Err r) o e = e
+  among_given (p ∷ q ∷ ps) = by (read p) (test p) (same p)
+    where
+      by : (r : Reasoned Sort) (o : Option Sort) → value_in r ≡ o → value_in (r >>= λ s. sort_with read s (q ∷ ps)) ≡ meet o (common test (q ∷ ps))
+      by (Ok s) o e = among_with s q ps ∙ ap (λ u. meet u (common test (q ∷ ps))) e
+      by (Err r) o e = ap (λ u. meet u (common test (q ∷ ps))) e
+
+  at_given : (o : Option (List Pattern)) → value_in (sort_at read o) ≡ K.common_at test o
+  at_given None = refl
+  at_given (Some ps) = among_given ps
+
+part_given : (library : Library) (d : Declared) (o : Option Columns) (i : ℕ) (reading : Reading) → value_in (F.part_sort library d o i reading) ≡ K.part_sort o i (test_of library d reading)
+part_given library d None i reading = refl
+part_given library d (Some c) i reading = at_given (read_sort library d reading) (test_of library d reading) (read_given library d reading) (slice_get c.places i)
+
+-- ---- expressions
+
+row_field_given : (library : Library) (scope : Scope) (x f : Name) → value_in (row_field_sort library scope x f) ≡ K.named_sort library (lookup (bytes_eq x) scope.rows) f
+unfolding row_field_sort
+row_field_given library scope x f = by (lookup (bytes_eq x) scope.rows)
+  where
+    by : (o : Option ℕ) → value_in (reasoned unknown_row o >>= λ class. F.field_sort library class f) ≡ K.named_sort library o f
+    by None = refl
+    by (Some class) = field_given library class f
+
+row_key_given : (scope : Scope) (x : Name) → value_in (row_key_sort scope x) ≡ then_some (is_some (lookup (bytes_eq x) scope.rows)) (only integer_kind)
+unfolding row_key_sort
+row_key_given scope x = by (lookup (bytes_eq x) scope.rows)
+  where
+    by : (o : Option ℕ) → value_in (reasoned unknown_row o >>= λ _. Ok (only integer_kind)) ≡ then_some (is_some o) (only integer_kind)
+    by None = refl
+    by (Some class) = refl
+
+count_given : (scope : Scope) → value_in (count_sort scope) ≡ then_some (is_some scope.columns) (only integer_kind)
+count_given scope = by (is_some scope.columns)
+  where
+    by : (b : Bool) → value_in (if b then Ok (only integer_kind) else Err F.no_occurrence) ≡ then_some b (only integer_kind)
+    by true = refl
+    by false = refl
+
+pub sort_given : (library : Library) (d : Declared) (scope : Scope) (path : Path) (e : Expression) → value_in (expression_check library d scope path e) ≡ sort_of library d scope e
+sort_given library d scope path (constant v) = refl
+sort_given library d scope path (arithmetic op a b) =
+    operands_given integer_kind path (expression_check library d scope (item_at path 1) a) (expression_check library d scope (item_at path 2) b)
+    ∙ ap₂ (λ x y. then_some (is_only integer_kind x && is_only integer_kind y) (only integer_kind)) (sort_given library d scope (item_at path 1) a) (sort_given library d scope (item_at path 2) b)
+sort_given library d scope path (negated a) =
+    operand_given integer_kind (item_at path 1) (expression_check library d scope (item_at path 1) a)
+    ∙ ap (λ x. then_some (is_only integer_kind x) (only integer_kind)) (sort_given library d scope (item_at path 1) a)
+sort_given library d scope path (inverted a) =
+    operand_given boolean_kind (item_at path 1) (expression_check library d scope (item_at path 1) a)
+    ∙ ap (λ x. then_some (is_only boolean_kind x) (only boolean_kind)) (sort_given library d scope (item_at path 1) a)
+sort_given library d scope path (both a b) =
+    operands_given boolean_kind path (expression_check library d scope (item_at path 1) a) (expression_check library d scope (item_at path 2) b)
+    ∙ ap₂ (λ x y. then_some (is_only boolean_kind x && is_only boolean_kind y) (only boolean_kind)) (sort_given library d scope (item_at path 1) a) (sort_given library d scope (item_at path 2) b)
+sort_given library d scope path (either a b) =
+    operands_given boolean_kind path (expression_check library d scope (item_at path 1) a) (expression_check library d scope (item_at path 2) b)
+    ∙ ap₂ (λ x y. then_some (is_only boolean_kind x && is_only boolean_kind y) (only boolean_kind)) (sort_given library d scope (item_at path 1) a) (sort_given library d scope (item_at path 2) b)
+sort_given library d scope path (compared op a b) =
+    comparison_given op path (expression_check library d scope (item_at path 1) a) (expression_check library d scope (item_at path 2) b)
+    ∙ ap₂ (λ x y. then_some (K.are_comparable op x y) (only boolean_kind)) (sort_given library d scope (item_at path 1) a) (sort_given library d scope (item_at path 2) b)
+sort_given library d scope path (field_of x f) = placed_given path (row_field_sort library scope x f) ∙ row_field_given library scope x f
+sort_given library d scope path (key_of x) = placed_given path (row_key_sort scope x) ∙ row_key_given scope x
+sort_given library d scope path (new_field i f) = placed_given path (F.part_sort library d scope.columns i (read_new f)) ∙ part_given library d scope.columns i (read_new f)
+sort_given library d scope path (old_field i f) = placed_given path (F.part_sort library d scope.columns i (read_old f)) ∙ part_given library d scope.columns i (read_old f)
+sort_given library d scope path (key_in i) = placed_given path (F.part_sort library d scope.columns i read_key) ∙ part_given library d scope.columns i read_key
+sort_given library d scope path (argument i j) = placed_given path (F.part_sort library d scope.columns i (read_argument j)) ∙ part_given library d scope.columns i (read_argument j)
+sort_given library d scope path (time_of i) = placed_given path (F.part_sort library d scope.columns i read_time) ∙ part_given library d scope.columns i read_time
+sort_given library d scope path occurrence_count = placed_given path (count_sort scope) ∙ count_given scope
+
+kind_judged : (library : Library) (d : Declared) (scope : Scope) (k : Kind) (path : Path) (e : Expression) → passes (kind_check library d scope k path e) ≡ is_only k (sort_of library d scope e)
+unfolding kind_check
+kind_judged library d scope k path e = by (expression_check library d scope path e) ∙ ap (is_only k) (sort_given library d scope path e)
+  where
+    by : (r : Judged Sort) → passes (r >>= suits k path) ≡ is_only k (value_in r)
+    by (Ok s) = choice (is_only k (Some s)) path (F.unsuited (F.of_kind k) s)
+    by (Err e) = refl
+
+-- ---- statements
+
+assignment_judged : (library : Library) (d : Declared) (scope : Scope) (fields : List Field) (path : Path) (a : Assignment)
+    → passes (assignment_check library d scope fields path a) ≡ is_given (kind_in fields a.field) (sort_of library d scope a.value)
+unfolding assignment_check
+assignment_judged library d scope fields path a = by (λ k. kind_judged library d scope k (item_at path 1) a.value) (kind_in fields a.field)
+  where
+    by : ((k : Kind) → passes (kind_check library d scope k (item_at path 1) a.value) ≡ is_only k (sort_of library d scope a.value)) → (o : Option Kind)
+        → passes (placed (item_at path 0) (reasoned no_such_field o) >>= λ k. kind_check library d scope k (item_at path 1) a.value) ≡ is_given o (sort_of library d scope a.value)
+    by judged None = refl
+    by judged (Some k) = judged k
+
+pairs_judged : (library : Library) (d : Declared) (scope : Scope) (fields : List Field) (path : Path) (before : List Assignment) (i : ℕ) (pairs : List Assignment)
+    → passes (each_check (λ _. assignment_check library d scope fields) path before i pairs) ≡ assignments_kinded library d scope fields pairs
+pairs_judged library d scope fields path before i [] = refl
+pairs_judged library d scope fields path before i (a ∷ pairs) =
+    both_pass (assignment_check library d scope fields (item_at path i) a) (each_check (λ _. assignment_check library d scope fields) path (before ++ a ∷ []) (suc i) pairs)
+    (is_given (kind_in fields a.field) (sort_of library d scope a.value)) (assignments_kinded library d scope fields pairs)
+    (assignment_judged library d scope fields (item_at path i) a) (pairs_judged library d scope fields path (before ++ a ∷ []) (suc i) pairs)
+
+update_judged : (library : Library) (d : Declared) (scope : Scope) (path : Path) (class : ℕ) (key : Expression) (pairs : List Assignment)
+    → passes (update_check library d scope path class key pairs) ≡ (is_only integer_kind (sort_of library d scope key) && assignments_kinded library d scope (class_at library class).fields pairs)
+unfolding update_check
+update_judged library d scope path class key pairs =
+    both_pass (kind_check library d scope integer_kind (item_at path 2) key) (assignments_check library d scope (class_at library class).fields (item_at path 3) pairs)
+    (is_only integer_kind (sort_of library d scope key)) (assignments_kinded library d scope (class_at library class).fields pairs)
+    (kind_judged library d scope integer_kind (item_at path 2) key) (pairs_judged library d scope (class_at library class).fields (item_at path 3) [] 0 pairs)
+
+and_assoc : (a b c : Bool) → ((a && b) && c) ≡ (a && (b && c))
+and_assoc true b c = refl
+and_assoc false b c = refl
+
+create_judged : (library : Library) (d : Declared) (scope : Scope) (path : Path) (class : ℕ) (key : Expression) (pairs : List Assignment)
+    → passes (create_check library d scope path class key pairs)
+    ≡ (is_only integer_kind (sort_of library d scope key) && (assignments_kinded library d scope (class_at library class).fields pairs && all_assigned (class_at library class).fields pairs))
+unfolding create_check
+create_judged library d scope path class key pairs =
+    let fields = (class_at library class).fields in
+    both_pass (update_check library d scope path class key pairs) (chosen (all_assigned fields pairs) (item_at path 3) unset_field)
+    (is_only integer_kind (sort_of library d scope key) && assignments_kinded library d scope fields pairs) (all_assigned fields pairs)
+    (update_judged library d scope path class key pairs) (choice (all_assigned fields pairs) (item_at path 3) unset_field)
+    ∙ and_assoc (is_only integer_kind (sort_of library d scope key)) (assignments_kinded library d scope fields pairs) (all_assigned fields pairs)
+
+-- what is demanded of the next argument
+abbrev meets_demand : Option Sort → Option Sort → Bool
+meets_demand None o = is_some o
+meets_demand (Some s) o = gives_sort s o
+
+argument_judged : (library : Library) (d : Declared) (scope : Scope) (demand : Option Sort) (path : Path) (e : Expression)
+    → passes (argument_check library d scope demand path e) ≡ meets_demand demand (sort_of library d scope e)
+unfolding argument_check
+argument_judged library d scope demand path e = by demand (expression_check library d scope path e) ∙ ap (meets_demand demand) (sort_given library d scope path e)
+  where
+    by : (o : Option Sort) (r : Judged Sort) → passes (r >>= demanded o path) ≡ meets_demand o (value_in r)
+    by None (Ok s) = refl
+    by None (Err f) = refl
+    by (Some any) (Ok s) = refl
+    by (Some any) (Err f) = refl
+    by (Some (only k)) (Ok s) = choice (is_only k (Some s)) path (F.unsuited (F.of_kind k) s)
+    by (Some (only k)) (Err f) = refl
+
+arguments_step : (library : Library) (d : Declared) (scope : Scope) (ss : List Sort) (e : Expression) (es : List Expression)
+    → (meets_demand (next_demand ss) (sort_of library d scope e) && arguments_kinded library d scope (later_demands ss) es) ≡ arguments_kinded library d scope ss (e ∷ es)
+arguments_step library d scope [] e es = refl
+arguments_step library d scope (s ∷ ss) e es = refl
+
+none_missing_judged : (library : Library) (d : Declared) (scope : Scope) (path : Path) (ss : List Sort) → passes (none_missing path ss) ≡ arguments_kinded library d scope ss []
+none_missing_judged library d scope path [] = refl
+none_missing_judged library d scope path (s ∷ ss) = refl
+
+arguments_judged : (library : Library) (d : Declared) (scope : Scope) (path : Path) (i : ℕ) (ss : List Sort) (es : List Expression)
+    → passes (arguments_check library d scope path i ss es) ≡ arguments_kinded library d scope ss es
+arguments_judged library d scope path i ss [] = none_missing_judged library d scope path ss
+arguments_judged library d scope path i ss (e ∷ es) =
+    both_pass (argument_check library d scope (next_demand ss) (item_at (item_at path 2) i) e) (arguments_check library d scope path (suc i) (later_demands ss) es)
+    (meets_demand (next_demand ss) (sort_of library d scope e)) (arguments_kinded library d scope (later_demands ss) es)
+    (argument_judged library d scope (next_demand ss) (item_at (item_at path 2) i) e) (arguments_judged library d scope path (suc i) (later_demands ss) es)
+    ∙ arguments_step library d scope ss e es
+
+emission_judged : (library : Library) (d : Declared) (scope : Scope) (path : Path) (e : Expression) → passes (emission_check library d scope path e) ≡ is_some (sort_of library d scope e)
+unfolding emission_check
+emission_judged library d scope path e = by (expression_check library d scope (item_at path 1) e) ∙ ap is_some (sort_given library d scope (item_at path 1) e)
+  where
+    done : Judged ⊤
+    done = Ok tt
+
+    by : (r : Judged Sort) → passes (r >>= λ _. done) ≡ is_some (value_in r)
+    by (Ok s) = refl
+    by (Err f) = refl
+
+query_judged : (path : Path) (o : Option ℕ) → passes (query_known path o) ≡ is_some o
+query_judged path None = refl
+query_judged path (Some class) = refl
+
+two_judged : (a b : Judged ⊤) (x y : Bool) → passes a ≡ x → passes b ≡ y → passes (both_check a b) ≡ (x && y)
+unfolding both_check
+two_judged a b x y e f = both_pass a b x y e f
+
+plain_judged : (a : Judged ⊤) (x : Bool) → passes a ≡ x → passes (both_check a (Ok tt)) ≡ x
+unfolding both_check
+plain_judged (Ok u) x e = e
+plain_judged (Err f) x e = e
+
+mutual
+  pub statement_judged : (library : Library) (d : Declared) (scope : Scope) (queries : List (Name × ℕ)) (path : Path) (s : Statement)
+      → passes (statement_check library d scope queries path s) ≡ statement_kinded library d scope queries s
+  statement_judged library d scope queries path (create class key pairs) =
+      plain_judged (create_check library d scope path class key pairs) (statement_kinded library d scope queries (create class key pairs)) (create_judged library d scope path class key pairs)
+  statement_judged library d scope queries path (update class key pairs) =
+      plain_judged (update_check library d scope path class key pairs) (statement_kinded library d scope queries (update class key pairs)) (update_judged library d scope path class key pairs)
+  statement_judged library d scope queries path (delete class key) =
+      plain_judged (kind_check library d scope integer_kind (item_at path 2) key) (statement_kinded library d scope queries (delete class key)) (kind_judged library d scope integer_kind (item_at path 2) key)
+  statement_judged library d scope queries path (signal name arguments) =
+      plain_judged (arguments_check library d scope path 0 (signature_of d name) arguments) (statement_kinded library d scope queries (signal name arguments)) (arguments_judged library d scope path 0 (signature_of d name) arguments)
+  statement_judged library d scope queries path (emit e) =
+      plain_judged (emission_check library d scope path e) (statement_kinded library d scope queries (emit e)) (emission_judged library d scope path e)
+  statement_judged library d scope queries path (when e a b) =
+      two_judged (kind_check library d scope boolean_kind (item_at path 1) e)
+      (both_check (body_check library d scope queries (item_at path 2) 0 a) (body_check library d scope queries (item_at path 3) 0 b))
+      (is_only boolean_kind (sort_of library d scope e)) (body_kinded library d scope queries a && body_kinded library d scope queries b)
+      (kind_judged library d scope boolean_kind (item_at path 1) e)
+      (two_judged (body_check library d scope queries (item_at path 2) 0 a) (body_check library d scope queries (item_at path 3) 0 b)
+      (body_kinded library d scope queries a) (body_kinded library d scope queries b)
+      (body_judged library d scope queries (item_at path 2) 0 a) (body_judged library d scope queries (item_at path 3) 0 b))
+  statement_judged library d scope queries path (each x class predicate body) =
+      two_judged (kind_check library d (with_name x class scope) boolean_kind (item_at path 3) predicate) (body_check library d (with_name x class scope) queries (item_at path 4) 0 body)
+      (is_only boolean_kind (sort_of library d (with_name x class scope) predicate)) (body_kinded library d (with_name x class scope) queries body)
+      (kind_judged library d (with_name x class scope) boolean_kind (item_at path 3) predicate) (body_judged library d (with_name x class scope) queries (item_at path 4) 0 body)
+  statement_judged library d scope queries path (for_answer x body) =
+      let inner = with_name x (unwrap_or (lookup (bytes_eq x) queries) 0) scope in
+      two_judged (query_known (item_at path 1) (lookup (bytes_eq x) queries)) (body_check library d inner queries (item_at path 2) 0 body)
+      (is_some (lookup (bytes_eq x) queries)) (body_kinded library d inner queries body)
+      (query_judged (item_at path 1) (lookup (bytes_eq x) queries)) (body_judged library d inner queries (item_at path 2) 0 body)
+  statement_judged library d scope queries path (with_object x class key body) =
+      two_judged (kind_check library d scope integer_kind (item_at path 3) key) (body_check library d (with_name x class scope) queries (item_at path 4) 0 body)
+      (is_only integer_kind (sort_of library d scope key)) (body_kinded library d (with_name x class scope) queries body)
+      (kind_judged library d scope integer_kind (item_at path 3) key) (body_judged library d (with_name x class scope) queries (item_at path 4) 0 body)
+  statement_judged library d scope queries path (subtransaction a b) =
+      two_judged (own_check library d scope queries path (subtransaction a b))
+      (both_check (body_check library d scope queries (item_at path 1) 0 a) (body_check library d scope queries (item_at path 2) 0 b)) true (body_kinded library d scope queries a && body_kinded library d scope queries b) refl
+      (two_judged (body_check library d scope queries (item_at path 1) 0 a) (body_check library d scope queries (item_at path 2) 0 b)
+      (body_kinded library d scope queries a) (body_kinded library d scope queries b)
+      (body_judged library d scope queries (item_at path 1) 0 a) (body_judged library d scope queries (item_at path 2) 0 b))
+  statement_judged library d scope queries path abort = plain_judged (own_check library d scope queries path abort) true refl
+  statement_judged library d scope queries path veto = plain_judged (own_check library d scope queries path veto) true refl
+  statement_judged library d scope queries path (on_rule op n) = plain_judged (own_check library d scope queries path (on_rule op n)) true refl
+  statement_judged library d scope queries path (fire n) = plain_judged (own_check library d scope queries path (fire n)) (is_fired d n) (choice (is_fired d n) path not_fired)
+
+  body_judged : (library : Library) (d : Declared) (scope : Scope) (queries : List (Name × ℕ)) (path : Path) (i : ℕ) (b : Body)
+      → passes (body_check library d scope queries path i b) ≡ body_kinded library d scope queries b
+  body_judged library d scope queries path i empty = refl
+  body_judged library d scope queries path i (s then rest) =
+      both_pass (statement_check library d scope queries (item_at path i) s) (body_check library d scope queries path (suc i) rest)
+      (statement_kinded library d scope queries s) (body_kinded library d scope queries rest)
+      (statement_judged library d scope queries (item_at path i) s) (body_judged library d scope queries path (suc i) rest)
+
+-- ---- rules
+
+one_more : (scope : Scope) (before : List Query) (q : Query) → with_queries scope (before ++ q ∷ []) ≡ with_name q.name q.class (with_queries scope before)
+one_more scope [] q = refl
+one_more scope (p ∷ before) q = one_more (with_name p.name p.class scope) before q
+
+first_judged : (library : Library) (d : Declared) (c : Columns) (before : List Query) (path : Path) (q : Query)
+    → passes (query_check library d c before path q) ≡ is_only boolean_kind (sort_of library d (with_name q.name q.class (asked_scope c before)) q.predicate)
+unfolding query_check
+first_judged library d c before path q = kind_judged library d (with_name q.name q.class (asked_scope c before)) boolean_kind (item_at path 2) q.predicate
+
+condition_judged : (library : Library) (d : Declared) (c : Columns) (path : Path) (before : List Query) (i : ℕ) (qs : List Query)
+    → passes (each_check (query_check library d c) path before i qs) ≡ queries_kinded library d (asked_scope c before) qs
+condition_judged library d c path before i [] = refl
+condition_judged library d c path before i (q ∷ qs) =
+    both_pass (query_check library d c before (item_at path i) q) (each_check (query_check library d c) path (before ++ q ∷ []) (suc i) qs)
+    (is_only boolean_kind (sort_of library d (with_name q.name q.class (asked_scope c before)) q.predicate)) (queries_kinded library d (with_name q.name q.class (asked_scope c before)) qs)
+    (first_judged library d c before (item_at path i) q)
+    (condition_judged library d c path (before ++ q ∷ []) (suc i) qs
+    ∙ ap (λ scope. queries_kinded library d scope qs) (one_more (record { columns = Some c; rows = [] }) before q))
+
+rule_judged : (library : Library) (d : Declared) (fired : Bool) (path : Path) (rule : Rule) → passes (rule_check library d fired path rule) ≡ K.rule_kinded library d fired rule
+unfolding parts_check
+rule_judged library d fired path rule =
+    let c = columns_by fired rule.event in
+    let inner = with_queries (K.rule_scope fired rule) rule.condition in
+    both_pass (condition_check library d c (item_at path 3) rule.condition) (action_check library d c rule.condition (item_at path 5) rule.action)
+    (queries_kinded library d (K.rule_scope fired rule) rule.condition) (body_kinded library d inner (query_classes rule.condition) rule.action)
+    (condition_judged library d c (item_at path 3) [] 0 rule.condition) (body_judged library d inner (query_classes rule.condition) (item_at path 5) 0 rule.action)
+
+rules_judged : (library : Library) (d : Declared) (path : Path) (n : ℕ) (rules : List Rule) → passes (rules_check library d path n rules) ≡ rules_kinded library d n rules
+rules_judged library d path n [] = refl
+rules_judged library d path n (rule ∷ rules) =
+    both_pass (rule_check library d (is_fired d n) (item_at path n) rule) (rules_check library d path (suc n) rules)
+    (K.rule_kinded library d (is_fired d n) rule) (rules_kinded library d (suc n) rules)
+    (rule_judged library d (is_fired d n) (item_at path n) rule) (rules_judged library d path (suc n) rules)
+
+pub library_passes : (library : Library) (d : Declared) → passes (library_check library d) ≡ library_kinded library d
+library_passes library d = rules_judged library d (under_root (F.rules_member)) 0 library.rules
+
+pub unit_passes : (library : Library) (d : Declared) (unit : Unit) → passes (unit_check library d unit) ≡ unit_kinded library d unit
+unit_passes library d (transaction body) = body_judged library d no_scope [] [] 0 body
+unit_passes library d (moment t) = refl
+
+-- ---- the program's checks
+
+from_passes : (r : Judged ⊤) (b : Bool) → passes r ≡ b → (done : Result ⊤ KindError) → Passes done r → Judges done b
+from_passes r b e (Ok u) is = sym e ∙ ap passes is
+from_passes r b e (Err Memory) is = tt
+from_passes r b e (Err (Found f)) is = sym e ∙ ap passes is
+
+pub library_judges : (library : Library) (d : Declared) (done : Result ⊤ KindError) → Passes done (library_check library d) → Judges done (library_kinded library d)
+library_judges library d done is = from_passes (library_check library d) (library_kinded library d) (library_passes library d) done is
+
+pub unit_judges : (library : Library) (d : Declared) (unit : Unit) (done : Result ⊤ KindError) → Passes done (unit_check library d unit) → Judges done (unit_kinded library d unit)
+unit_judges library d unit done is = from_passes (unit_check library d unit) (unit_kinded library d unit) (unit_passes library d unit) done is

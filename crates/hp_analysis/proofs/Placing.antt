@@ -1,0 +1,417 @@
+-- A finding names a place at which the judgement fails.
+use Rattle.std.proofs.Common.{◌≡◌, refl, sym, ap, ap₂, ◌∙◌, subst, ℕ, zero, suc, Bool, true, false, List, [], ◌∷◌, ◌++◌, take, Option, Some, None, Result, Ok, Err, append_assoc, append-nil, inl, inr, drop}
+use Rattle.std.specs.Prelude.{⊤, bytes_eq, slice_get, unwrap_or, if◌then◌else◌}
+use Rattle.std.specs.Map.{lookup}
+use Rattle.hp_model.specs.Values.{Name, Kind, integer_kind, boolean_kind, text_kind, Field, ◌>>=◌}
+use Rattle.hp_model.specs.Expressions.{Comparison, equal, unequal, less, at_most, greater, at_least, Expression, constant, arithmetic, negated, inverted, both, either, compared, field_of, key_of, new_field, old_field, key_in, argument, time_of, occurrence_count}
+use Rattle.hp_model.specs.Rules.{Query, Assignment, Statement, create, update, delete, signal, emit, when, each, for_answer, with_object, subtransaction, abort, veto, on_rule, fire, Body, empty, ◌then◌, Rule, Library, class_at}
+use Rattle.hp_model.specs.Firing.{kind_in}
+use Rattle.hp_model.specs.Cascade.{Unit, transaction, moment}
+use Rattle.hp_model.specs.Refusals.{to_item, Path, under_root, item_at}
+use Rattle.hp_model.specs.Kinds as K
+use Rattle.hp_model.specs.Kinds.{Sort, only, any, Declared, signature_of, is_fired, Columns, columns_by, Scope, with_name, no_scope, is_only, all_assigned, query_classes, sort_of}
+use Rattle.hp_analysis.specs.declared.kinds.finding.KindError.{KindError}
+use Rattle.hp_analysis.specs.declared.kinds.finding.KindError.TheVariants.{Found, Memory}
+use Rattle.hp_analysis.specs.Kinded.{Passes}
+use Rattle.hp_analysis.specs.Placed.{Places}
+use Rattle.hp_analysis.specs.Findings as F
+use Rattle.hp_analysis.specs.Findings.{Finding, Wanted, Reason, Reasoned, Judged, refused, placed, reasoned, suits, demanded, operand_sort, operands_sort, alike_check, ordered_check, comparable_check, comparison_sort, expression_check, kind_check, each_check, assignment_check, assignments_check, update_check, create_check, none_missing, next_demand, later_demands, argument_check, arguments_check, emission_check, query_known, both_check, own_check, inner_check, statement_check, body_check, asked_scope, query_check, condition_check, action_check, parts_check, rule_check, rules_check, library_check, unit_check, rules_member, row_field_sort, row_key_sort, count_sort, read_new, read_old, read_key, read_argument, read_time}
+use Rattle.hp_analysis.specs.Parts.{Part, expression_part, statement_part, field_part, pairs_part, query_part, along, part_in_expression, part_in_pair, part_in_pairs, part_in_arguments, statement_at, part_in_statement, part_in_body, part_in_query, part_in_condition, part_in_rule, part_in_rules, part_in_library, part_in_unit, is_wanted, IsRefused, IsPlacedIn}
+use Rattle.hp_analysis.proofs.Judging.{value_in, passes, chosen, sort_given, statement_judged}
+
+-- ---- results that have a part
+
+-- a finding is at a part below the path, where the judgement fails
+abbrev pub Stands : Library → Declared → (Path → Option Part) → Path → Finding → Type 0
+Stands library d parts path f = (steps : Path) × (part : Part) × (f.path ≡ path ++ steps) × (parts steps ≡ Some part) × IsRefused library d part f.reason
+
+abbrev pub Located : {A : Type 0} → Library → Declared → (Path → Option Part) → Path → Judged A → Type 0
+Located library d parts path (Ok x) = ⊤
+Located library d parts path (Err f) = Stands library d parts path f
+
+module _ (library : Library) (d : Declared) where
+  abbrev Standing : (Path → Option Part) → Path → Finding → Type 0
+  Standing = Stands library d
+
+  located_then : {A B : Type 0} (parts : Path → Option Part) (path : Path) (a : Judged A) (b : A → Judged B) → Located library d parts path a → ((x : A) → a ≡ Ok x → Located library d parts path (b x)) → Located library d parts path (a >>= b)
+  located_then parts path (Ok x) b first later = later x refl
+  located_then parts path (Err f) b first later = first
+
+  -- what stands below an item of the path stands below the path
+  deeper : (parts inner : Path → Option Part) (path : Path) (i : ℕ) (f : Finding) → ((steps : Path) → parts (to_item i ∷ steps) ≡ inner steps) → Standing inner (item_at path i) f → Standing parts path f
+  deeper parts inner path i f same (steps, part, is, found, fails) =
+      (to_item i ∷ steps, part, is ∙ append_assoc path (to_item i ∷ []) steps, same steps ∙ found, fails)
+
+  located_deeper : {A : Type 0} (parts inner : Path → Option Part) (path : Path) (i : ℕ) (r : Judged A) → ((steps : Path) → parts (to_item i ∷ steps) ≡ inner steps) → Located library d inner (item_at path i) r → Located library d parts path r
+  located_deeper parts inner path i (Ok x) same there = tt
+  located_deeper parts inner path i (Err f) same there = deeper parts inner path i f same there
+
+  -- the part at the path itself
+  here : (parts : Path → Option Part) (path : Path) (reason : Reason) (part : Part) → parts [] ≡ Some part → IsRefused library d part reason → Located {A = ⊤} library d parts path (refused path reason)
+  here parts path reason part found fails = ([], part, sym (append-nil path), found, fails)
+
+  -- ---- expressions
+
+  abbrev In : Scope → Expression → Path → Option Part
+  In scope e steps = part_in_expression scope steps e
+
+  suits_located : (scope : Scope) (path : Path) (k : Kind) (s : Sort) (e : Expression) → sort_of library d scope e ≡ Some s → Located library d (In scope e) path (suits k path s)
+  suits_located scope path k s e is = by (is_only k (Some s)) refl
+    where
+      by : (b : Bool) → is_only k (Some s) ≡ b → Located library d (In scope e) path (chosen b path (F.unsuited (F.of_kind k) s))
+      by true same = tt
+      by false same = here (In scope e) path (F.unsuited (F.of_kind k) s) (expression_part scope e) refl (inr (is, same))
+
+  sort_is : (scope : Scope) (path : Path) (e : Expression) (s : Sort) → expression_check library d scope path e ≡ Ok s → sort_of library d scope e ≡ Some s
+  sort_is scope path e s is = sym (sort_given library d scope path e) ∙ ap value_in is
+
+  abbrev ExpressionLocated : Scope → Path → Expression → Type 0
+  ExpressionLocated scope path e = Located library d (In scope e) path (expression_check library d scope path e)
+
+  operand_located : (scope : Scope) (path : Path) (k : Kind) (e : Expression) → ExpressionLocated scope path e → Located library d (In scope e) path (operand_sort k path (expression_check library d scope path e))
+  unfolding operand_sort
+  operand_located scope path k e there =
+      located_then (In scope e) path (expression_check library d scope path e) (λ s. suits k path s >>= λ _. Ok (only k)) there
+      (λ s is. located_then (In scope e) path (suits k path s) (λ _. Ok (only k)) (suits_located scope path k s e (sort_is scope path e s is)) (λ _ _. tt))
+
+  operands_located : (scope : Scope) (path : Path) (k : Kind) (e a b : Expression) → ((steps : Path) → In scope e (to_item 1 ∷ steps) ≡ In scope a steps) → ((steps : Path) → In scope e (to_item 2 ∷ steps) ≡ In scope b steps)
+      → ExpressionLocated scope (item_at path 1) a → ExpressionLocated scope (item_at path 2) b
+      → Located library d (In scope e) path (operands_sort k path (expression_check library d scope (item_at path 1) a) (expression_check library d scope (item_at path 2) b))
+  unfolding operands_sort
+  operands_located scope path k e a b first second left right =
+      located_then (In scope e) path (operand_sort k (item_at path 1) (expression_check library d scope (item_at path 1) a)) (λ _. operand_sort k (item_at path 2) (expression_check library d scope (item_at path 2) b))
+      (located_deeper (In scope e) (In scope a) path 1 (operand_sort k (item_at path 1) (expression_check library d scope (item_at path 1) a)) first (operand_located scope (item_at path 1) k a left))
+      (λ _ _. located_deeper (In scope e) (In scope b) path 2 (operand_sort k (item_at path 2) (expression_check library d scope (item_at path 2) b)) second (operand_located scope (item_at path 2) k b right))
+
+  left_refused : (scope : Scope) (path : Path) (e a : Expression) (w : Wanted) (s : Sort) → ((steps : Path) → In scope e (to_item 1 ∷ steps) ≡ In scope a steps) → sort_of library d scope a ≡ Some s → is_wanted w s ≡ false
+      → Located {A = ⊤} library d (In scope e) path (refused (item_at path 1) (F.unsuited w s))
+  left_refused scope path e a w s first is fails =
+      located_deeper {A = ⊤} (In scope e) (In scope a) path 1 (refused (item_at path 1) (F.unsuited w s)) first
+      (here (In scope a) (item_at path 1) (F.unsuited w s) (expression_part scope a) refl (inr (is, fails)))
+
+  right_located : (scope : Scope) (path : Path) (e b : Expression) (k : Kind) (t : Sort) → ((steps : Path) → In scope e (to_item 2 ∷ steps) ≡ In scope b steps) → sort_of library d scope b ≡ Some t
+      → Located library d (In scope e) path (suits k (item_at path 2) t)
+  right_located scope path e b k t second is = located_deeper (In scope e) (In scope b) path 2 (suits k (item_at path 2) t) second (suits_located scope (item_at path 2) k t b is)
+
+  module _ (scope : Scope) (path : Path) (e a b : Expression) (first : (steps : Path) → In scope e (to_item 1 ∷ steps) ≡ In scope a steps) (second : (steps : Path) → In scope e (to_item 2 ∷ steps) ≡ In scope b steps) where
+    alike_located : (s t : Sort) → sort_of library d scope a ≡ Some s → sort_of library d scope b ≡ Some t → Located library d (In scope e) path (alike_check path s t)
+    alike_located any t left right = left_refused scope path e a F.of_known_kind any first left refl
+    alike_located (only k) t left right = right_located scope path e b k t second right
+
+    ordered_located : (s t : Sort) → sort_of library d scope a ≡ Some s → sort_of library d scope b ≡ Some t → Located library d (In scope e) path (ordered_check path s t)
+    ordered_located any t left right = left_refused scope path e a F.of_ordered_kind any first left refl
+    ordered_located (only integer_kind) t left right = right_located scope path e b integer_kind t second right
+    ordered_located (only boolean_kind) t left right = left_refused scope path e a F.of_ordered_kind (only boolean_kind) first left refl
+    ordered_located (only text_kind) t left right = right_located scope path e b text_kind t second right
+
+    comparable_located : (op : Comparison) (s t : Sort) → sort_of library d scope a ≡ Some s → sort_of library d scope b ≡ Some t → Located library d (In scope e) path (comparable_check op path s t)
+    comparable_located equal s t left right = alike_located s t left right
+    comparable_located unequal s t left right = alike_located s t left right
+    comparable_located less s t left right = ordered_located s t left right
+    comparable_located at_most s t left right = ordered_located s t left right
+    comparable_located greater s t left right = ordered_located s t left right
+    comparable_located at_least s t left right = ordered_located s t left right
+
+    comparison_located : (op : Comparison) → ExpressionLocated scope (item_at path 1) a → ExpressionLocated scope (item_at path 2) b
+        → Located library d (In scope e) path (comparison_sort op path (expression_check library d scope (item_at path 1) a) (expression_check library d scope (item_at path 2) b))
+    unfolding comparison_sort
+    comparison_located op left right =
+        located_then (In scope e) path (expression_check library d scope (item_at path 1) a) (λ s. expression_check library d scope (item_at path 2) b >>= λ t. comparable_check op path s t >>= λ _. Ok (only boolean_kind))
+        (located_deeper (In scope e) (In scope a) path 1 (expression_check library d scope (item_at path 1) a) first left)
+        (λ s is. located_then (In scope e) path (expression_check library d scope (item_at path 2) b) (λ t. comparable_check op path s t >>= λ _. Ok (only boolean_kind))
+        (located_deeper (In scope e) (In scope b) path 2 (expression_check library d scope (item_at path 2) b) second right)
+        (λ t is'. located_then (In scope e) path (comparable_check op path s t) (λ _. Ok (only boolean_kind))
+        (comparable_located op s t (sort_is scope (item_at path 1) a s is) (sort_is scope (item_at path 2) b t is')) (λ _ _. tt)))
+
+  leaf_located : (scope : Scope) (path : Path) (e : Expression) (r : Reasoned Sort) → value_in (placed path r) ≡ sort_of library d scope e → Located library d (In scope e) path (placed path r)
+  leaf_located scope path e (Ok s) same = tt
+  leaf_located scope path e (Err why) same = ([], expression_part scope e, sym (append-nil path), refl, inl (sym same))
+
+  expression_located : (scope : Scope) (path : Path) (e : Expression) → ExpressionLocated scope path e
+  expression_located scope path (constant v) = tt
+  expression_located scope path (arithmetic op a b) =
+      operands_located scope path integer_kind (arithmetic op a b) a b (λ steps. refl) (λ steps. refl) (expression_located scope (item_at path 1) a) (expression_located scope (item_at path 2) b)
+  expression_located scope path (negated a) =
+      located_deeper (In scope (negated a)) (In scope a) path 1 (operand_sort integer_kind (item_at path 1) (expression_check library d scope (item_at path 1) a)) (λ steps. refl)
+      (operand_located scope (item_at path 1) integer_kind a (expression_located scope (item_at path 1) a))
+  expression_located scope path (inverted a) =
+      located_deeper (In scope (inverted a)) (In scope a) path 1 (operand_sort boolean_kind (item_at path 1) (expression_check library d scope (item_at path 1) a)) (λ steps. refl)
+      (operand_located scope (item_at path 1) boolean_kind a (expression_located scope (item_at path 1) a))
+  expression_located scope path (both a b) =
+      operands_located scope path boolean_kind (both a b) a b (λ steps. refl) (λ steps. refl) (expression_located scope (item_at path 1) a) (expression_located scope (item_at path 2) b)
+  expression_located scope path (either a b) =
+      operands_located scope path boolean_kind (either a b) a b (λ steps. refl) (λ steps. refl) (expression_located scope (item_at path 1) a) (expression_located scope (item_at path 2) b)
+  expression_located scope path (compared op a b) =
+      comparison_located scope path (compared op a b) a b (λ steps. refl) (λ steps. refl) op (expression_located scope (item_at path 1) a) (expression_located scope (item_at path 2) b)
+  expression_located scope path (field_of x f) = leaf_located scope path (field_of x f) (row_field_sort library scope x f) (sort_given library d scope path (field_of x f))
+  expression_located scope path (key_of x) = leaf_located scope path (key_of x) (row_key_sort scope x) (sort_given library d scope path (key_of x))
+  expression_located scope path (new_field i f) = leaf_located scope path (new_field i f) (F.part_sort library d scope.columns i (read_new f)) (sort_given library d scope path (new_field i f))
+  expression_located scope path (old_field i f) = leaf_located scope path (old_field i f) (F.part_sort library d scope.columns i (read_old f)) (sort_given library d scope path (old_field i f))
+  expression_located scope path (key_in i) = leaf_located scope path (key_in i) (F.part_sort library d scope.columns i read_key) (sort_given library d scope path (key_in i))
+  expression_located scope path (argument i j) = leaf_located scope path (argument i j) (F.part_sort library d scope.columns i (read_argument j)) (sort_given library d scope path (argument i j))
+  expression_located scope path (time_of i) = leaf_located scope path (time_of i) (F.part_sort library d scope.columns i read_time) (sort_given library d scope path (time_of i))
+  expression_located scope path occurrence_count = leaf_located scope path occurrence_count (count_sort scope) (sort_given library d scope path occurrence_count)
+
+  kind_located : (scope : Scope) (path : Path) (k : Kind) (e : Expression) → Located library d (In scope e) path (kind_check library d scope k path e)
+  unfolding kind_check
+  kind_located scope path k e =
+      located_then (In scope e) path (expression_check library d scope path e) (suits k path) (expression_located scope path e) (λ s is. suits_located scope path k s e (sort_is scope path e s is))
+
+  -- ---- lists
+
+  item_is : {A : Type 0} (i : ℕ) (whole : List A) (x : A) (rest : List A) → drop i whole ≡ x ∷ rest → slice_get whole i ≡ Some x
+  item_is zero whole x rest is = ap (λ xs. slice_get xs 0) is
+  item_is (suc i) [] x rest is = cc
+  item_is (suc i) (y ∷ ys) x rest is = item_is i ys x rest is
+
+  rest_is : {A : Type 0} (i : ℕ) (whole : List A) (x : A) (rest : List A) → drop i whole ≡ x ∷ rest → drop (suc i) whole ≡ rest
+  rest_is zero whole x rest is = ap (drop 1) is
+  rest_is (suc i) [] x rest is = cc
+  rest_is (suc i) (y ∷ ys) x rest is = rest_is i ys x rest is
+
+  -- ---- statements
+
+  pair_located : (scope : Scope) (fields : List Field) (path : Path) (a : Assignment) → Located library d (λ steps. part_in_pair scope fields steps a) path (assignment_check library d scope fields path a)
+  unfolding assignment_check
+  pair_located scope fields path a = by (kind_in fields a.field) refl (λ k. kind_located scope (item_at path 1) k a.value)
+    where
+      by : (o : Option Kind) → kind_in fields a.field ≡ o → ((k : Kind) → Located library d (In scope a.value) (item_at path 1) (kind_check library d scope k (item_at path 1) a.value))
+          → Located library d (λ steps. part_in_pair scope fields steps a) path (placed (item_at path 0) (reasoned F.no_such_field o) >>= λ k. kind_check library d scope k (item_at path 1) a.value)
+      by None is there = (to_item 0 ∷ [], field_part fields a.field, refl, refl, is)
+      by (Some k) is there = located_deeper (λ steps. part_in_pair scope fields steps a) (In scope a.value) path 1 (kind_check library d scope k (item_at path 1) a.value) (λ steps. refl) (there k)
+
+  pairs_located : (scope : Scope) (fields : List Field) (path : Path) (whole before : List Assignment) (i : ℕ) (pairs : List Assignment) → drop i whole ≡ pairs
+      → Located library d (λ steps. part_in_pairs scope fields steps whole) path (each_check (λ _. assignment_check library d scope fields) path before i pairs)
+  pairs_located scope fields path whole before i [] is = tt
+  pairs_located scope fields path whole before i (a ∷ pairs) is =
+      located_then (λ steps. part_in_pairs scope fields steps whole) path (assignment_check library d scope fields (item_at path i) a) (λ _. each_check (λ _. assignment_check library d scope fields) path (before ++ a ∷ []) (suc i) pairs)
+      (located_deeper (λ steps. part_in_pairs scope fields steps whole) (λ steps. part_in_pair scope fields steps a) path i (assignment_check library d scope fields (item_at path i) a)
+      (λ steps. ap (λ o. along o (λ p. part_in_pair scope fields steps p)) (item_is i whole a pairs is)) (pair_located scope fields (item_at path i) a))
+      (λ _ _. pairs_located scope fields path whole (before ++ a ∷ []) (suc i) pairs (rest_is i whole a pairs is))
+
+  abbrev At : Scope → List (Name × ℕ) → Statement → Path → Option Part
+  At scope queries s steps = part_in_statement library scope queries steps s
+
+  abbrev AtBody : Scope → List (Name × ℕ) → Body → Path → Option Part
+  AtBody scope queries body steps = part_in_body library scope queries steps body
+
+  update_located : (scope : Scope) (queries : List (Name × ℕ)) (path : Path) (s : Statement) (class : ℕ) (key : Expression) (pairs : List Assignment)
+      → ((steps : Path) → At scope queries s (to_item 2 ∷ steps) ≡ In scope key steps) → ((steps : Path) → At scope queries s (to_item 3 ∷ steps) ≡ part_in_pairs scope (class_at library class).fields steps pairs)
+      → Located library d (At scope queries s) path (update_check library d scope path class key pairs)
+  unfolding update_check
+  update_located scope queries path s class key pairs at_key at_pairs =
+      located_then (At scope queries s) path (kind_check library d scope integer_kind (item_at path 2) key) (λ _. assignments_check library d scope (class_at library class).fields (item_at path 3) pairs)
+      (located_deeper (At scope queries s) (In scope key) path 2 (kind_check library d scope integer_kind (item_at path 2) key) at_key (kind_located scope (item_at path 2) integer_kind key))
+      (λ _ _. located_deeper (At scope queries s) (λ steps. part_in_pairs scope (class_at library class).fields steps pairs) path 3 (assignments_check library d scope (class_at library class).fields (item_at path 3) pairs) at_pairs
+      (pairs_located scope (class_at library class).fields (item_at path 3) pairs [] 0 pairs refl))
+
+  create_located : (scope : Scope) (queries : List (Name × ℕ)) (path : Path) (class : ℕ) (key : Expression) (pairs : List Assignment)
+      → Located library d (At scope queries (create class key pairs)) path (create_check library d scope path class key pairs)
+  unfolding create_check
+  create_located scope queries path class key pairs =
+      located_then (At scope queries (create class key pairs)) path (update_check library d scope path class key pairs) (λ _. chosen (all_assigned (class_at library class).fields pairs) (item_at path 3) F.unset_field)
+      (update_located scope queries path (create class key pairs) class key pairs (λ steps. refl) (λ steps. refl))
+      (λ _ _. by (all_assigned (class_at library class).fields pairs) refl)
+    where
+      by : (b : Bool) → all_assigned (class_at library class).fields pairs ≡ b → Located library d (At scope queries (create class key pairs)) path (chosen b (item_at path 3) F.unset_field)
+      by true is = tt
+      by false is = (to_item 3 ∷ [], pairs_part (class_at library class).fields pairs, refl, refl, is)
+
+  demand_located : (scope : Scope) (path : Path) (e : Expression) (demand : Option Sort) (s : Sort) → sort_of library d scope e ≡ Some s → Located library d (In scope e) path (demanded demand path s)
+  demand_located scope path e None s is = tt
+  demand_located scope path e (Some any) s is = tt
+  demand_located scope path e (Some (only k)) s is = suits_located scope path k s e is
+
+  argument_located : (scope : Scope) (path : Path) (demand : Option Sort) (e : Expression) → Located library d (In scope e) path (argument_check library d scope demand path e)
+  unfolding argument_check
+  argument_located scope path demand e =
+      located_then (In scope e) path (expression_check library d scope path e) (demanded demand path) (expression_located scope path e) (λ s is. demand_located scope path e demand s (sort_is scope path e s is))
+
+  arguments_located : (scope : Scope) (queries : List (Name × ℕ)) (path : Path) (name : Name) (whole : List Expression) (i : ℕ) (ss : List Sort) (es : List Expression) → drop i whole ≡ es
+      → K.statement_kinded library d scope queries (signal name whole) ≡ false → Located library d (At scope queries (signal name whole)) path (arguments_check library d scope path i ss es)
+  arguments_located scope queries path name whole i [] [] is fails = tt
+  arguments_located scope queries path name whole i (s ∷ ss) [] is fails = here (At scope queries (signal name whole)) path F.too_few_arguments (statement_part scope queries (signal name whole)) refl fails
+  arguments_located scope queries path name whole i ss (e ∷ es) is fails =
+      located_then (At scope queries (signal name whole)) path (argument_check library d scope (next_demand ss) (item_at (item_at path 2) i) e) (λ _. arguments_check library d scope path (suc i) (later_demands ss) es)
+      (located_deeper (At scope queries (signal name whole)) (λ steps. part_in_arguments scope steps whole) path 2 (argument_check library d scope (next_demand ss) (item_at (item_at path 2) i) e) (λ steps. refl)
+      (located_deeper (λ steps. part_in_arguments scope steps whole) (In scope e) (item_at path 2) i (argument_check library d scope (next_demand ss) (item_at (item_at path 2) i) e)
+      (λ steps. ap (λ o. along o (λ p. part_in_expression scope steps p)) (item_is i whole e es is)) (argument_located scope (item_at (item_at path 2) i) (next_demand ss) e)))
+      (λ _ _. arguments_located scope queries path name whole (suc i) (later_demands ss) es (rest_is i whole e es is) fails)
+
+  -- a check that fails shows that the statement isn't kinded
+  both_failed : (a b : Judged ⊤) (f : Finding) → a ≡ Err f → passes (both_check a b) ≡ false
+  unfolding both_check
+  both_failed a b f is = ap (λ (r : Judged ⊤). passes (r >>= λ _. b)) is
+
+  if_failed : (scope : Scope) (queries : List (Name × ℕ)) (path : Path) (s : Statement) (r : Judged ⊤) → own_check library d scope queries path s ≡ r
+      → (K.statement_kinded library d scope queries s ≡ false → Located library d (At scope queries s) path r) → Located library d (At scope queries s) path r
+  if_failed scope queries path s (Ok u) is there = tt
+  if_failed scope queries path s (Err f) is there =
+      there (sym (statement_judged library d scope queries path s) ∙ both_failed (own_check library d scope queries path s) (inner_check library d scope queries path s) f is)
+
+  emission_located : (scope : Scope) (queries : List (Name × ℕ)) (path : Path) (e : Expression) → Located library d (At scope queries (emit e)) path (emission_check library d scope path e)
+  unfolding emission_check
+  emission_located scope queries path e =
+      located_then (At scope queries (emit e)) path (expression_check library d scope (item_at path 1) e) (λ _. Ok tt)
+      (located_deeper (At scope queries (emit e)) (In scope e) path 1 (expression_check library d scope (item_at path 1) e) (λ steps. refl) (expression_located scope (item_at path 1) e)) (λ _ _. tt)
+
+  query_located : (scope : Scope) (queries : List (Name × ℕ)) (path : Path) (x : Name) (body : Body) → Located library d (At scope queries (for_answer x body)) path (query_known (item_at path 1) (lookup (bytes_eq x) queries))
+  query_located scope queries path x body = by (lookup (bytes_eq x) queries) refl
+    where
+      by : (o : Option ℕ) → lookup (bytes_eq x) queries ≡ o → Located library d (At scope queries (for_answer x body)) path (query_known (item_at path 1) o)
+      by None is = (to_item 1 ∷ [], query_part queries x, refl, refl, is)
+      by (Some class) is = tt
+
+  fire_located : (scope : Scope) (queries : List (Name × ℕ)) (path : Path) (n : ℕ) → Located library d (At scope queries (fire n)) path (own_check library d scope queries path (fire n))
+  fire_located scope queries path n = by (is_fired d n) refl
+    where
+      by : (b : Bool) → is_fired d n ≡ b → Located library d (At scope queries (fire n)) path (chosen b path F.not_fired)
+      by true is = tt
+      by false is = here (At scope queries (fire n)) path F.not_fired (statement_part scope queries (fire n)) refl is
+
+  own_located : (scope : Scope) (queries : List (Name × ℕ)) (path : Path) (s : Statement) → Located library d (At scope queries s) path (own_check library d scope queries path s)
+  own_located scope queries path (create class key pairs) = create_located scope queries path class key pairs
+  own_located scope queries path (update class key pairs) = update_located scope queries path (update class key pairs) class key pairs (λ steps. refl) (λ steps. refl)
+  own_located scope queries path (delete class key) = located_deeper (At scope queries (delete class key)) (In scope key) path 2 (kind_check library d scope integer_kind (item_at path 2) key) (λ steps. refl) (kind_located scope (item_at path 2) integer_kind key)
+  own_located scope queries path (signal name arguments) =
+      if_failed scope queries path (signal name arguments) (arguments_check library d scope path 0 (signature_of d name) arguments) refl
+      (arguments_located scope queries path name arguments 0 (signature_of d name) arguments refl)
+  own_located scope queries path (emit e) = emission_located scope queries path e
+  own_located scope queries path (when e a b) = located_deeper (At scope queries (when e a b)) (In scope e) path 1 (kind_check library d scope boolean_kind (item_at path 1) e) (λ steps. refl) (kind_located scope (item_at path 1) boolean_kind e)
+  own_located scope queries path (each x class predicate body) =
+      located_deeper (At scope queries (each x class predicate body)) (In (with_name x class scope) predicate) path 3 (kind_check library d (with_name x class scope) boolean_kind (item_at path 3) predicate) (λ steps. refl)
+      (kind_located (with_name x class scope) (item_at path 3) boolean_kind predicate)
+  own_located scope queries path (for_answer x body) = query_located scope queries path x body
+  own_located scope queries path (with_object x class key body) =
+      located_deeper (At scope queries (with_object x class key body)) (In scope key) path 3 (kind_check library d scope integer_kind (item_at path 3) key) (λ steps. refl) (kind_located scope (item_at path 3) integer_kind key)
+  own_located scope queries path (subtransaction a b) = tt
+  own_located scope queries path abort = tt
+  own_located scope queries path veto = tt
+  own_located scope queries path (on_rule op n) = tt
+  own_located scope queries path (fire n) = fire_located scope queries path n
+
+  both_located : (parts : Path → Option Part) (path : Path) (a b : Judged ⊤) → Located library d parts path a → Located library d parts path b → Located library d parts path (both_check a b)
+  unfolding both_check
+  both_located parts path a b first second = located_then parts path a (λ _. b) first (λ _ _. second)
+
+  -- the statements from an index on
+  abbrev body_from : ℕ → Body → Body
+  body_from i empty = empty
+  body_from zero (s then rest) = s then rest
+  body_from (suc i) (s then rest) = body_from i rest
+
+  from_start : (b : Body) → body_from 0 b ≡ b
+  from_start empty = refl
+  from_start (s then rest) = refl
+
+  statement_is : (i : ℕ) (whole : Body) (s : Statement) (rest : Body) → body_from i whole ≡ (s then rest) → statement_at i whole ≡ Some s
+  statement_is i empty s rest is = cc
+  statement_is zero (t then more) s rest is = ap (statement_at 0) is
+  statement_is (suc i) (t then more) s rest is = statement_is i more s rest is
+
+  later_is : (i : ℕ) (whole : Body) (s : Statement) (rest : Body) → body_from i whole ≡ (s then rest) → body_from (suc i) whole ≡ rest
+  later_is i empty s rest is = cc
+  later_is zero (t then more) s rest is = ap (body_from 1) is ∙ from_start rest
+  later_is (suc i) (t then more) s rest is = later_is i more s rest is
+
+  mutual
+    inner_located : (scope : Scope) (queries : List (Name × ℕ)) (path : Path) (s : Statement) → Located library d (At scope queries s) path (inner_check library d scope queries path s)
+    inner_located scope queries path (when e a b) =
+        both_located (At scope queries (when e a b)) path (body_check library d scope queries (item_at path 2) 0 a) (body_check library d scope queries (item_at path 3) 0 b)
+        (located_deeper (At scope queries (when e a b)) (AtBody scope queries a) path 2 (body_check library d scope queries (item_at path 2) 0 a) (λ steps. refl) (body_located scope queries (item_at path 2) a 0 a (from_start a)))
+        (located_deeper (At scope queries (when e a b)) (AtBody scope queries b) path 3 (body_check library d scope queries (item_at path 3) 0 b) (λ steps. refl) (body_located scope queries (item_at path 3) b 0 b (from_start b)))
+    inner_located scope queries path (each x class predicate body) =
+        let inner = with_name x class scope in
+        located_deeper (At scope queries (each x class predicate body)) (AtBody inner queries body) path 4 (body_check library d inner queries (item_at path 4) 0 body) (λ steps. refl) (body_located inner queries (item_at path 4) body 0 body (from_start body))
+    inner_located scope queries path (for_answer x body) =
+        let inner = with_name x (unwrap_or (lookup (bytes_eq x) queries) 0) scope in
+        located_deeper (At scope queries (for_answer x body)) (AtBody inner queries body) path 2 (body_check library d inner queries (item_at path 2) 0 body) (λ steps. refl) (body_located inner queries (item_at path 2) body 0 body (from_start body))
+    inner_located scope queries path (with_object x class key body) =
+        let inner = with_name x class scope in
+        located_deeper (At scope queries (with_object x class key body)) (AtBody inner queries body) path 4 (body_check library d inner queries (item_at path 4) 0 body) (λ steps. refl) (body_located inner queries (item_at path 4) body 0 body (from_start body))
+    inner_located scope queries path (subtransaction a b) =
+        both_located (At scope queries (subtransaction a b)) path (body_check library d scope queries (item_at path 1) 0 a) (body_check library d scope queries (item_at path 2) 0 b)
+        (located_deeper (At scope queries (subtransaction a b)) (AtBody scope queries a) path 1 (body_check library d scope queries (item_at path 1) 0 a) (λ steps. refl) (body_located scope queries (item_at path 1) a 0 a (from_start a)))
+        (located_deeper (At scope queries (subtransaction a b)) (AtBody scope queries b) path 2 (body_check library d scope queries (item_at path 2) 0 b) (λ steps. refl) (body_located scope queries (item_at path 2) b 0 b (from_start b)))
+    inner_located scope queries path s = tt
+
+    body_located : (scope : Scope) (queries : List (Name × ℕ)) (path : Path) (whole : Body) (i : ℕ) (b : Body) → body_from i whole ≡ b → Located library d (AtBody scope queries whole) path (body_check library d scope queries path i b)
+    body_located scope queries path whole i empty is = tt
+    body_located scope queries path whole i (s then rest) is =
+        located_then (AtBody scope queries whole) path (statement_check library d scope queries (item_at path i) s) (λ _. body_check library d scope queries path (suc i) rest)
+        (located_deeper (AtBody scope queries whole) (At scope queries s) path i (statement_check library d scope queries (item_at path i) s)
+        (λ steps. ap (λ o. along o (λ t. part_in_statement library scope queries steps t)) (statement_is i whole s rest is))
+        (both_located (At scope queries s) (item_at path i) (own_check library d scope queries (item_at path i) s) (inner_check library d scope queries (item_at path i) s) (own_located scope queries (item_at path i) s) (inner_located scope queries (item_at path i) s)))
+        (λ _ _. body_located scope queries path whole (suc i) rest (later_is i whole s rest is))
+
+  -- ---- rules
+
+  take_next : {A : Type 0} (i : ℕ) (whole : List A) (x : A) (rest : List A) → drop i whole ≡ x ∷ rest → take i whole ++ x ∷ [] ≡ take (suc i) whole
+  take_next zero [] x rest is = cc
+  take_next zero (y ∷ ys) x rest is = ap (take 1) (sym is)
+  take_next (suc i) [] x rest is = cc
+  take_next (suc i) (y ∷ ys) x rest is = ap (λ xs. y ∷ xs) (take_next i ys x rest is)
+
+  asked_located : (c : Columns) (before : List Query) (path : Path) (q : Query) → Located library d (λ steps. part_in_query c before steps q) path (query_check library d c before path q)
+  unfolding query_check
+  asked_located c before path q =
+      let inner = with_name q.name q.class (asked_scope c before) in
+      located_deeper (λ steps. part_in_query c before steps q) (In inner q.predicate) path 2 (kind_check library d inner boolean_kind (item_at path 2) q.predicate) (λ steps. refl)
+      (kind_located inner (item_at path 2) boolean_kind q.predicate)
+
+  condition_located : (c : Columns) (path : Path) (whole before : List Query) (i : ℕ) (qs : List Query) → drop i whole ≡ qs → before ≡ take i whole
+      → Located library d (λ steps. part_in_condition c steps whole) path (each_check (query_check library d c) path before i qs)
+  condition_located c path whole before i [] is earlier = tt
+  condition_located c path whole before i (q ∷ qs) is earlier =
+      located_then (λ steps. part_in_condition c steps whole) path (query_check library d c before (item_at path i) q) (λ _. each_check (query_check library d c) path (before ++ q ∷ []) (suc i) qs)
+      (located_deeper (λ steps. part_in_condition c steps whole) (λ steps. part_in_query c before steps q) path i (query_check library d c before (item_at path i) q)
+      (λ steps. ap₂ (λ o b. along o (λ p. part_in_query c b steps p)) (item_is i whole q qs is) (sym earlier)) (asked_located c before (item_at path i) q))
+      (λ _ _. condition_located c path whole (before ++ q ∷ []) (suc i) qs (rest_is i whole q qs is) (ap (λ b. b ++ q ∷ []) earlier ∙ take_next i whole q qs is))
+
+  rule_located : (fired : Bool) (path : Path) (rule : Rule) → Located library d (λ steps. part_in_rule library fired steps rule) path (rule_check library d fired path rule)
+  unfolding parts_check
+  rule_located fired path rule =
+      let c = columns_by fired rule.event in
+      located_then (λ steps. part_in_rule library fired steps rule) path (condition_check library d c (item_at path 3) rule.condition) (λ _. action_check library d c rule.condition (item_at path 5) rule.action)
+      (located_deeper (λ steps. part_in_rule library fired steps rule) (λ steps. part_in_condition c steps rule.condition) path 3 (condition_check library d c (item_at path 3) rule.condition) (λ steps. refl)
+      (condition_located c (item_at path 3) rule.condition [] 0 rule.condition refl refl))
+      (λ _ _. located_deeper (λ steps. part_in_rule library fired steps rule) (AtBody (asked_scope c rule.condition) (query_classes rule.condition) rule.action) path 5 (action_check library d c rule.condition (item_at path 5) rule.action) (λ steps. refl)
+      (body_located (asked_scope c rule.condition) (query_classes rule.condition) (item_at path 5) rule.action 0 rule.action (from_start rule.action)))
+
+  rules_located : (path : Path) (n : ℕ) (rules : List Rule) → drop n library.rules ≡ rules → Located library d (part_in_rules library d) path (rules_check library d path n rules)
+  rules_located path n [] is = tt
+  rules_located path n (rule ∷ rules) is =
+      located_then (part_in_rules library d) path (rule_check library d (is_fired d n) (item_at path n) rule) (λ _. rules_check library d path (suc n) rules)
+      (located_deeper (part_in_rules library d) (λ steps. part_in_rule library (is_fired d n) steps rule) path n (rule_check library d (is_fired d n) (item_at path n) rule)
+      (λ steps. ap (λ o. along o (λ r. part_in_rule library (is_fired d n) steps r)) (item_is n library.rules rule rules is)) (rule_located (is_fired d n) (item_at path n) rule))
+      (λ _ _. rules_located path (suc n) rules (rest_is n library.rules rule rules is))
+
+-- ---- libraries and units
+
+pub library_placed : (library : Library) (d : Declared) → IsPlacedIn library d (part_in_library library d) (library_check library d)
+library_placed library d = by (library_check library d) (rules_located library d (under_root rules_member) 0 library.rules refl)
+  where
+    by : (r : Judged ⊤) → Located library d (part_in_rules library d) (under_root rules_member) r → IsPlacedIn library d (part_in_library library d) r
+    by (Ok u) there = tt
+    by (Err f) (steps, part, is, found, fails) = (part, ap (part_in_library library d) is ∙ found, fails)
+
+pub unit_placed : (library : Library) (d : Declared) (unit : Unit) → IsPlacedIn library d (λ path. part_in_unit library path unit) (unit_check library d unit)
+unit_placed library d (moment t) = tt
+unit_placed library d (transaction body) = by (unit_check library d (transaction body)) (body_located library d no_scope [] [] body 0 body (from_start library d body))
+  where
+    by : (r : Judged ⊤) → Located library d (λ steps. part_in_body library no_scope [] steps body) [] r → IsPlacedIn library d (λ path. part_in_unit library path (transaction body)) r
+    by (Ok u) there = tt
+    by (Err f) (steps, part, is, found, fails) = (part, ap (λ path. part_in_body library no_scope [] path body) is ∙ found, fails)
+
+-- ---- the program's checks
+
+places : (library : Library) (d : Declared) (parts : Path → Option Part) (r : Judged ⊤) → IsPlacedIn library d parts r → (done : Result ⊤ KindError) → Passes done r → Places library d parts done
+places library d parts r there (Ok u) is = tt
+places library d parts r there (Err Memory) is = tt
+places library d parts r there (Err (Found f)) is = subst (λ (j : Judged ⊤). IsPlacedIn library d parts j) is there
+
+pub library_places : (library : Library) (d : Declared) (done : Result ⊤ KindError) → Passes done (library_check library d) → Places library d (part_in_library library d) done
+library_places library d done is = places library d (part_in_library library d) (library_check library d) (library_placed library d) done is
+
+pub unit_places : (library : Library) (d : Declared) (unit : Unit) (done : Result ⊤ KindError) → Passes done (unit_check library d unit) → Places library d (λ path. part_in_unit library path unit) done
+unit_places library d unit done is = places library d (λ path. part_in_unit library path unit) (unit_check library d unit) (unit_placed library d unit) done is

@@ -1,0 +1,14 @@
+//! Kinds: that each value is used as what it is, read off the rule base alone.
+
+pub(crate) mod check;
+mod columns;
+pub(crate) mod declaration;
+mod expr;
+pub(crate) mod finding;
+pub(crate) mod infer;
+mod part;
+mod rows;
+mod rule;
+mod scope;
+pub(crate) mod sort;
+mod statement;

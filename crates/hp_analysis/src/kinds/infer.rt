@@ -1,0 +1,43 @@
+//! What signals are declared to carry, found by how rules use it.
+
+mod arguments;
+mod gather;
+mod reads;
+mod solve;
+
+use crate::kinds::declaration::Declaration;
+use crate::kinds::infer::gather::Gathering;
+use crate::kinds::infer::reads::reads_parts;
+use crate::kinds::infer::solve::solved;
+pub use crate::kinds::infer::solve::{Inferred, UnknownArgument};
+use hp_rule::{Library, Unit};
+use hp_value::RuleNo;
+use std::alloc::{AllocError, Global};
+
+/// Lets statements fire the rules that read no part of their occurrence.
+fn allow_plain_rules(library: &Library, declaration: &mut Declaration) -> Result<(), AllocError> {
+    let mut number: RuleNo = 0;
+    for rule in library.rules() {
+        if !reads_parts(rule) {
+            declaration.allow(number)?;
+        }
+        number = number.saturating_add(1);
+    }
+    Ok(())
+}
+
+/// A declaration for a library and the units of its script.
+///
+/// A signal is declared with the arguments that rules use. An argument has the kind that its uses want; if they want
+/// none, but compare it, the kind that most statements give it. One that is only passed on or emitted has any kind.
+/// Statements may fire the rules that read no part of their occurrence.
+///
+/// What a check promises holds for each declaration. So a wrong guess can only make a check refuse what it need not.
+///
+/// An error means that memory ran out.
+pub fn infer(alloc: Global, library: &Library, units: &[Unit]) -> Result<Inferred, AllocError> {
+    let gathering = Gathering::of(alloc, library, units)?;
+    let mut inferred = solved(alloc, gathering.arguments)?;
+    allow_plain_rules(library, &mut inferred.declaration)?;
+    Ok(inferred)
+}

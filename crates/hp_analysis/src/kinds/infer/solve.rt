@@ -1,0 +1,254 @@
+//! The kinds of arguments, by their uses and by what statements give them.
+
+use crate::kinds::declaration::Declaration;
+use crate::kinds::infer::arguments::{Arguments, Flow, MAX_ARGUMENTS, Origin};
+use crate::kinds::sort::Sort;
+use hp_value::Kind;
+use std::alloc::{AllocError, Global};
+
+/// An argument whose kind nothing gives, though a rule compares it.
+#[derive(Debug, PartialEq, Eq, Drop)]
+pub struct UnknownArgument {
+    /// The signal's name.
+    pub signal: String,
+    /// The index of the argument, from 0.
+    pub place: usize,
+}
+
+/// What was found for a rule base.
+#[derive(Debug, Drop)]
+pub struct Inferred {
+    /// The declaration.
+    pub declaration: Declaration,
+    /// The arguments whose kinds nothing gives. They are declared as integers. Another kind has to be declared, if
+    /// statements are to give one.
+    pub unknown: Vec<UnknownArgument>,
+}
+
+/// How often statements give a group of arguments a value of each kind.
+#[derive(Clone, Copy)]
+struct Given {
+    integers: usize,
+    booleans: usize,
+    texts: usize,
+}
+
+impl Given {
+    /// The same, and one more.
+    fn with(self, kind: Kind) -> Given {
+        match kind {
+            Kind::Int => Given {
+                integers: self.integers.saturating_add(1),
+                ..self
+            },
+            Kind::Bool => Given {
+                booleans: self.booleans.saturating_add(1),
+                ..self
+            },
+            Kind::Text => Given {
+                texts: self.texts.saturating_add(1),
+                ..self
+            },
+        }
+    }
+
+    /// The kind that is given most often; none if nothing is given.
+    fn most(self) -> Option<Kind> {
+        if self.booleans > self.integers && self.booleans >= self.texts {
+            return Some(Kind::Bool);
+        }
+        if self.texts > self.integers {
+            return Some(Kind::Text);
+        }
+        if self.integers > 0 {
+            return Some(Kind::Int);
+        }
+        None
+    }
+}
+
+/// For each argument, the arguments that statements give as one of its group, listed at the group's first.
+fn sources(alloc: Global, arguments: &Arguments) -> Result<Vec<Vec<usize>>, AllocError> {
+    let mut sources: Vec<Vec<usize>> = Vec::new(alloc);
+    for _ in &arguments.known {
+        sources.push(Vec::new(alloc))?;
+    }
+    for flow in &arguments.flows {
+        if let Origin::Argument(from) = flow.from {
+            if let Some(list) = sources.get_mut(arguments.first(flow.into)) {
+                list.push(from)?;
+            }
+        }
+    }
+    Ok(sources)
+}
+
+/// The groups that need one kind, each by its first argument.
+fn strong_groups(alloc: Global, arguments: &Arguments) -> Result<Vec<usize>, AllocError> {
+    let mut strong = Vec::new(alloc);
+    for (number, argument) in arguments.known.iter().enumerate() {
+        if argument.is_strong && arguments.first(number) == number {
+            strong.push(number)?;
+        }
+    }
+    Ok(strong)
+}
+
+/// Whether the group of an argument isn't known to need one kind yet.
+fn is_weak(arguments: &Arguments, first: usize) -> bool {
+    match arguments.known.get(first) {
+        Some(argument) => !argument.is_strong,
+        None => false,
+    }
+}
+
+/// What is given where one kind is needed has to be of one kind too, and so on.
+fn spread(alloc: Global, arguments: &mut Arguments) -> Result<(), AllocError> {
+    let sources = sources(alloc, arguments)?;
+    let mut open = strong_groups(alloc, arguments)?;
+    // Each group is opened once.
+    for _ in 0..sources.len() {
+        let Some(group) = open.pop() else {
+            return Ok(());
+        };
+        let Some(list) = sources.get(group) else {
+            return Ok(());
+        };
+        for from in list {
+            let first = arguments.first(*from);
+            if is_weak(arguments, first) {
+                arguments.want(first, None);
+                open.push(first)?;
+            }
+        }
+    }
+    Ok(())
+}
+
+/// Makes one group of what is given, and what it is given as, where one kind is needed.
+fn join_flows(alloc: Global, arguments: &mut Arguments) -> Result<(), AllocError> {
+    let flows: Vec<Flow> = Vec::from_slice(alloc, &arguments.flows)?;
+    for flow in &flows {
+        let first = arguments.first(flow.into);
+        if let Origin::Argument(from) = flow.from {
+            if !is_weak(arguments, first) {
+                arguments.join(from, first);
+            }
+        }
+    }
+    Ok(())
+}
+
+/// How often statements give each group a value of each kind, listed at the group's first argument.
+fn counts(alloc: Global, arguments: &Arguments) -> Result<Vec<Given>, AllocError> {
+    let mut counts = Vec::new(alloc);
+    for _ in &arguments.known {
+        counts.push(Given {
+            integers: 0,
+            booleans: 0,
+            texts: 0,
+        })?;
+    }
+    for flow in &arguments.flows {
+        if let Origin::Known(kind) = flow.from {
+            if let Some(given) = counts.get_mut(arguments.first(flow.into)) {
+                *given = given.with(kind);
+            }
+        }
+    }
+    Ok(counts)
+}
+
+/// What is known of an argument in the end.
+#[derive(Clone, Copy)]
+enum Standing {
+    /// No rule uses it.
+    Unused,
+    /// Rules use it, whatever its kind is.
+    AnyKind,
+    /// It has this kind.
+    Kind(Kind),
+    /// It needs one kind, and nothing gives it.
+    Unknown,
+}
+
+fn standing_of(arguments: &Arguments, counts: &[Given], number: usize) -> Standing {
+    match arguments.known.get(number) {
+        Some(argument) if argument.is_used => {}
+        _ => return Standing::Unused,
+    }
+    let first = arguments.first(number);
+    let (Some(group), Some(given)) = (arguments.known.get(first), counts.get(first)) else {
+        return Standing::Unused;
+    };
+    if !group.is_strong {
+        return Standing::AnyKind;
+    }
+    match group.wanted.or(given.most()) {
+        Some(kind) => Standing::Kind(kind),
+        None => Standing::Unknown,
+    }
+}
+
+/// What is known of the arguments of one signal.
+fn standings(
+    alloc: Global,
+    arguments: &Arguments,
+    counts: &[Given],
+    first: usize,
+) -> Result<Vec<Standing>, AllocError> {
+    let mut standings = Vec::new(alloc);
+    let mut used = 0;
+    for place in 0..MAX_ARGUMENTS {
+        let number = first.saturating_add(place);
+        let known = standing_of(arguments, counts, number);
+        standings.push(known)?;
+        if !matches!(known, Standing::Unused) {
+            used = place + 1;
+        }
+    }
+    standings.truncate(used);
+    Ok(standings)
+}
+
+/// Declares a signal's arguments, as many as rules use.
+fn declare(
+    alloc: Global,
+    name: &String,
+    standings: &[Standing],
+    inferred: &mut Inferred,
+) -> Result<(), AllocError> {
+    let mut sorts = Vec::new(alloc);
+    for (place, known) in standings.iter().enumerate() {
+        sorts.push(match known {
+            Standing::Unused | Standing::AnyKind => Sort::Any,
+            Standing::Kind(kind) => Sort::Only(*kind),
+            Standing::Unknown => Sort::Only(Kind::Int),
+        })?;
+        if matches!(known, Standing::Unknown) {
+            let signal = name.clone()?;
+            inferred.unknown.push(UnknownArgument { signal, place })?;
+        }
+    }
+    if !sorts.is_empty() {
+        inferred.declaration.declare(name.clone()?, sorts)?;
+    }
+    Ok(())
+}
+
+/// The declaration that follows from what was gathered.
+pub(crate) fn solved(alloc: Global, gathered: Arguments) -> Result<Inferred, AllocError> {
+    let mut arguments = gathered;
+    spread(alloc, &mut arguments)?;
+    join_flows(alloc, &mut arguments)?;
+    let counts = counts(alloc, &arguments)?;
+    let mut inferred = Inferred {
+        declaration: Declaration::new(alloc),
+        unknown: Vec::new(alloc),
+    };
+    for (name, first) in arguments.numbers.iter() {
+        let standings = standings(alloc, &arguments, &counts, *first)?;
+        declare(alloc, name, &standings, &mut inferred)?;
+    }
+    Ok(inferred)
+}

@@ -1,0 +1,225 @@
+//! Kinds: what is accepted, what is refused and where, and what is inferred.
+
+use super::fixtures::{script, sort_name, verdict};
+use hp_analysis::{Declaration, Sort, check_library, infer, is_kinded};
+use hp_value::Kind;
+use std::alloc::Global;
+use std::process::Abort;
+use std::test::Fail;
+
+/// A rule on an event, with an action.
+fn rule(alloc: Global, event: &str, action: &str) -> Result<String, Fail> {
+    Ok(format!(in alloc; r#"["r", {event}, "immediate", [], "immediate", [{action}]]"#)?)
+}
+
+/// The verdict on a script of one rule and some items.
+fn expect<R: Abort + AllocGlobal>(
+    rt: &R,
+    event: &str,
+    action: &str,
+    items: &str,
+    expected: &str,
+) -> Result<(), Fail> {
+    let alloc = rt.alloc();
+    let rules = rule(alloc, event, action)?;
+    let read = script(alloc, rules.as_str(), items)?;
+    let said = verdict(alloc, &read)?;
+    assert!(*rt; said.as_str() == expected, "{action} gives {said}");
+    Ok(())
+}
+
+#[test]
+fn knows_what_each_part_has(rt: HostRuntime) -> Result<(), Fail> {
+    let updated = r#"["update", "item"]"#;
+    expect(
+        &rt,
+        updated,
+        r#"["emit", ["-", ["new", 0, "stock"], ["old", 0, "stock"]]]"#,
+        "",
+        "kinded",
+    )?;
+    let deleted = r#"["delete", "item"]"#;
+    expect(
+        &rt,
+        deleted,
+        r#"["emit", ["new", 0, "stock"]]"#,
+        "",
+        "/rules/0/5/0/1 OtherForm",
+    )?;
+    expect(
+        &rt,
+        deleted,
+        r#"["emit", ["old", 0, "price"]]"#,
+        "",
+        "/rules/0/5/0/1 NoSuchField",
+    )?;
+    expect(
+        &rt,
+        r#"["commit"]"#,
+        r#"["emit", ["id", 0]]"#,
+        "",
+        "/rules/0/5/0/1 OtherForm",
+    )?;
+    expect(
+        &rt,
+        r#"["every", 5, 10]"#,
+        r#"["emit", ["+", ["time", 0], 1]]"#,
+        "",
+        "kinded",
+    )
+}
+
+#[test]
+fn knows_the_parts_of_composite_events(rt: HostRuntime) -> Result<(), Fail> {
+    let action = r#"["emit", ["+", ["id", 1], 1]]"#;
+    let both = r#"["seq", ["create", "item"], ["update", "item"]]"#;
+    expect(&rt, both, action, "", "kinded")?;
+    let one = r#"["or", ["create", "item"], ["update", "item"]]"#;
+    expect(&rt, one, action, "", "/rules/0/5/0/1/1 NoSuchPart")?;
+    let unequal =
+        r#"["seq", ["or", ["create", "item"], ["seq", ["commit"], ["commit"]]], ["update", "item"]]"#;
+    expect(&rt, unequal, action, "", "/rules/0/5/0/1/1 NoSuchPart")?;
+    let mixed = r#"["or", ["create", "item"], ["delete", "item"]]"#;
+    expect(
+        &rt,
+        mixed,
+        r#"["emit", ["new", 0, "stock"]]"#,
+        "",
+        "/rules/0/5/0/1 OtherForm",
+    )
+}
+
+#[test]
+fn tells_what_is_wanted_and_what_is_there(rt: HostRuntime) -> Result<(), Fail> {
+    let created = r#"["create", "item"]"#;
+    expect(
+        &rt,
+        created,
+        r#"["if", ["<", ["new", 0, "name"], 5], [], []]"#,
+        "",
+        "/rules/0/5/0/1/2 text wanted, is int",
+    )?;
+    expect(
+        &rt,
+        created,
+        r#"["if", ["new", 0, "stock"], [], []]"#,
+        "",
+        "/rules/0/5/0/1 bool wanted, is int",
+    )?;
+    expect(
+        &rt,
+        created,
+        r#"["if", ["<", true, false], [], []]"#,
+        "",
+        "/rules/0/5/0/1/1 int or text wanted, is bool",
+    )?;
+    expect(
+        &rt,
+        created,
+        r#"["update", "item", 1, [["name", 5]]]"#,
+        "",
+        "/rules/0/5/0/3/0/1 text wanted, is int",
+    )?;
+    expect(
+        &rt,
+        created,
+        r#"["each", "i", "item", ["of", "i", "stock"], []]"#,
+        "",
+        "/rules/0/5/0/3 bool wanted, is int",
+    )?;
+    expect(
+        &rt,
+        created,
+        "",
+        r#"["tx", [["emit", ["count"]]]]"#,
+        "/0/1 NoOccurrence",
+    )
+}
+
+#[test]
+fn infers_what_signals_carry(rt: HostRuntime) -> Result<(), Fail> {
+    let alloc = rt.alloc();
+    let rules = rule(
+        alloc,
+        r#"["signal", "paid"]"#,
+        r#"["update", "item", ["arg", 0, 0], [["name", ["arg", 0, 2]]]], ["emit", ["arg", 0, 1]]"#,
+    )?;
+    let read = script(alloc, rules.as_str(), "")?;
+    let found = infer(alloc, &read.library, &read.items)?;
+    let mut sorts = String::new(alloc);
+    for sort in found.declaration.signature("paid") {
+        sorts.push_str(sort_name(*sort))?;
+        sorts.push_str(" ")?;
+    }
+    assert!(rt; sorts.as_str() == "int any text ", "{sorts}");
+    assert!(rt; found.declaration.signature("sent").is_empty());
+    assert!(rt; found.unknown.is_empty());
+    Ok(())
+}
+
+/// The verdict on a transaction that gives a signal, of which a rule adds 1 to the second argument.
+fn expect_given<R: Abort + AllocGlobal>(
+    rt: &R,
+    arguments: &str,
+    expected: &str,
+) -> Result<(), Fail> {
+    let items = format!(in rt.alloc(); r#"["tx", [["signal", "paid", [{arguments}]]]]"#)?;
+    expect(
+        rt,
+        r#"["signal", "paid"]"#,
+        r#"["emit", ["+", ["arg", 0, 1], 1]]"#,
+        items.as_str(),
+        expected,
+    )
+}
+
+#[test]
+fn demands_what_rules_use(rt: HostRuntime) -> Result<(), Fail> {
+    expect_given(&rt, "true, 2", "kinded")?;
+    expect_given(&rt, r#"true, 2, "more""#, "kinded")?;
+    expect_given(&rt, "true", "/0 TooFewArguments")?;
+    expect_given(&rt, r#"true, "2""#, "/0/2/1 int wanted, is text")
+}
+
+#[test]
+fn lets_statements_fire_what_reads_no_part(rt: HostRuntime) -> Result<(), Fail> {
+    let created = r#"["create", "item"]"#;
+    let fired = r#"["tx", [["install", "r"], ["fire", "r"]]]"#;
+    expect(&rt, created, r#"["emit", ["count"]]"#, fired, "kinded")?;
+    expect(&rt, created, r#"["emit", ["id", 0]]"#, fired, "/1 NotFired")
+}
+
+#[test]
+fn says_which_kinds_nothing_gives(rt: HostRuntime) -> Result<(), Fail> {
+    let alloc = rt.alloc();
+    let rules = rule(
+        alloc,
+        r#"["signal", "pair"]"#,
+        r#"["emit", ["=", ["arg", 0, 0], ["arg", 0, 1]]]"#,
+    )?;
+    let read = script(alloc, rules.as_str(), "")?;
+    let found = infer(alloc, &read.library, &read.items)?;
+    assert!(rt; found.unknown.len() == 2);
+    Ok(())
+}
+
+#[test]
+fn checks_against_what_is_declared(rt: HostRuntime) -> Result<(), Fail> {
+    let alloc = rt.alloc();
+    let rules = rule(
+        alloc,
+        r#"["signal", "paid"]"#,
+        r#"["emit", ["+", ["arg", 0, 0], 1]]"#,
+    )?;
+    let read = script(alloc, rules.as_str(), "")?;
+    let mut declared = Declaration::new(alloc);
+    assert!(rt; check_library(alloc, &read.library, &declared).is_err());
+    let sorts = vec![in alloc; Sort::Only(Kind::Int)]?;
+    declared.declare(String::from_str(alloc, "paid")?, sorts)?;
+    assert!(rt; check_library(alloc, &read.library, &declared).is_ok());
+    assert!(rt; is_kinded(alloc, &read.library, &declared, &read.items)?);
+    let sorts = vec![in alloc; Sort::Any]?;
+    declared.declare(String::from_str(alloc, "paid")?, sorts)?;
+    assert!(rt; !is_kinded(alloc, &read.library, &declared, &read.items)?);
+    Ok(())
+}

@@ -1,0 +1,4 @@
+//! Tests of what is found about a rule base before it runs.
+
+mod fixtures;
+mod kinds;
