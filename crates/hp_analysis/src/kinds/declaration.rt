@@ -14,8 +14,8 @@ use std::collections::BTreeMap;
 
 /// For some signals, the sorts of their first arguments; and the rules that statements may fire.
 ///
-/// A rule base is checked against a declaration. What the check promises holds for each declaration, so it doesn't matter
-/// where one comes from: `infer` finds one for a rule base, and `declare` replaces a signature.
+/// A rule base is checked against a declaration. What the check promises holds for each declaration, so it doesn't
+/// matter where one comes from: `infer` finds one for a rule base, and `declare` replaces a signature.
 #[derive(Debug, Drop)]
 pub struct Declaration {
     pub(crate) signatures: BTreeMap<String, Vec<Sort>>,

@@ -13,7 +13,7 @@ use hp_value::{Kind, Value};
 pub enum Sort {
     /// It has this kind.
     Only(Kind),
-    /// It has one of the three kinds, and nothing says which. It may be passed on and emitted, and not be computed with.
+    /// It has one of the three kinds, and nothing says which. It may be passed on and emitted, not computed with.
     Any,
 }
 

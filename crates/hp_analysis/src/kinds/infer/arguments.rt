@@ -72,7 +72,7 @@ impl Arguments {
         Ok(())
     }
 
-    /// The number of an argument of a signal. `None` if no rule listens to the signal, or signals have no such argument.
+    /// The number of an argument of a signal. `None` if no rule listens to the signal, or if the index is too large.
     pub(crate) fn number(&self, name: &str, place: usize) -> Option<usize> {
         if place >= MAX_ARGUMENTS {
             return None;
