@@ -9,7 +9,6 @@ pub mod Findings
 pub mod KindLaws
 pub mod Kinded
 pub mod Parts
-pub mod Passing
 pub mod Placed
 pub mod Places
 pub mod Readings
