@@ -16,8 +16,8 @@ SCRIPT = {"version": 2, "classes": [["item", [["stock", "int"]]]], "rules": [
     ["tick", ["every", 5, 5], "immediate", [], "immediate", [["emit", ["time", 0]]]],
     ["pair", ["seq", ["update", "item"], ["update", "item"]], "immediate", [], "immediate", [["emit", "two"]]]],
     "items": [["tx", [["install", "tick"], ["create", "item", 7, [["stock", 3]]]]]]}
-LINES = [SCRIPT, ["tx", [["update", "item", 7, [["stock", 2]]]]], ["show"], ["tx", [["update", "item", 7, []], ["veto"]]],
-         ["clock", 16], ["clock", 3], ["tx", [["abort"]]], ["show", "item"], ["tx", [["emit", "a\u2028b"]]]]
+LINES = [SCRIPT, ["tx", [["update", "item", 7, [["stock", 2]]]]], ["show"],
+         ["tx", [["update", "item", 7, []], ["veto"]]], ["clock", 16], ["clock", 3], ["tx", [["abort"]]], ["show", "item"], ["tx", [["emit", "a\u2028b"]]]]
 ACCEPTED = [LINES[1], LINES[4], LINES[6], LINES[8]]
 
 

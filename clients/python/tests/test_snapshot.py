@@ -80,10 +80,12 @@ class SnapshotTest(RuleBaseTest):
 
     def test_new_rules_over_the_old_objects(self):
         base = self.grown()
-        low = rule("low", ["update", "item"], [["emit", "low"]], queries=[["i", "item", ["<", ["of", "i", "stock"], 2]]])
+        few = [["i", "item", ["<", ["of", "i", "stock"], 2]]]
+        low = rule("low", ["update", "item"], [["emit", "low"]], queries=few)
         new = script([NO_OVERSELL, low], [["tx", [["install", "low"]]]], classes=[NOTE, ITEM])
         copy = self.copy_of(base, script=new)
-        self.assertEqual([str(it) for it in copy.show().objects], ['note 1 text="a \\"b\\"" read=true', "item -7 stock=2"])
+        self.assertEqual([str(it) for it in copy.show().objects],
+                         ['note 1 text="a \\"b\\"" read=true', "item -7 stock=2"])
         self.assertEqual(copy.show().rules, {"no_oversell": "enabled", "low": "enabled"})
         self.assertEqual(copy.tx([["update", "item", -7, [["stock", 1]]]]).emits, ["low"])
 
