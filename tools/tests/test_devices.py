@@ -11,6 +11,7 @@ import threading
 import time
 import unittest
 from pathlib import Path
+from typing import Any
 
 from hipac_tools import command
 
@@ -30,7 +31,7 @@ def limited() -> None:
 
 
 class Devices(unittest.TestCase):
-    def launch(self, *words: str, **how: object) -> subprocess.CompletedProcess:
+    def launch(self, *words: str, **how: Any) -> subprocess.CompletedProcess:
         started = [sys.executable, "-m", "hipac_tools", *words]
         how = {"stdin": subprocess.DEVNULL, "stdout": subprocess.PIPE, **how}
         return subprocess.run(started, stderr=subprocess.PIPE, text=True, timeout=SECONDS, check=False,
@@ -41,7 +42,7 @@ class Devices(unittest.TestCase):
             program = Path(folder, "hipac")
             program.write_text(REFUSING, encoding="utf-8")
             program.chmod(0o755)
-            how = {"preexec_fn": limited, "env": {**os.environ, "HIPAC": str(program)}}
+            how: dict[str, Any] = {"preexec_fn": limited, "env": {**os.environ, "HIPAC": str(program)}}
             told = "1:1: refused S5 size: a script has at most 1,048,576 bytes, and this has more\n"
             ended = self.launch("check", "/dev/zero", **how)
             self.assertEqual((ended.returncode, ended.stdout, ended.stderr), (2, f"/dev/zero:{told}", ""))
@@ -73,8 +74,9 @@ class Devices(unittest.TestCase):
         os.close(reads)
 
     def test_a_full_device_is_one_line_and_a_fault(self) -> None:
+        calls: list[tuple[str, list[str]]] = [*WORDS.items(), ("--help", []), ("check", ["--help"])]
         with open("/dev/full", "wb") as full:
-            for word, more in [*WORDS.items(), ("--help", []), ("check", ["--help"])]:
+            for word, more in calls:
                 with self.subTest(word):
                     ended = self.launch(word, *more, stdout=full)
                     told = "hipac-tools: standard output can't be written: No space left on device\n"

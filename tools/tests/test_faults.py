@@ -11,6 +11,7 @@ import re
 import tempfile
 import unittest
 from pathlib import Path
+from typing import Any
 
 from hipac_tools import faults, faulting, view, why
 from hipac_tools.account import account_of
@@ -31,7 +32,7 @@ def created(key: int, stock: int) -> list:
     return ["create", "item", key, [["stock", stock]]]
 
 
-def guarded(body: list, **how: object) -> dict:
+def guarded(body: list, **how: Any) -> dict:
     """A script of two guards, one that tests in its condition and one in its action, and a rule that can't act."""
     rules = [rule("asks", ["create", "item"], [["veto"]], queries=[["i", "item", ["and", ["=", ["key", "i"], ["id", 0]],
                                                                                   TEST]]], **how),
@@ -167,11 +168,12 @@ class Page(unittest.TestCase):
 
 class Words(unittest.TestCase):
     def run_word(self, *words: str) -> tuple[int, str, str]:
-        out, errors = io.TextIOWrapper(io.BytesIO(), encoding="utf-8"), io.StringIO()
+        written, errors = io.BytesIO(), io.StringIO()
+        out = io.TextIOWrapper(written, encoding="utf-8")
         with contextlib.redirect_stdout(out), contextlib.redirect_stderr(errors):
             status = faults.main(list(words))
         out.flush()
-        return status, out.buffer.getvalue().decode(), errors.getvalue()
+        return status, written.getvalue().decode(), errors.getvalue()
 
     def test_statuses(self) -> None:
         with tempfile.TemporaryDirectory() as folder:

@@ -237,11 +237,12 @@ class Beginnings(unittest.TestCase):
             told = [graph.graph_text(graph.build(rulebase.read(text), is_live)) for is_live in (False, True)]
             for words, wanted in (([str(file)], told[0]), (["--live", str(file)], told[1]),
                                   ([str(file), "--live"], told[1])):
-                output = io.TextIOWrapper(io.BytesIO(), encoding="utf-8")
+                written = io.BytesIO()
+                output = io.TextIOWrapper(written, encoding="utf-8")
                 with redirect_stdout(output):
                     self.assertEqual(graph.main(words), 0)
                 output.flush()
-                self.assertEqual(output.buffer.getvalue().decode("utf-8"), wanted)
+                self.assertEqual(written.getvalue().decode("utf-8"), wanted)
         self.assertIn("a (immediate), on signal s, never fires", told[0])
         self.assertNotIn("never fires", told[1])
         self.assertIn("""

@@ -5,7 +5,7 @@ from __future__ import annotations
 import json
 import random
 import unittest
-from typing import Any
+from typing import Any, Sequence
 
 from hipac_tools import check
 from hipac_tools.report import End, Fire, walk
@@ -30,7 +30,7 @@ def hints(text: str, is_live: bool = False) -> list[str]:
     return [warned.message for warned in own.script.warnings if " doesn't veto if " in warned.message]
 
 
-def guarded(event: list, action: list, queries: list = (), items: list = ()) -> str:
+def guarded(event: list, action: list, queries: Sequence[Any] = (), items: Sequence[Any] = ()) -> str:
     """A script with one rule, and items that do more than install it."""
     one = rule("guard", event, action, queries=queries)
     return script([one], [["tx", [["install", "guard"], ["emit", 0]]], *items], CLASSES)
@@ -70,29 +70,31 @@ class Hints(unittest.TestCase):
 
     def test_kinds_and_parts_that_are_not_certain(self) -> None:
         either, both = ["or", MADE, GO], ["seq", GO, MADE]
-        for event, test, words in (
-                (either, ["<", NEW, 0], "`new bal` is missing (A6)"), (["or", MADE, UPDATED], ["<", NEW, 0], ""),
-                (["or", MADE, UPDATED], ["<", ["old", 0, "bal"], 0], "`old bal` is missing (A6)"),
-                (both, ["<", ["new", 1, "bal"], 0], ""), (both, ["<", ["id", 1], 0], ""),
-                (MADE, ["new", 0, "open"], ""), (MADE, ["=", ["new", 0, "owner"], "Ada"], ""),
-                (MADE, ["=", NEW, "Ada"], "`new bal` isn't of the kind that it is compared with (A3)"),
-                (MADE, NEW, "`new bal` isn't of kind bool (A3)"),
-                (MADE, ["<", ["new", 0, "open"], True], "`new open` isn't of the kind that it is compared with (A3)"),
-                (MADE, ["and", NEW, True], "`new bal` isn't of kind bool (A3)"),
-                (["at", 5], ["<", ["+", ["time", 0], 1], 9], ""),
-                (["every", 5, 5], ["<", ["+", ["time", 0], 1], 9], "`its moment + 1` leaves 64 bits (A4)")):
+        cases: tuple[tuple[list, Any, str], ...] = (
+            (either, ["<", NEW, 0], "`new bal` is missing (A6)"), (["or", MADE, UPDATED], ["<", NEW, 0], ""),
+            (["or", MADE, UPDATED], ["<", ["old", 0, "bal"], 0], "`old bal` is missing (A6)"),
+            (both, ["<", ["new", 1, "bal"], 0], ""), (both, ["<", ["id", 1], 0], ""),
+            (MADE, ["new", 0, "open"], ""), (MADE, ["=", ["new", 0, "owner"], "Ada"], ""),
+            (MADE, ["=", NEW, "Ada"], "`new bal` isn't of the kind that it is compared with (A3)"),
+            (MADE, NEW, "`new bal` isn't of kind bool (A3)"),
+            (MADE, ["<", ["new", 0, "open"], True], "`new open` isn't of the kind that it is compared with (A3)"),
+            (MADE, ["and", NEW, True], "`new bal` isn't of kind bool (A3)"),
+            (["at", 5], ["<", ["+", ["time", 0], 1], 9], ""),
+            (["every", 5, 5], ["<", ["+", ["time", 0], 1], 9], "`its moment + 1` leaves 64 bits (A4)"))
+        for event, test, words in cases:
             with self.subTest(event=event, test=test):
                 self.assert_hint(tested(test, event), words)
 
     def test_arguments_are_certain_only_if_all_signals_are_known(self) -> None:
         test = ["<", ["arg", 0, 0], 5]
         missing = "`argument 0` is missing (A6)"
-        for signals, words in (
-                ([["signal", "go", [1]]], ""), ([["signal", "go", [1]], ["signal", "go", [["count"]]]], ""),
-                ([["signal", "go", []]], missing), ([["signal", "go", [1]], ["signal", "go", []]], missing),
-                ([["signal", "go", ["a"]], ["signal", "go", [1]]],
-                 "`argument 0` isn't of the kind that it is compared with (A3)"),
-                ([["each", "a", "acct", True, [["signal", "go", [BAL]]]]], "")):
+        cases: tuple[tuple[list, str], ...] = (
+            ([["signal", "go", [1]]], ""), ([["signal", "go", [1]], ["signal", "go", [["count"]]]], ""),
+            ([["signal", "go", []]], missing), ([["signal", "go", [1]], ["signal", "go", []]], missing),
+            ([["signal", "go", ["a"]], ["signal", "go", [1]]],
+             "`argument 0` isn't of the kind that it is compared with (A3)"),
+            ([["each", "a", "acct", True, [["signal", "go", [BAL]]]]], ""))
+        for signals, words in cases:
             with self.subTest(signals):
                 one = rule("guard", GO, [["if", test, VETO, []]])
                 text = script([one], [["tx", [["install", "guard"], *signals]]], CLASSES)
@@ -106,20 +108,21 @@ class Hints(unittest.TestCase):
         small = ["and", ["<=", NEW, 1000], [">=", NEW, -1000]]
         large, sum_ = ["or", [">", NEW, 1000], ["<", NEW, -1000]], [">", ["*", NEW, 1000], 5]
         leaves = "`new bal * 1000` leaves 64 bits (A4)"
-        for action, words in (
-                ([["if", ["and", small, sum_], VETO, []]], ""), ([["if", ["or", large, sum_], VETO, []]], ""),
-                ([["if", small, [["if", sum_, VETO, []]], VETO]], ""),
-                ([["if", large, VETO, []], ["if", sum_, VETO, []]], ""),
-                ([["if", ["not", small], VETO, []], ["if", sum_, VETO, []]], ""),
-                ([["if", ["or", small, sum_], VETO, []]], leaves),
-                ([["if", large, [], []], ["if", sum_, VETO, []]], leaves),
-                ([["if", [">", NEW, 1000], VETO, []], ["if", sum_, VETO, []]], leaves),
-                ([["if", ["!=", NEW, 0], [["if", ["<", ["/", 7, ["*", NEW, NEW]], 1], VETO, []]], []]],
-                 "`new bal * new bal` leaves 64 bits (A4)"),
-                ([["if", [">", NEW, 0], [["if", ["<", ["/", 7, NEW], 1], VETO, []]], []]], ""),
-                ([["if", ["=", NEW, 7], [["if", ["<", ["+", NEW, 1], 1], VETO, []]], []]], ""),
-                ([["if", ["or", ["=", NEW, -GREATEST - 1], [">", ["neg", NEW], 5]], VETO, []]], ""),
-                ([["if", ["or", ["=", NEW, GREATEST], [">", ["+", NEW, 1], 5]], VETO, []]], "")):
+        cases: tuple[tuple[list, str], ...] = (
+            ([["if", ["and", small, sum_], VETO, []]], ""), ([["if", ["or", large, sum_], VETO, []]], ""),
+            ([["if", small, [["if", sum_, VETO, []]], VETO]], ""),
+            ([["if", large, VETO, []], ["if", sum_, VETO, []]], ""),
+            ([["if", ["not", small], VETO, []], ["if", sum_, VETO, []]], ""),
+            ([["if", ["or", small, sum_], VETO, []]], leaves),
+            ([["if", large, [], []], ["if", sum_, VETO, []]], leaves),
+            ([["if", [">", NEW, 1000], VETO, []], ["if", sum_, VETO, []]], leaves),
+            ([["if", ["!=", NEW, 0], [["if", ["<", ["/", 7, ["*", NEW, NEW]], 1], VETO, []]], []]],
+             "`new bal * new bal` leaves 64 bits (A4)"),
+            ([["if", [">", NEW, 0], [["if", ["<", ["/", 7, NEW], 1], VETO, []]], []]], ""),
+            ([["if", ["=", NEW, 7], [["if", ["<", ["+", NEW, 1], 1], VETO, []]], []]], ""),
+            ([["if", ["or", ["=", NEW, -GREATEST - 1], [">", ["neg", NEW], 5]], VETO, []]], ""),
+            ([["if", ["or", ["=", NEW, GREATEST], [">", ["+", NEW, 1], 5]], VETO, []]], ""))
+        for action, words in cases:
             with self.subTest(action):
                 self.assert_hint(guarded(UPDATED, action), words)
 
@@ -128,29 +131,31 @@ class Hints(unittest.TestCase):
         query = ["a", "acct", ["<", BAL, 1000]]
         anyone = ["a", "acct", True]
         leaves = "`a.bal + 1` leaves 64 bits (A4)"
-        for queries, action, words in (
-                ([query], test, ""), ([query], [["for", "a", test]], ""), ([anyone], test, leaves),
-                ([anyone], [["if", ["<", BAL, 1000], test, []]], ""),
-                ([anyone], [["if", ["<", BAL, 1000], [["for", "a", test]], []]], leaves),
-                ([], [["each", "a", "acct", ["<", BAL, 1000], test]], ""),
-                ([], [["each", "a", "acct", True, test]], leaves),
-                ([], [["each", "a", "acct", ["<", BAL, 1000], []], ["with", "a", "acct", 1, test]], leaves)):
+        cases: tuple[tuple[list, list, str], ...] = (
+            ([query], test, ""), ([query], [["for", "a", test]], ""), ([anyone], test, leaves),
+            ([anyone], [["if", ["<", BAL, 1000], test, []]], ""),
+            ([anyone], [["if", ["<", BAL, 1000], [["for", "a", test]], []]], leaves),
+            ([], [["each", "a", "acct", ["<", BAL, 1000], test]], ""),
+            ([], [["each", "a", "acct", True, test]], leaves),
+            ([], [["each", "a", "acct", ["<", BAL, 1000], []], ["with", "a", "acct", 1, test]], leaves))
+        for queries, action, words in cases:
             with self.subTest(queries=queries, action=action):
                 self.assert_hint(guarded(UPDATED, action, queries), words)
 
     def test_only_what_may_keep_a_veto_from_being_reached(self) -> None:
         risk, test = ["emit", ["+", NEW, 1]], ["if", ["<", ["+", NEW, 1], 0], VETO, []]
         leaves = "`new bal + 1` leaves 64 bits (A4)"
-        for action, words in (
-                ([risk, ["veto"]], leaves), ([["if", True, VETO, []], risk], ""),
-                ([["if", True, [], VETO], test], leaves),
-                ([["if", True, [risk], VETO]], ""), ([["if", True, [risk], []], ["veto"]], leaves),
-                ([["if", True, [risk, ["veto"]], []]], leaves),
-                ([["each", "a", "acct", True, [["if", ["of", "a", "open"], VETO, []], risk]]], leaves),
-                ([["sub", [test], VETO]], ""), ([["sub", [test], []]], leaves), ([["sub", [risk], []], ["veto"]], ""),
-                ([["sub", [["sub", [test], []]], VETO]], leaves), ([["sub", [["sub", [test], VETO]], []]], ""),
-                ([["sub", [["abort"]], [risk, ["veto"]]]], leaves), ([["sub", [test], [["emit", "a"], ["veto"]]]], ""),
-                ([["sub", [test], [["if", True, VETO, []]]]], leaves), ([risk], "")):
+        cases: tuple[tuple[list, str], ...] = (
+            ([risk, ["veto"]], leaves), ([["if", True, VETO, []], risk], ""),
+            ([["if", True, [], VETO], test], leaves),
+            ([["if", True, [risk], VETO]], ""), ([["if", True, [risk], []], ["veto"]], leaves),
+            ([["if", True, [risk, ["veto"]], []]], leaves),
+            ([["each", "a", "acct", True, [["if", ["of", "a", "open"], VETO, []], risk]]], leaves),
+            ([["sub", [test], VETO]], ""), ([["sub", [test], []]], leaves), ([["sub", [risk], []], ["veto"]], ""),
+            ([["sub", [["sub", [test], []]], VETO]], leaves), ([["sub", [["sub", [test], VETO]], []]], ""),
+            ([["sub", [["abort"]], [risk, ["veto"]]]], leaves), ([["sub", [test], [["emit", "a"], ["veto"]]]], ""),
+            ([["sub", [test], [["if", True, VETO, []]]]], leaves), ([risk], ""))
+        for action, words in cases:
             with self.subTest(action):
                 self.assert_hint(guarded(UPDATED, action), words)
 
@@ -177,7 +182,7 @@ class Hints(unittest.TestCase):
 
 
 OLD, KEY, COUNT, ARGUMENT = ["old", 0, "bal"], ["id", 0], ["count"], ["arg", 0, 0]
-EVENTS = (
+EVENTS: tuple[tuple[list, tuple[Any, ...]], ...] = (
     (UPDATED, (NEW, OLD, KEY)), (MADE, (NEW, KEY, COUNT)), (GO, (ARGUMENT, COUNT)), (["or", MADE, UPDATED], (NEW, KEY)),
     (["or", UPDATED, GO], (NEW, ARGUMENT, COUNT)), (["seq", GO, UPDATED], (ARGUMENT, ["new", 1, "bal"], COUNT)))
 """Events, with the parts of their occurrences that rules look at."""
@@ -205,7 +210,8 @@ class Chance:
         return [self.random.choice((made, ["update", "acct", key, [["bal", bal]]], ["signal", "go", self.arguments()]))]
 
     def arguments(self) -> list:
-        return self.random.choice(([], [1], [self.number()], ["a", 2], [True]))
+        some: tuple[list, ...] = ([], [1], [self.number()], ["a", 2], [True])
+        return self.random.choice(some)
 
     def number(self) -> int:
         return self.random.choice((0, 1, -1, 7, 999, GREATEST, -GREATEST, -GREATEST - 1, 2 ** 62, -2 ** 40))
@@ -257,6 +263,7 @@ class Random(unittest.TestCase):
         for seed in range(1000):
             text = Chance(seed).script(False)
             own = check.read(text.encode("utf-8"))
+            assert own.script is not None, f"{own.fault}: {text}"
             messages = [warned.message for warned in own.script.warnings]
             is_told = any(" doesn't veto if " in message or "always ends with" in message for message in messages)
             faults = faults_of(text)

@@ -17,7 +17,8 @@ SCRIPT = {"version": 2, "classes": [["item", [["stock", "int"]]]], "rules": [
     ["pair", ["seq", ["update", "item"], ["update", "item"]], "immediate", [], "immediate", [["emit", "two"]]]],
     "items": [["tx", [["install", "tick"], ["create", "item", 7, [["stock", 3]]]]]]}
 LINES = [SCRIPT, ["tx", [["update", "item", 7, [["stock", 2]]]]], ["show"],
-         ["tx", [["update", "item", 7, []], ["veto"]]], ["clock", 16], ["clock", 3], ["tx", [["abort"]]], ["show", "item"], ["tx", [["emit", "a\u2028b"]]]]
+         ["tx", [["update", "item", 7, []], ["veto"]]], ["clock", 16], ["clock", 3], ["tx", [["abort"]]],
+         ["show", "item"], ["tx", [["emit", "a\u2028b"]]]]
 ACCEPTED = [LINES[1], LINES[4], LINES[6], LINES[8]]
 
 

@@ -55,7 +55,9 @@ class Lines(InDirectory):
         self.assertEqual(told(text), ["S2 /items/0/1/0", "S4 /items/0/1/1/1", "S2 /items/1"])
 
     def test_at_most_twenty(self) -> None:
-        for number, more in ((19, []), (20, ["these are the first 20 faults; there may be more"]), (30, [""])):
+        cases: tuple[tuple[int, list[str]], ...] = (
+            (19, []), (20, ["these are the first 20 faults; there may be more"]), (30, [""]))
+        for number, more in cases:
             text = script(items=f'["tx", [{", ".join(["[]"] * number)}]]')
             heads = self.heads(text)
             self.assertEqual(len([head for head in heads if head.startswith("refused S2 ")]), min(number, 20))
@@ -123,11 +125,13 @@ class Independent(unittest.TestCase):
         """Each break by itself is one fault, and the program names it. Together nothing else is told, and most are."""
         chance = random.Random(SEED)
         scripts = list(accepted_scripts().values())
-        texts, wanted, single = [], [], []
+        texts: list[str] = []
+        wanted: list[list[str]] = []
+        single: list[tuple[str, str]] = []
         while len(texts) < SCRIPTS:
             one = chance.choice(scripts)
-            alone = [(broken, told(with_breaks(one, [broken]))) for broken in broken_alone(one, chance)]
-            alone = [(broken, faults[0]) for broken, faults in alone if len(faults) == 1][:TOGETHER]
+            each = [(broken, told(with_breaks(one, [broken]))) for broken in broken_alone(one, chance)]
+            alone = [(broken, faults[0]) for broken, faults in each if len(faults) == 1][:TOGETHER]
             if len(alone) > 1:
                 texts.append(with_breaks(one, [broken for broken, _ in alone]))
                 wanted.append([refusal for _, refusal in alone])
