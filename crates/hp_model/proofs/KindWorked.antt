@@ -3,7 +3,7 @@ use Rattle.std.proofs.Common.{◌≡◌, refl, [], ◌∷◌, codes, true, false
 use Rattle.hp_model.specs.Values.{integer_kind, text_kind, text}
 use Rattle.hp_model.specs.Expressions.{Expression, constant, arithmetic, plus, compared, less, field_of, new_field, old_field, key_in, argument, occurrence_count}
 use Rattle.hp_model.specs.Events.{Event, pattern_event, on_create, on_update, on_delete, on_signal, or_event, seq_event}
-use Rattle.hp_model.specs.Rules.{Query, immediate, emit, signal, empty, ◌then◌, Library}
+use Rattle.hp_model.specs.Rules.{Query, query_entry, immediate, emit, signal, empty, ◌then◌, Library}
 use Rattle.hp_model.specs.Cascade.{transaction}
 use Rattle.hp_model.specs.Kinds.{only, Declared, library_kinded, unit_kinded, is_condition_calm}
 use Rattle.hp_model.proofs.Scripts.{number, acct_class, bal, rule, script}
@@ -51,10 +51,10 @@ pub third_argument : library_kinded (emits_on (pattern_event (on_signal (codes "
 third_argument = refl
 
 -- transactions that signal it
-pub one_argument : unit_kinded thinnest_script.library pays (transaction (signal (codes "paid") (number 1 ∷ []) then empty)) ≡ false
+pub one_argument : unit_kinded thinnest_script.library pays (transaction 0 (signal (codes "paid") (number 1 ∷ []) then empty)) ≡ false
 one_argument = refl
 
-pub three_arguments : unit_kinded thinnest_script.library pays (transaction (signal (codes "paid") (number 1 ∷ constant (text (codes "cash")) ∷ number 2 ∷ []) then empty)) ≡ true
+pub three_arguments : unit_kinded thinnest_script.library pays (transaction 0 (signal (codes "paid") (number 1 ∷ constant (text (codes "cash")) ∷ number 2 ∷ []) then empty)) ≡ true
 three_arguments = refl
 
 -- a rule that is fired may use the count, and no part
@@ -71,8 +71,8 @@ solvent = record { name = codes "a"; class = 0; predicate = compared less (field
 abbrev credit : Query
 credit = record { name = codes "a"; class = 0; predicate = compared less (number 100) (arithmetic plus (field_of (codes "a") bal) (new_field 0 bal)) }
 
-pub solvent_calm : is_condition_calm (solvent ∷ []) ≡ true
+pub solvent_calm : is_condition_calm (query_entry solvent ∷ []) ≡ true
 solvent_calm = refl
 
-pub credit_faults : is_condition_calm (credit ∷ []) ≡ false
+pub credit_faults : is_condition_calm (query_entry credit ∷ []) ≡ false
 credit_faults = refl

@@ -3,6 +3,7 @@ pub mod Rows
 pub mod Chained
 pub mod Decoding
 pub mod Endings
+pub mod Version4
 pub mod Causes
 pub mod Guarded
 pub mod Induction
