@@ -3,14 +3,14 @@ use Rattle.std.proofs.Common.{arith, ◌≡◌, refl, subst, ℕ, zero, suc, ◌
 use Rattle.std.proofs.lemmas.Bool.{and_parts, and_from, ltb-true, lt-ltb}
 use Rattle.std.proofs.lemmas.Int.{rem_below}
 use Rattle.std.specs.Prelude.{⊤, Ok, Err, bytes_eq, slice_get, int_div, int_rem, neg_ℤ, unsigned_abs, if◌then◌else◌, min, unwrap_or, ◌+ℤ◌, ◌-ℤ◌, ◌*ℤ◌, not, ◌==◌}
-use Rattle.std.specs.List.{AllByRecursion, list_all}
+use Rattle.std.specs.List.{last_or, AllByRecursion, list_all}
 use Rattle.std.specs.Map.{lookup}
 use Rattle.hp_model.specs.Values.{Name, Field, kind_of, is_kind, row_fits, Value, integer, boolean, text, Row, KeyedRow, Cause, wrong_kind, overflow, divide_by_zero, no_parameter, missing, Outcome, ◌>>=◌, or_cause, fits_64, value_fits}
 use Rattle.hp_model.specs.Occurrences.{Primitive, created, updated, deleted, signalled, commit_reached, moment_reached, Occurrence}
 use Rattle.hp_model.specs.Expressions.{Arithmetic, plus, minus, times, quotient, remainder, Expression, constant, arithmetic, negated, inverted, both, either, compared, field_of, key_of, new_field, old_field, key_in, argument, time_of, occurrence_count, value_named, time_now, Comparison, less, greater, Environment, bound, holding, as_integer, as_boolean, in_range, calculate, compare, part_of, row_named, field_in, new_row, old_row, operation_key, argument_of, moment_of, count_in, value_of}
-use Rattle.hp_model.specs.Conditions.{selected, answer, Merge, merged, added, preferred, row_count, last_key, key_after, present, aggregated, let_of}
+use Rattle.hp_model.specs.Conditions.{selected, answer, Merge, merged, added, preferred, row_count, key_after, present, aggregated, let_of}
 use Rattle.hp_model.specs.Rules.{Library, Assignment, Aggregate, count_over, sum_over, least_over, greatest_over, next_key, single, class_at}
-use Rattle.hp_model.specs.State.{Objects, ObjectName, rows_of, object_fits}
+use Rattle.hp_model.specs.State.{Objects, ObjectName, rows_of, class_keys, object_fits}
 use Rattle.hp_model.specs.Firing.{values_of, assigned}
 use Rattle.hp_model.specs.Ranges.{expression_fits, assignments_fit, aggregate_fits}
 pub use Rattle.hp_model.specs.Fitting.{ValueFits, RowFits, KeyedFits, RowsFit, PrimitiveFits, OccurrenceFits, OptionFits, EnvironmentFits, ValuesFit, AnswersFit, FindingsFit, ObjectsFit}
@@ -363,7 +363,7 @@ aggregated_gives library env objects fit h (least_over x class predicate term) k
 aggregated_gives library env objects fit h (greatest_over x class predicate term) k =
     let parts = and_parts (expression_fits predicate) (expression_fits term) k in
     merged_gives library env fit (preferred greater) (preferred_fits greater) x predicate term parts.1 None (rows_of class objects) tt (rows_fit library class objects h)
-aggregated_gives library env objects fit h (next_key class) k = present_gives (key_after_gives (last_key (rows_of class objects)))
+aggregated_gives library env objects fit h (next_key class) k = present_gives (key_after_gives (last_or None (class_keys class objects)))
 aggregated_gives library env objects fit h (single e) k = present_gives (value_gives library env fit e k)
 
 held_gives : (o : Option Value) → HeldFits o → Gives ValueFits (or_cause o missing)

@@ -3,14 +3,14 @@ use Rattle.std.proofs.Common.{◌≡◌, refl, subst, sym, ap, ◌∙◌, ℕ, �
 use Rattle.std.proofs.lemmas.Bool.{and_parts, and_from}
 use Rattle.std.proofs.lemmas.Bool.Decides.{Decides-eqb}
 use Rattle.std.specs.Prelude.{⊤, Ok, Err, bytes_eq, if◌then◌else◌, ◌==◌, ◌||◌, ◌+ℤ◌, is_some, unwrap_or}
-use Rattle.std.specs.List.{AllByRecursion, list_all, list_any}
+use Rattle.std.specs.List.{last_or, AllByRecursion, list_all, list_any}
 use Rattle.std.specs.Map.{lookup}
 use Rattle.hp_model.specs.Values.{Name, NamedValues, Kind, integer_kind, boolean_kind, text_kind, integer, Field, kind_of, is_kind, Value, Row, KeyedRow, Cause, missing, wrong_kind, Outcome, ◌>>=◌, or_cause}
 use Rattle.hp_model.specs.Expressions as E
 use Rattle.hp_model.specs.Expressions.{plus, Comparison, compare, Expression, Environment, bound, holding, value_of}
-use Rattle.hp_model.specs.Conditions.{selected, answer, Merge, merged, added, preferred, row_count, last_key, key_after, present, aggregated, let_of, Answers, Findings, Verdict, satisfied, unsatisfied, faulty, keeping, keeping_value, if_answered, if_unanswered, if_valued, verdict, with_answers, with_values, with_findings}
+use Rattle.hp_model.specs.Conditions.{selected, answer, Merge, merged, added, preferred, row_count, key_after, present, aggregated, let_of, Answers, Findings, Verdict, satisfied, unsatisfied, faulty, keeping, keeping_value, if_answered, if_unanswered, if_valued, verdict, with_answers, with_values, with_findings}
 use Rattle.hp_model.specs.Rules.{Aggregate, count_over, sum_over, least_over, greatest_over, next_key, single, Entry, query_entry, no_entry, let_entry, Assignment, RuleOperation, install, enable, disable, remove, Library}
-use Rattle.hp_model.specs.State.{Objects, ObjectName, rows_of, object_fits, find_object, RuleState, Status, absent, enabled, disabled}
+use Rattle.hp_model.specs.State.{Objects, ObjectName, rows_of, class_keys, object_fits, find_object, RuleState, Status, absent, enabled, disabled}
 use Rattle.hp_model.specs.Firing.{values_of, assigned, of_kind, made_row, kind_in, checked_kinds, keyed_row, integer_value, boolean_value, named_object, operated_rule}
 use Rattle.hp_model.specs.Kinds.{Sort, only, any, has_sort, Declared, covers, Scope, with_name, with_sort, is_test, ordered, are_ordered, aggregate_sort, is_aggregate_calm, if_sorted, is_only, gives_sort, is_given, sort_of, is_calm, is_condition_calm, arguments_kinded, assignments_kinded, all_assigned, entries_kinded, with_entries, query_classes, NotOfKinds, CauseOf}
 use Rattle.hp_model.proofs.FitValues.{ObjectsFit}
@@ -321,7 +321,7 @@ module _ (library : Library) (d : Declared) (scope : Scope) (env : Environment) 
       (extreme_sound E.greater k x class predicate term greatest is.0 one)
   aggregated_sound (next_key class) s e =
       let same : only integer_kind ≡ s = cc in
-      subst (λ t. Safe (FaultOf false) (Held (HasSort t)) (aggregated objects env (next_key class))) same (present_sound (key_after_sound (last_key (rows_of class objects))))
+      subst (λ t. Safe (FaultOf false) (Held (HasSort t)) (aggregated objects env (next_key class))) same (present_sound (key_after_sound (last_or None (class_keys class objects))))
   aggregated_sound (single e) s is = present_sound (Safe-weaker (λ c z. (not_of_kinds c z.0, z.1)) (λ v z. z) (value_typed library d scope env typed e s is))
 
   -- the value of a statement `let`

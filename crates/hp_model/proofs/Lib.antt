@@ -19,6 +19,7 @@ pub mod Reached
 pub mod Levels
 pub mod ForStates
 pub mod Accepted
+pub mod Closed
 pub mod Detecting
 pub mod Ordered
 pub mod BridgesCells
