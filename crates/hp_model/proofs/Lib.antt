@@ -24,6 +24,7 @@ pub mod Detecting
 pub mod Ordered
 pub mod BridgesCells
 pub mod BridgesKeys
+pub mod BridgesAggregates
 pub mod BridgesReads
 pub mod BridgesWrites
 pub mod BridgesOrdered

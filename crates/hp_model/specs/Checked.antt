@@ -8,7 +8,7 @@ use Rattle.hp_model.specs.Events.{Pattern, on_create, on_update, on_delete, on_s
 use Rattle.hp_model.specs.Rules.{Query, Aggregate, count_over, sum_over, least_over, greatest_over, next_key, single, Entry, query_entry, no_entry, let_entry, Assignment, Statement, create, update, delete, signal, emit, when, each, for_answer, with_object, subtransaction, let_value, veto, veto_with, on_rule, fire, Body, empty, ◌then◌, Rule, Library, no_class}
 use Rattle.hp_model.specs.Refusals.{Path, under_root, item_at, Limit, classes_limit, fields_limit, rules_limit, expression_limit, event_limit, nesting_limit, text_limit, depth_limit_word, arguments_limit, wrong_shape, bad_name, over_limit, Decoded}
 use Rattle.hp_model.specs.Parts.{is_name}
-pub use Rattle.hp_model.specs.Scopes.{class_names, field_names, query_names, Names, taken, no_names, with_row, with_value, names_of}
+pub use Rattle.hp_model.specs.Scopes.{class_names, field_names, query_names, Names, taken, no_names, knowing_row, knowing_value, names_of}
 pub use Rattle.hp_model.specs.StatementGrammar.{assigned_names}
 
 -- the result of a check: it passes, or gives the first fault
@@ -126,12 +126,12 @@ unfoldable pub over_check : (classes : ℕ) → Names → Path → (variable : N
 over_check classes names path x class predicate = do
   _ ← new_name_check (taken names) (item_at path 1) x
   _ ← number_check classes (item_at path 2) class
-  whole_expression_check (with_row x names) (item_at path 3) predicate
+  whole_expression_check (knowing_row x names) (item_at path 3) predicate
 
 unfoldable pub terms_check : (classes : ℕ) → Names → Path → (variable : Name) → (class : ℕ) → (predicate term : Expression) → Checked
 terms_check classes names path x class predicate term = do
   _ ← over_check classes names path x class predicate
-  whole_expression_check (with_row x names) (item_at path 4) term
+  whole_expression_check (knowing_row x names) (item_at path 4) term
 
 abbrev pub aggregate_check : (classes : ℕ) → Names → Path → Aggregate → Checked
 aggregate_check classes names path (count_over x class predicate) = over_check classes names path x class predicate
@@ -212,8 +212,8 @@ unfoldable pub each_row_check : Scope → StatementCheck → Names → Path → 
 each_row_check scope check names path x class predicate body = do
   _ ← new_name_check (taken names) (item_at path 1) x
   _ ← class_check scope (item_at path 2) class
-  _ ← whole_expression_check (with_row x names) (item_at path 3) predicate
-  body_check check (with_row x names) (item_at path 4) body
+  _ ← whole_expression_check (knowing_row x names) (item_at path 3) predicate
+  body_check check (knowing_row x names) (item_at path 4) body
 
 unfoldable pub for_answer_check : Scope → StatementCheck → Names → Path → (query : Name) → Body → Checked
 for_answer_check scope check names path x body = do
@@ -225,7 +225,7 @@ with_object_check scope check names path x class key body = do
   _ ← new_name_check (taken names) (item_at path 1) x
   _ ← class_check scope (item_at path 2) class
   _ ← whole_expression_check names (item_at path 3) key
-  body_check check (with_row x names) (item_at path 4) body
+  body_check check (knowing_row x names) (item_at path 4) body
 
 unfoldable pub subtransaction_check : StatementCheck → Names → Path → (body otherwise : Body) → Checked
 subtransaction_check check names path body otherwise = do
@@ -236,7 +236,7 @@ unfoldable pub let_value_check : Scope → StatementCheck → Names → Path →
 let_value_check scope check names path x a body = do
   _ ← new_name_check (taken names) (item_at path 1) x
   _ ← aggregate_check (length scope.classes) names (item_at path 2) a
-  body_check check (with_value x names) (item_at path 3) body
+  body_check check (knowing_value x names) (item_at path 3) body
 
 abbrev pub is_veto : Statement → Bool
 is_veto veto = true
@@ -313,7 +313,7 @@ unfoldable pub query_check : (classes : ℕ) → Names → (first second third :
 query_check classes names first second third q = do
   _ ← new_name_check (taken names) first q.name
   _ ← number_check classes second q.class
-  whole_expression_check (with_row q.name names) third q.predicate
+  whole_expression_check (knowing_row q.name names) third q.predicate
 
 unfoldable pub let_entry_check : (classes : ℕ) → Names → Path → Name → Aggregate → Checked
 let_entry_check classes names path x a = do

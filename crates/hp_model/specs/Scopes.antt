@@ -52,11 +52,11 @@ taken names = names.rows ++ names.values
 abbrev pub no_names : Names
 no_names = record { rows = []; values = [] }
 
-abbrev pub with_row : Name → Names → Names
-with_row x names = record { rows = x ∷ names.rows; values = names.values }
+abbrev pub knowing_row : Name → Names → Names
+knowing_row x names = record { rows = x ∷ names.rows; values = names.values }
 
-abbrev pub with_value : Name → Names → Names
-with_value x names = record { rows = names.rows; values = x ∷ names.values }
+abbrev pub knowing_value : Name → Names → Names
+knowing_value x names = record { rows = names.rows; values = x ∷ names.values }
 
 -- the names of a condition
 abbrev pub names_of : List Entry → Names
@@ -77,10 +77,10 @@ pub record Setting : Type 0 where
   pub names : Names
 
 abbrev pub row_setting : Name → Setting → Setting
-row_setting x setting = record { version = setting.version; names = with_row x setting.names }
+row_setting x setting = record { version = setting.version; names = knowing_row x setting.names }
 
 abbrev pub value_setting : Name → Setting → Setting
-value_setting x setting = record { version = setting.version; names = with_value x setting.names }
+value_setting x setting = record { version = setting.version; names = knowing_value x setting.names }
 
 abbrev pub is_known : List Name → Name → Bool
 is_known [] x = false
