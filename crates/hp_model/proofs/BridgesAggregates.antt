@@ -5,11 +5,11 @@ use Rattle.std.specs.List.{last_or}
 use Rattle.hp_model.specs.Values.{Name, Value, Row, KeyedRow, Outcome, ◌>>=◌}
 use Rattle.hp_model.specs.Expressions.{Expression, Environment, bound, as_boolean, value_of}
 use Rattle.hp_model.specs.Rules.{Library, next_key}
-use Rattle.hp_model.specs.State.{State, IsOrdered, find_object, class_keys}
+use Rattle.hp_model.specs.State.{find_object}
 use Rattle.hp_model.specs.Conditions.{Merge, merged, key_after, present, aggregated}
 use Rattle.hp_model.specs.Firing.{boolean_value}
 use Rattle.hp_model.specs.ClassParts.{ClassPart, belongs, picked}
-use Rattle.hp_model.specs.Cells.{Cells, cells, object_cell, row_value, Changes, over, Read, Holds, AreKeys}
+use Rattle.hp_model.specs.Cells.{Cells, object_cell, row_value, Changes, over, Read, Holds, AreKeys}
 use Rattle.hp_model.specs.Answers.{Finds}
 use Rattle.hp_model.proofs.BridgesKeys.{keys_are_class_keys}
 

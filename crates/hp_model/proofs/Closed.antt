@@ -1,13 +1,13 @@
 -- A firing of a closed rule that doesn't veto ended well.
-use Rattle.std.proofs.Common.{◌≡◌, refl, subst, ap, ◌∙◌, ℕ, suc, ◌-◌, List, [], ◌∷◌, Option, None, Some, Bool, true, false}
+use Rattle.std.proofs.Common.{◌≡◌, refl, subst, ℕ, List, [], ◌∷◌, Option, None, Some, true}
 use Rattle.hp_model.specs.Values.{Veto}
 use Rattle.hp_model.specs.Rules.{Coupling, immediate, deferred, separate, dependent, exclusive, Library, rule_at}
 use Rattle.hp_model.specs.State.{State}
 use Rattle.hp_model.specs.Tree.{Task, Step, condition_step, action_step, Node, fire_node, act_node, with_action}
 use Rattle.hp_model.specs.Transactions.{End, done, abort_by, veto_by, Course, closed_by}
 use Rattle.hp_model.specs.Conditions.{Findings, Verdict, satisfied, unsatisfied, faulty, verdict}
-use Rattle.hp_model.specs.Firing.{Firing, Siblings, after_firing, siblings, course_of, end_of, firing_with, closed_veto, action_veto, fault_veto, inert, run_action, action_course, follow, decide, take_step, level_at, fire_task, task_environment}
-use Rattle.hp_model.specs.Cascade.{veto_end, task_work}
+use Rattle.hp_model.specs.Firing.{Firing, Siblings, after_firing, siblings, end_of, closed_veto, action_veto, fault_veto, run_action, action_course, follow, decide, take_step, level_at, fire_task, task_environment}
+use Rattle.hp_model.specs.Cascade.{veto_end}
 use Rattle.hp_model.specs.Laws.{EndsWell, FiringEndsWell, ClosedFiringsVeto, AreClosedWell, ClosedGroupsAbort, ClosedTasksAbort}
 
 -- an action as a firing of a closed rule, in a node that says how it ended
