@@ -26,7 +26,7 @@ SCRIPTS = (
     "checks/live_sessions.py",
     "checks/conditions.py",
     "checks/accounts.py",
-    "examples/orders/test_page.py",
+    "examples/orders/page_test.py",
     "editors/tests/run.py",
     "tools/unproved.py",
     "tools/tests/run.py",

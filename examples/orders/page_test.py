@@ -1,6 +1,6 @@
 """The desk's page in a headless Chromium: what it shows, and what its forms do.
 
-It isn't among the tests that need no browser. Run it with `python3 examples/orders/test_page.py`.
+It isn't among the tests that need no browser. Run it with `python3 examples/orders/page_test.py`.
 """
 
 from __future__ import annotations
