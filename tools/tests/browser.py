@@ -10,6 +10,7 @@ from pathlib import Path
 from typing import Any
 
 from selenium import webdriver
+from selenium.common.exceptions import WebDriverException
 from selenium.webdriver.chrome.service import Service
 from selenium.webdriver.common.action_chains import ActionChains
 from selenium.webdriver.common.keys import Keys
@@ -72,19 +73,22 @@ class Browser:
         began = time.monotonic()
         url = str(place) if str(place).startswith("http://") else Path(place).resolve().as_uri()
         self.driver.get(url + address)
-        self._await_paint()
+        self._is_painted()
         return (time.monotonic() - began) * 1000
 
     def follow(self, selector: str) -> None:
         """Clicks on what opens another page, and waits until that is loaded."""
         before = self.driver.find_element("tag name", "html")
         self.click(selector)
-        WebDriverWait(self.driver, SECONDS).until(staleness_of(before))
-        WebDriverWait(self.driver, SECONDS).until(lambda _: self.evaluate("document.readyState") == "complete")
-        self._await_paint()
+        # A call that meets the change of pages fails, and is made again.
+        wait = WebDriverWait(self.driver, SECONDS, ignored_exceptions=[WebDriverException])
+        wait.until(staleness_of(before))
+        wait.until(lambda driver: driver.execute_script("return document.readyState") == "complete")
+        wait.until(lambda _: self._is_painted())
 
-    def _await_paint(self) -> None:
-        self.evaluate("new Promise((done) => requestAnimationFrame(() => setTimeout(done)))")
+    def _is_painted(self) -> bool:
+        """Waits until the page is painted."""
+        return self.evaluate("new Promise((done) => requestAnimationFrame(() => setTimeout(() => done(true))))")
 
     def call(self, method: str, **parameters: Any) -> Any:
         """Calls a method of Chromium's DevTools."""
