@@ -16,7 +16,7 @@ import repo  # noqa: E402 (it lies in tools/)
 import unproved  # noqa: E402
 
 # The time limit of one command, in seconds.
-LIMIT = 120
+LIMIT = 300
 
 # The most characters of an answer that an unmet expectation shows.
 MOST_SHOWN = 1500
