@@ -122,6 +122,7 @@ def run(content: bytes, last: Optional[int] = None) -> Ran:
     if not is_journal(content + b"\n\n["):
         raise NoJournal("the first line is no script by itself")
     ran: Optional[Ran] = None
+    count = 0
     for value, answer in accepted(content):
         if ran is None:
             ran = Ran({**value, "items": list(value["items"])})
@@ -129,7 +130,7 @@ def run(content: bytes, last: Optional[int] = None) -> Ran:
             value, answer = (value, answer) if last is None else until_unit(value, answer, last)
             ran.script["items"].append(value)
         ran.report += [line for line in answer if not line.startswith("ok ")]
-        count = sum(line.startswith("unit ") for line in ran.report)
+        count += sum(line.startswith("unit ") for line in answer)
         if last is not None and count >= last:
             break
     assert ran is not None
