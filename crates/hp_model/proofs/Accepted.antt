@@ -4,6 +4,7 @@ use Rattle.std.proofs.lemmas.Bool.Decides.{nat_tests}
 use Rattle.std.proofs.lemmas.List.{length-set}
 use Rattle.std.specs.Prelude.{is_some, slice_get, slice_set, ◌==◌, nat_lt, cond, unwrap_or, replicate}
 use Rattle.std.specs.Option.{option_flatten}
+use Rattle.hp_model.specs.Values.{Veto}
 use Rattle.hp_model.specs.Rules.{Library}
 use Rattle.hp_model.specs.State.{State}
 use Rattle.hp_model.specs.Tree.{Task}
@@ -52,12 +53,12 @@ layered-append base (k ∷ ks) l = layered-append (over base k) ks l
 
 -- ---- siblings with one more task
 
-one_after : (stops : Bool) (v : Option ℕ) (f : Firing) (rest : State → Siblings) → ((S : State) → (rest S).state ≡ S) → (after_firing stops v f rest).state ≡ f.state
+one_after : (stops : Bool) (v : Option Veto) (f : Firing) (rest : State → Siblings) → ((S : State) → (rest S).state ≡ S) → (after_firing stops v f rest).state ≡ f.state
 one_after true (Some r) f rest h = refl
 one_after true None f rest h = h f.state
 one_after false v f rest h = h f.state
 
-more_after : (v : Option ℕ) (f : Firing) (rest longer : State → Siblings) (fire_one : State → State) → (after_firing true v f rest).vetoed_by ≡ None
+more_after : (v : Option Veto) (f : Firing) (rest longer : State → Siblings) (fire_one : State → State) → (after_firing true v f rest).vetoed_by ≡ None
     → ((S : State) → (rest S).vetoed_by ≡ None → (longer S).state ≡ fire_one (rest S).state)
     → (after_firing true v f longer).state ≡ fire_one (after_firing true v f rest).state
 more_after (Some r) f rest longer fire_one h k = cc

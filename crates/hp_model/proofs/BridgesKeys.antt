@@ -16,6 +16,7 @@ use Rattle.std.proofs.lemmas.Map.Entries.{lookup_from_place}
 use Rattle.std.proofs.lemmas.Map.Lookups.{btree_set_from_contains, exact_signed}
 use Rattle.hp_model.specs.Values.{Row, KeyedRow}
 use Rattle.hp_model.specs.State.{ObjectName, compare_names, Objects, find_object, rows_of}
+pub use Rattle.hp_model.specs.State.{class_keys}
 use Rattle.hp_model.specs.Cells.{Cells, cells, AreKeys}
 use Rattle.hp_model.proofs.Ordered.{names_total}
 use Rattle.hp_model.proofs.BridgesCells.{name_at}
@@ -23,10 +24,6 @@ use Rattle.hp_model.proofs.BridgesCells.{name_at}
 -- the objects stand in order, each once
 abbrev pub ObjectsRise : Objects → Type 0
 ObjectsRise objects = IsStrictlySortedBy compare_names (map (λ (o : ObjectName × Row). o.0) objects)
-
--- the keys of a class's objects
-abbrev pub class_keys : ℕ → Objects → List ℤ
-class_keys class objects = map (λ (r : KeyedRow). r.key) (rows_of class objects)
 
 -- a row with its object's key
 abbrev pub keyed : ℤ → Row → KeyedRow

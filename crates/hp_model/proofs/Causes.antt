@@ -1,13 +1,14 @@
 -- No computation of a value ends with the cause that firings would nest too deep.
 use Rattle.std.proofs.Common.{◌≡◌, refl, subst, ℕ, zero, suc, ℤ, pos, negsuc, List, [], ◌∷◌, Option, None, Some, Bool, true, false}
 use Rattle.std.specs.Prelude.{⊤, Ok, Err, bytes_eq, slice_get, int_div, int_rem, neg_ℤ, if◌then◌else◌, ◌+ℤ◌, ◌-ℤ◌, ◌*ℤ◌, not}
+use Rattle.std.specs.List.{last_or}
 use Rattle.std.specs.Map.{lookup}
 use Rattle.hp_model.specs.Values.{Name, Kind, Field, kind_of, is_kind, Value, integer, boolean, text, Row, KeyedRow, Cause, wrong_kind, overflow, divide_by_zero, no_parameter, missing, Outcome, ◌>>=◌, or_cause, fits_64}
 use Rattle.hp_model.specs.Occurrences.{Primitive, created, updated, deleted, signalled, commit_reached, moment_reached, Occurrence}
-use Rattle.hp_model.specs.Expressions.{Arithmetic, plus, minus, times, quotient, remainder, Comparison, equal, unequal, less, at_most, greater, at_least, Expression, constant, arithmetic, negated, inverted, both, either, compared, field_of, key_of, new_field, old_field, key_in, argument, time_of, occurrence_count, Environment, bound, as_integer, as_boolean, in_range, calculate, is_below, is_equal, compare, part_of, row_named, field_in, new_row, old_row, operation_key, argument_of, moment_of, count_in, value_of}
-use Rattle.hp_model.specs.Conditions.{selected, answer, Verdict, satisfied, unsatisfied, faulty, if_answered, keeping, verdict}
-use Rattle.hp_model.specs.Rules.{Assignment, Query, RuleOperation, install, enable, disable, remove}
-use Rattle.hp_model.specs.State.{Objects, rows_of, find_object, Status, absent, enabled, disabled, RuleState}
+use Rattle.hp_model.specs.Expressions.{Arithmetic, plus, minus, times, quotient, remainder, Comparison, equal, unequal, less, at_most, greater, at_least, Expression, constant, arithmetic, negated, inverted, both, either, compared, field_of, key_of, new_field, old_field, key_in, argument, time_of, occurrence_count, value_named, time_now, Environment, bound, holding, as_integer, as_boolean, in_range, calculate, is_below, is_equal, compare, part_of, row_named, field_in, new_row, old_row, operation_key, argument_of, moment_of, count_in, value_of}
+use Rattle.hp_model.specs.Conditions.{selected, answer, Merge, merged, added, preferred, row_count, key_after, present, aggregated, let_of, Verdict, satisfied, unsatisfied, faulty, if_answered, if_unanswered, if_valued, keeping, keeping_value, verdict}
+use Rattle.hp_model.specs.Rules.{Aggregate, count_over, sum_over, least_over, greatest_over, next_key, single, Entry, query_entry, no_entry, let_entry, Assignment, RuleOperation, install, enable, disable, remove}
+use Rattle.hp_model.specs.State.{Objects, rows_of, class_keys, find_object, Status, absent, enabled, disabled, RuleState}
 use Rattle.hp_model.specs.Firing.{values_of, assigned, of_kind, made_row, kind_in, checked_kinds, keyed_row, integer_value, boolean_value, named_object, operated_rule}
 use Rattle.hp_model.specs.Chains.{NotTooDeep}
 
@@ -179,6 +180,8 @@ value_plain env (key_in i) = Plain-then (part_plain env i) λ p. key_plain p
 value_plain env (argument i j) = Plain-then (part_plain env i) λ p. argument_plain p j
 value_plain env (time_of i) = Plain-then (part_plain env i) λ p. moment_plain p
 value_plain env occurrence_count = count_plain env.occurrence
+value_plain env (value_named x) = Plain-or (lookup (bytes_eq x) env.values) wrong_kind tt
+value_plain env time_now = range_plain (pos env.now)
 
 -- ---- what statements compute
 
@@ -242,7 +245,7 @@ operated_plain op r = by op r.status
     by remove enabled = Plain-value _
     by remove disabled = Plain-value _
 
--- ---- queries and conditions
+-- ---- queries
 
 selected_plain : (env : Environment) (x : Name) (predicate : Expression) (rows : List KeyedRow) → Plain (selected env x predicate rows)
 selected_plain env x predicate [] = Plain-value []
@@ -254,6 +257,47 @@ selected_plain env x predicate (r ∷ rs) =
 pub answer_plain : (env : Environment) (x : Name) (class : ℕ) (predicate : Expression) (objects : Objects) → Plain (answer env x class predicate objects)
 answer_plain env x class predicate objects = selected_plain env x predicate (rows_of class objects)
 
+-- ---- aggregates
+
+merged_plain : (merge : Merge) → ((o : Option Value) (v : Value) → Plain (merge o v)) → (env : Environment) (x : Name) (predicate term : Expression) (so_far : Option Value) (rows : List KeyedRow)
+    → Plain (merged merge env x predicate term so_far rows)
+merged_plain merge plain env x predicate term so_far [] = Plain-value so_far
+merged_plain merge plain env x predicate term so_far (r ∷ rs) =
+    Plain-then (value_plain (bound x r env) predicate) λ v.
+    Plain-then (boolean_plain v) λ keep.
+    Plain-then (step keep) λ next. merged_plain merge plain env x predicate term next rs
+  where
+    step : (keep : Bool) → Plain (if keep then (value_of (bound x r env) term >>= λ w. merge so_far w >>= λ m. Ok (Some m)) else Ok so_far)
+    step true = Plain-then (value_plain (bound x r env) term) λ w. Plain-then (plain so_far w) λ m. Plain-value (Some m)
+    step false = Plain-value so_far
+
+added_plain : (o : Option Value) (v : Value) → Plain (added o v)
+added_plain o v = Plain-then (integer_plain _) λ x. Plain-then (integer_plain v) λ y. calculate_plain plus x y
+
+preferred_plain : (op : Comparison) (o : Option Value) (v : Value) → Plain (preferred op o v)
+preferred_plain op None v = Plain-then (compare_plain op v v) λ b. Plain-value v
+preferred_plain op (Some w) v = Plain-then (compare_plain op v w) λ b. Plain-value (if b then v else w)
+
+key_after_plain : (o : Option ℤ) → Plain (key_after o)
+key_after_plain None = Plain-value (integer (pos 1))
+key_after_plain (Some k) = range_plain (k +ℤ pos 1)
+
+present_plain : {o : Outcome Value} → Plain o → Plain (present o)
+present_plain plain = Plain-then plain λ v. Plain-value (Some v)
+
+pub aggregated_plain : (objects : Objects) (env : Environment) (a : Aggregate) → Plain (aggregated objects env a)
+aggregated_plain objects env (count_over x class predicate) = Plain-then (answer_plain env x class predicate objects) λ rows. Plain-value (Some (row_count rows))
+aggregated_plain objects env (sum_over x class predicate term) = Plain-then (merged_plain added added_plain env x predicate term None (rows_of class objects)) λ sum. Plain-value _
+aggregated_plain objects env (least_over x class predicate term) = merged_plain (preferred less) (preferred_plain less) env x predicate term None (rows_of class objects)
+aggregated_plain objects env (greatest_over x class predicate term) = merged_plain (preferred greater) (preferred_plain greater) env x predicate term None (rows_of class objects)
+aggregated_plain objects env (next_key class) = present_plain (key_after_plain (last_or None (class_keys class objects)))
+aggregated_plain objects env (single e) = present_plain (value_plain env e)
+
+pub let_plain : (objects : Objects) (env : Environment) (a : Aggregate) → Plain (let_of objects env a)
+let_plain objects env a = Plain-then (aggregated_plain objects env a) λ o. Plain-or o missing tt
+
+-- ---- conditions
+
 abbrev pub IsPlainVerdict : Verdict → Type 0
 IsPlainVerdict (satisfied answers) = ⊤
 IsPlainVerdict unsatisfied = ⊤
@@ -264,13 +308,32 @@ keeping_plain x rows (satisfied answers) h = tt
 keeping_plain x rows unsatisfied h = tt
 keeping_plain x rows (faulty c) h = h
 
+keeping_value_plain : (x : Name) (v : Value) (w : Verdict) → IsPlainVerdict w → IsPlainVerdict (keeping_value x v w)
+keeping_value_plain x v (satisfied found) h = tt
+keeping_value_plain x v unsatisfied h = tt
+keeping_value_plain x v (faulty c) h = h
+
 answered_plain : (x : Name) (o : Outcome (List KeyedRow)) (next : KeyedRow → Verdict) → Plain o → ((r : KeyedRow) → IsPlainVerdict (next r)) → IsPlainVerdict (if_answered x o next)
 answered_plain x (Err c) next plain k = plain.fact c refl
 answered_plain x (Ok []) next plain k = tt
 answered_plain x (Ok (r ∷ rs)) next plain k = keeping_plain x (r ∷ rs) (next r) (k r)
 
-pub verdict_plain : (objects : Objects) (env : Environment) (qs : List Query) → IsPlainVerdict (verdict objects env qs)
+unanswered_plain : (o : Outcome (List KeyedRow)) (next : Verdict) → Plain o → IsPlainVerdict next → IsPlainVerdict (if_unanswered o next)
+unanswered_plain (Err c) next plain k = plain.fact c refl
+unanswered_plain (Ok []) next plain k = k
+unanswered_plain (Ok (r ∷ rs)) next plain k = tt
+
+valued_plain : (x : Name) (o : Outcome (Option Value)) (next : Value → Verdict) → Plain o → ((v : Value) → IsPlainVerdict (next v)) → IsPlainVerdict (if_valued x o next)
+valued_plain x (Err c) next plain k = plain.fact c refl
+valued_plain x (Ok None) next plain k = tt
+valued_plain x (Ok (Some v)) next plain k = keeping_value_plain x v (next v) (k v)
+
+pub verdict_plain : (objects : Objects) (env : Environment) (es : List Entry) → IsPlainVerdict (verdict objects env es)
 verdict_plain objects env [] = tt
-verdict_plain objects env (q ∷ qs) =
-    answered_plain q.name (answer env q.name q.class q.predicate objects) (λ first. verdict objects (bound q.name first env) qs)
-    (answer_plain env q.name q.class q.predicate objects) (λ first. verdict_plain objects (bound q.name first env) qs)
+verdict_plain objects env (query_entry q ∷ es) =
+    answered_plain q.name (answer env q.name q.class q.predicate objects) (λ first. verdict objects (bound q.name first env) es)
+    (answer_plain env q.name q.class q.predicate objects) (λ first. verdict_plain objects (bound q.name first env) es)
+verdict_plain objects env (no_entry q ∷ es) =
+    unanswered_plain (answer env q.name q.class q.predicate objects) (verdict objects env es) (answer_plain env q.name q.class q.predicate objects) (verdict_plain objects env es)
+verdict_plain objects env (let_entry x a ∷ es) =
+    valued_plain x (aggregated objects env a) (λ v. verdict objects (holding x v env) es) (aggregated_plain objects env a) (λ v. verdict_plain objects (holding x v env) es)

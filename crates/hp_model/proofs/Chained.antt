@@ -19,7 +19,7 @@ chain_of limit =
     ∷ rule (codes "b") (hears (codes "x")) immediate [] immediate (subtransaction empty (signal (codes "y") [] then empty) then signal (codes "y") [] then empty)
     ∷ rule (codes "c") (seq_event (hears (codes "x")) (hears (codes "y"))) immediate [] immediate (say 1 then empty)
     ∷ [])
-    (transaction (installs 0 then installs 1 then installs 2 then go then empty) ∷ [])
+    (transaction 0 (installs 0 then installs 1 then installs 2 then go then empty) ∷ [])
 
 chain_triggers : rule_triggers (chain_of 3).library (rule (codes "b") (hears (codes "x")) immediate [] immediate (signal (codes "y") [] then empty)) ≡ 2 ∷ []
 chain_triggers = refl
@@ -49,7 +49,7 @@ chain_stopped = refl
 
 -- a separate rule that waits for commits triggers itself, although its action does nothing
 abbrev commits : Script
-commits = script [] 16 (rule (codes "s") (pattern_event on_commit) separate [] immediate empty ∷ []) (transaction (installs 0 then empty) ∷ [])
+commits = script [] 16 (rule (codes "s") (pattern_event on_commit) separate [] immediate empty ∷ []) (transaction 0 (installs 0 then empty) ∷ [])
 
 commits_unsafe : is_safe commits.library ≡ false
 commits_unsafe = refl
@@ -60,7 +60,7 @@ commits_within = refl
 
 -- a rule that fires itself, which no unit begins
 abbrev idle_cycle : Script
-idle_cycle = script [] 1 (rule (codes "f") (hears (codes "never")) immediate [] immediate (fire 0 then empty) ∷ []) (transaction (installs 0 then go then empty) ∷ [])
+idle_cycle = script [] 1 (rule (codes "f") (hears (codes "never")) immediate [] immediate (fire 0 then empty) ∷ []) (transaction 0 (installs 0 then go then empty) ∷ [])
 
 idle_cycle_unsafe : is_safe idle_cycle.library ≡ false
 idle_cycle_unsafe = refl

@@ -7,25 +7,26 @@ use Rattle.std.specs.Str.{chars, is_utf8}
 use Rattle.serde_json.proofs.OnLiterals.{serde_json_on_literals}
 use Rattle.hp_model.specs.Report.{Bytes}
 use Rattle.hp_model.specs.Parts.{new_name_at, place_at, integer_at, index_at, number_from, short_list_at}
-use Rattle.hp_model.specs.Scopes.{row_at, new_row_at}
-use Rattle.hp_model.specs.ExpressionGrammar.{text_at, field_of_at, key_of_at, new_field_at, old_field_at, key_in_at, argument_at, time_of_at, operands_at, expression_within}
+use Rattle.hp_model.specs.Scopes.{row_at, let_at, new_row_at}
+use Rattle.hp_model.specs.ExpressionGrammar.{text_at, field_of_at, key_of_at, new_field_at, old_field_at, key_in_at, argument_at, time_of_at, value_named_at, operands_at, expression_within}
+use Rattle.hp_model.specs.AggregateGrammar.{over_at, terms_at, single_at, aggregate_at}
 use Rattle.hp_model.specs.EventGrammar.{on_create_at, on_update_at, on_delete_at, on_signal_at, at_moment_at, every_moment_at, parts_at, event_within}
-use Rattle.hp_model.specs.StatementGrammar.{assigned_field_at, assignment_at, assignments_at, all_assignments_at, statement_form_at, create_at, update_at, delete_at, arguments_at, signal_at, emit_at, on_rule_at, fire_at, statements_by, if_at, each_at, query_at, for_at, with_at, sub_at, statement_within}
+use Rattle.hp_model.specs.StatementGrammar.{assigned_field_at, assignment_at, assignments_at, all_assignments_at, statement_form_at, create_at, update_at, delete_at, arguments_at, signal_at, emit_at, veto_with_at, on_rule_at, fire_at, statements_by, if_at, each_at, query_at, for_at, with_at, sub_at, let_value_at, statement_within}
 use Rattle.hp_model.specs.RuleHeads.{rule_head_at, rule_heads_at}
 use Rattle.hp_model.specs.Decode as D
-use Rattle.hp_model.specs.Decode.{version_at, depth_at, field_at, fields_at, class_at, classes_at, condition_at, rule_at, transaction_at, clock_at, unit_at, units_at, script_from, decode, json_at, script_of}
+use Rattle.hp_model.specs.Decode.{version_at, depth_at, field_at, fields_at, class_at, classes_at, let_entry_at, entry_at, condition_at, rule_at, transaction_at, clock_at, unit_at, units_at, script_from, decode, json_at, script_of}
 use Rattle.hp_model.specs.Output.{output}
 use Rattle.hp_model.proofs.Scripts.{lines}
 
 -- what a proof unfolds to compute the reading of a script
 unfoldable pub script_on_literals : ⊤
 unfolding digits chars is_utf8 serde_json_on_literals
-    new_name_at place_at integer_at index_at number_from short_list_at row_at new_row_at
-    text_at field_of_at key_of_at new_field_at old_field_at key_in_at argument_at time_of_at operands_at expression_within
+    new_name_at place_at integer_at index_at number_from short_list_at row_at let_at new_row_at
+    text_at field_of_at key_of_at new_field_at old_field_at key_in_at argument_at time_of_at value_named_at operands_at expression_within over_at terms_at single_at aggregate_at
     on_create_at on_update_at on_delete_at on_signal_at at_moment_at every_moment_at parts_at event_within
-    assigned_field_at assignment_at assignments_at all_assignments_at statement_form_at create_at update_at delete_at arguments_at signal_at emit_at on_rule_at fire_at
-    statements_by if_at each_at query_at for_at with_at sub_at statement_within rule_head_at rule_heads_at
-    version_at depth_at field_at fields_at class_at classes_at D.query_at condition_at rule_at transaction_at clock_at unit_at units_at script_from decode json_at script_of
+    assigned_field_at assignment_at assignments_at all_assignments_at statement_form_at create_at update_at delete_at arguments_at signal_at emit_at veto_with_at on_rule_at fire_at
+    statements_by if_at each_at query_at for_at with_at sub_at let_value_at statement_within rule_head_at rule_heads_at
+    version_at depth_at field_at fields_at class_at classes_at D.query_at let_entry_at entry_at condition_at rule_at transaction_at clock_at unit_at units_at script_from decode json_at script_of
 script_on_literals = tt
 
 -- a script is refused with this line

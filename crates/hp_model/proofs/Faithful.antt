@@ -1,7 +1,7 @@
 -- How faithful calls compose.
-use Rattle.std.proofs.Common.{◌≡◌, refl, ap, ap₂, sym, ◌∙◌, subst, ℕ, false, List, [], ◌∷◌, ◌++◌, Option, append-nil, append_assoc}
+use Rattle.std.proofs.Common.{◌≡◌, refl, ap, ap₂, sym, ◌∙◌, subst, false, List, [], ◌∷◌, ◌++◌, Option, append-nil, append_assoc}
 use Rattle.std.specs.Prelude.{Ok, Err}
-use Rattle.hp_model.specs.Values.{Cause, Outcome}
+use Rattle.hp_model.specs.Values.{Veto, Cause, Outcome}
 use Rattle.hp_model.specs.Rules.{Library}
 use Rattle.hp_model.specs.State.{State, IsOrdered}
 use Rattle.hp_model.specs.Tree.{Task, Items, no_items, operation, emission, detachment, node, append, Node, sub_node, without_detachments}
@@ -200,7 +200,7 @@ module _ {library : Library} (f g : Work) where
       (subst (λ e. FaithfulWork library (λ S. nested sub_node (closed S (f S)) done) reads w0 (kept e w0 w1) (closing sub_node a done)) is (faithful_nested sub_node done f p))
 
   -- a veto passes outward
-  pub faithful_sub_veto : {reads : List Read} {w0 w1 : Changes} {a : Answer} (r : ℕ) → a.end ≡ veto_by r → FaithfulWork library f reads w0 w1 a
+  pub faithful_sub_veto : {reads : List Read} {w0 w1 : Changes} {a : Answer} (r : Veto) → a.end ≡ veto_by r → FaithfulWork library f reads w0 w1 a
       → FaithfulWork library (λ S. sub_in f g S) reads w0 w0 (closing sub_node a (veto_by r))
   faithful_sub_veto {reads} {w0} {w1} {a} r is p =
       sub_found (veto_by r) is (Grows-same reads) p

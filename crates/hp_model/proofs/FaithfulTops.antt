@@ -6,7 +6,7 @@ use Rattle.hp_model.specs.State.{State}
 use Rattle.hp_model.specs.Tree.{Task, without_detachments}
 use Rattle.hp_model.specs.Transactions.{Detached, End, done, abort_by, veto_by, Course, Work, drained, closed_by}
 use Rattle.hp_model.specs.Firing.{Fire, siblings, course_of, fire_task}
-use Rattle.hp_model.specs.Cascade.{Unit, unit_work, task_work, most_rounds, next_round, rounds, top_course, top, Generation, alone, generation, due, Cascade, before_cascade, cascade, transactions_of, TransactionReport, transaction_report, time_of, veto_end}
+use Rattle.hp_model.specs.Cascade.{Unit, now_in, unit_work, task_work, most_rounds, next_round, rounds, top_course, top, Generation, alone, generation, due, Cascade, before_cascade, cascade, transactions_of, TransactionReport, transaction_report, time_of, veto_end}
 use Rattle.hp_model.specs.Cells.{Changes, over, Read}
 use Rattle.hp_model.specs.Soundness.{Answer, answer_of, FiringAnswer, LeadsTo}
 use Rattle.hp_model.specs.Answers.{FaithfulWork, FaithfulFiring, SiblingsAnswer, FaithfulSiblings, followed, kept, group_answer, drained_answer, is_settled, TopAnswer, top_answer, closing_top, FaithfulTop, GenerationAnswer, generation_answer, FaithfulGeneration, reported, cascade_answer, FaithfulCascade, FaithfulUnit}
@@ -84,12 +84,12 @@ top_closed done S c = refl
 top_closed (abort_by x) S c = refl
 top_closed (veto_by r) S c = refl
 
-pub faithful_top : (depth : ℕ) (work : Work) {library : Library} {reads : List Read} {before after : Changes} {a : Answer}
-    → FaithfulWork library (top_course library depth work) reads before after a
-    → FaithfulTop library (top library depth work) reads before (kept a.end before after) (closing_top a)
-faithful_top depth work {library} {reads} {before} {after} {a} p = record {
+pub faithful_top : (now depth : ℕ) (work : Work) {library : Library} {reads : List Read} {before after : Changes} {a : Answer}
+    → FaithfulWork library (top_course library now depth work) reads before after a
+    → FaithfulTop library (top library now depth work) reads before (kept a.end before after) (closing_top a)
+faithful_top now depth work {library} {reads} {before} {after} {a} p = record {
   from = λ base held S ordered is.
-      let c = top_course library depth work S in
+      let c = top_course library now depth work S in
       let all = p.from base held S ordered is in
       let same_end : c.end ≡ a.end = ap (λ (x : Answer). x.end) all.answers in
       record {
@@ -120,12 +120,12 @@ abbrev generation_with : Task → TopAnswer → GenerationAnswer → GenerationA
 generation_with t a g = record { transactions = reported (Some t) a ∷ g.transactions; detached = a.detached ++ g.detached }
 
 pub faithful_generation : (t : Task) (ts : List Task) {library : Library} {reads more : List Read} {w0 w1 w2 : Changes} {a : TopAnswer} {g : GenerationAnswer} → Grows reads more
-    → FaithfulTop library (top library t.depth (task_work library t)) reads w0 w1 a → FaithfulGeneration library (generation library ts) more w1 w2 g
+    → FaithfulTop library (top library t.now t.depth (task_work library t)) reads w0 w1 a → FaithfulGeneration library (generation library ts) more w1 w2 g
     → FaithfulGeneration library (generation library (t ∷ ts)) more w0 w2 (record { transactions = reported (Some t) a ∷ g.transactions; detached = a.detached ++ g.detached })
 faithful_generation t ts {library} {reads} {more} {w0} {w1} {w2} {a} {g} grows p q = record {
   from = λ base held S ordered is.
       let first = p.from base (held_before grows base held) S ordered is in
-      let rest = q.from base held (top library t.depth (task_work library t) S).state first.ordered first.reaches in
+      let rest = q.from base held (top library t.now t.depth (task_work library t) S).state first.ordered first.reaches in
       record { answers = ap₂ (generation_with t) first.answers rest.answers; reaches = rest.reaches; ordered = rest.ordered };
 }
 
@@ -136,7 +136,7 @@ module _ (library : Library) (whole : List Task) (w0 : Changes) where
         → FaithfulGeneration library (generation library whole) more w0 after (record { transactions = so_far.transactions ++ g.transactions; detached = so_far.detached ++ g.detached })
 
   pub generation_more : {t : Task} {ts : List Task} {reads more : List Read} {w1 w2 : Changes} {so_far : GenerationAnswer} {a : TopAnswer} → Grows reads more
-      → GenerationCompletes (t ∷ ts) reads w1 so_far → FaithfulTop library (top library t.depth (task_work library t)) more w1 w2 a
+      → GenerationCompletes (t ∷ ts) reads w1 so_far → FaithfulTop library (top library t.now t.depth (task_work library t)) more w1 w2 a
       → GenerationCompletes ts more w2 (record { transactions = so_far.transactions ++ reported (Some t) a ∷ []; detached = so_far.detached ++ a.detached })
   generation_more {t} {ts} {reads} {more} {w1} {w2} {so_far} {a} grows c p = record {
     by = λ most after g grows' q.
@@ -213,10 +213,10 @@ module _ (library : Library) (whole : State → Cascade) (w0 : Changes) where
 -- ---- units
 
 pub faithful_unit : (unit : Unit) {library : Library} {reads more : List Read} {w0 w1 w2 : Changes} {a : TopAnswer} {rest : List TransactionReport} → Grows reads more
-    → FaithfulTop library (top library 0 (unit_work library unit)) reads w0 w1 a → FaithfulCascade library (cascade (most_rounds library) library (due a.detached)) more w1 w2 rest
+    → FaithfulTop library (top library (now_in unit) 0 (unit_work library unit)) reads w0 w1 a → FaithfulCascade library (cascade (most_rounds library) library (due a.detached)) more w1 w2 rest
     → FaithfulUnit library unit more w0 w2 (record { time = time_of unit; transactions = reported None a ∷ rest })
 faithful_unit unit {library} {reads} {more} {w0} {w1} {w2} {a} {rest} grows p q =
-    let run = λ (S : State). alone None (top library 0 (unit_work library unit) S) in
+    let run = λ (S : State). alone None (top library (now_in unit) 0 (unit_work library unit) S) in
     let first : FaithfulGeneration library run reads w0 w1 (record { transactions = reported None a ∷ []; detached = a.detached }) =
     record {
       from = λ base held S ordered is.

@@ -1,19 +1,19 @@
 -- Values of expressions, rows and answers of queries fit if the environment does.
-use Rattle.std.proofs.Common.{arith, ◌≡◌, refl, subst, ℕ, zero, suc, ◌^◌, ◌<◌, ◌≤◌, ℤ, pos, negsuc, List, [], ◌∷◌, ◌++◌, length, map, filter, Option, None, Some, Bool, true, false, ◌&&◌, cond, IsTrue, nat_lt}
+use Rattle.std.proofs.Common.{arith, ◌≡◌, refl, subst, ℕ, zero, suc, ◌-◌, ◌^◌, ◌<◌, ◌≤◌, ℤ, pos, negsuc, List, [], ◌∷◌, ◌++◌, length, map, filter, Option, None, Some, Bool, true, false, ◌&&◌, cond, IsTrue, nat_lt}
 use Rattle.std.proofs.lemmas.Bool.{and_parts, and_from, ltb-true, lt-ltb}
 use Rattle.std.proofs.lemmas.Int.{rem_below}
-use Rattle.std.specs.Prelude.{⊤, Ok, Err, bytes_eq, slice_get, int_div, int_rem, neg_ℤ, unsigned_abs, if◌then◌else◌, ◌+ℤ◌, ◌-ℤ◌, ◌*ℤ◌, not, ◌==◌}
-use Rattle.std.specs.List.{AllByRecursion, list_all}
+use Rattle.std.specs.Prelude.{⊤, Ok, Err, bytes_eq, slice_get, int_div, int_rem, neg_ℤ, unsigned_abs, if◌then◌else◌, min, unwrap_or, ◌+ℤ◌, ◌-ℤ◌, ◌*ℤ◌, not, ◌==◌}
+use Rattle.std.specs.List.{last_or, AllByRecursion, list_all}
 use Rattle.std.specs.Map.{lookup}
-use Rattle.hp_model.specs.Values.{Name, Field, kind_of, is_kind, row_fits, Value, integer, boolean, text, Row, KeyedRow, Cause, wrong_kind, overflow, divide_by_zero, no_parameter, Outcome, ◌>>=◌, or_cause, fits_64, value_fits}
+use Rattle.hp_model.specs.Values.{Name, Field, kind_of, is_kind, row_fits, Value, integer, boolean, text, Row, KeyedRow, Cause, wrong_kind, overflow, divide_by_zero, no_parameter, missing, Outcome, ◌>>=◌, or_cause, fits_64, value_fits}
 use Rattle.hp_model.specs.Occurrences.{Primitive, created, updated, deleted, signalled, commit_reached, moment_reached, Occurrence}
-use Rattle.hp_model.specs.Expressions.{Arithmetic, plus, minus, times, quotient, remainder, Expression, constant, arithmetic, negated, inverted, both, either, compared, field_of, key_of, new_field, old_field, key_in, argument, time_of, occurrence_count, Environment, bound, as_integer, as_boolean, in_range, calculate, compare, part_of, row_named, field_in, new_row, old_row, operation_key, argument_of, moment_of, count_in, value_of}
-use Rattle.hp_model.specs.Conditions.{selected, answer}
-use Rattle.hp_model.specs.Rules.{Library, Assignment, class_at}
-use Rattle.hp_model.specs.State.{Objects, ObjectName, rows_of, object_fits}
+use Rattle.hp_model.specs.Expressions.{Arithmetic, plus, minus, times, quotient, remainder, Expression, constant, arithmetic, negated, inverted, both, either, compared, field_of, key_of, new_field, old_field, key_in, argument, time_of, occurrence_count, value_named, time_now, Comparison, less, greater, Environment, bound, holding, as_integer, as_boolean, in_range, calculate, compare, part_of, row_named, field_in, new_row, old_row, operation_key, argument_of, moment_of, count_in, value_of}
+use Rattle.hp_model.specs.Conditions.{selected, answer, Merge, merged, added, preferred, row_count, key_after, present, aggregated, let_of}
+use Rattle.hp_model.specs.Rules.{Library, Assignment, Aggregate, count_over, sum_over, least_over, greatest_over, next_key, single, class_at}
+use Rattle.hp_model.specs.State.{Objects, ObjectName, rows_of, class_keys, object_fits}
 use Rattle.hp_model.specs.Firing.{values_of, assigned}
-use Rattle.hp_model.specs.Ranges.{expression_fits, assignments_fit}
-pub use Rattle.hp_model.specs.Fitting.{ValueFits, RowFits, KeyedFits, RowsFit, PrimitiveFits, OccurrenceFits, OptionFits, EnvironmentFits, AnswersFit, ObjectsFit}
+use Rattle.hp_model.specs.Ranges.{expression_fits, assignments_fit, aggregate_fits}
+pub use Rattle.hp_model.specs.Fitting.{ValueFits, RowFits, KeyedFits, RowsFit, PrimitiveFits, OccurrenceFits, OptionFits, EnvironmentFits, ValuesFit, AnswersFit, FindingsFit, ObjectsFit}
 
 -- ---- outcomes
 
@@ -142,7 +142,7 @@ integer_gives (text s) h = Gives-none wrong_kind
 
 -- what is read of a fit environment
 module _ (library : Library) (env : Environment) (fit : EnvironmentFits library env) where
-  parts_give : (o : Option Occurrence) → OptionFits library o → (i : ℕ) (p : Primitive) → part_of (record { occurrence = o; rows = env.rows }) i ≡ Ok p → PrimitiveFits library p
+  parts_give : (o : Option Occurrence) → OptionFits library o → (i : ℕ) (p : Primitive) → part_of (record { occurrence = o; rows = env.rows; values = env.values; now = env.now }) i ≡ Ok p → PrimitiveFits library p
   parts_give None h i p e = cc
   parts_give (Some o) h i p e = (Gives-or {P = PrimitiveFits library} (slice_get o.parts i) no_parameter (λ x is. each_at (PrimitiveFits library) o.parts i x h is)).fact p e
 
@@ -255,6 +255,8 @@ module _ (library : Library) (env : Environment) (fit : EnvironmentFits library 
   value_gives (argument i j) h = Gives-then (part_gives library env fit i) λ p hp. argument_gives library p j hp
   value_gives (time_of i) h = Gives-then (part_gives library env fit i) λ p hp. moment_gives p
   value_gives occurrence_count h = count_gives env.occurrence
+  value_gives (value_named x) h = Gives-or (lookup (bytes_eq x) env.values) wrong_kind (λ v is. each_found ValueFits (bytes_eq x) env.values v fit.2 is)
+  value_gives time_now h = in_range_gives (pos env.now)
 
   pub values_give : (es : List Expression) → IsTrue (list_all expression_fits es) → Gives (AllByRecursion ValueFits) (values_of env es)
   values_give [] h = Gives-value [] tt
@@ -291,3 +293,82 @@ rows_fit library class objects h =
 
 pub answer_gives : (library : Library) (env : Environment) (x : Name) (class : ℕ) (predicate : Expression) (objects : Objects) → ObjectsFit library objects → Gives RowsFit (answer env x class predicate objects)
 answer_gives library env x class predicate objects h = selected_gives env x predicate (rows_of class objects) (rows_fit library class objects h)
+
+-- ---- aggregates
+
+-- a value, if there is one
+abbrev pub HeldFits : Option Value → Type 0
+HeldFits None = ⊤
+HeldFits (Some v) = ValueFits v
+
+pub bound_fits : (library : Library) (x : Name) (r : KeyedRow) (env : Environment) → KeyedFits r → EnvironmentFits library env → EnvironmentFits library (bound x r env)
+bound_fits library x r env h fit = (fit.0, (h, fit.1), fit.2)
+
+pub holding_fits : (library : Library) (x : Name) (v : Value) (env : Environment) → ValueFits v → EnvironmentFits library env → EnvironmentFits library (holding x v env)
+holding_fits library x v env h fit = (fit.0, fit.1, (h, fit.2))
+
+abbrev MergeFits : Merge → Type 0
+MergeFits merge = (o : Option Value) (v : Value) → HeldFits o → ValueFits v → Gives ValueFits (merge o v)
+
+module _ (library : Library) (env : Environment) (fit : EnvironmentFits library env) (merge : Merge) (merges : MergeFits merge) (x : Name) (predicate term : Expression) (term_fits : IsTrue (expression_fits term)) where
+  merged_step : (keep : Bool) (r : KeyedRow) (so_far : Option Value) → KeyedFits r → HeldFits so_far
+      → Gives HeldFits (if keep then (value_of (bound x r env) term >>= λ w. merge so_far w >>= λ m. Ok (Some m)) else Ok so_far)
+  merged_step true r so_far h k =
+      Gives-then (value_gives library (bound x r env) (bound_fits library x r env h fit) term term_fits) λ w hw.
+      Gives-then (merges so_far w k hw) λ m hm. Gives-value (Some m) hm
+  merged_step false r so_far h k = Gives-value so_far k
+
+  merged_gives : (so_far : Option Value) (rows : List KeyedRow) → HeldFits so_far → RowsFit rows → Gives HeldFits (merged merge env x predicate term so_far rows)
+  merged_gives so_far [] k h = Gives-value so_far k
+  merged_gives so_far (r ∷ rs) k h =
+      Gives-then (Gives-any (value_of (bound x r env) predicate)) λ v _.
+      Gives-then (Gives-any (as_boolean v)) λ keep _.
+      Gives-then (merged_step keep r so_far h.0 k) λ next hnext. merged_gives next rs hnext h.1
+
+added_fits : MergeFits added
+added_fits o v h k = Gives-then (Gives-any (as_integer _)) λ x _. Gives-then (Gives-any (as_integer v)) λ y _. in_range_gives (x +ℤ y)
+
+either_fits : (b : Bool) (v w : Value) → ValueFits v → ValueFits w → ValueFits (if b then v else w)
+either_fits true v w h k = h
+either_fits false v w h k = k
+
+preferred_fits : (op : Comparison) → MergeFits (preferred op)
+preferred_fits op None v h k = Gives-then (Gives-any (compare op v v)) λ _ _. Gives-value v k
+preferred_fits op (Some w) v h k = Gives-then (Gives-any (compare op v w)) λ b _. Gives-value (if b then v else w) (either_fits b v w k h)
+
+count_fits : (rows : List KeyedRow) → ValueFits (row_count rows)
+count_fits rows = lt-ltb (min (length rows) (2 ^ 63 - 1)) (2 ^ 63) (omega arith)
+
+key_after_gives : (o : Option ℤ) → Gives ValueFits (key_after o)
+key_after_gives None = Gives-value (integer (pos 1)) refl
+key_after_gives (Some k) = in_range_gives (k +ℤ pos 1)
+
+present_gives : {o : Outcome Value} → Gives ValueFits o → Gives HeldFits (present o)
+present_gives gives = Gives-then gives λ v h. Gives-value (Some v) h
+
+sum_fits : (o : Option Value) → HeldFits o → ValueFits (unwrap_or o (integer (pos 0)))
+sum_fits None h = refl
+sum_fits (Some v) h = h
+
+pub aggregated_gives : (library : Library) (env : Environment) (objects : Objects) → EnvironmentFits library env → ObjectsFit library objects → (a : Aggregate) → IsTrue (aggregate_fits a) → Gives HeldFits (aggregated objects env a)
+aggregated_gives library env objects fit h (count_over x class predicate) k =
+    Gives-then (answer_gives library env x class predicate objects h) λ rows _. Gives-value (Some (row_count rows)) (count_fits rows)
+aggregated_gives library env objects fit h (sum_over x class predicate term) k =
+    let parts = and_parts (expression_fits predicate) (expression_fits term) k in
+    Gives-then (merged_gives library env fit added added_fits x predicate term parts.1 None (rows_of class objects) tt (rows_fit library class objects h)) λ sum hsum.
+    Gives-value (Some (unwrap_or sum (integer (pos 0)))) (sum_fits sum hsum)
+aggregated_gives library env objects fit h (least_over x class predicate term) k =
+    let parts = and_parts (expression_fits predicate) (expression_fits term) k in
+    merged_gives library env fit (preferred less) (preferred_fits less) x predicate term parts.1 None (rows_of class objects) tt (rows_fit library class objects h)
+aggregated_gives library env objects fit h (greatest_over x class predicate term) k =
+    let parts = and_parts (expression_fits predicate) (expression_fits term) k in
+    merged_gives library env fit (preferred greater) (preferred_fits greater) x predicate term parts.1 None (rows_of class objects) tt (rows_fit library class objects h)
+aggregated_gives library env objects fit h (next_key class) k = present_gives (key_after_gives (last_or None (class_keys class objects)))
+aggregated_gives library env objects fit h (single e) k = present_gives (value_gives library env fit e k)
+
+held_gives : (o : Option Value) → HeldFits o → Gives ValueFits (or_cause o missing)
+held_gives None h = Gives-none missing
+held_gives (Some v) h = Gives-value v h
+
+pub let_gives : (library : Library) (env : Environment) (objects : Objects) → EnvironmentFits library env → ObjectsFit library objects → (a : Aggregate) → IsTrue (aggregate_fits a) → Gives ValueFits (let_of objects env a)
+let_gives library env objects fit h a k = Gives-then (aggregated_gives library env objects fit h a k) λ o ho. held_gives o ho

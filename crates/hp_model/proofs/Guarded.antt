@@ -6,24 +6,24 @@ use Rattle.std.proofs.lemmas.List.Folds.{list_all-append}
 use Rattle.std.specs.Prelude.{⊤, Ok, Err, filter, option_map, filter_map, ◌||◌, if◌then◌else◌}
 use Rattle.std.specs.List.{cons_option, list_all, AllByRecursion, slice_index_or}
 use Rattle.std.specs.Option.{option_or}
-use Rattle.hp_model.specs.Values.{Outcome, Row, vetoed, Value, depth_exceeded, exists, missing, requested}
+use Rattle.hp_model.specs.Values.{Veto, Outcome, Row, vetoed, Value, depth_exceeded, exists, missing, requested}
 use Rattle.hp_model.specs.Occurrences.{Primitive, created, updated, deleted, signalled, commit_reached, History, Occurrence, primitive_occurrence, no_occurrence}
 use Rattle.hp_model.specs.Events.{Event, pattern_event, or_event, seq_event, closure_event, Pattern, on_create, on_update, on_delete, on_signal, on_commit, at_moment, every_moment, matches, occurrence_of, joined, closed}
 use Rattle.hp_model.specs.Expressions.{value_of}
-use Rattle.hp_model.specs.Conditions.{Answers, Verdict, satisfied, unsatisfied, faulty, answer, verdict}
-use Rattle.hp_model.specs.Rules.{Coupling, immediate, deferred, separate, dependent, exclusive, is_immediate, is_detached, Statement, create, update, delete, signal, emit, when, each, for_answer, with_object, subtransaction, abort, veto, on_rule, fire, Body, empty, ◌then◌, Library, RuleOperation, Rule, no_rule, class_at, rule_at}
+use Rattle.hp_model.specs.Conditions.{Findings, Verdict, satisfied, unsatisfied, faulty, answer, let_of, verdict}
+use Rattle.hp_model.specs.Rules.{Coupling, immediate, deferred, separate, dependent, exclusive, is_immediate, is_detached, Statement, create, update, delete, signal, emit, when, each, for_answer, with_object, subtransaction, let_value, abort, veto, veto_with, on_rule, fire, Body, empty, ◌then◌, Library, RuleOperation, Rule, no_rule, class_at, rule_at}
 use Rattle.hp_model.specs.State.{State, RuleState, with_objects, with_rule, extended, extended_rule, find_object, rule_state, Status, absent, enabled, disabled}
 use Rattle.hp_model.specs.Tree.{Task, Step, condition_step, action_step, Node, Operation, rule_op, create_op, update_op, delete_op, no_items, operation, emission, apply, sub_node, fire_node, act_node, with_action, with_later_action, without_action, with_fault}
 use Rattle.hp_model.specs.Transactions.{End, done, abort_by, veto_by, Course, Work, ends, joined as joined_course, after_end, then_do, with_value, for_each, with_items, closed as closed_course, placed, drained}
-use Rattle.hp_model.specs.Firing.{Firing, Fire, after_firing, siblings, Siblings, course_of, Level, start, triggered, signal_in, Context, with_row, operated, created_if_absent, updated_if_present, deleted_if_present, vetoes, nested, sub_by, choose, run_statement, run_body, run_action, follow, decide, take_step, below_limit, fire_task, changed_row, made_row, checked_kinds, keyed_row, integer_value, boolean_value, values_of, answer_named, named_object, operated_rule, fired_task, start_fired, triggered_by, task_if, triggered_from, deferring, idle, action_course, action_context, action_task, task_environment}
+use Rattle.hp_model.specs.Firing.{Firing, Fire, after_firing, siblings, Siblings, course_of, Level, start, triggered, signal_in, Context, with_row, with_let, operated, created_if_absent, updated_if_present, deleted_if_present, vetoes, nested, sub_by, choose, run_statement, run_body, run_action, follow, decide, take_step, below_limit, fire_task, changed_row, made_row, checked_kinds, keyed_row, integer_value, boolean_value, values_of, answer_named, named_object, operated_rule, fired_task, start_fired, triggered_by, task_if, triggered_from, deferring, inert, fault_veto, action_course, action_context, action_task, task_environment}
 use Rattle.hp_model.specs.Chains.{completes, triggers_from, signal_triggers, statement_triggers, body_triggers, may_detach, rule_triggers, NotTooDeep}
 use Rattle.hp_model.specs.Endings.{FaultsOnlyBy}
-use Rattle.hp_model.proofs.Causes.{Plain, value_plain, values_plain, made_plain, checked_plain, keyed_plain, integer_value_plain, boolean_value_plain, object_plain, operated_plain, answer_plain, IsPlainVerdict, verdict_plain}
+use Rattle.hp_model.proofs.Causes.{Plain, value_plain, values_plain, made_plain, checked_plain, keyed_plain, integer_value_plain, boolean_value_plain, object_plain, operated_plain, answer_plain, let_plain, IsPlainVerdict, verdict_plain}
 
 -- the rank of a task rises with what it starts, so that rounds and generations end
 abbrev pub step_rank : Step → ℕ
 step_rank condition_step = 0
-step_rank (action_step answers) = 1
+step_rank (action_step found) = 1
 
 abbrev pub rank : Task → ℕ
 rank t = 2 * t.depth + step_rank t.step
@@ -185,8 +185,8 @@ pub record KeptBy (library : Library) (allowed : ℕ → ℕ → Bool) (limit : 
   pub at_lower : (m n : ℕ) (S : State) (c : Course) → m ≤ n → P n S c → P m S c
 
 -- a level of the library
-abbrev pub level_of : Library → ℕ → Option Fire → Level
-level_of library d below = record { library = library; depth = d; below = below }
+abbrev pub level_of : Library → (now depth : ℕ) → Option Fire → Level
+level_of library now d below = record { library = library; depth = d; now = now; below = below }
 
 -- what a firing of a rule triggers may fire one deeper: by its action, and by the commit event of its own transaction
 pub rule_passes : (library : Library) (allowed : ℕ → ℕ → Bool) → Guard library allowed → (d n : ℕ) → IsTrue (allowed d n)
@@ -203,32 +203,32 @@ module _ (library : Library) (allowed : ℕ → ℕ → Bool) where
   pub passes_alike : (d : ℕ) (p q : Primitive) → Alike p q → Passes allowed d (signal_triggers library p) → Passes allowed d (signal_triggers library q)
   passes_alike d p q same h = subst (Passes allowed d) (triggers_alike p q same 0 library.rules) h
 
-  module _ (guard : Guard library allowed) (d : ℕ) (below : Option Fire) where
+  module _ (guard : Guard library allowed) (now d : ℕ) (below : Option Fire) where
     abbrev Fresh : List Task → Type 0
     Fresh ts = AllByRecursion (IsNewAt (suc d) (body_rank d)) ts
 
     may : (rule actual : Rule) → actual ≡ rule → is_detached rule.event_coupling ≡ true → may_detach actual ≡ true
     may rule actual same e = ap (λ (r : Rule). is_detached r.event_coupling || is_detached r.action_coupling) same ∙ ap (λ b. b || is_detached rule.action_coupling) e
 
-    pub one_new : (n : ℕ) (rule : Rule) (o : Occurrence) → rule_at library n ≡ rule → IsTrue (allowed (suc d) n) → IsNewAt (suc d) (body_rank d) (triggered_by (level_of library d below) n rule o)
+    pub one_new : (n : ℕ) (rule : Rule) (o : Occurrence) → rule_at library n ≡ rule → IsTrue (allowed (suc d) n) → IsNewAt (suc d) (body_rank d) (triggered_by (level_of library now d below) n rule o)
     one_new n rule o same h = ((omega arith, refl), (h, λ e. (rule_passes library allowed guard (suc d) n h).1 (may rule (rule_at library n) same e)))
 
     found : (n : ℕ) (rule : Rule) (o : Option Occurrence) (ts : List Task) → rule_at library n ≡ rule → IsTrue (allowed (suc d) n) → Fresh ts
-        → Fresh (cons_option (option_map (triggered_by (level_of library d below) n rule) o) ts)
+        → Fresh (cons_option (option_map (triggered_by (level_of library now d below) n rule) o) ts)
     found n rule None ts same h k = k
     found n rule (Some o) ts same h k = (one_new n rule o same h, k)
 
     -- with the rest of the list, whether the rule's event is completed or not
     completed : (n : ℕ) (rule : Rule) (p : Primitive) (past : History) (ts : List Task) (rest : List ℕ) (b : Bool) → completes rule.event p ≡ b → rule_at library n ≡ rule
-        → Passes allowed (suc d) (if b then n ∷ rest else rest) → Fresh ts → Fresh (cons_option (option_map (triggered_by (level_of library d below) n rule) (occurrence_of rule.event (p ∷ past))) ts)
+        → Passes allowed (suc d) (if b then n ∷ rest else rest) → Fresh ts → Fresh (cons_option (option_map (triggered_by (level_of library now d below) n rule) (occurrence_of rule.event (p ∷ past))) ts)
     completed n rule p past ts rest true is same h k =
         found n rule (occurrence_of rule.event (p ∷ past)) ts same (and_parts (allowed (suc d) n) (list_all (allowed (suc d)) rest) h).0 k
     completed n rule p past ts rest false is same h k =
-        subst (λ o. Fresh (cons_option (option_map (triggered_by (level_of library d below) n rule) o) ts)) (sym (incomplete rule.event p past is)) k
+        subst (λ o. Fresh (cons_option (option_map (triggered_by (level_of library now d below) n rule) o) ts)) (sym (incomplete rule.event p past is)) k
 
     by_status : (n : ℕ) (rule : Rule) (p : Primitive) (status : Status) (past : History) (ts : List Task) (rest : List ℕ) → rule_at library n ≡ rule
         → Passes allowed (suc d) (if completes rule.event p then n ∷ rest else rest) → Fresh ts
-        → Fresh (cons_option (task_if (extended_rule p (record { status = status; past = past })).status (level_of library d below) n rule (extended_rule p (record { status = status; past = past })).past) ts)
+        → Fresh (cons_option (task_if (extended_rule p (record { status = status; past = past })).status (level_of library now d below) n rule (extended_rule p (record { status = status; past = past })).past) ts)
     by_status n rule p absent past ts rest same h k = k
     by_status n rule p enabled past ts rest same h k = completed n rule p past ts rest (completes rule.event p) refl same h k
     by_status n rule p disabled past ts rest same h k = k
@@ -238,15 +238,15 @@ module _ (library : Library) (allowed : ℕ → ℕ → Bool) where
     rest_passes false n rest h = h
 
     triggered_new : (n : ℕ) (p : Primitive) (rules : List Rule) (rs : List RuleState) → ((k m : ℕ) → k < length rules → m ≡ n + k → rule_at library m ≡ slice_index_or rules k no_rule)
-        → Passes allowed (suc d) (triggers_from n rules p) → Fresh (filter_map (λ t. t) (triggered_from (level_of library d below) n rules (map (extended_rule p) rs)))
+        → Passes allowed (suc d) (triggers_from n rules p) → Fresh (filter_map (λ t. t) (triggered_from (level_of library now d below) n rules (map (extended_rule p) rs)))
     triggered_new n p [] rs at h = tt
     triggered_new n p (rule ∷ rules) [] at h = tt
     triggered_new n p (rule ∷ rules) (r ∷ rs) at h =
-        by_status n rule p r.status r.past (filter_map (λ t. t) (triggered_from (level_of library d below) (suc n) rules (map (extended_rule p) rs))) (triggers_from (suc n) rules p)
+        by_status n rule p r.status r.past (filter_map (λ t. t) (triggered_from (level_of library now d below) (suc n) rules (map (extended_rule p) rs))) (triggers_from (suc n) rules p)
         (at 0 n (omega arith) (omega arith)) h
         (triggered_new (suc n) p rules rs (λ k m low is. at (suc k) m (omega arith) (omega arith)) (rest_passes (completes rule.event p) n (triggers_from (suc n) rules p) h))
 
-    pub signal_new : (p : Primitive) (S : State) → Passes allowed (suc d) (signal_triggers library p) → Fresh (triggered (level_of library d below) (extended p S))
+    pub signal_new : (p : Primitive) (S : State) → Passes allowed (suc d) (signal_triggers library p) → Fresh (triggered (level_of library now d below) (extended p S))
     signal_new p S h = triggered_new 0 p library.rules S.rules (λ k m low is. let e : m ≡ k = omega arith in ap (rule_at library) e) h
 
 -- ---- what is kept
@@ -280,7 +280,7 @@ module _ (library : Library) (allowed : ℕ → ℕ → Bool) (guard : Guard lib
   for_each_kept n [] work S k = kept.at_end n S done tt
   for_each_kept n (x ∷ xs) work S k = then_do_kept n S (work x S) (for_each xs work) (k x S) (λ S'. for_each_kept n xs work S' k)
 
-  after_firing_kept : (n : ℕ) (stops : Bool) (v : Option ℕ) (f : Firing) (rest : State → Siblings) (S : State) → P n S (firing_course f) → ((S' : State) → P n S' (course_of (rest S'))) → P n S (course_of (after_firing stops v f rest))
+  after_firing_kept : (n : ℕ) (stops : Bool) (v : Option Veto) (f : Firing) (rest : State → Siblings) (S : State) → P n S (firing_course f) → ((S' : State) → P n S' (course_of (rest S'))) → P n S (course_of (after_firing stops v f rest))
   after_firing_kept n true (Some r) f rest S h k = kept.at_join n S (firing_course f) (ends (abort_by (vetoed r)) f.state) h (kept.at_end n f.state (abort_by (vetoed r)) tt)
   after_firing_kept n true None f rest S h k = kept.at_join n S (firing_course f) (course_of (rest f.state)) h (k f.state)
   after_firing_kept n false v f rest S h k = kept.at_join n S (firing_course f) (course_of (rest f.state)) h (k f.state)
@@ -301,9 +301,9 @@ module _ (library : Library) (allowed : ℕ → ℕ → Bool) (guard : Guard lib
       (λ S'. kept.at_lower n (suc n) S' (course_of (siblings f true (filter (λ (u : Task). is_immediate u.place) (t ∷ ts)) S')) (omega arith)
       (siblings_kept n f true (filter (λ (u : Task). is_immediate u.place) (t ∷ ts)) S' (λ e. e ≡ d) h.1 (every_filter (IsNewAt library allowed d n) (λ (u : Task). is_immediate u.place) (t ∷ ts) new)))
 
-  module _ (d : ℕ) (below : Option Fire) (fires : BelowKept (suc d) below) where
+  module _ (now d : ℕ) (below : Option Fire) (fires : BelowKept (suc d) below) where
     abbrev level : Level
-    level = level_of library d below
+    level = level_of library now d below
 
     abbrev n : ℕ
     n = body_rank d
@@ -311,7 +311,7 @@ module _ (library : Library) (allowed : ℕ → ℕ → Bool) (guard : Guard lib
     pub signal_kept : (p : Primitive) (S : State) → Passes allowed (suc d) (signal_triggers library p) → P n S (signal_in level p S)
     signal_kept p S ok =
         kept.at_signal n S p (signal_in level p S)
-        (start_kept n below (triggered level (extended p S)) (extended p S) (suc d) fires (signal_new library allowed guard d below p S ok))
+        (start_kept n below (triggered level (extended p S)) (extended p S) (suc d) fires (signal_new library allowed guard now d below p S ok))
 
     -- ---- statements
 
@@ -335,9 +335,9 @@ module _ (library : Library) (allowed : ℕ → ℕ → Bool) (guard : Guard lib
     deleted_kept class key (Some old) S ok =
         operated_kept (delete_op class key) (deleted class key old) S (passes_alike library allowed (suc d) (deleted class (pos 0) []) (deleted class key old) (deleted_alike class key old) ok)
 
-    vetoes_kept : (r : Option ℕ) (S : State) → P n S (vetoes r S)
-    vetoes_kept None S = kept.at_end n S done tt
-    vetoes_kept (Some r) S = kept.at_end n S (veto_by r) tt
+    vetoes_kept : (r : Option ℕ) (message : Option Value) (S : State) → P n S (vetoes r message S)
+    vetoes_kept None message S = kept.at_end n S done tt
+    vetoes_kept (Some r) message S = kept.at_end n S (veto_by (record { rule = r; message = message })) tt
 
     choose_kept : (b : Bool) (f g : Work) (S : State) → P n S (f S) → P n S (g S) → P n S (choose b f g S)
     choose_kept true f g S h k = h
@@ -350,8 +350,8 @@ module _ (library : Library) (allowed : ℕ → ℕ → Bool) (guard : Guard lib
 
     start_fired_kept : (status : Status) (m : ℕ) (S : State) → IsTrue (allowed (suc d) m) → P n S (start_fired status level m S)
     start_fired_kept absent m S ok = kept.at_end n S (abort_by missing) tt
-    start_fired_kept enabled m S ok = start_kept n below (fired_task level m ∷ []) S (suc d) fires (one_new library allowed guard d below m (rule_at library m) no_occurrence refl ok, tt)
-    start_fired_kept disabled m S ok = start_kept n below (fired_task level m ∷ []) S (suc d) fires (one_new library allowed guard d below m (rule_at library m) no_occurrence refl ok, tt)
+    start_fired_kept enabled m S ok = start_kept n below (fired_task level m ∷ []) S (suc d) fires (one_new library allowed guard now d below m (rule_at library m) no_occurrence refl ok, tt)
+    start_fired_kept disabled m S ok = start_kept n below (fired_task level m ∷ []) S (suc d) fires (one_new library allowed guard now d below m (rule_at library m) no_occurrence refl ok, tt)
 
     mutual
       pub statement_kept : (s : Statement) (context : Context) (S : State) → Passes allowed (suc d) (statement_triggers library s) → P n S (run_statement s level context S)
@@ -388,7 +388,12 @@ module _ (library : Library) (allowed : ℕ → ℕ → Bool) (guard : Guard lib
           sub_kept (run_body body level context S).end S (run_body body level context S) (run_body otherwise level context)
           (body_kept body context S parts.0) (λ S'. body_kept otherwise context S' parts.1)
       statement_kept abort context S ok = kept.at_end n S (abort_by requested) tt
-      statement_kept veto context S ok = vetoes_kept context.rule S
+      statement_kept (let_value x a body) context S ok =
+          with_value_kept n (let_of S.objects context.environment a) (λ v. run_body body level (with_let x v context)) S (let_plain S.objects context.environment a)
+          (λ v. body_kept body (with_let x v context) S ok)
+      statement_kept veto context S ok = vetoes_kept context.rule None S
+      statement_kept (veto_with e) context S ok =
+          with_value_kept n (value_of context.environment e) (λ v. vetoes context.rule (Some v)) S (value_plain context.environment e) (λ v. vetoes_kept context.rule (Some v) S)
       statement_kept (on_rule op m) context S ok =
           with_value_kept n (operated_rule op (rule_state S m)) (λ r S'. with_items (operation (rule_op op m) no_items) (with_rule S' m r)) S (operated_plain op (rule_state S m)) (λ r. kept.at_rule n S op m r)
       statement_kept (fire m) context S ok = start_fired_kept (rule_state S m).status m S (and_parts (allowed (suc d) m) true ok).0
@@ -403,46 +408,46 @@ module _ (library : Library) (allowed : ℕ → ℕ → Bool) (guard : Guard lib
 
   module _ (t : Task) (ok : IsAllowed library allowed t) (within : t.depth ≤ limit) (below : Option Fire) (fires : BelowKept (suc t.depth) below) where
     abbrev here : Level
-    here = level_of library t.depth below
+    here = level_of library t.now t.depth below
 
-    action_kept : (what : Node) → IsNodeAllowed allowed what → (answers : Answers) (S : State) → P (body_rank t.depth) S (firing_course (run_action what here t answers S))
-    action_kept what shallow answers S =
-        kept.at_node (body_rank t.depth) S (action_course here t answers S) what done shallow tt
-        (body_kept t.depth below fires (rule_at library t.rule).action (action_context t answers) S (rule_passes library allowed guard t.depth t.rule ok.0).0)
+    action_kept : (what : Node) → IsNodeAllowed allowed what → (found : Findings) (S : State) → P (body_rank t.depth) S (firing_course (run_action what here t found S))
+    action_kept what shallow found S =
+        kept.at_node (body_rank t.depth) S (action_course here t found S) what done shallow tt
+        (body_kept t.now t.depth below fires (rule_at library t.rule).action (action_context t found) S (rule_passes library allowed guard t.depth t.rule ok.0).0)
 
     either_detaches : (b : Bool) (place : Coupling) → is_detached place ≡ true → (b || is_detached place) ≡ true
     either_detaches true place e = refl
     either_detaches false place e = e
 
-    deferring_kept : (place : Coupling) → place ≡ (rule_at library t.rule).action_coupling → (answers : Answers) (S : State)
-        → P (2 * t.depth) S (firing_course (deferring (fire_node t.rule t.place with_later_action) (placed (action_task place t answers ∷ []) S)))
-    deferring_kept place same answers S =
-        kept.at_node (2 * t.depth) S (placed (action_task place t answers ∷ []) S) (fire_node t.rule t.place with_later_action) done (tt, (t.depth, ok.0)) tt
-        (kept.at_tasks (2 * t.depth) S (action_task place t answers ∷ [])
+    deferring_kept : (place : Coupling) → place ≡ (rule_at library t.rule).action_coupling → (found : Findings) (S : State)
+        → P (2 * t.depth) S (firing_course (deferring (fire_node t.rule t.place with_later_action) (placed (action_task place t found ∷ []) S)))
+    deferring_kept place same found S =
+        kept.at_node (2 * t.depth) S (placed (action_task place t found ∷ []) S) (fire_node t.rule t.place with_later_action) done (tt, (t.depth, ok.0)) tt
+        (kept.at_tasks (2 * t.depth) S (action_task place t found ∷ [])
         (((omega arith, within), (ok.0, λ e. (rule_passes library allowed guard t.depth t.rule ok.0).1 (subst (λ c. (is_detached (rule_at library t.rule).event_coupling || is_detached c) ≡ true) same (either_detaches (is_detached (rule_at library t.rule).event_coupling) place e)))), tt))
 
-    follow_kept : (place : Coupling) → place ≡ (rule_at library t.rule).action_coupling → (answers : Answers) (S : State) → P (2 * t.depth) S (firing_course (follow place here t answers S))
-    follow_kept immediate same answers S =
-        kept.at_lower (2 * t.depth) (body_rank t.depth) S (firing_course (run_action (fire_node t.rule t.place with_action) here t answers S)) (omega arith)
-        (action_kept (fire_node t.rule t.place with_action) (tt, (t.depth, ok.0)) answers S)
-    follow_kept deferred same answers S = deferring_kept deferred same answers S
-    follow_kept separate same answers S = deferring_kept separate same answers S
-    follow_kept dependent same answers S = deferring_kept dependent same answers S
-    follow_kept exclusive same answers S = deferring_kept exclusive same answers S
+    follow_kept : (place : Coupling) → place ≡ (rule_at library t.rule).action_coupling → (found : Findings) (S : State) → P (2 * t.depth) S (firing_course (follow place here t found S))
+    follow_kept immediate same found S =
+        kept.at_lower (2 * t.depth) (body_rank t.depth) S (firing_course (run_action (fire_node t.rule t.place with_action) here t found S)) (omega arith)
+        (action_kept (fire_node t.rule t.place with_action) (tt, (t.depth, ok.0)) found S)
+    follow_kept deferred same found S = deferring_kept deferred same found S
+    follow_kept separate same found S = deferring_kept separate same found S
+    follow_kept dependent same found S = deferring_kept dependent same found S
+    follow_kept exclusive same found S = deferring_kept exclusive same found S
 
-    idle_kept : (what : Node) → IsNodeAllowed allowed what → (S : State) → P (2 * t.depth) S (firing_course (idle what S))
-    idle_kept what shallow S = kept.at_node (2 * t.depth) S (ends done S) what done shallow tt (kept.at_end (2 * t.depth) S done tt)
+    inert_kept : (what : Node) → IsNodeAllowed allowed what → (v : Option Veto) (S : State) → P (2 * t.depth) S (firing_course (inert what v S))
+    inert_kept what shallow v S = kept.at_node (2 * t.depth) S (ends done S) what done shallow tt (kept.at_end (2 * t.depth) S done tt)
 
     decide_kept : (v : Verdict) → IsPlainVerdict v → (S : State) → P (2 * t.depth) S (firing_course (decide v here t S))
-    decide_kept (satisfied answers) plain S = follow_kept (rule_at library t.rule).action_coupling refl answers S
-    decide_kept unsatisfied plain S = idle_kept (fire_node t.rule t.place without_action) (tt, (t.depth, ok.0)) S
-    decide_kept (faulty c) plain S = idle_kept (fire_node t.rule t.place (with_fault c)) (plain, (t.depth, ok.0)) S
+    decide_kept (satisfied found) plain S = follow_kept (rule_at library t.rule).action_coupling refl found S
+    decide_kept unsatisfied plain S = inert_kept (fire_node t.rule t.place without_action) (tt, (t.depth, ok.0)) None S
+    decide_kept (faulty c) plain S = inert_kept (fire_node t.rule t.place (with_fault c)) (plain, (t.depth, ok.0)) (fault_veto (rule_at library t.rule).closed t.rule) S
 
     pub step_kept : (s : Step) (S : State) → P (2 * t.depth + step_rank s) S (firing_course (take_step s here t S))
     step_kept condition_step S =
         kept.at_lower (2 * t.depth + 0) (2 * t.depth) S _ (omega arith)
         (decide_kept (verdict S.objects (task_environment t) (rule_at library t.rule).condition) (verdict_plain S.objects (task_environment t) (rule_at library t.rule).condition) S)
-    step_kept (action_step answers) S = action_kept (act_node t.rule t.place) (t.depth, ok.0) answers S
+    step_kept (action_step found) S = action_kept (act_node t.rule t.place) (t.depth, ok.0) found S
 
   -- at a depth with exactly this number of further depths below it
   pub below_kept : (m depth : ℕ) → depth + m ≡ limit → BelowKept (suc depth) (below_limit library m)

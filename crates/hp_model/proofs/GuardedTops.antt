@@ -2,13 +2,14 @@
 use Rattle.std.proofs.Common.{arith, ◌≡◌, refl, ℕ, zero, suc, ◌-◌, ◌<◌, ◌≤◌, List, [], ◌∷◌, ◌++◌, Option, None, Some, Bool, true, false, map}
 use Rattle.std.specs.List.{AllByRecursion, cons_option}
 use Rattle.std.specs.Bool.{then_some}
+use Rattle.hp_model.specs.Values.{Veto}
 use Rattle.hp_model.specs.Occurrences.{commit_reached, moment_reached}
 use Rattle.hp_model.specs.Rules.{Coupling, immediate, deferred, separate, dependent, exclusive, is_deferred, is_detached, Library}
 use Rattle.hp_model.specs.State.{State}
 use Rattle.hp_model.specs.Tree.{Task, Step, condition_step, action_step}
 use Rattle.hp_model.specs.Transactions.{Detached, End, done, abort_by, veto_by, Course, Work, then_do, drained, Closed, closed, closed_by, survivor_by, survivors, detached_of, unreleased}
 use Rattle.hp_model.specs.Firing.{siblings, course_of, signal_in, level_at, fire_task, below_limit}
-use Rattle.hp_model.specs.Cascade.{Unit, transaction, moment, no_context, unit_work, task_work, most_rounds, next_round, rounds, top_course, top, veto_end, Transaction, generation, alone, due_by, due, cascade, run_unit, transactions_of}
+use Rattle.hp_model.specs.Cascade.{Unit, now_in, transaction, moment, no_context, unit_work, task_work, most_rounds, next_round, rounds, top_course, top, veto_end, Transaction, generation, alone, due_by, due, cascade, run_unit, transactions_of}
 use Rattle.hp_model.specs.Chains.{signal_triggers, body_triggers, unit_triggers}
 use Rattle.hp_model.proofs.Guarded.{rank, body_rank, firing_course, step_rank}
 use Rattle.hp_model.proofs.Guarded.{every_append, every_filter, every_to, both_pass, Guard, IsAllowed, IsPlainEnd, IsNew, KeptBy, Passes, FiresKept, then_do_kept, siblings_kept, signal_kept, body_kept, level_kept, fire_kept}
@@ -18,7 +19,7 @@ tasks ds = map (λ (d : Detached). d.task) ds
 
 pub step_small : (s : Step) → step_rank s ≤ 1
 step_small condition_step = omega arith
-step_small (action_step answers) = omega arith
+step_small (action_step found) = omega arith
 
 pub rank_small : (t : Task) → rank t ≤ body_rank t.depth
 rank_small t = let small : step_rank t.step ≤ 1 = step_small t.step in omega arith
@@ -100,7 +101,7 @@ leaving library allowed limit = let May : Task → Type 0 = IsAllowed library al
 
 -- ---- top-level transactions
 
-veto_plain : (v : Option ℕ) → IsPlainEnd (veto_end v)
+veto_plain : (v : Option Veto) → IsPlainEnd (veto_end v)
 veto_plain None = tt
 veto_plain (Some r) = tt
 
@@ -124,26 +125,26 @@ module _ (library : Library) (allowed : ℕ → ℕ → Bool) (guard : Guard lib
   next_round_kept n (veto_by r) ts S c h new = h
 
   -- the work, and then the commit event
-  pub work_kept : (n depth : ℕ) (work : Work) (S : State) → depth ≤ limit → n ≤ body_rank depth → Passes allowed (suc depth) (signal_triggers library commit_reached) → P n S (work S)
-      → P n S (then_do (work S) (signal_in (level_at library depth) commit_reached))
-  work_kept n depth work S low small ok h =
-      then_do_kept library allowed guard limit P kept n S (work S) (signal_in (level_at library depth) commit_reached) h
-      (λ S'. kept.at_lower n (body_rank depth) S' (signal_in (level_at library depth) commit_reached S') small
-      (signal_kept library allowed guard limit P kept depth (below_limit library (limit - depth)) (level_kept library allowed guard limit P kept depth refl low) commit_reached S' ok))
+  pub work_kept : (n now depth : ℕ) (work : Work) (S : State) → depth ≤ limit → n ≤ body_rank depth → Passes allowed (suc depth) (signal_triggers library commit_reached) → P n S (work S)
+      → P n S (then_do (work S) (signal_in (level_at library now depth) commit_reached))
+  work_kept n now depth work S low small ok h =
+      then_do_kept library allowed guard limit P kept n S (work S) (signal_in (level_at library now depth) commit_reached) h
+      (λ S'. kept.at_lower n (body_rank depth) S' (signal_in (level_at library now depth) commit_reached S') small
+      (signal_kept library allowed guard limit P kept now depth (below_limit library (limit - depth)) (level_kept library allowed guard limit P kept depth refl low) commit_reached S' ok))
 
   pub unit_kept : (u : Unit) (S : State) → Passes allowed 1 (unit_triggers library u) → P 1 S (unit_work library u S)
-  unit_kept (transaction body) S ok =
-      body_kept library allowed guard limit P kept 0 (below_limit library (limit - 0)) (level_kept library allowed guard limit P kept 0 refl (omega arith)) body no_context S
+  unit_kept (transaction now body) S ok =
+      body_kept library allowed guard limit P kept now 0 (below_limit library (limit - 0)) (level_kept library allowed guard limit P kept 0 refl (omega arith)) body (no_context now) S
       (both_pass (allowed 1) (body_triggers library body) (signal_triggers library commit_reached) ok).0
   unit_kept (moment t) S ok =
-      signal_kept library allowed guard limit P kept 0 (below_limit library (limit - 0)) (level_kept library allowed guard limit P kept 0 refl (omega arith)) (moment_reached t) S
+      signal_kept library allowed guard limit P kept t 0 (below_limit library (limit - 0)) (level_kept library allowed guard limit P kept 0 refl (omega arith)) (moment_reached t) S
       (both_pass (allowed 1) (signal_triggers library (moment_reached t)) (signal_triggers library commit_reached) ok).0
 
   pub task_kept : (t : Task) (S : State) → t.depth ≤ limit → May t → P (rank t) S (task_work library t S)
   task_kept t S low ok = kept.at_ending (rank t) S (firing_course (fire_task library S t)) (veto_end (fire_task library S t).vetoed_by) (veto_plain (fire_task library S t).vetoed_by) (fires S t low ok)
 
 pub unit_commit : (library : Library) (allowed : ℕ → ℕ → Bool) (u : Unit) → Passes allowed 1 (unit_triggers library u) → Passes allowed 1 (signal_triggers library commit_reached)
-unit_commit library allowed (transaction body) ok = (both_pass (allowed 1) (body_triggers library body) (signal_triggers library commit_reached) ok).1
+unit_commit library allowed (transaction now body) ok = (both_pass (allowed 1) (body_triggers library body) (signal_triggers library commit_reached) ok).1
 unit_commit library allowed (moment t) ok = (both_pass (allowed 1) (signal_triggers library (moment_reached t)) (signal_triggers library commit_reached) ok).1
 
 module _ (library : Library) (allowed : ℕ → ℕ → Bool) (guard : Guard library allowed) (P : ℕ → State → Course → Type 0) (kept : KeptBy library allowed library.depth_limit P) where
@@ -156,20 +157,20 @@ module _ (library : Library) (allowed : ℕ → ℕ → Bool) (guard : Guard lib
       rounds_kept k n S (next_round (fire_task library) c.end c.queued c) (next_round_kept library allowed guard P kept n c.end c.queued S c h r.0)
       (next_round_kept library allowed guard (Leaves library.depth_limit (IsAllowed library allowed)) leaves n c.end c.queued S c r r.0)
 
-  pub top_kept : (n depth : ℕ) (work : Work) (S : State) → depth ≤ library.depth_limit → n ≤ body_rank depth → Passes allowed (suc depth) (signal_triggers library commit_reached)
-      → P n S (work S) → Leaves library.depth_limit (IsAllowed library allowed) n S (work S) → P n S (top_course library depth work S)
-  top_kept n depth work S low small ok h r =
-      rounds_kept (most_rounds library) n S (then_do (work S) (signal_in (level_at library depth) commit_reached)) (work_kept library allowed guard P kept n depth work S low small ok h)
-      (work_kept library allowed guard (Leaves library.depth_limit (IsAllowed library allowed)) leaves n depth work S low small ok r)
+  pub top_kept : (n now depth : ℕ) (work : Work) (S : State) → depth ≤ library.depth_limit → n ≤ body_rank depth → Passes allowed (suc depth) (signal_triggers library commit_reached)
+      → P n S (work S) → Leaves library.depth_limit (IsAllowed library allowed) n S (work S) → P n S (top_course library now depth work S)
+  top_kept n now depth work S low small ok h r =
+      rounds_kept (most_rounds library) n S (then_do (work S) (signal_in (level_at library now depth) commit_reached)) (work_kept library allowed guard P kept n now depth work S low small ok h)
+      (work_kept library allowed guard (Leaves library.depth_limit (IsAllowed library allowed)) leaves n now depth work S low small ok r)
 
-  pub unit_course : (u : Unit) (S : State) → Passes allowed 1 (unit_triggers library u) → P 1 S (top_course library 0 (unit_work library u) S)
+  pub unit_course : (u : Unit) (S : State) → Passes allowed 1 (unit_triggers library u) → P 1 S (top_course library (now_in u) 0 (unit_work library u) S)
   unit_course u S ok =
-      top_kept 1 0 (unit_work library u) S (omega arith) (omega arith) (unit_commit library allowed u ok) (unit_kept library allowed guard P kept u S ok)
+      top_kept 1 (now_in u) 0 (unit_work library u) S (omega arith) (omega arith) (unit_commit library allowed u ok) (unit_kept library allowed guard P kept u S ok)
       (unit_kept library allowed guard (Leaves library.depth_limit (IsAllowed library allowed)) leaves u S ok)
 
-  pub task_course : (t : Task) (S : State) → t.depth ≤ library.depth_limit → IsAllowed library allowed t → Passes allowed (suc t.depth) (signal_triggers library commit_reached) → P (rank t) S (top_course library t.depth (task_work library t) S)
+  pub task_course : (t : Task) (S : State) → t.depth ≤ library.depth_limit → IsAllowed library allowed t → Passes allowed (suc t.depth) (signal_triggers library commit_reached) → P (rank t) S (top_course library t.now t.depth (task_work library t) S)
   task_course t S low ok commit =
-      top_kept (rank t) t.depth (task_work library t) S low (rank_small t) commit (task_kept library allowed guard P kept t S low ok)
+      top_kept (rank t) t.now t.depth (task_work library t) S low (rank_small t) commit (task_kept library allowed guard P kept t S low ok)
       (task_kept library allowed guard (Leaves library.depth_limit (IsAllowed library allowed)) leaves t S low ok)
 
 -- ---- cascades
@@ -184,21 +185,21 @@ module _ (library : Library) (allowed : ℕ → ℕ → Bool) (guard : Guard lib
   abbrev Lists : ℕ → State → Course → Type 0
   Lists = Leaves limit' May'
 
-  pub unit_leaves : (u : Unit) (S : State) → Passes allowed 1 (unit_triggers library u) → AreNew limit' May' 1 (tasks (top library 0 (unit_work library u) S).detached)
+  pub unit_leaves : (u : Unit) (S : State) → Passes allowed 1 (unit_triggers library u) → AreNew limit' May' 1 (tasks (top library (now_in u) 0 (unit_work library u) S).detached)
   unit_leaves u S ok =
-      let c = top_course library 0 (unit_work library u) S in
+      let c = top_course library (now_in u) 0 (unit_work library u) S in
       (closed_leaves limit' May' 1 c.end S c (unit_course library allowed guard Lists (leaving library allowed limit') u S ok)).1
 
-  pub task_leaves : (t : Task) (S : State) → t.depth ≤ limit' → May' t → is_detached t.place ≡ true → AreNew limit' May' (rank t) (tasks (top library t.depth (task_work library t) S).detached)
+  pub task_leaves : (t : Task) (S : State) → t.depth ≤ limit' → May' t → is_detached t.place ≡ true → AreNew limit' May' (rank t) (tasks (top library t.now t.depth (task_work library t) S).detached)
   task_leaves t S low ok is =
-      let c = top_course library t.depth (task_work library t) S in
+      let c = top_course library t.now t.depth (task_work library t) S in
       (closed_leaves limit' May' (rank t) c.end S c (task_course library allowed guard Lists (leaving library allowed limit') t S low ok (ok.1 is))).1
 
   -- what a generation of ranks above m detaches has ranks above m + 1
   pub generation_leaves : (m : ℕ) (ts : List Task) (S : State) → AreDue limit' May' m ts → AreNew limit' May' (suc m) (tasks (generation library ts S).detached)
   generation_leaves m [] S h = tt
   generation_leaves m (t ∷ ts) S h =
-      let first = alone (Some t) (top library t.depth (task_work library t) S) in
+      let first = alone (Some t) (top library t.now t.depth (task_work library t) S) in
       tasks_append limit' May' (suc m) first.detached (generation library ts first.state).detached
       (lower_new limit' May' (suc m) (rank t) (tasks first.detached) h.0.0.0.0 (task_leaves t S h.0.0.0.1 h.0.0.1 h.0.1))
       (generation_leaves m ts first.state h.1)
@@ -210,8 +211,8 @@ module _ (library : Library) (allowed : ℕ → ℕ → Bool) (guard : Guard lib
     generation_each : (m : ℕ) (ts : List Task) (S : State) → AreDue limit' May' m ts → AllByRecursion Q (generation library ts S).transactions
     generation_each m [] S h = tt
     generation_each m (t ∷ ts) S h =
-        let c = top_course library t.depth (task_work library t) S in
-        let first = alone (Some t) (top library t.depth (task_work library t) S) in (
+        let c = top_course library t.now t.depth (task_work library t) S in
+        let first = alone (Some t) (top library t.now t.depth (task_work library t) S) in (
           task_closed t h.0.0.1 S c (kept.at_lower 0 (rank t) S c (omega arith) (task_course library allowed guard P kept t S h.0.0.0.1 h.0.0.1 (h.0.0.1.1 h.0.1))),
           generation_each m ts first.state h.1,
         )
@@ -226,8 +227,8 @@ module _ (library : Library) (allowed : ℕ → ℕ → Bool) (guard : Guard lib
 
     pub unit_each : (u : Unit) (S : State) → Passes allowed 1 (unit_triggers library u) → AllByRecursion Q (transactions_of (run_unit library u S))
     unit_each u S ok =
-        let c = top_course library 0 (unit_work library u) S in
-        let first = alone None (top library 0 (unit_work library u) S) in (
+        let c = top_course library (now_in u) 0 (unit_work library u) S in
+        let first = alone None (top library (now_in u) 0 (unit_work library u) S) in (
           unit_closed S c (kept.at_lower 0 1 S c (omega arith) (unit_course library allowed guard P kept u S ok)),
           cascade_each (most_rounds library) 1 (due first.detached) first.state (due_new limit' May' 1 first.detached (unit_leaves u S ok)),
         )

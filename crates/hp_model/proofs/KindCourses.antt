@@ -1,32 +1,32 @@
 -- All that a kinded body runs, from a state in which all is as declared, ends with no cause of a kind and leaves such a
 -- state; and the tasks that it makes have occurrences and answers that their rules' kinds are right for.
-use Rattle.std.proofs.Common.{◌≡◌, refl, subst, sym, ℕ, zero, suc, ℤ, List, [], ◌∷◌, length, map, Option, None, Some, Bool, true, false, ◌&&◌, IsTrue, nat_lt}
+use Rattle.std.proofs.Common.{◌≡◌, refl, subst, sym, ℕ, zero, suc, ℤ, pos, List, [], ◌∷◌, length, map, Option, None, Some, Bool, true, false, ◌&&◌, IsTrue, nat_lt}
 use Rattle.std.proofs.lemmas.Bool.{and_parts, and_from}
 use Rattle.std.specs.Prelude.{⊤, Ok, Err, bytes_eq, filter, filter_map, option_map, unwrap_or, is_some, slice_set}
 use Rattle.std.specs.List.{AllByRecursion, cons_option, list_all, slice_index_or}
 use Rattle.std.specs.Map.{lookup}
-use Rattle.hp_model.specs.Values.{Name, Row, KeyedRow, integer_kind, boolean_kind, exists, missing, requested, vetoed, depth_exceeded, Outcome, fits_64, value_fits, row_fits}
+use Rattle.hp_model.specs.Values.{Name, Value, Veto, Row, KeyedRow, integer_kind, boolean_kind, exists, missing, requested, vetoed, depth_exceeded, Outcome, fits_64, value_fits, row_fits}
 use Rattle.hp_model.specs.Occurrences.{Primitive, created, updated, deleted, signalled, History, Occurrence, no_occurrence}
 use Rattle.hp_model.specs.Expressions.{value_of}
 use Rattle.hp_model.specs.Events.{Event, occurrence_of}
-use Rattle.hp_model.specs.Conditions.{answer}
-use Rattle.hp_model.specs.Rules.{Coupling, immediate, deferred, separate, dependent, exclusive, is_immediate, Assignment, RuleOperation, install, enable, disable, remove, Statement, create, update, delete, signal, emit, when, each, for_answer, with_object, subtransaction, abort, veto, on_rule, fire, Body, empty, ◌then◌, Library, Rule, no_rule, class_at, rule_at}
+use Rattle.hp_model.specs.Conditions.{answer, let_of}
+use Rattle.hp_model.specs.Rules.{Coupling, immediate, deferred, separate, dependent, exclusive, is_immediate, Assignment, RuleOperation, install, enable, disable, remove, Statement, create, update, delete, signal, emit, when, each, for_answer, with_object, subtransaction, let_value, abort, veto, veto_with, on_rule, fire, Body, empty, ◌then◌, Library, Rule, no_rule, class_at, rule_at}
 use Rattle.hp_model.specs.State.{State, RuleState, object_fits, find_object, rule_state, with_rule, with_status, with_objects, extended_rule, extended, Status, absent, enabled, disabled, IsFit}
 use Rattle.hp_model.specs.Tree.{Task, Step, condition_step, action_step, Node, Operation, create_op, update_op, delete_op, rule_op, no_items, operation, emission, apply, sub_node}
 use Rattle.hp_model.specs.Transactions.{Detached, End, done, abort_by, veto_by, Course, Work, ends, joined, after_end, then_do, with_value, for_each, with_items, survivor_by, survivors, closed_by, closed, placed, detached_of, unreleased}
-use Rattle.hp_model.specs.Firing.{Firing, Fire, after_firing, siblings, Siblings, course_of, Level, start, triggered, signal_in, Context, with_row, operated, created_if_absent, updated_if_present, deleted_if_present, vetoes, nested, sub_by, choose, run_statement, run_body, changed_row, made_row, checked_kinds, keyed_row, integer_value, boolean_value, values_of, answer_named, named_object, operated_rule, fired_task, start_fired, triggered_by, task_if, triggered_from}
-use Rattle.hp_model.specs.Ranges.{expression_fits, assignments_fit, statement_fits, body_fits, IsFitLibrary}
-use Rattle.hp_model.specs.Kinds.{Declared, signature_of, covers, is_declared, is_fired, columns_of, columns_by, Scope, with_name, is_only, sort_of, assignments_kinded, all_assigned, statement_kinded, body_kinded, query_classes, is_calm, is_statement_calm, is_body_calm, is_node_calm, CauseOf, KindedCause, ArePastsDeclared}
+use Rattle.hp_model.specs.Firing.{Firing, Fire, after_firing, siblings, Siblings, course_of, Level, start, triggered, signal_in, Context, with_row, with_let, operated, created_if_absent, updated_if_present, deleted_if_present, vetoes, nested, sub_by, choose, run_statement, run_body, changed_row, made_row, checked_kinds, keyed_row, integer_value, boolean_value, values_of, answer_named, named_object, operated_rule, fired_task, start_fired, triggered_by, task_if, triggered_from}
+use Rattle.hp_model.specs.Ranges.{expression_fits, assignments_fit, aggregate_fits, statement_fits, body_fits, IsFitLibrary}
+use Rattle.hp_model.specs.Kinds.{Sort, any, aggregate_sort, is_aggregate_calm, with_sort, rule_scope, Declared, signature_of, covers, is_declared, is_fired, columns_of, columns_by, Scope, with_name, is_only, sort_of, assignments_kinded, all_assigned, statement_kinded, body_kinded, query_classes, is_calm, is_statement_calm, is_body_calm, is_node_calm, CauseOf, KindedCause, ArePastsDeclared}
 use Rattle.hp_model.specs.Endings.{NodeHasOnly, TreeHasOnly}
 use Rattle.hp_model.proofs.Endings.{only_append, only_detachments}
 use Rattle.hp_model.proofs.Induction.{firing_course}
-use Rattle.hp_model.proofs.FitValues.{Gives, Gives-any, each_to, each_append, each_filter, each_map, ValueFits, KeyedFits, RowsFit, PrimitiveFits, OptionFits, EnvironmentFits, AnswersFit, values_give, answer_gives}
+use Rattle.hp_model.proofs.FitValues.{Gives, Gives-any, each_to, each_append, each_filter, each_map, ValueFits, KeyedFits, RowsFit, PrimitiveFits, OptionFits, EnvironmentFits, AnswersFit, values_give, answer_gives, bound_fits, holding_fits, let_gives}
 use Rattle.hp_model.proofs.FitRows.{made_gives, checked_gives, ChangesFit, object_changed, key_gives, keyed_gives, object_gives, kinds_are, fields_at}
 use Rattle.hp_model.proofs.FitStates.{found_fit, PastFits, objects_of_fit, pasts_of_fit, extended_fits, with_rule_fits, rule_state_fits, operated_rule_gives, OperationFits, operation_fits, occurrence_fits}
 use Rattle.hp_model.proofs.FitCourses.{TaskFits, at_level, kept_answer_fits, created_object}
 use Rattle.hp_model.proofs.KindValues.{Safe-value, Safe-cause, Safe-weaker, PartTyped, PartsTyped, EnvironmentTyped, RowOf}
 use Rattle.hp_model.proofs.KindEvents.{Well, MayBeWell, occurrence_well, parts_open}
-use Rattle.hp_model.proofs.KindRows.{Sound, not_first, not_second, any_sound, integer_sound, boolean_sound, arguments_sound, row_sound, made_sound, checked_sound, RowsOf, answer_sound, bound_typed, AnswersTyped, answer_named_typed, object_sound, operated_sound}
+use Rattle.hp_model.proofs.KindRows.{Sound, not_first, not_second, any_sound, integer_sound, boolean_sound, arguments_sound, row_sound, made_sound, checked_sound, RowsOf, answer_sound, bound_typed, holding_typed, HasSort, let_sound, sorted_is, let_sorts, AnswersTyped, FindingsTyped, answer_named_typed, object_sound, operated_sound}
 
 -- ---- ends
 
@@ -73,10 +73,14 @@ module _ (library : Library) (d : Declared) where
 
   abbrev pub StepTyped : ℕ → Step → Type 0
   StepTyped n condition_step = ⊤
-  StepTyped n (action_step answers) = AnswersTyped library (query_classes (rule_at library n).condition) answers
+  StepTyped n (action_step found) = FindingsTyped library (query_classes (rule_at library n).condition) (let_sorts library d (rule_scope (is_fired d n) (rule_at library n)) (rule_at library n).condition) found
+
+  -- the clock's moment is of 64 bits
+  abbrev pub IsTimely : ℕ → Type 0
+  IsTimely now = IsTrue (fits_64 (pos now))
 
   abbrev pub TaskTyped : Task → Type 0
-  TaskTyped t = TaskFits library t × (OccurredWell t.rule t.occurrence × StepTyped t.rule t.step)
+  TaskTyped t = TaskFits library t × (OccurredWell t.rule t.occurrence × StepTyped t.rule t.step) × IsTimely t.now
 
   abbrev pub TasksTyped : List Task → Type 0
   TasksTyped ts = AllByRecursion TaskTyped ts
@@ -219,7 +223,7 @@ module _ (library : Library) (d : Declared) where
 
   -- ---- siblings and signals
 
-  after_firing_typed : {calm : Bool} (stops : Bool) (v : Option ℕ) (f : Firing) (rest : State → Siblings) → CourseTyped true (firing_course f) → WorkTyped calm (λ S. course_of (rest S)) → CourseTyped calm (course_of (after_firing stops v f rest))
+  after_firing_typed : {calm : Bool} (stops : Bool) (v : Option Veto) (f : Firing) (rest : State → Siblings) → CourseTyped true (firing_course f) → WorkTyped calm (λ S. course_of (rest S)) → CourseTyped calm (course_of (after_firing stops v f rest))
   after_firing_typed true (Some r) f rest h k = joined_typed (firing_course f) (ends (abort_by (vetoed r)) f.state) (weaker_course true _ (firing_course f) (λ e. cc) h) (ends_typed (abort_by (vetoed r)) (tt, λ e. cc) f.state h.state)
   after_firing_typed true None f rest h k = joined_typed (firing_course f) (course_of (rest f.state)) (weaker_course true _ (firing_course f) (λ e. cc) h) (k f.state h.state)
   after_firing_typed false v f rest h k = joined_typed (firing_course f) (course_of (rest f.state)) (weaker_course true _ (firing_course f) (λ e. cc) h) (k f.state h.state)
@@ -240,65 +244,65 @@ module _ (library : Library) (d : Declared) where
   by_columns true e (Some o) h = (parts_open o.parts, h.1)
   by_columns false e (Some o) h = h
 
-  occurred_typed : (level : Level) (n : ℕ) (rule : Rule) (o : Option Occurrence) (ts : List Task) → rule_at library n ≡ rule → OptionFits library o → MayBeWell (PartTyped library d) (columns_of rule.event) o → TasksTyped ts
+  occurred_typed : (level : Level) → IsTimely level.now → (n : ℕ) (rule : Rule) (o : Option Occurrence) (ts : List Task) → rule_at library n ≡ rule → OptionFits library o → MayBeWell (PartTyped library d) (columns_of rule.event) o → TasksTyped ts
       → TasksTyped (cons_option (option_map (triggered_by level n rule) o) ts)
-  occurred_typed level n rule None ts same fit h k = k
-  occurred_typed level n rule (Some o) ts same fit h k =
-      (((tt, fit), (subst (λ (r : Rule). Well (PartTyped library d) (columns_by (is_fired d n) r.event) o) (sym same) (by_columns (is_fired d n) rule.event (Some o) h), tt)), k)
+  occurred_typed level timely n rule None ts same fit h k = k
+  occurred_typed level timely n rule (Some o) ts same fit h k =
+      (((tt, fit), (subst (λ (r : Rule). Well (PartTyped library d) (columns_by (is_fired d n) r.event) o) (sym same) (by_columns (is_fired d n) rule.event (Some o) h), tt), timely), k)
 
   fits_each : (ps : List Primitive) → PartsTyped library d ps → AllByRecursion (PrimitiveFits library) ps
   fits_each [] h = tt
   fits_each (p ∷ ps) h = (h.0.0, fits_each ps h.1)
 
-  status_typed : (level : Level) (n : ℕ) (rule : Rule) (status : Status) (past : History) (ts : List Task) → rule_at library n ≡ rule → PartsTyped library d past → TasksTyped ts
+  status_typed : (level : Level) → IsTimely level.now → (n : ℕ) (rule : Rule) (status : Status) (past : History) (ts : List Task) → rule_at library n ≡ rule → PartsTyped library d past → TasksTyped ts
       → TasksTyped (cons_option (task_if status level n rule past) ts)
-  status_typed level n rule absent past ts same h k = k
-  status_typed level n rule enabled past ts same h k =
-      occurred_typed level n rule (occurrence_of rule.event past) ts same (occurrence_fits library rule.event past (fits_each past h)) (occurrence_well (PartTyped library d) rule.event past h) k
-  status_typed level n rule disabled past ts same h k = k
+  status_typed level timely n rule absent past ts same h k = k
+  status_typed level timely n rule enabled past ts same h k =
+      occurred_typed level timely n rule (occurrence_of rule.event past) ts same (occurrence_fits library rule.event past (fits_each past h)) (occurrence_well (PartTyped library d) rule.event past h) k
+  status_typed level timely n rule disabled past ts same h k = k
 
-  triggered_from_typed : (level : Level) (n : ℕ) (rules : List Rule) (rs : List RuleState) → AreAt (rule_at library) n rules → AllByRecursion PastTyped rs → TasksTyped (filter_map (λ t. t) (triggered_from level n rules rs))
-  triggered_from_typed level n [] rs at h = tt
-  triggered_from_typed level n (rule ∷ rules) [] at h = tt
-  triggered_from_typed level n (rule ∷ rules) (r ∷ rs) at h =
-      status_typed level n rule r.status r.past (filter_map (λ t. t) (triggered_from level (suc n) rules rs)) at.0 h.0 (triggered_from_typed level (suc n) rules rs at.1 h.1)
+  triggered_from_typed : (level : Level) → IsTimely level.now → (n : ℕ) (rules : List Rule) (rs : List RuleState) → AreAt (rule_at library) n rules → AllByRecursion PastTyped rs → TasksTyped (filter_map (λ t. t) (triggered_from level n rules rs))
+  triggered_from_typed level timely n [] rs at h = tt
+  triggered_from_typed level timely n (rule ∷ rules) [] at h = tt
+  triggered_from_typed level timely n (rule ∷ rules) (r ∷ rs) at h =
+      status_typed level timely n rule r.status r.past (filter_map (λ t. t) (triggered_from level (suc n) rules rs)) at.0 h.0 (triggered_from_typed level timely (suc n) rules rs at.1 h.1)
 
-  pub signal_typed : {calm : Bool} (depth : ℕ) (below : Option Fire) (p : Primitive) → BelowTyped below → PartTyped library d p → WorkTyped calm (signal_in (at_level library depth below) p)
-  signal_typed depth below p fires h S good =
+  pub signal_typed : {calm : Bool} (now : ℕ) → IsTimely now → (depth : ℕ) (below : Option Fire) (p : Primitive) → BelowTyped below → PartTyped library d p → WorkTyped calm (signal_in (at_level library now depth below) p)
+  signal_typed now timely depth below p fires h S good =
       let more = extended_good p S h good in
-      start_typed below (triggered (at_level library depth below) (extended p S)) fires
-      (triggered_from_typed (at_level library depth below) 0 library.rules (extended p S).rules (all_at library.rules) (both_pasts (extended p S).rules (pasts_of_fit library (extended p S) more.fit) more.declared)) (extended p S) more
+      start_typed below (triggered (at_level library now depth below) (extended p S)) fires
+      (triggered_from_typed (at_level library now depth below) timely 0 library.rules (extended p S).rules (all_at library.rules) (both_pasts (extended p S).rules (pasts_of_fit library (extended p S) more.fit) more.declared)) (extended p S) more
 
   -- ---- statements
 
-  operated_typed : {calm : Bool} (depth : ℕ) (below : Option Fire) (op : Operation) (p : Primitive) → BelowTyped below → OperationFits library op → PartTyped library d p
-      → WorkTyped calm (λ S. operated (at_level library depth below) op p (apply op S.objects) S)
-  operated_typed depth below op p fires h k S good =
-      then_do_typed (with_items (operation op no_items) (with_objects S (apply op S.objects))) (signal_in (at_level library depth below) p)
-      (record { state = record { fit = operation_fits library op S h good.fit; declared = good.declared }; queued = tt; detached = tt; items = tt; end = tt }) (signal_typed depth below p fires k)
+  operated_typed : {calm : Bool} (now : ℕ) → IsTimely now → (depth : ℕ) (below : Option Fire) (op : Operation) (p : Primitive) → BelowTyped below → OperationFits library op → PartTyped library d p
+      → WorkTyped calm (λ S. operated (at_level library now depth below) op p (apply op S.objects) S)
+  operated_typed now timely depth below op p fires h k S good =
+      then_do_typed (with_items (operation op no_items) (with_objects S (apply op S.objects))) (signal_in (at_level library now depth below) p)
+      (record { state = record { fit = operation_fits library op S h good.fit; declared = good.declared }; queued = tt; detached = tt; items = tt; end = tt }) (signal_typed now timely depth below p fires k)
 
-  created_typed : {calm : Bool} (depth : ℕ) (below : Option Fire) (class : ℕ) (key : ℤ) (new : Row) (old : Option Row) → BelowTyped below → IsTrue (object_fits library class key new)
-      → WorkTyped calm (created_if_absent (at_level library depth below) class key new old)
-  created_typed depth below class key new (Some old) fires h S good = ends_typed (abort_by exists) (tt, λ e. cc) S good
-  created_typed depth below class key new None fires h S good = operated_typed depth below (create_op class key new) (created class key new) fires h (h, refl) S good
+  created_typed : {calm : Bool} (now : ℕ) → IsTimely now → (depth : ℕ) (below : Option Fire) (class : ℕ) (key : ℤ) (new : Row) (old : Option Row) → BelowTyped below → IsTrue (object_fits library class key new)
+      → WorkTyped calm (created_if_absent (at_level library now depth below) class key new old)
+  created_typed now timely depth below class key new (Some old) fires h S good = ends_typed (abort_by exists) (tt, λ e. cc) S good
+  created_typed now timely depth below class key new None fires h S good = operated_typed now timely depth below (create_op class key new) (created class key new) fires h (h, refl) S good
 
-  updated_typed : {calm : Bool} (depth : ℕ) (below : Option Fire) (class : ℕ) (key : ℤ) (given : Row) (old : Option Row) → BelowTyped below
+  updated_typed : {calm : Bool} (now : ℕ) → IsTimely now → (depth : ℕ) (below : Option Fire) (class : ℕ) (key : ℤ) (given : Row) (old : Option Row) → BelowTyped below
       → ((row : Row) → old ≡ Some row → IsTrue (object_fits library class key row) × IsTrue (object_fits library class key (changed_row given row)))
-      → WorkTyped calm (updated_if_present (at_level library depth below) class key given old)
-  updated_typed depth below class key given None fires h S good = ends_typed (abort_by missing) (tt, λ e. cc) S good
-  updated_typed depth below class key given (Some old) fires h S good =
+      → WorkTyped calm (updated_if_present (at_level library now depth below) class key given old)
+  updated_typed now timely depth below class key given None fires h S good = ends_typed (abort_by missing) (tt, λ e. cc) S good
+  updated_typed now timely depth below class key given (Some old) fires h S good =
       let fits = h old refl in
-      operated_typed depth below (update_op class key (changed_row given old)) (updated class key old (changed_row given old)) fires fits.1
+      operated_typed now timely depth below (update_op class key (changed_row given old)) (updated class key old (changed_row given old)) fires fits.1
       (and_from (object_fits library class key old) _ fits.0 fits.1, refl) S good
 
-  deleted_typed : {calm : Bool} (depth : ℕ) (below : Option Fire) (class : ℕ) (key : ℤ) (old : Option Row) → BelowTyped below → ((row : Row) → old ≡ Some row → IsTrue (object_fits library class key row))
-      → WorkTyped calm (deleted_if_present (at_level library depth below) class key old)
-  deleted_typed depth below class key None fires h S good = ends_typed (abort_by missing) (tt, λ e. cc) S good
-  deleted_typed depth below class key (Some old) fires h S good = operated_typed depth below (delete_op class key) (deleted class key old) fires tt (h old refl, refl) S good
+  deleted_typed : {calm : Bool} (now : ℕ) → IsTimely now → (depth : ℕ) (below : Option Fire) (class : ℕ) (key : ℤ) (old : Option Row) → BelowTyped below → ((row : Row) → old ≡ Some row → IsTrue (object_fits library class key row))
+      → WorkTyped calm (deleted_if_present (at_level library now depth below) class key old)
+  deleted_typed now timely depth below class key None fires h S good = ends_typed (abort_by missing) (tt, λ e. cc) S good
+  deleted_typed now timely depth below class key (Some old) fires h S good = operated_typed now timely depth below (delete_op class key) (deleted class key old) fires tt (h old refl, refl) S good
 
-  vetoes_typed : {calm : Bool} (r : Option ℕ) → WorkTyped calm (vetoes r)
-  vetoes_typed None S good = ends_typed done tt S good
-  vetoes_typed (Some r) S good = ends_typed (veto_by r) tt S good
+  vetoes_typed : {calm : Bool} (r : Option ℕ) (message : Option Value) → WorkTyped calm (vetoes r message)
+  vetoes_typed None message S good = ends_typed done tt S good
+  vetoes_typed (Some r) message S good = ends_typed (veto_by (record { rule = r; message = message })) tt S good
 
   choose_typed : {calm : Bool} (b : Bool) (f g : Work) → WorkTyped calm f → WorkTyped calm g → WorkTyped calm (choose b f g)
   choose_typed true f g h k = h
@@ -313,22 +317,30 @@ module _ (library : Library) (d : Declared) where
   fired_well true e is = (tt, tt)
   fired_well false e is = cc
 
-  fired_typed : {calm : Bool} (status : Status) (depth : ℕ) (below : Option Fire) (n : ℕ) → is_fired d n ≡ true → BelowTyped below → WorkTyped calm (start_fired status (at_level library depth below) n)
-  fired_typed absent depth below n is fires S good = ends_typed (abort_by missing) (tt, λ e. cc) S good
-  fired_typed enabled depth below n is fires S good = start_typed below (fired_task (at_level library depth below) n ∷ []) fires (((tt, tt), (fired_well (is_fired d n) (rule_at library n).event is, tt)), tt) S good
-  fired_typed disabled depth below n is fires S good = start_typed below (fired_task (at_level library depth below) n ∷ []) fires (((tt, tt), (fired_well (is_fired d n) (rule_at library n).event is, tt)), tt) S good
+  fired_typed : {calm : Bool} (status : Status) (now : ℕ) → IsTimely now → (depth : ℕ) (below : Option Fire) (n : ℕ) → is_fired d n ≡ true → BelowTyped below → WorkTyped calm (start_fired status (at_level library now depth below) n)
+  fired_typed absent now timely depth below n is fires S good = ends_typed (abort_by missing) (tt, λ e. cc) S good
+  fired_typed enabled now timely depth below n is fires S good = start_typed below (fired_task (at_level library now depth below) n ∷ []) fires (((tt, tt), (fired_well (is_fired d n) (rule_at library n).event is, tt), timely), tt) S good
+  fired_typed disabled now timely depth below n is fires S good = start_typed below (fired_task (at_level library now depth below) n ∷ []) fires (((tt, tt), (fired_well (is_fired d n) (rule_at library n).event is, tt), timely), tt) S good
 
   row_context : (x : Name) (class : ℕ) (r : KeyedRow) (scope : Scope) (queries : List (Name × ℕ)) (context : Context) → KeyedFits r → RowOf library class r.row → ContextTyped scope queries context
       → ContextTyped (with_name x class scope) queries (with_row x r context)
   row_context x class r scope queries context fit h typed = record {
-    fits = ((typed.fits.0.0, (fit, typed.fits.0.1)), typed.fits.1);
+    fits = (bound_fits library x r context.environment fit typed.fits.0, typed.fits.1);
     environment = bound_typed library d x class r scope context.environment h typed.environment;
     answers = typed.answers;
   }
 
-  module _ (known : IsFitLibrary library) (depth : ℕ) (below : Option Fire) (fires : BelowTyped below) where
+  let_context : (x : Name) (s : Sort) (v : Value) (scope : Scope) (queries : List (Name × ℕ)) (context : Context) → ValueFits v → HasSort s v → ContextTyped scope queries context
+      → ContextTyped (with_sort x s scope) queries (with_let x v context)
+  let_context x s v scope queries context fit h typed = record {
+    fits = (holding_fits library x v context.environment fit typed.fits.0, typed.fits.1);
+    environment = holding_typed library d x s v scope context.environment h typed.environment;
+    answers = typed.answers;
+  }
+
+  module _ (known : IsFitLibrary library) (now : ℕ) (timely : IsTimely now) (depth : ℕ) (below : Option Fire) (fires : BelowTyped below) where
     abbrev level : Level
-    level = at_level library depth below
+    level = at_level library now depth below
 
     mutual
       pub statement_typed : (s : Statement) (scope : Scope) (queries : List (Name × ℕ)) (context : Context) → IsTrue (statement_fits (length library.classes) s) → IsTrue (statement_kinded library d scope queries s)
@@ -344,7 +356,7 @@ module _ (library : Library) (d : Declared) where
           (keyed_gives library context.environment env.fits.0 (λ row. IsTrue (row_fits fields row)) key pairs (made_row fields) parts.0 parts.1 (λ given hgiven. made_gives fields given hgiven))
           (row_sound library d scope context.environment env.environment (is_calm key && list_all (λ (a : Assignment). is_calm a.value) pairs) (λ row. ⊤) key pairs fields (made_row fields) (λ e. e) kinds.0 all.0
           (λ given hgiven. made_sound (is_calm key && list_all (λ (a : Assignment). is_calm a.value) pairs) fields fields pairs given (kinds_are fields (fields_at library.classes class known.fields_differ)) all.1 hgiven))
-          (λ r hr _. created_typed depth below class r.key r.row (find_object S.objects class r.key) fires (created_object library class r within.0 hr) S good)
+          (λ r hr _. created_typed now timely depth below class r.key r.row (find_object S.objects class r.key) fires (created_object library class r within.0 hr) S good)
       statement_typed (update class key pairs) scope queries context h k env S good =
           let parts = and_parts (expression_fits key) (assignments_fit pairs) h in
           let fields = (class_at library class).fields in
@@ -353,18 +365,18 @@ module _ (library : Library) (d : Declared) where
           (keyed_row context.environment key pairs (checked_kinds fields)) (λ r. updated_if_present level class r.key r.row (find_object S.objects class r.key)) S good
           (keyed_gives library context.environment env.fits.0 (ChangesFit fields) key pairs (checked_kinds fields) parts.0 parts.1 (λ given hgiven. checked_gives fields given hgiven))
           (row_sound library d scope context.environment env.environment (is_calm key && list_all (λ (a : Assignment). is_calm a.value) pairs) (λ row. ⊤) key pairs fields (checked_kinds fields) (λ e. e) kinds.0 kinds.1 (λ given hgiven. checked_sound (is_calm key && list_all (λ (a : Assignment). is_calm a.value) pairs) fields pairs given hgiven))
-          (λ r hr _. updated_typed depth below class r.key r.row (find_object S.objects class r.key) fires
+          (λ r hr _. updated_typed now timely depth below class r.key r.row (find_object S.objects class r.key) fires
           (λ old is.
           let here = found_fit library class r.key S.objects old (objects_of_fit library S good.fit) is in
           (here, object_changed library class r.key r.row old known.fields_differ hr.1 here)) S good)
       statement_typed (delete class key) scope queries context h k env S good =
           with_value_typed (λ z. IsTrue (fits_64 z)) (λ z. ⊤) (integer_value context.environment key) (λ z. deleted_if_present level class z (find_object S.objects class z)) S good
           (key_gives library context.environment env.fits.0 key h) (integer_sound library d scope context.environment env.environment (is_calm key) key (λ e. e) k)
-          (λ z hz _. deleted_typed depth below class z (find_object S.objects class z) fires (λ old is. found_fit library class z S.objects old (objects_of_fit library S good.fit) is) S good)
+          (λ z hz _. deleted_typed now timely depth below class z (find_object S.objects class z) fires (λ old is. found_fit library class z S.objects old (objects_of_fit library S good.fit) is) S good)
       statement_typed (signal name arguments) scope queries context h k env S good =
           with_value_typed (AllByRecursion ValueFits) (λ vs. IsTrue (covers (signature_of d name) vs)) (values_of context.environment arguments) (λ vs. signal_in level (signalled name vs)) S good
           (values_give library context.environment env.fits.0 arguments h) (arguments_sound library d scope context.environment env.environment (list_all is_calm arguments) (signature_of d name) arguments (λ e. e) k)
-          (λ vs hvs cover. signal_typed depth below (signalled name vs) fires (each_to value_fits vs hvs, cover) S good)
+          (λ vs hvs cover. signal_typed now timely depth below (signalled name vs) fires (each_to value_fits vs hvs, cover) S good)
       statement_typed (emit e) scope queries context h k env S good =
           with_value_typed (λ _. ⊤) (λ _. ⊤) (value_of context.environment e) (λ v. with_items (emission v no_items)) S good (Gives-any (value_of context.environment e))
           (any_sound library d scope context.environment env.environment (is_calm e) e (λ z. z) k)
@@ -406,13 +418,26 @@ module _ (library : Library) (d : Declared) where
           sub_typed (run_body body level context S).end S (run_body body level context S) (run_body otherwise level context) good
           (body_typed body scope queries context bodies.0 kinds.0 env S good) (body_typed otherwise scope queries context bodies.1 kinds.1 env)
       statement_typed abort scope queries context h k env S good = ends_typed (abort_by requested) (tt, λ e. cc) S good
-      statement_typed veto scope queries context h k env S good = vetoes_typed context.rule S good
+      statement_typed (let_value x a body) scope queries context h k env S good =
+          let parts = and_parts (aggregate_fits a) (body_fits (length library.classes) body) h in
+          let s = unwrap_or (aggregate_sort library d scope a) any in
+          let kinds = sorted_is (aggregate_sort library d scope a) (λ t. body_kinded library d (with_sort x t scope) queries body) k in
+          with_value_typed ValueFits (HasSort s) (let_of S.objects context.environment a) (λ v. run_body body level (with_let x v context)) S good
+          (let_gives library context.environment S.objects env.fits.0 (objects_of_fit library S good.fit) a parts.0)
+          (let_sound library d scope context.environment env.environment S.objects (objects_of_fit library S good.fit) (is_aggregate_calm a && is_body_calm body) a s (λ z. not_first (is_aggregate_calm a) (is_body_calm body) z) kinds.0)
+          (λ v hv is. weaker_course (is_body_calm body) (is_aggregate_calm a && is_body_calm body) (run_body body level (with_let x v context) S) (λ z. not_second (is_aggregate_calm a) (is_body_calm body) z)
+          (body_typed body (with_sort x s scope) queries (with_let x v context) parts.1 kinds.1 (let_context x s v scope queries context hv is env) S good))
+      statement_typed veto scope queries context h k env S good = vetoes_typed context.rule None S good
+      statement_typed (veto_with e) scope queries context h k env S good =
+          with_value_typed (λ _. ⊤) (λ _. ⊤) (value_of context.environment e) (λ v. vetoes context.rule (Some v)) S good (Gives-any (value_of context.environment e))
+          (any_sound library d scope context.environment env.environment (is_calm e) e (λ z. z) k)
+          (λ v _ _. vetoes_typed context.rule (Some v) S good)
       statement_typed (on_rule op n) scope queries context h k env S good =
           with_value_typed (λ (r : RuleState). PastFits library r × PastDeclared r) (λ r. ⊤) (operated_rule op (rule_state S n)) (λ r S'. with_items (operation (rule_op op n) no_items) (with_rule S' n r)) S good
           (record { fact = λ r e. ((operated_rule_gives library op (rule_state S n) (rule_state_fits library S n good.fit)).fact r e, operated_past op (rule_state S n).status (rule_state S n).past (past_at S.rules n good.declared) r e) })
           (operated_sound true op (rule_state S n))
           (λ r hr _. record { state = record { fit = with_rule_fits library S n r hr.0 good.fit; declared = set_past S.rules n r hr.1 good.declared }; queued = tt; detached = tt; items = tt; end = tt })
-      statement_typed (fire n) scope queries context h k env S good = fired_typed (rule_state S n).status depth below n k fires S good
+      statement_typed (fire n) scope queries context h k env S good = fired_typed (rule_state S n).status now timely depth below n k fires S good
 
       pub body_typed : (b : Body) (scope : Scope) (queries : List (Name × ℕ)) (context : Context) → IsTrue (body_fits (length library.classes) b) → IsTrue (body_kinded library d scope queries b)
           → ContextTyped scope queries context → WorkTyped (is_body_calm b) (run_body b level context)

@@ -7,10 +7,10 @@ use Rattle.std.specs.Bool.{then_some}
 use Rattle.std.specs.List.{AllByRecursion, list_any}
 use Rattle.std.specs.Map.{lookup}
 use lib.Pointwise.{bytes_decides}
-use Rattle.hp_model.specs.Values.{Name, Kind, integer_kind, boolean_kind, text_kind, Field, kind_of, is_kind, row_fits, Value, integer, boolean, text, Row, KeyedRow, Cause, exists, missing, wrong_kind, overflow, divide_by_zero, no_parameter, depth_exceeded, requested, vetoed, Outcome, ◌>>=◌, or_cause, fits_64, value_fits}
+use Rattle.hp_model.specs.Values.{Name, NamedValues, Kind, integer_kind, boolean_kind, text_kind, Field, kind_of, is_kind, row_fits, Value, integer, boolean, text, Row, KeyedRow, Cause, exists, missing, wrong_kind, overflow, divide_by_zero, no_parameter, depth_exceeded, requested, vetoed, Outcome, ◌>>=◌, or_cause, fits_64, value_fits}
 use Rattle.hp_model.specs.Occurrences.{Primitive, created, updated, deleted, signalled, commit_reached, moment_reached, Occurrence}
 use Rattle.hp_model.specs.Events.{Pattern, on_create, on_update, on_delete, on_signal, on_commit, at_moment, every_moment, matches}
-use Rattle.hp_model.specs.Expressions.{Arithmetic, plus, minus, times, quotient, remainder, Comparison, equal, unequal, less, at_most, greater, at_least, Expression, constant, arithmetic, negated, inverted, both, either, compared, field_of, key_of, new_field, old_field, key_in, argument, time_of, occurrence_count, Environment, as_integer, as_boolean, in_range, calculate, is_below, is_equal, compare, part_of, row_named, field_in, new_row, old_row, operation_key, argument_of, moment_of, count_in, value_of}
+use Rattle.hp_model.specs.Expressions.{Arithmetic, plus, minus, times, quotient, remainder, Comparison, equal, unequal, less, at_most, greater, at_least, Expression, constant, arithmetic, negated, inverted, both, either, compared, field_of, key_of, new_field, old_field, key_in, argument, time_of, occurrence_count, value_named, time_now, Environment, as_integer, as_boolean, in_range, calculate, is_below, is_equal, compare, part_of, row_named, value_at, field_in, new_row, old_row, operation_key, argument_of, moment_of, count_in, value_of}
 use Rattle.hp_model.specs.Rules.{Library, class_at}
 use Rattle.hp_model.specs.State.{object_fits, primitive_fits}
 use Rattle.hp_model.specs.Firing.{kind_in}
@@ -116,10 +116,10 @@ IsOf k v = IsTrue (is_kind k (kind_of v))
 abbrev pub Gives : (Cause → Type 0) → Kind → Outcome Value → Type 0
 Gives C k o = Safe C (IsOf k) o
 
-range_safe : (z : ℤ) → Gives IsArithmetic integer_kind (in_range z)
+pub range_safe : (z : ℤ) → Gives IsArithmetic integer_kind (in_range z)
 range_safe z = Safe-if (fits_64 z) (integer z) overflow refl tt
 
-calculate_safe : (op : Arithmetic) (x y : ℤ) → Gives IsArithmetic integer_kind (calculate op x y)
+pub calculate_safe : (op : Arithmetic) (x y : ℤ) → Gives IsArithmetic integer_kind (calculate op x y)
 calculate_safe plus x y = range_safe (x +ℤ y)
 calculate_safe minus x y = range_safe (x -ℤ y)
 calculate_safe times x y = range_safe (x *ℤ y)
@@ -159,14 +159,14 @@ equal_safe text_kind (text s) (integer y) h l = cc
 equal_safe text_kind (text s) (boolean c) h l = cc
 equal_safe text_kind (text s) (text t) h l = Safe-value _ tt
 
-below_integers : {C : Cause → Type 0} (v w : Value) → IsOf integer_kind v → IsOf integer_kind w → Safe C (λ _. ⊤) (is_below v w)
+pub below_integers : {C : Cause → Type 0} (v w : Value) → IsOf integer_kind v → IsOf integer_kind w → Safe C (λ _. ⊤) (is_below v w)
 below_integers (integer x) (integer y) h l = Safe-value _ tt
 below_integers (integer x) (boolean c) h l = cc
 below_integers (integer x) (text t) h l = cc
 below_integers (boolean b) w h l = cc
 below_integers (text s) w h l = cc
 
-below_texts : {C : Cause → Type 0} (v w : Value) → IsOf text_kind v → IsOf text_kind w → Safe C (λ _. ⊤) (is_below v w)
+pub below_texts : {C : Cause → Type 0} (v w : Value) → IsOf text_kind v → IsOf text_kind w → Safe C (λ _. ⊤) (is_below v w)
 below_texts (integer x) w h l = cc
 below_texts (boolean b) w h l = cc
 below_texts (text s) (integer y) h l = cc
@@ -298,6 +298,28 @@ row_found library x (a ∷ xs) [] n h e = absurd h
 row_found library x (a ∷ xs) (b ∷ ys) n h e =
     row_choice library (bytes_eq x a.0) (bytes_eq x b.0) a.1 b.1 (lookup (bytes_eq x) xs) (lookup (bytes_eq x) ys) n (ap (bytes_eq x) h.0.0) e h.0.1 (λ more. row_found library x xs ys n h.1 more)
 
+-- ---- values
+
+-- the names of a scope are those of the values
+abbrev pub ValuesTyped : List (Name × Sort) → NamedValues → Type 0
+ValuesTyped [] [] = ⊤
+ValuesTyped [] (y ∷ ys) = ⊥
+ValuesTyped (x ∷ xs) [] = ⊥
+ValuesTyped (x ∷ xs) (y ∷ ys) = ((x.0 ≡ y.0) × IsTrue (has_sort x.1 y.1)) × ValuesTyped xs ys
+
+value_choice : (b c : Bool) (s : Sort) (v : Value) (known : Option Sort) (found : Option Value) (t : Sort) → b ≡ c → cond b (Some s) known ≡ Some t → IsTrue (has_sort s v)
+    → (known ≡ Some t → (w : Value) × (found ≡ Some w) × IsTrue (has_sort t w)) → (w : Value) × (cond c (Some v) found ≡ Some w) × IsTrue (has_sort t w)
+value_choice true true s v known found t same e h next = let is : s ≡ t = cc in (v, refl, subst (λ x. IsTrue (has_sort x v)) is h)
+value_choice true false s v known found t same e h next = cc
+value_choice false true s v known found t same e h next = cc
+value_choice false false s v known found t same e h next = next e
+
+value_found : (x : Name) (xs : List (Name × Sort)) (ys : NamedValues) (t : Sort) → ValuesTyped xs ys → lookup (bytes_eq x) xs ≡ Some t → (v : Value) × (lookup (bytes_eq x) ys ≡ Some v) × IsTrue (has_sort t v)
+value_found x [] ys t h e = cc
+value_found x (a ∷ xs) [] t h e = absurd h
+value_found x (a ∷ xs) (b ∷ ys) t h e =
+    value_choice (bytes_eq x a.0) (bytes_eq x b.0) a.1 b.1 (lookup (bytes_eq x) xs) (lookup (bytes_eq x) ys) t (ap (bytes_eq x) h.0.0) e h.0.1 (λ more. value_found x xs ys t h.1 more)
+
 -- ---- parts
 
 -- the parts are as the columns say
@@ -327,6 +349,8 @@ pub record EnvironmentTyped (library : Library) (d : Declared) (scope : Scope) (
   pub columns : ColumnsTyped scope.columns env.occurrence
   pub parts : OccurrenceTyped library d env.occurrence
   pub rows : RowsTyped library scope.rows env.rows
+  pub values : ValuesTyped scope.values env.values
+  pub now : IsTrue (fits_64 (pos env.now))
 
 part_at : (library : Library) (d : Declared) (cs : List (List Pattern)) (exact : Bool) (ps : List Primitive) (i : ℕ) (c : List Pattern) → PartsMatch cs exact ps → PartsTyped library d ps → slice_get cs i ≡ Some c
     → (p : Primitive) × (slice_get ps i ≡ Some p) × (PartTyped library d p × IsTrue (list_any (λ q. matches q p) c))
@@ -380,11 +404,11 @@ common_found test (Some qs) s e = (qs, refl, e)
 
 module _ (library : Library) (d : Declared) where
   -- what a part gives, if each pattern of its place gives it
-  parts_typed : {C : Cause → Type 0} (c : Columns) (o : Option Occurrence) (rows : List (Name × KeyedRow)) → ColumnsTyped (Some c) o → OccurrenceTyped library d o → (i : ℕ) (test : Pattern → Option Sort) (read : Primitive → Outcome Value)
+  parts_typed : {C : Cause → Type 0} (c : Columns) (o : Option Occurrence) (env : Environment) → ColumnsTyped (Some c) o → OccurrenceTyped library d o → (i : ℕ) (test : Pattern → Option Sort) (read : Primitive → Outcome Value)
       → ((q : Pattern) (p : Primitive) → matches q p ≡ true → PartTyped library d p → Typed C (test q) (read p))
-      → Typed C (part_sort (Some c) i test) (part_of (record { occurrence = o; rows = rows }) i >>= read)
-  parts_typed {C = C} c None rows h typed i test read each s e = absurd h
-  parts_typed {C = C} c (Some o) rows h typed i test read each s e =
+      → Typed C (part_sort (Some c) i test) (part_of (record { occurrence = o; rows = env.rows; values = env.values; now = env.now }) i >>= read)
+  parts_typed {C = C} c None env h typed i test read each s e = absurd h
+  parts_typed {C = C} c (Some o) env h typed i test read each s e =
       let place = common_found test (slice_get c.places i) s e in
       let found = part_at library d c.places c.exact o.parts i place.0 h typed place.1 in
       let chosen = common_chosen test place.0 s found.0 place.2 found.2.1 in
@@ -396,7 +420,7 @@ module _ (library : Library) (d : Declared) where
       → ((q : Pattern) (p : Primitive) → matches q p ≡ true → PartTyped library d p → Typed C (test q) (read p))
       → Typed C (part_sort columns i test) (part_of env i >>= read)
   part_typed None env h typed i test read each s e = cc
-  part_typed (Some c) env h typed i test read each s e = parts_typed c env.occurrence env.rows h typed i test read each s e
+  part_typed (Some c) env h typed i test read each s e = parts_typed c env.occurrence env h typed i test read each s e
 
   -- an object's row is one of its class
   pub object_row : (class : ℕ) (key : ℤ) (row : Row) → IsTrue (object_fits library class key row) → RowOf library class row
@@ -572,6 +596,11 @@ module _ (library : Library) (d : Declared) where
         let found = row_found library x scope.rows env.rows class typed.rows e in
         Safe-then {P = λ r. r ≡ found.0} (Safe-some (lookup (bytes_eq x) env.rows) found.0 wrong_kind found.1 refl) λ r same. Safe-value (integer r.key) refl
 
+    let_typed : {C : Cause → Type 0} (x : Name) → Typed C (lookup (bytes_eq x) scope.values) (value_at env x)
+    let_typed x s e =
+        let found = value_found x scope.values env.values s typed.values e in
+        Safe-some (lookup (bytes_eq x) env.values) found.0 wrong_kind found.1 found.2
+
     chosen_safe : {C : Cause → Type 0} (b c : Bool) (o : Outcome Value) → Gives C boolean_kind o → Gives C boolean_kind (if b then o else Ok (boolean c))
     chosen_safe true c o h = h
     chosen_safe false c o h = Safe-value (boolean c) refl
@@ -632,3 +661,5 @@ module _ (library : Library) (d : Declared) where
     value_typed (argument i j) = part_typed scope.columns env typed.columns typed.parts i (argument_sort d j) (λ p. argument_of p j) (argument_typed j)
     value_typed (time_of i) = part_typed scope.columns env typed.columns typed.parts i moment_sort moment_of moment_typed
     value_typed occurrence_count = Typed-weaker (λ c k. (k, refl)) (count_typed scope.columns env.occurrence typed.columns)
+    value_typed (value_named x) = let_typed x
+    value_typed time_now = fit_typed (pos env.now) typed.now

@@ -1,12 +1,12 @@
 -- Worked rows of the kinds: what is kinded, and what isn't.
 use Rattle.std.proofs.Common.{◌≡◌, refl, [], ◌∷◌, codes, true, false}
-use Rattle.hp_model.specs.Values.{integer_kind, text_kind, text}
-use Rattle.hp_model.specs.Expressions.{Expression, constant, arithmetic, plus, compared, less, field_of, new_field, old_field, key_in, argument, occurrence_count}
+use Rattle.hp_model.specs.Values.{integer_kind, text_kind, boolean, text}
+use Rattle.hp_model.specs.Expressions.{Expression, constant, arithmetic, plus, compared, less, field_of, key_of, new_field, old_field, key_in, argument, occurrence_count, value_named}
 use Rattle.hp_model.specs.Events.{Event, pattern_event, on_create, on_update, on_delete, on_signal, or_event, seq_event}
-use Rattle.hp_model.specs.Rules.{Query, immediate, emit, signal, empty, ◌then◌, Library}
+use Rattle.hp_model.specs.Rules.{Query, Aggregate, count_over, sum_over, greatest_over, single, query_entry, no_entry, let_entry, immediate, emit, signal, empty, ◌then◌, Library}
 use Rattle.hp_model.specs.Cascade.{transaction}
 use Rattle.hp_model.specs.Kinds.{only, Declared, library_kinded, unit_kinded, is_condition_calm}
-use Rattle.hp_model.proofs.Scripts.{number, acct_class, bal, rule, script}
+use Rattle.hp_model.proofs.Scripts.{number, acct_class, bal, rule, on_go, script}
 use Rattle.hp_model.proofs.Rows.{thinnest_script}
 
 abbrev none : Declared
@@ -51,10 +51,10 @@ pub third_argument : library_kinded (emits_on (pattern_event (on_signal (codes "
 third_argument = refl
 
 -- transactions that signal it
-pub one_argument : unit_kinded thinnest_script.library pays (transaction (signal (codes "paid") (number 1 ∷ []) then empty)) ≡ false
+pub one_argument : unit_kinded thinnest_script.library pays (transaction 0 (signal (codes "paid") (number 1 ∷ []) then empty)) ≡ false
 one_argument = refl
 
-pub three_arguments : unit_kinded thinnest_script.library pays (transaction (signal (codes "paid") (number 1 ∷ constant (text (codes "cash")) ∷ number 2 ∷ []) then empty)) ≡ true
+pub three_arguments : unit_kinded thinnest_script.library pays (transaction 0 (signal (codes "paid") (number 1 ∷ constant (text (codes "cash")) ∷ number 2 ∷ []) then empty)) ≡ true
 three_arguments = refl
 
 -- a rule that is fired may use the count, and no part
@@ -71,8 +71,38 @@ solvent = record { name = codes "a"; class = 0; predicate = compared less (field
 abbrev credit : Query
 credit = record { name = codes "a"; class = 0; predicate = compared less (number 100) (arithmetic plus (field_of (codes "a") bal) (new_field 0 bal)) }
 
-pub solvent_calm : is_condition_calm (solvent ∷ []) ≡ true
+pub solvent_calm : is_condition_calm (query_entry solvent ∷ []) ≡ true
 solvent_calm = refl
 
-pub credit_faults : is_condition_calm (credit ∷ []) ≡ false
+pub credit_faults : is_condition_calm (query_entry credit ∷ []) ≡ false
 credit_faults = refl
+
+-- the sum, and the greatest balance, named by a `let` of the condition
+abbrev named : Aggregate → Expression → Library
+named a x = (script (acct_class ∷ []) 8 (rule (codes "r") on_go immediate (let_entry (codes "v") a ∷ []) immediate (emit x then empty) ∷ []) []).library
+
+abbrev all_balances : Aggregate
+all_balances = sum_over (codes "s") 0 (constant (boolean true)) (field_of (codes "s") bal)
+
+pub sum_plus_one : library_kinded (named all_balances (arithmetic plus (value_named (codes "v")) (number 1))) none ≡ true
+sum_plus_one = refl
+
+pub sum_of_texts : library_kinded (named (sum_over (codes "s") 0 (constant (boolean true)) (constant (text []))) (number 1)) none ≡ false
+sum_of_texts = refl
+
+pub greatest_of_booleans : library_kinded (named (greatest_over (codes "s") 0 (constant (boolean true)) (compared less (field_of (codes "s") bal) (number 0))) (number 1)) none ≡ false
+greatest_of_booleans = refl
+
+pub text_by_let : library_kinded (named (single (constant (text []))) (arithmetic plus (value_named (codes "v")) (number 1))) none ≡ false
+text_by_let = refl
+
+-- the variable of an aggregate is known in it alone
+pub variable_afterwards : library_kinded (named all_balances (key_of (codes "s"))) none ≡ false
+variable_afterwards = refl
+
+-- a count never faults, and a sum may
+pub count_calm : is_condition_calm (no_entry solvent ∷ let_entry (codes "n") (count_over (codes "s") 0 (constant (boolean true))) ∷ []) ≡ true
+count_calm = refl
+
+pub sum_faults : is_condition_calm (let_entry (codes "t") all_balances ∷ []) ≡ false
+sum_faults = refl

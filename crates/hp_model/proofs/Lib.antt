@@ -3,6 +3,7 @@ pub mod Rows
 pub mod Chained
 pub mod Decoding
 pub mod Endings
+pub mod Version4
 pub mod Causes
 pub mod Guarded
 pub mod Induction
@@ -18,10 +19,12 @@ pub mod Reached
 pub mod Levels
 pub mod ForStates
 pub mod Accepted
+pub mod Closed
 pub mod Detecting
 pub mod Ordered
 pub mod BridgesCells
 pub mod BridgesKeys
+pub mod BridgesAggregates
 pub mod BridgesReads
 pub mod BridgesWrites
 pub mod BridgesOrdered

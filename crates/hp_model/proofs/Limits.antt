@@ -5,13 +5,13 @@ use Rattle.std.specs.Prelude.{filter, filter_map}
 use Rattle.std.specs.List.{AllByRecursion, list_all}
 use Rattle.hp_model.specs.Values.{Outcome, Row}
 use Rattle.hp_model.specs.Occurrences.{Primitive, created, updated, deleted, signalled, commit_reached, moment_reached, no_occurrence}
-use Rattle.hp_model.specs.Conditions.{Answers, Verdict, satisfied, unsatisfied, faulty, answer, verdict}
-use Rattle.hp_model.specs.Rules.{Coupling, immediate, deferred, separate, dependent, exclusive, is_immediate, is_detached, Statement, create, update, delete, signal, emit, when, each, for_answer, with_object, subtransaction, abort, veto, on_rule, fire, Body, empty, ◌then◌, Library, Rule, class_at, rule_at}
+use Rattle.hp_model.specs.Conditions.{Findings, Verdict, satisfied, unsatisfied, faulty, answer, let_of, verdict}
+use Rattle.hp_model.specs.Rules.{Coupling, immediate, deferred, separate, dependent, exclusive, is_immediate, is_detached, Statement, create, update, delete, signal, emit, when, each, for_answer, with_object, subtransaction, let_value, abort, veto, veto_with, on_rule, fire, Body, empty, ◌then◌, Library, Rule, class_at, rule_at}
 use Rattle.hp_model.specs.State.{State, Objects, write_object, remove_object, with_objects, RuleState, extended, find_object, rule_state, Status, absent, enabled, disabled, initial_state}
 use Rattle.hp_model.specs.Tree.{Task, Step, condition_step, action_step, Node, Operation, create_op, update_op, delete_op, no_items, operation, fire_node, act_node, with_action}
 use Rattle.hp_model.specs.Transactions.{End, done, abort_by, veto_by, Course, Work, then_do, with_value, for_each, with_items, placed, closed, joined, drained}
-use Rattle.hp_model.specs.Firing.{Firing, Fire, after_firing, siblings, course_of, Level, start, triggered, signal_in, Context, with_row, created_if_absent, updated_if_present, deleted_if_present, operated, sub_in, choose, run_statement, run_body, run_action, follow, decide, take_step, below_limit, fire_task, level_at, changed_row, made_row, checked_kinds, keyed_row, integer_value, boolean_value, values_of, answer_named, named_object, start_fired, fired_task, task_if, triggered_from, firing_with, veto_of, action_context, task_environment}
-use Rattle.hp_model.specs.Cascade.{Unit, transaction, moment, no_context, unit_work, task_work, most_rounds, next_round, rounds, top_course, top, veto_end, Generation, alone, followed_by, generation, due, Cascade, before_cascade, cascade, run_unit, run_units, unit_report, Evaluation}
+use Rattle.hp_model.specs.Firing.{Firing, Fire, after_firing, siblings, course_of, Level, start, triggered, signal_in, Context, with_row, with_let, created_if_absent, updated_if_present, deleted_if_present, operated, sub_in, choose, run_statement, run_body, run_action, follow, decide, take_step, below_limit, fire_task, level_at, changed_row, made_row, checked_kinds, keyed_row, integer_value, boolean_value, values_of, answer_named, named_object, start_fired, fired_task, task_if, triggered_from, firing_with, action_veto, action_context, task_environment}
+use Rattle.hp_model.specs.Cascade.{Unit, now_in, transaction, moment, no_context, unit_work, task_work, most_rounds, next_round, rounds, top_course, top, veto_end, Generation, alone, followed_by, generation, due, Cascade, before_cascade, cascade, run_unit, run_units, unit_report, Evaluation}
 use Rattle.hp_model.specs.Chains.{signal_triggers, statement_triggers, body_triggers, unit_triggers, unit_within, with_limit, LimitIsIdle}
 use Rattle.hp_model.proofs.Guarded.{rank, body_rank}
 use Rattle.hp_model.proofs.Guarded.{every_filter, both_pass, Guard, IsAllowed, IsNewAt, Passes, passes_alike, created_alike, updated_alike, deleted_alike, signalled_alike, rule_passes, signal_new, one_new, siblings_kept, fire_kept, level_of}
@@ -76,12 +76,12 @@ module _ (library : Library) (other_limit most : ℕ) (few : most ≤ library.de
   none_start d below below' high (t ∷ ts) S may =
       let low = depth_bound library most t may.0.1 in let at : t.depth ≡ d = may.0.0 in absurd (omega (arith, low, at, high))
 
-  module _ (d : ℕ) (below below' : Option Fire) (starts : StartsSame (suc d) below below') where
+  module _ (now d : ℕ) (below below' : Option Fire) (starts : StartsSame (suc d) below below') where
     abbrev level : Level
-    level = level_of library d below
+    level = level_of library now d below
 
     abbrev level' : Level
-    level' = level_of other d below'
+    level' = level_of other now d below'
 
     task_same : (status : Status) (n : ℕ) (rule : Rule) (r : RuleState) → task_if status level n rule r.past ≡ task_if status level' n rule r.past
     task_same absent n rule r = refl
@@ -99,7 +99,7 @@ module _ (library : Library) (other_limit most : ℕ) (few : most ≤ library.de
 
     signal_same : (p : Primitive) → Passes allowed (suc d) (signal_triggers library p) → Same (signal_in level p) (signal_in level' p)
     signal_same p ok S =
-        starts (triggered level (extended p S)) (extended p S) (at_depth (triggered level (extended p S)) (signal_new library allowed guard d below p S ok))
+        starts (triggered level (extended p S)) (extended p S) (at_depth (triggered level (extended p S)) (signal_new library allowed guard now d below p S ok))
         ∙ (λ i. start below' (filter_map (λ t. t) (triggered_same 0 library.rules (extended p S).rules i)) (extended p S))
 
     operated_same : (op : Operation) (p : Primitive) (objects : Objects) → Passes allowed (suc d) (signal_triggers library p) → Same (operated level op p objects) (operated level' op p objects)
@@ -125,8 +125,8 @@ module _ (library : Library) (other_limit most : ℕ) (few : most ≤ library.de
 
     fired_same : (status : Status) (m : ℕ) → IsTrue (allowed (suc d) m) → Same (start_fired status level m) (start_fired status level' m)
     fired_same absent m ok S = refl
-    fired_same enabled m ok S = starts (fired_task level m ∷ []) S (at_depth (fired_task level m ∷ []) (one_new library allowed guard d below m (rule_at library m) no_occurrence refl ok, tt))
-    fired_same disabled m ok S = starts (fired_task level m ∷ []) S (at_depth (fired_task level m ∷ []) (one_new library allowed guard d below m (rule_at library m) no_occurrence refl ok, tt))
+    fired_same enabled m ok S = starts (fired_task level m ∷ []) S (at_depth (fired_task level m ∷ []) (one_new library allowed guard now d below m (rule_at library m) no_occurrence refl ok, tt))
+    fired_same disabled m ok S = starts (fired_task level m ∷ []) S (at_depth (fired_task level m ∷ []) (one_new library allowed guard now d below m (rule_at library m) no_occurrence refl ok, tt))
 
     mutual
       statement_same : (s : Statement) (context : Context) → Passes allowed (suc d) (statement_triggers library s) → Same (run_statement s level context) (run_statement s level' context)
@@ -157,7 +157,11 @@ module _ (library : Library) (other_limit most : ℕ) (few : most ≤ library.de
           let parts = both_pass (allowed (suc d)) (body_triggers library body) (body_triggers library otherwise) ok in λ i.
           sub_in (λ S'. body_same body context parts.0 S' i) (λ S'. body_same otherwise context parts.1 S' i) S
       statement_same abort context ok S = refl
+      statement_same (let_value x a body) context ok S =
+          with_value_same (let_of S.objects context.environment a) (λ v. run_body body level (with_let x v context)) (λ v. run_body body level' (with_let x v context))
+          (λ v. body_same body (with_let x v context) ok) S
       statement_same veto context ok S = refl
+      statement_same (veto_with e) context ok S = refl
       statement_same (on_rule op m) context ok S = refl
       statement_same (fire m) context ok S = fired_same (rule_state S m).status m (and_parts (allowed (suc d) m) true ok).0 S
 
@@ -171,37 +175,37 @@ module _ (library : Library) (other_limit most : ℕ) (few : most ≤ library.de
 
   module _ (t : Task) (ok : May t) (below below' : Option Fire) (starts : StartsSame (suc t.depth) below below') where
     abbrev here : Level
-    here = level_of library t.depth below
+    here = level_of library t.now t.depth below
 
     abbrev here' : Level
-    here' = level_of other t.depth below'
+    here' = level_of other t.now t.depth below'
 
-    action_same : (what : Node) (answers : Answers) (S : State) → run_action what here t answers S ≡ run_action what here' t answers S
-    action_same what answers S =
-        ap (λ (c : Course). firing_with what (closed S c) (veto_of c.end))
-        (body_same t.depth below below' starts (rule_at library t.rule).action (action_context t answers) (rule_passes library allowed guard t.depth t.rule ok.0).0 S)
+    action_same : (what : Node) (found : Findings) (S : State) → run_action what here t found S ≡ run_action what here' t found S
+    action_same what found S =
+        ap (λ (c : Course). firing_with what (closed S c) (action_veto (rule_at library t.rule).closed t.rule c.end))
+        (body_same t.now t.depth below below' starts (rule_at library t.rule).action (action_context t found) (rule_passes library allowed guard t.depth t.rule ok.0).0 S)
 
-    follow_same : (place : Coupling) (answers : Answers) (S : State) → follow place here t answers S ≡ follow place here' t answers S
-    follow_same immediate answers S = action_same (fire_node t.rule t.place with_action) answers S
-    follow_same deferred answers S = refl
-    follow_same separate answers S = refl
-    follow_same dependent answers S = refl
-    follow_same exclusive answers S = refl
+    follow_same : (place : Coupling) (found : Findings) (S : State) → follow place here t found S ≡ follow place here' t found S
+    follow_same immediate found S = action_same (fire_node t.rule t.place with_action) found S
+    follow_same deferred found S = refl
+    follow_same separate found S = refl
+    follow_same dependent found S = refl
+    follow_same exclusive found S = refl
 
     decide_same : (v : Verdict) (S : State) → decide v here t S ≡ decide v here' t S
-    decide_same (satisfied answers) S = follow_same (rule_at library t.rule).action_coupling answers S
+    decide_same (satisfied found) S = follow_same (rule_at library t.rule).action_coupling found S
     decide_same unsatisfied S = refl
     decide_same (faulty c) S = refl
 
     step_same : (s : Step) (S : State) → take_step s here t S ≡ take_step s here' t S
     step_same condition_step S = decide_same (verdict S.objects (task_environment t) (rule_at library t.rule).condition) S
-    step_same (action_step answers) S = action_same (act_node t.rule t.place) answers S
+    step_same (action_step found) S = action_same (act_node t.rule t.place) found S
 
   below_same : (m m' depth : ℕ) → depth + m ≡ limit → depth + m' ≡ other_limit → StartsSame (suc depth) (below_limit library m) (below_limit other m')
   below_same zero m' depth e e' = none_start (suc depth) (below_limit library zero) (below_limit other m') (omega (arith, e, few))
   below_same (suc m) zero depth e e' = none_start (suc depth) (below_limit library (suc m)) (below_limit other zero) (omega (arith, e', few_other))
   below_same (suc m) (suc m') depth e e' =
-      start_same (suc depth) (λ S t. take_step t.step (level_of library t.depth (below_limit library m)) t S) (λ S t. take_step t.step (level_of other t.depth (below_limit other m')) t S)
+      start_same (suc depth) (λ S t. take_step t.step (level_of library t.now t.depth (below_limit library m)) t S) (λ S t. take_step t.step (level_of other t.now t.depth (below_limit other m')) t S)
       (λ S t deep ok. step_same t ok (below_limit library m) (below_limit other m') (below_same m m' t.depth (omega (arith, e, deep)) (omega (arith, e', deep))) t.step S)
 
   level_same : (depth : ℕ) → depth ≤ most → StartsSame (suc depth) (below_limit library (limit - depth)) (below_limit other (other_limit - depth))
@@ -261,37 +265,37 @@ module _ (library : Library) (other_limit most : ℕ) (few : most ≤ library.de
 
   -- ---- top-level transactions
 
-  top_same : (n depth : ℕ) (work work' : Work) (S : State) → depth ≤ most → n ≤ body_rank depth → Passes allowed (suc depth) (signal_triggers library commit_reached) → work S ≡ work' S
-      → Leaves limit May n S (work S) → top library depth work S ≡ top other depth work' S
-  top_same n depth work work' S low small ok same r =
-      let c = then_do (work S) (signal_in (level_at library depth) commit_reached) in
-      let left = work_kept library allowed guard (Leaves limit May) (leaving library allowed limit) n depth work S (omega (arith, low, few)) small ok r in
+  top_same : (n now depth : ℕ) (work work' : Work) (S : State) → depth ≤ most → n ≤ body_rank depth → Passes allowed (suc depth) (signal_triggers library commit_reached) → work S ≡ work' S
+      → Leaves limit May n S (work S) → top library now depth work S ≡ top other now depth work' S
+  top_same n now depth work work' S low small ok same r =
+      let c = then_do (work S) (signal_in (level_at library now depth) commit_reached) in
+      let left = work_kept library allowed guard (Leaves limit May) (leaving library allowed limit) n now depth work S (omega (arith, low, few)) small ok r in
       ap (λ d. closed S d)
       (rounds_same (most_rounds library) (most_rounds other) n c (λ _. left.0) (omega (arith, few)) (omega (arith, few_other))
       ∙ ap (rounds (most_rounds other) (fire_task other))
-      (then_do_same (work S) (work' S) (signal_in (level_at library depth) commit_reached) (signal_in (level_at other depth) commit_reached) same
-      (signal_same depth (below_limit library (limit - depth)) (below_limit other (other_limit - depth)) (level_same depth low) commit_reached ok)))
+      (then_do_same (work S) (work' S) (signal_in (level_at library now depth) commit_reached) (signal_in (level_at other now depth) commit_reached) same
+      (signal_same now depth (below_limit library (limit - depth)) (below_limit other (other_limit - depth)) (level_same depth low) commit_reached ok)))
 
   unit_work_same : (u : Unit) → Passes allowed 1 (unit_triggers library u) → Same (unit_work library u) (unit_work other u)
-  unit_work_same (transaction body) ok S =
-      body_same 0 (below_limit library (limit - 0)) (below_limit other (other_limit - 0)) (level_same 0 (omega arith)) body no_context
+  unit_work_same (transaction now body) ok S =
+      body_same now 0 (below_limit library (limit - 0)) (below_limit other (other_limit - 0)) (level_same 0 (omega arith)) body (no_context now)
       (both_pass (allowed 1) (body_triggers library body) (signal_triggers library commit_reached) ok).0 S
   unit_work_same (moment t) ok S =
-      signal_same 0 (below_limit library (limit - 0)) (below_limit other (other_limit - 0)) (level_same 0 (omega arith)) (moment_reached t)
+      signal_same t 0 (below_limit library (limit - 0)) (below_limit other (other_limit - 0)) (level_same 0 (omega arith)) (moment_reached t)
       (both_pass (allowed 1) (signal_triggers library (moment_reached t)) (signal_triggers library commit_reached) ok).0 S
 
   abbrev task_course_of : Firing → Course
   task_course_of f = record { state = f.state; queued = f.queued; detached = f.detached; items = f.items; end = veto_end f.vetoed_by }
 
-  task_top_same : (t : Task) (S : State) → t.depth ≤ limit → May t → is_detached t.place ≡ true → top library t.depth (task_work library t) S ≡ top other t.depth (task_work other t) S
+  task_top_same : (t : Task) (S : State) → t.depth ≤ limit → May t → is_detached t.place ≡ true → top library t.now t.depth (task_work library t) S ≡ top other t.now t.depth (task_work other t) S
   task_top_same t S low ok is =
-      top_same (rank t) t.depth (task_work library t) (task_work other t) S (depth_bound library most t ok) (rank_small t) (ok.1 is) (ap task_course_of (fire_same S t low ok))
+      top_same (rank t) t.now t.depth (task_work library t) (task_work other t) S (depth_bound library most t ok) (rank_small t) (ok.1 is) (ap task_course_of (fire_same S t low ok))
       (task_kept library allowed guard (Leaves limit May) (leaving library allowed limit) t S low ok)
 
-  unit_top_same : (u : Unit) → IsTrue (unit_within library most u) → (S : State) → top library 0 (unit_work library u) S ≡ top other 0 (unit_work other u) S
+  unit_top_same : (u : Unit) → IsTrue (unit_within library most u) → (S : State) → top library (now_in u) 0 (unit_work library u) S ≡ top other (now_in u) 0 (unit_work other u) S
   unit_top_same u within S =
       let ok = unit_passes library most few u within in
-      top_same 1 0 (unit_work library u) (unit_work other u) S (omega arith) (omega arith) (unit_commit library allowed u ok) (unit_work_same u ok S)
+      top_same 1 (now_in u) 0 (unit_work library u) (unit_work other u) S (omega arith) (omega arith) (unit_commit library allowed u ok) (unit_work_same u ok S)
       (unit_kept library allowed guard (Leaves limit May) (leaving library allowed limit) u S ok)
 
   -- ---- cascades and units
@@ -299,7 +303,7 @@ module _ (library : Library) (other_limit most : ℕ) (few : most ≤ library.de
   generation_same : (m : ℕ) (ts : List Task) (S : State) → AreDue limit May m ts → generation library ts S ≡ generation other ts S
   generation_same m [] S h = refl
   generation_same m (t ∷ ts) S h =
-      ap (followed_by (alone (Some t) (top library t.depth (task_work library t) S))) (generation_same m ts (top library t.depth (task_work library t) S).state h.1)
+      ap (followed_by (alone (Some t) (top library t.now t.depth (task_work library t) S))) (generation_same m ts (top library t.now t.depth (task_work library t) S).state h.1)
       ∙ ap (λ c. followed_by (alone (Some t) c) (generation other ts c.state)) (task_top_same t S h.0.0.0.1 h.0.0.1 h.0.1)
 
   cascade_same : (n n' m : ℕ) (ts : List Task) (S : State) → AreDue limit May m ts → 2 * most + 1 ≤ m + n → 2 * most + 1 ≤ m + n' → cascade n library ts S ≡ cascade n' other ts S
@@ -317,8 +321,8 @@ module _ (library : Library) (other_limit most : ℕ) (few : most ≤ library.de
 
   unit_same : (u : Unit) → IsTrue (unit_within library most u) → (S : State) → run_unit library u S ≡ run_unit other u S
   unit_same u within S =
-      let c = top_course library 0 (unit_work library u) S in
-      let first = top library 0 (unit_work library u) S in
+      let c = top_course library (now_in u) 0 (unit_work library u) S in
+      let first = top library (now_in u) 0 (unit_work library u) S in
       let left = unit_leaves library allowed guard u S (unit_passes library most few u within) in
       ap (before_cascade (alone None first))
       (cascade_same (most_rounds library) (most_rounds other) 1 (due first.detached) first.state (due_new limit May 1 first.detached left) (omega (arith, few)) (omega (arith, few_other)))

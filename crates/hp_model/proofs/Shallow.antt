@@ -6,7 +6,7 @@ use Rattle.hp_model.specs.Rules.{Rule, no_rule, Library, rule_at}
 use Rattle.hp_model.specs.State.{State, initial_state}
 use Rattle.hp_model.specs.Tree.{Task, Node, sub_node, fire_node, act_node}
 use Rattle.hp_model.specs.Transactions.{End, done, abort_by, veto_by, Course, closed_by, detached_of}
-use Rattle.hp_model.specs.Cascade.{Unit, unit_work, top, Transaction, alone, generation, due, cascade, run_unit, most_rounds, transactions_of, run_units}
+use Rattle.hp_model.specs.Cascade.{Unit, now_in, unit_work, top, Transaction, alone, generation, due, cascade, run_unit, most_rounds, transactions_of, run_units}
 use Rattle.hp_model.specs.Chains.{rule_triggers, unit_triggers, rule_within, unit_within, NotTooDeep, ChainsBound, BoundsEachUnit, BoundsEachScript, BoundsGrow, NeverTooDeep}
 use Rattle.hp_model.specs.Endings.{everywhere, EndsOnlyBy, NodeHasOnly, TreeHasOnly, TransactionsHaveOnly, ReportHasOnly}
 use Rattle.hp_model.proofs.Endings.{only_append, only_detachments, reports_only}
@@ -106,7 +106,7 @@ module _ (library : Library) (most : ℕ) (few : most ≤ library.depth_limit) w
 
   unit_shallow : (u : Unit) → IsTrue (unit_within library most u) → (S : State) → TransactionsHaveOnly (everywhere NotTooDeep) (transactions_of (run_unit library u S)) × (length (run_unit library u S).generations ≤ 2 * most + 1)
   unit_shallow u ok S =
-      let first = alone None (top library 0 (unit_work library u) S) in
+      let first = alone None (top library (now_in u) 0 (unit_work library u) S) in
       let left = unit_leaves library (may_fire library most) guard u S (unit_passes u ok) in
       let count : 1 + length (cascade (most_rounds library) library (due first.detached) first.state).generations ≤ 2 * most + 1 =
       cascade_few (most_rounds library) 1 (due first.detached) first.state (omega arith) (due_new limit May 1 first.detached left) in (

@@ -8,12 +8,13 @@ use Rattle.hp_model.specs.Expressions.{Expression}
 use Rattle.hp_model.specs.Events.{Event, pattern_event, every_moment}
 use Rattle.hp_model.specs.Refusals.{Path, item_at, text_limit, over_limit, event_limit, expression_limit, Decoded}
 use Rattle.hp_model.specs.Parts.{index_at, number_from}
+use Rattle.hp_model.specs.Scopes.{Setting}
 use Rattle.hp_model.specs.ExpressionGrammar as X
-use Rattle.hp_model.specs.ExpressionGrammar.{ExpressionForm, expression_form_at, text_at, field_of_at, key_of_at, new_field_at, old_field_at, key_in_at, argument_at, time_of_at, operands_at, expression_from, expression_within}
+use Rattle.hp_model.specs.ExpressionGrammar.{ExpressionForm, expression_form_at, text_at, field_of_at, key_of_at, new_field_at, old_field_at, key_in_at, argument_at, time_of_at, value_named_at, operands_at, expression_from, expression_within}
 use Rattle.hp_model.specs.EventGrammar as E
 use Rattle.hp_model.specs.EventGrammar.{EventForm, event_form_at, on_create_at, on_update_at, on_delete_at, on_signal_at, at_moment_at, every_moment_at, parts_at, event_from, event_within}
 use Rattle.hp_model.specs.Checked.{Checked, known_name_check, name_check, field_check, operands_check, expression_parts_check, expression_check, event_parts_check, event_check}
-use Rattle.hp_model.proofs.WellFormedParts.{Reads, Reads-value, Reads-none, Reads-any, Reads-then, Reads-unless, passes_then, name_reads, name_passes, row_reads, place_reads, number_reads, limit_passes}
+use Rattle.hp_model.proofs.WellFormedParts.{Reads, Reads-value, Reads-none, Reads-any, Reads-then, Reads-unless, passes_then, name_reads, name_passes, row_reads, let_reads, place_reads, number_reads, limit_passes}
 
 -- passes a check at any path
 abbrev pub Passes : {A : Type 0} → (Path → A → Checked) → A → Type 0
@@ -25,45 +26,49 @@ operands_pass part left right h k path = passes_then (part (item_at path 1) left
 
 -- ---- expressions
 
-text_reads : (part : Path → Expression → Checked) (rows : List Name) (t : List ℕ) → Reads (Passes (expression_parts_check part rows)) (text_at t)
+text_reads : (part : Path → Expression → Checked) (setting : Setting) (t : List ℕ) → Reads (Passes (expression_parts_check part setting.names)) (text_at t)
 unfolding text_at
-text_reads part rows t = Reads-unless (nat_lt 1024 (length t)) _ _ λ few q. limit_passes 1024 text_limit (length t) (length t) refl few
+text_reads part setting t = Reads-unless (nat_lt 1024 (length t)) _ _ λ few q. limit_passes 1024 text_limit (length t) (length t) refl few
 
-field_reads : (part : Path → Expression → Checked) (rows : List Name) (path : Path) (variable field : Data) → Reads (Passes (expression_parts_check part rows)) (field_of_at rows path variable field)
+field_reads : (part : Path → Expression → Checked) (setting : Setting) (path : Path) (variable field : Data) → Reads (Passes (expression_parts_check part setting.names)) (field_of_at setting path variable field)
 unfolding field_of_at field_check
-field_reads part rows path variable field =
-    Reads-then (row_reads rows (item_at path 1) variable) λ x row.
+field_reads part setting path variable field =
+    Reads-then (row_reads setting.names (item_at path 1) variable) λ x row.
     Reads-then (name_reads (item_at path 2) field) λ f named.
-    Reads-value _ λ q. passes_then (known_name_check rows (item_at q 1) x) (name_check (item_at q 2) f) (row (item_at q 1)) (name_passes (item_at q 2) f named)
+    Reads-value _ λ q. passes_then (known_name_check setting.names.rows (item_at q 1) x) (name_check (item_at q 2) f) (row (item_at q 1)) (name_passes (item_at q 2) f named)
 
-key_reads : (part : Path → Expression → Checked) (rows : List Name) (path : Path) (variable : Data) → Reads (Passes (expression_parts_check part rows)) (key_of_at rows path variable)
+key_reads : (part : Path → Expression → Checked) (setting : Setting) (path : Path) (variable : Data) → Reads (Passes (expression_parts_check part setting.names)) (key_of_at setting path variable)
 unfolding key_of_at
-key_reads part rows path variable = Reads-then (row_reads rows (item_at path 1) variable) λ x row. Reads-value _ λ q. row (item_at q 1)
+key_reads part setting path variable = Reads-then (row_reads setting.names (item_at path 1) variable) λ x row. Reads-value _ λ q. row (item_at q 1)
 
-new_field_reads : (part : Path → Expression → Checked) (rows : List Name) (path : Path) (i field : Data) → Reads (Passes (expression_parts_check part rows)) (new_field_at path i field)
+new_field_reads : (part : Path → Expression → Checked) (setting : Setting) (path : Path) (i field : Data) → Reads (Passes (expression_parts_check part setting.names)) (new_field_at path i field)
 unfolding new_field_at
-new_field_reads part rows path i field =
+new_field_reads part setting path i field =
     Reads-then (Reads-any (index_at (item_at path 1) i)) λ n _.
     Reads-then (name_reads (item_at path 2) field) λ f named. Reads-value _ λ q. name_passes (item_at q 2) f named
 
-old_field_reads : (part : Path → Expression → Checked) (rows : List Name) (path : Path) (i field : Data) → Reads (Passes (expression_parts_check part rows)) (old_field_at path i field)
+old_field_reads : (part : Path → Expression → Checked) (setting : Setting) (path : Path) (i field : Data) → Reads (Passes (expression_parts_check part setting.names)) (old_field_at path i field)
 unfolding old_field_at
-old_field_reads part rows path i field =
+old_field_reads part setting path i field =
     Reads-then (Reads-any (index_at (item_at path 1) i)) λ n _.
     Reads-then (name_reads (item_at path 2) field) λ f named. Reads-value _ λ q. name_passes (item_at q 2) f named
 
-key_in_reads : (part : Path → Expression → Checked) (rows : List Name) (path : Path) (i : Data) → Reads (Passes (expression_parts_check part rows)) (key_in_at path i)
+key_in_reads : (part : Path → Expression → Checked) (setting : Setting) (path : Path) (i : Data) → Reads (Passes (expression_parts_check part setting.names)) (key_in_at path i)
 unfolding key_in_at
-key_in_reads part rows path i = Reads-then (Reads-any (index_at (item_at path 1) i)) λ n _. Reads-value _ λ q. refl
+key_in_reads part setting path i = Reads-then (Reads-any (index_at (item_at path 1) i)) λ n _. Reads-value _ λ q. refl
 
-argument_reads : (part : Path → Expression → Checked) (rows : List Name) (path : Path) (i j : Data) → Reads (Passes (expression_parts_check part rows)) (argument_at path i j)
+argument_reads : (part : Path → Expression → Checked) (setting : Setting) (path : Path) (i j : Data) → Reads (Passes (expression_parts_check part setting.names)) (argument_at path i j)
 unfolding argument_at
-argument_reads part rows path i j =
+argument_reads part setting path i j =
     Reads-then (Reads-any (index_at (item_at path 1) i)) λ n _. Reads-then (Reads-any (index_at (item_at path 2) j)) λ m _. Reads-value _ λ q. refl
 
-time_reads : (part : Path → Expression → Checked) (rows : List Name) (path : Path) (i : Data) → Reads (Passes (expression_parts_check part rows)) (time_of_at path i)
+time_reads : (part : Path → Expression → Checked) (setting : Setting) (path : Path) (i : Data) → Reads (Passes (expression_parts_check part setting.names)) (time_of_at path i)
 unfolding time_of_at
-time_reads part rows path i = Reads-then (Reads-any (index_at (item_at path 1) i)) λ n _. Reads-value _ λ q. refl
+time_reads part setting path i = Reads-then (Reads-any (index_at (item_at path 1) i)) λ n _. Reads-value _ λ q. refl
+
+value_reads : (part : Path → Expression → Checked) (setting : Setting) (path : Path) (name : Data) → Reads (Passes (expression_parts_check part setting.names)) (value_named_at setting path name)
+unfolding value_named_at
+value_reads part setting path name = Reads-then (let_reads setting.names (item_at path 1) name) λ x known. Reads-value _ λ q. known (item_at q 1)
 
 -- the parts are read as they are checked
 abbrev pub PartReads : {A : Type 0} → (Path → Data → Decoded A) → (Path → A → Checked) → Type 0
@@ -75,31 +80,33 @@ unfolding operands_at
 operands_reads operand part each path a b =
     Reads-then (each (item_at path 1) a) λ left h. Reads-then (each (item_at path 2) b) λ right k. Reads-value _ λ q. operands_pass part left right h k q
 
-expression_from_reads : (rows : List Name) (operand : Path → Data → Decoded Expression) (part : Path → Expression → Checked) → PartReads operand part
-    → (path : Path) (form : ExpressionForm) → Reads (Passes (expression_parts_check part rows)) (expression_from rows operand path form)
-expression_from_reads rows operand part each path (X.number_form z) = Reads-value _ λ q. refl
-expression_from_reads rows operand part each path (X.truth_form b) = Reads-value _ λ q. refl
-expression_from_reads rows operand part each path (X.text_form t) = text_reads part rows t
-expression_from_reads rows operand part each path (X.arithmetic_form op a b) = Reads-then (operands_reads operand part each path a b) λ pair h. Reads-value _ h
-expression_from_reads rows operand part each path (X.comparison_form op a b) = Reads-then (operands_reads operand part each path a b) λ pair h. Reads-value _ h
-expression_from_reads rows operand part each path (X.negated_form a) = Reads-then (each (item_at path 1) a) λ e h. Reads-value _ λ q. h (item_at q 1)
-expression_from_reads rows operand part each path (X.inverted_form a) = Reads-then (each (item_at path 1) a) λ e h. Reads-value _ λ q. h (item_at q 1)
-expression_from_reads rows operand part each path (X.both_form a b) = Reads-then (operands_reads operand part each path a b) λ pair h. Reads-value _ h
-expression_from_reads rows operand part each path (X.either_form a b) = Reads-then (operands_reads operand part each path a b) λ pair h. Reads-value _ h
-expression_from_reads rows operand part each path (X.field_form variable field) = field_reads part rows path variable field
-expression_from_reads rows operand part each path (X.key_form variable) = key_reads part rows path variable
-expression_from_reads rows operand part each path (X.new_form i field) = new_field_reads part rows path i field
-expression_from_reads rows operand part each path (X.old_form i field) = old_field_reads part rows path i field
-expression_from_reads rows operand part each path (X.key_in_form i) = key_in_reads part rows path i
-expression_from_reads rows operand part each path (X.argument_form i j) = argument_reads part rows path i j
-expression_from_reads rows operand part each path (X.time_form i) = time_reads part rows path i
-expression_from_reads rows operand part each path X.count_form = Reads-value _ λ q. refl
+expression_from_reads : (setting : Setting) (operand : Path → Data → Decoded Expression) (part : Path → Expression → Checked) → PartReads operand part
+    → (path : Path) (form : ExpressionForm) → Reads (Passes (expression_parts_check part setting.names)) (expression_from setting operand path form)
+expression_from_reads setting operand part each path (X.number_form z) = Reads-value _ λ q. refl
+expression_from_reads setting operand part each path (X.truth_form b) = Reads-value _ λ q. refl
+expression_from_reads setting operand part each path (X.text_form t) = text_reads part setting t
+expression_from_reads setting operand part each path (X.arithmetic_form op a b) = Reads-then (operands_reads operand part each path a b) λ pair h. Reads-value _ h
+expression_from_reads setting operand part each path (X.comparison_form op a b) = Reads-then (operands_reads operand part each path a b) λ pair h. Reads-value _ h
+expression_from_reads setting operand part each path (X.negated_form a) = Reads-then (each (item_at path 1) a) λ e h. Reads-value _ λ q. h (item_at q 1)
+expression_from_reads setting operand part each path (X.inverted_form a) = Reads-then (each (item_at path 1) a) λ e h. Reads-value _ λ q. h (item_at q 1)
+expression_from_reads setting operand part each path (X.both_form a b) = Reads-then (operands_reads operand part each path a b) λ pair h. Reads-value _ h
+expression_from_reads setting operand part each path (X.either_form a b) = Reads-then (operands_reads operand part each path a b) λ pair h. Reads-value _ h
+expression_from_reads setting operand part each path (X.field_form variable field) = field_reads part setting path variable field
+expression_from_reads setting operand part each path (X.key_form variable) = key_reads part setting path variable
+expression_from_reads setting operand part each path (X.new_form i field) = new_field_reads part setting path i field
+expression_from_reads setting operand part each path (X.old_form i field) = old_field_reads part setting path i field
+expression_from_reads setting operand part each path (X.key_in_form i) = key_in_reads part setting path i
+expression_from_reads setting operand part each path (X.argument_form i j) = argument_reads part setting path i j
+expression_from_reads setting operand part each path (X.time_form i) = time_reads part setting path i
+expression_from_reads setting operand part each path X.count_form = Reads-value _ λ q. refl
+expression_from_reads setting operand part each path X.now_form = Reads-value _ λ q. refl
+expression_from_reads setting operand part each path (X.value_form name) = value_reads part setting path name
 
-pub expression_reads : (rows : List Name) (levels : ℕ) → PartReads (expression_within rows levels) (expression_check rows levels)
+pub expression_reads : (setting : Setting) (levels : ℕ) → PartReads (expression_within setting levels) (expression_check setting.names levels)
 unfolding expression_within expression_check
-expression_reads rows zero path d = Reads-then (Reads-any (expression_form_at path d)) λ form _. Reads-none (over_limit expression_limit)
-expression_reads rows (suc levels) path d =
-    Reads-then (Reads-any (expression_form_at path d)) λ form _. expression_from_reads rows (expression_within rows levels) (expression_check rows levels) (expression_reads rows levels) path form
+expression_reads setting zero path d = Reads-then (Reads-any (expression_form_at setting.version path d)) λ form _. Reads-none (over_limit expression_limit)
+expression_reads setting (suc levels) path d =
+    Reads-then (Reads-any (expression_form_at setting.version path d)) λ form _. expression_from_reads setting (expression_within setting levels) (expression_check setting.names levels) (expression_reads setting levels) path form
 
 -- ---- events
 

@@ -9,7 +9,7 @@ use Rattle.hp_model.specs.Values.{Name, ◌>>=◌}
 use Rattle.hp_model.specs.Refusals.{Path, item_at, Limit, Refusal, Decoded, shaped, known}
 use Rattle.hp_model.specs.Parts.{is_name, name_in, name_of, name_at, place_of, contains_name, new_name_at, place_at, integer_at, not_below, number_from, list_at, short_list_at, read_from, read_each}
 use Rattle.hp_model.specs.Scopes as S
-use Rattle.hp_model.specs.Scopes.{row_at, new_row_at}
+use Rattle.hp_model.specs.Scopes.{row_at, let_at, new_row_at}
 use Rattle.hp_model.specs.Checked.{Checked, is_known, name_check, name_unless, new_name_check, known_name_check, number_check, limit_check, each_check}
 
 -- ---- readings
@@ -114,17 +114,23 @@ new_name_reads names path d =
     Reads-then (name_reads path d) λ x named.
     Reads-unless (contains_name names x) _ x λ none q. new_passes names q x named (sym (any_position (λ n. bytes_eq n x) 0 names) ∙ none)
 
-pub new_row_reads : (rows : List Name) (path : Path) (d : Data) → Reads (IsNew rows) (new_row_at rows path d)
+pub new_row_reads : (names : S.Names) (path : Path) (d : Data) → Reads (IsNew (S.taken names)) (new_row_at names path d)
 unfolding new_row_at
-new_row_reads rows path d =
+new_row_reads names path d =
     Reads-then (name_reads path d) λ x named.
-    Reads-unless (S.is_known rows x) _ x λ none q. new_passes rows q x named (sym (known_same rows x) ∙ none)
+    Reads-unless (S.is_known (S.taken names) x) _ x λ none q. new_passes (S.taken names) q x named (sym (known_same (S.taken names) x) ∙ none)
 
-pub row_reads : (rows : List Name) (path : Path) (d : Data) → Reads (IsKnown rows) (row_at rows path d)
+pub row_reads : (names : S.Names) (path : Path) (d : Data) → Reads (IsKnown names.rows) (row_at names path d)
 unfolding row_at
-row_reads rows path d =
+row_reads names path d =
     Reads-then (name_reads path d) λ x named.
-    Reads-if (S.is_known rows x) _ x λ some q. known_passes rows q x named (sym (known_same rows x) ∙ some)
+    Reads-if (S.is_known names.rows x) _ x λ some q. known_passes names.rows q x named (sym (known_same names.rows x) ∙ some)
+
+pub let_reads : (names : S.Names) (path : Path) (d : Data) → Reads (IsKnown names.values) (let_at names path d)
+unfolding let_at
+let_reads names path d =
+    Reads-then (name_reads path d) λ x named.
+    Reads-if (S.is_known names.values x) _ x λ some q. known_passes names.values q x named (sym (known_same names.values x) ∙ some)
 
 -- ---- numbers
 

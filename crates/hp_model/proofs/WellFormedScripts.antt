@@ -5,22 +5,22 @@ use Rattle.std.proofs.lemmas.List.{length-map, map-append}
 use Rattle.std.specs.Prelude.{Ok, nat_lt, ◌==◌, codes}
 use Rattle.serde_json.specs.Data.{Data}
 use Rattle.hp_model.specs.Values.{Name, Field, ClassDef, ◌>>=◌}
-use Rattle.hp_model.specs.Rules.{Query, Statement, Rule, Library}
+use Rattle.hp_model.specs.Rules.{Entry, Statement, Rule, Library}
 use Rattle.hp_model.specs.Refusals.{Path, under_root, item_at, classes_limit, fields_limit, rules_limit, shaped}
 use Rattle.hp_model.specs.Json.{pair_of}
 use Rattle.hp_model.specs.Parts.{integer_at, list_at, read_from}
 use Rattle.hp_model.specs.Scopes as S
-use Rattle.hp_model.specs.Scopes.{class_names, field_names, query_names}
+use Rattle.hp_model.specs.Scopes.{class_names, field_names}
 use Rattle.hp_model.specs.StatementGrammar.{statement_within, statements_at, body_of}
 use Rattle.hp_model.specs.RuleHeads as H
 use Rattle.hp_model.specs.RuleHeads.{RuleHead, rule_parts_of, rule_head_at, rule_heads_at}
 use Rattle.hp_model.specs.Decode as D
-use Rattle.hp_model.specs.Decode.{Version, depth_in, depth_at, depth_if_any, kind_at, field_at, fields_at, class_at, classes_at, coupling_at, triple_of, condition_at, acting, rule_at, rules_at, script_scope}
+use Rattle.hp_model.specs.Decode.{Version, EntryForm, entry_form_of, entry_from, let_entry_at, entry_at, closed_at, depth_in, depth_at, depth_if_any, kind_at, field_at, fields_at, class_at, classes_at, coupling_at, condition_at, acting, rule_at, rules_at, script_scope}
 use Rattle.hp_model.specs.Checked as C
-use Rattle.hp_model.specs.Checked.{Checked, new_name_check, each_check, event_check, body_check, statement_check, field_definition_check, fields_check, class_definition_check, classes_check, head_check, heads_check, query_check, queries_check, rule_check, rules_check, depth_check, library_check, script_body_check}
+use Rattle.hp_model.specs.Checked.{Checked, new_name_check, each_check, event_check, body_check, statement_check, field_definition_check, fields_check, class_definition_check, classes_check, head_check, heads_check, query_check, let_entry_check, entry_check, condition_check, rule_check, rules_check, depth_check, library_check, script_body_check}
 use Rattle.hp_model.proofs.WellFormedParts.{Reads, Reads-value, Reads-none, Reads-any, Reads-more, Reads-both, Reads-then, Reads-unless, passes_then, new_name_reads, new_row_reads, place_reads, short_list_reads, limit_passes, each_reads}
 use Rattle.hp_model.proofs.WellFormedExpressions.{Passes, PartReads, event_reads}
-use Rattle.hp_model.proofs.WellFormedStatements.{whole_expression_reads, checking, body_reads, statement_reads}
+use Rattle.hp_model.proofs.WellFormedStatements.{whole_expression_reads, aggregate_reads, checking, body_reads, statement_reads}
 
 -- ---- the depth limit
 
@@ -89,38 +89,66 @@ pub record IsHeads (heads : List RuleHead) : Type 0 where
   pub few : nat_lt 256 (length heads) ≡ false
   pub pass : (path : Path) → each_check front_check path [] 0 (H.rule_names heads) ≡ Ok tt
 
-head_reads : (before : List RuleHead) (path : Path) (d : Data) → Reads (λ h. (q : Path) → front_check (H.rule_names before) q h.name ≡ Ok tt) (rule_head_at before path d)
+head_reads : (version : Version) (before : List RuleHead) (path : Path) (d : Data) → Reads (λ h. (q : Path) → front_check (H.rule_names before) q h.name ≡ Ok tt) (rule_head_at version before path d)
 unfolding rule_head_at
-head_reads before path d =
-    Reads-then (Reads-any (shaped path (rule_parts_of d))) λ parts _.
+head_reads version before path d =
+    Reads-then (Reads-any (shaped path (rule_parts_of version d))) λ parts _.
     Reads-then (new_name_reads (H.rule_names before) (item_at path 0) parts.name) λ x new. Reads-value _ λ q. new (item_at q 0)
 
-pub heads_reads : (path : Path) (d : Data) → Reads IsHeads (rule_heads_at path d)
+pub heads_reads : (version : Version) (path : Path) (d : Data) → Reads IsHeads (rule_heads_at version path d)
 unfolding rule_heads_at
-heads_reads path d =
+heads_reads version path d =
     Reads-then (short_list_reads 256 rules_limit path d) λ ds few.
     Reads-more
     (λ heads all. record {
       few = rw all.as_many few;
       pass = λ q. sym (same_fronts (λ (h : RuleHead). h.name) q [] 0 heads) ∙ all.pass q;
     })
-    (each_reads rule_head_at (λ before p h. front_check (H.rule_names before) p h.name) head_reads path ds)
+    (each_reads (rule_head_at version) (λ before p h. front_check (H.rule_names before) p h.name) (head_reads version) path ds)
 
 -- ---- rules
 
-query_reads : (classes : List Name) (before : List Query) → PartReads (D.query_at classes before) (query_check (length classes) before)
+query_reads : (classes : List Name) (setting : S.Setting) (first second third : Path) (name class predicate : Data)
+    → Reads (λ q. (one two three : Path) → query_check (length classes) setting.names one two three q ≡ Ok tt) (D.query_at classes setting first second third name class predicate)
 unfolding D.query_at query_check
-query_reads classes before path d =
-    Reads-then (Reads-any (shaped path (triple_of d))) λ parts _.
-    Reads-then (new_row_reads (query_names before) (item_at path 0) parts.0) λ x new.
-    Reads-then (place_reads classes (item_at path 1) parts.1) λ n of_class.
-    Reads-then (whole_expression_reads (x ∷ query_names before) (item_at path 2) parts.2) λ e of_predicate.
-    Reads-value _ λ q. passes_then _ _ (new (item_at q 0)) (passes_then _ _ (of_class (item_at q 1)) (of_predicate (item_at q 2)))
+query_reads classes setting first second third name class predicate =
+    Reads-then (new_row_reads setting.names first name) λ x new.
+    Reads-then (place_reads classes second class) λ n of_class.
+    Reads-then (whole_expression_reads (S.row_setting x setting) third predicate) λ e of_predicate.
+    Reads-value _ λ one two three. passes_then _ _ (new one) (passes_then _ _ (of_class two) (of_predicate three))
 
-condition_reads : (classes : List Name) → PartReads (condition_at classes) (queries_check (length classes))
+-- the setting of an entry after others
+abbrev pub entry_setting : Version → List Entry → S.Setting
+entry_setting version before = record { version = version; names = S.names_of before }
+
+let_reads : (version : Version) (classes : List Name) (before : List Entry) (path : Path) (name aggregate : Data)
+    → Reads (Passes (entry_check (length classes) before)) (let_entry_at classes (entry_setting version before) path name aggregate)
+unfolding let_entry_at let_entry_check
+let_reads version classes before path name aggregate =
+    Reads-then (new_row_reads (S.names_of before) (item_at path 1) name) λ x new.
+    Reads-then (aggregate_reads classes (entry_setting version before) (item_at path 2) aggregate) λ a of_aggregate.
+    Reads-value _ λ q. passes_then _ _ (new (item_at q 1)) (of_aggregate (item_at q 2))
+
+entry_from_reads : (version : Version) (classes : List Name) (before : List Entry) (path : Path) (form : EntryForm)
+    → Reads (Passes (entry_check (length classes) before)) (entry_from classes (entry_setting version before) path form)
+entry_from_reads version classes before path (D.query_form name class predicate) =
+    Reads-then (query_reads classes (entry_setting version before) (item_at path 0) (item_at path 1) (item_at path 2) name class predicate) λ q pass.
+    Reads-value _ λ p. pass (item_at p 0) (item_at p 1) (item_at p 2)
+entry_from_reads version classes before path (D.no_form name class predicate) =
+    Reads-then (query_reads classes (entry_setting version before) (item_at path 1) (item_at path 2) (item_at path 3) name class predicate) λ q pass.
+    Reads-value _ λ p. pass (item_at p 1) (item_at p 2) (item_at p 3)
+entry_from_reads version classes before path (D.let_form name aggregate) = let_reads version classes before path name aggregate
+
+entry_reads : (version : Version) (classes : List Name) (before : List Entry) → PartReads (entry_at version classes before) (entry_check (length classes) before)
+unfolding entry_at
+entry_reads version classes before path d =
+    Reads-then (Reads-any (shaped path (entry_form_of version d))) λ form _. entry_from_reads version classes before path form
+
+condition_reads : (version : Version) (classes : List Name) → PartReads (condition_at version classes) (condition_check (length classes))
 unfolding condition_at
-condition_reads classes path d =
-    Reads-then (Reads-any (list_at path d)) λ ds _. Reads-more (λ queries all. all.pass) (each_reads (D.query_at classes) (query_check (length classes)) (query_reads classes) path ds)
+condition_reads version classes path d =
+    Reads-then (Reads-any (list_at path d)) λ ds _.
+    Reads-more (λ entries all. all.pass) (each_reads (entry_at version classes) (entry_check (length classes)) (entry_reads version classes) path ds)
 
 -- a rule of a head, whose other parts pass
 record IsRule (classes : List ClassDef) (rules : ℕ) (head : RuleHead) (r : Rule) : Type 0 where
@@ -133,14 +161,15 @@ rule_reads version scope path head =
     let same : length (class_names scope.classes) ≡ length scope.classes = length-map scope.classes (λ (c : ClassDef). c.name) in
     Reads-then (event_reads (class_names scope.classes) 16 (item_at path 1) head.parts.event) λ event of_event.
     Reads-then (Reads-any (coupling_at version (item_at path 2) head.parts.event_coupling)) λ ec _.
-    Reads-then (condition_reads (class_names scope.classes) (item_at path 3) head.parts.condition) λ condition of_condition.
+    Reads-then (condition_reads version (class_names scope.classes) (item_at path 3) head.parts.condition) λ condition of_condition.
     Reads-then (Reads-any (coupling_at version (item_at path 4) head.parts.action_coupling)) λ ca _.
-    Reads-then (body_reads (statement_within (acting scope condition) 16) (statement_check (checking (acting scope condition)) 16) (statement_reads (acting scope condition) 16) (query_names condition) (item_at path 5) head.parts.action) λ action of_action.
+    Reads-then (body_reads (statement_within (acting scope condition) 16) (statement_check (checking (acting scope condition)) 16) (statement_reads (acting scope condition) 16) (record { version = version; names = S.names_of condition }) (item_at path 5) head.parts.action) λ action of_action.
+    Reads-then (Reads-any (closed_at (item_at path 6) head.parts.closing)) λ closed _.
     Reads-value _ (record {
       same_name = refl;
       pass = λ q.
           passes_then _ _ (subst (λ n. event_check n 16 (item_at q 1) event ≡ Ok tt) same (of_event (item_at q 1)))
-          (passes_then _ _ (subst (λ n. queries_check n (item_at q 3) condition ≡ Ok tt) same (of_condition (item_at q 3))) (of_action (item_at q 5)));
+          (passes_then _ _ (subst (λ n. condition_check n (item_at q 3) condition ≡ Ok tt) same (of_condition (item_at q 3))) (of_action (item_at q 5)));
     })
 
 -- rules after earlier ones, with the names of these heads
@@ -216,12 +245,16 @@ pub record IsScriptScope (library : Library) (scope : S.Scope) : Type 0 where
 same_scope : (library : Library) (scope : S.Scope) → IsScriptScope library scope → checking scope ≡ C.script_scope library
 same_scope library scope is i = record { classes = is.classes i; rules = is.rules i; in_action = is.in_action i; queries = is.queries i }
 
-pub body_passes : (library : Library) (scope : S.Scope) → IsScriptScope library scope
-    → (path : Path) (d : Data) → Reads (λ ss. Passes (script_body_check library) (body_of ss)) (statements_at scope [] path d)
-body_passes library scope is path d =
+-- the setting of a script's body
+abbrev pub in_script : Version → S.Setting
+in_script version = record { version = version; names = S.no_names }
+
+pub body_passes : (version : Version) (library : Library) (scope : S.Scope) → IsScriptScope library scope
+    → (path : Path) (d : Data) → Reads (λ ss. Passes (script_body_check library) (body_of ss)) (statements_at scope (in_script version) path d)
+body_passes version library scope is path d =
     Reads-more
-    (λ ss pass q. subst (λ s. body_check (statement_check s 16) [] q (body_of ss) ≡ Ok tt) (same_scope library scope is) (pass q))
-    (body_reads (statement_within scope 16) (statement_check (checking scope) 16) (statement_reads scope 16) [] path d)
+    (λ ss pass q. subst (λ s. body_check (statement_check s 16) S.no_names q (body_of ss) ≡ Ok tt) (same_scope library scope is) (pass q))
+    (body_reads (statement_within scope 16) (statement_check (checking scope) 16) (statement_reads scope 16) (in_script version) path d)
 
 pub its_scope : (library : Library) (heads : List RuleHead) → length library.rules ≡ length heads → IsScriptScope library (script_scope library.classes heads)
 its_scope library heads as_many = record { classes = refl; rules = length-map heads (λ (h : RuleHead). h.name) ∙ sym as_many; in_action = refl; queries = refl }
@@ -231,7 +264,7 @@ its_scope library heads as_many = record { classes = refl; rules = length-map he
 -- the library of parts that were read
 pub read_library : (version : Version) (depth : ℕ) (classes : List ClassDef) (heads : List RuleHead) (rules : List Rule)
     → (at_depth at_classes at_heads at_rules : Path) (of_depth : Option Data) (of_classes of_heads : Data)
-    → depth_if_any at_depth of_depth ≡ Ok depth → classes_at at_classes of_classes ≡ Ok classes → rule_heads_at at_heads of_heads ≡ Ok heads
+    → depth_if_any at_depth of_depth ≡ Ok depth → classes_at at_classes of_classes ≡ Ok classes → rule_heads_at version at_heads of_heads ≡ Ok heads
     → rules_at version (script_scope classes heads) at_rules heads ≡ Ok rules
     → library_check (record { classes = classes; rules = rules; depth_limit = depth }) ≡ Ok tt
 read_library version depth classes heads rules at_depth at_classes at_heads at_rules of_depth of_classes of_heads read_depth read_classes read_heads read_rules =
@@ -239,7 +272,7 @@ read_library version depth classes heads rules at_depth at_classes at_heads at_r
     (record {
       of_depth = (depth_reads at_depth of_depth).fact depth read_depth;
       of_classes = (classes_reads at_classes of_classes).fact classes read_classes;
-      of_heads = (heads_reads at_heads of_heads).fact heads read_heads;
+      of_heads = (heads_reads version at_heads of_heads).fact heads read_heads;
     })
     ((rules_read version classes heads at_rules).fact rules read_rules)
 
@@ -249,6 +282,6 @@ pub read_rules : (version : Version) (classes : List ClassDef) (heads : List Rul
 read_rules version classes heads rules path read = ((rules_read version classes heads path).fact rules read).as_many
 
 -- a body that was read in the scope of a library
-pub read_body : (library : Library) (heads : List RuleHead) (path : Path) (d : Data) (ss : List Statement)
-    → length library.rules ≡ length heads → statements_at (script_scope library.classes heads) [] path d ≡ Ok ss → script_body_check library [] (body_of ss) ≡ Ok tt
-read_body library heads path d ss as_many read = (body_passes library (script_scope library.classes heads) (its_scope library heads as_many) path d).fact ss read []
+pub read_body : (version : Version) (library : Library) (heads : List RuleHead) (path : Path) (d : Data) (ss : List Statement)
+    → length library.rules ≡ length heads → statements_at (script_scope library.classes heads) (in_script version) path d ≡ Ok ss → script_body_check library [] (body_of ss) ≡ Ok tt
+read_body version library heads path d ss as_many read = (body_passes version library (script_scope library.classes heads) (its_scope library heads as_many) path d).fact ss read []

@@ -1,11 +1,11 @@
 -- The answers of faithful calls: how they compose, and how the end of a transaction changes them.
 use Rattle.std.specs.Prelude.{◌≡◌, ℕ, List, [], ◌∷◌, ◌++◌, Bool, true, false, map, Option, None}
-use Rattle.hp_model.specs.Values.{vetoed}
+use Rattle.hp_model.specs.Values.{Veto, vetoed}
 use Rattle.hp_model.specs.Rules.{Library}
 use Rattle.hp_model.specs.State.{State, IsOrdered}
 use Rattle.hp_model.specs.Tree.{Task, Items, no_items, node, append, Node, Ending, committed, aborted, without_detachments}
 use Rattle.hp_model.specs.Transactions.{Detached, End, done, abort_by, veto_by, Work, Closed, survivors, deferred_of, detached_of, unreleased}
-use Rattle.hp_model.specs.Firing.{Firing, Siblings, end_of, veto_of}
+use Rattle.hp_model.specs.Firing.{Firing, Siblings, end_of, action_veto}
 use Rattle.hp_model.specs.Cascade.{Unit, Generation, TransactionReport, task_report, transaction_report, Cascade, transactions_of, UnitReport, unit_report, run_unit}
 use Rattle.hp_model.specs.Cells.{Cells, cells, Changes, over, Read, Holds}
 use Rattle.hp_model.specs.Soundness.{Answer, answer_of, FiringAnswer, firing_answer, Faithful}
@@ -21,7 +21,7 @@ FaithfulFiring library fire reads before after answer = Faithful library (λ S. 
 -- the result of sibling firings, besides the state
 pub record SiblingsAnswer : Type 0 where
   pub firings : List FiringAnswer
-  pub vetoed_by : Option ℕ
+  pub vetoed_by : Option Veto
 
 abbrev pub siblings_answer : Siblings → SiblingsAnswer
 siblings_answer g = record { firings = map firing_answer g.firings; vetoed_by = g.vetoed_by }
@@ -88,15 +88,19 @@ closing what a e =
       items = node what (ending_of a.end) a.items no_items;
     }
 
--- the same for an action's firing
-abbrev pub closing_action : Node → Answer → FiringAnswer
-closing_action what a =
+-- the same for an action's firing, of a rule that may be closed
+abbrev pub closing_action : Node → (closed : Bool) → (rule : ℕ) → Answer → FiringAnswer
+closing_action what closed rule a =
     record {
-      vetoed_by = veto_of a.end;
+      vetoed_by = action_veto closed rule a.end;
       queued = queued_at a.end a.queued;
       detached = detached_at a.end a.detached;
       items = node what (ending_of a.end) a.items no_items;
     }
+
+-- a firing that only has its node, and may veto
+abbrev pub standing : Node → Option Veto → FiringAnswer
+standing what v = record { vetoed_by = v; queued = []; detached = []; items = node what committed no_items no_items }
 
 -- a firing that only has its node and passes on tasks
 abbrev pub handing_on : Node → List Task → FiringAnswer

@@ -5,7 +5,7 @@ use Rattle.std.specs.List.{list_all, AllByRecursion}
 use Rattle.hp_model.specs.Values.{Cause, exists, missing, wrong_kind, overflow, divide_by_zero, no_parameter, depth_exceeded, requested, vetoed}
 use Rattle.hp_model.specs.Occurrences.{Primitive, created, updated, deleted, signalled, commit_reached, moment_reached}
 use Rattle.hp_model.specs.Events.{Event, pattern_event, or_event, seq_event, closure_event, matches}
-use Rattle.hp_model.specs.Rules.{is_detached, Statement, create, update, delete, signal, emit, when, each, for_answer, with_object, subtransaction, abort, veto, on_rule, fire, Body, empty, ◌then◌, Rule, Library, rule_at}
+use Rattle.hp_model.specs.Rules.{is_detached, Statement, create, update, delete, signal, emit, when, each, for_answer, with_object, subtransaction, let_value, abort, veto, veto_with, on_rule, fire, Body, empty, ◌then◌, Rule, Library, rule_at}
 use Rattle.hp_model.specs.State.{State}
 use Rattle.hp_model.specs.Tree.{Task, Node, sub_node, fire_node, act_node, Items, no_items, operation, emission, detachment, node}
 use Rattle.hp_model.specs.Cascade.{Unit, transaction, moment, Transaction, transactions_of, run_unit, Script, evaluate}
@@ -41,8 +41,10 @@ abbrev mutual
   statement_triggers library (for_answer x body) = body_triggers library body
   statement_triggers library (with_object x class key body) = body_triggers library body
   statement_triggers library (subtransaction body otherwise) = body_triggers library body ++ body_triggers library otherwise
+  statement_triggers library (let_value x a body) = body_triggers library body
   statement_triggers library abort = []
   statement_triggers library veto = []
+  statement_triggers library (veto_with e) = []
   statement_triggers library (on_rule op n) = []
   statement_triggers library (fire n) = n ∷ []
 
@@ -61,7 +63,7 @@ rule_triggers library rule =
 
 -- the rules that a unit's own transaction may trigger
 abbrev pub unit_triggers : Library → Unit → List ℕ
-unit_triggers library (transaction body) = body_triggers library body ++ signal_triggers library commit_reached
+unit_triggers library (transaction now body) = body_triggers library body ++ signal_triggers library commit_reached
 unit_triggers library (moment t) = signal_triggers library (moment_reached t) ++ signal_triggers library commit_reached
 
 -- ---- chains

@@ -3,12 +3,12 @@
 use Rattle.std.specs.Prelude.{ℕ, zero, suc, ◌==◌, nat_lt, Bool, true, false, not, ◌&&◌, ◌||◌, List, [], ◌∷◌, ◌++◌, length, map, codes, ⊤, Ok, Err, bytes_eq, if◌then◌else◌}
 use Rattle.std.specs.List.{slice_index_or, list_any}
 use Rattle.hp_model.specs.Values.{Name, Value, text, Field, ClassDef, ◌>>=◌}
-use Rattle.hp_model.specs.Expressions.{Expression, constant, arithmetic, negated, inverted, both, either, compared, field_of, key_of, new_field, old_field}
+use Rattle.hp_model.specs.Expressions.{Expression, constant, arithmetic, negated, inverted, both, either, compared, field_of, key_of, new_field, old_field, value_named}
 use Rattle.hp_model.specs.Events.{Pattern, on_create, on_update, on_delete, on_signal, every_moment, Event, pattern_event, or_event, seq_event, closure_event}
-use Rattle.hp_model.specs.Rules.{Query, Assignment, Statement, create, update, delete, signal, emit, when, each, for_answer, with_object, subtransaction, veto, on_rule, fire, Body, empty, ◌then◌, Rule, Library, no_class}
+use Rattle.hp_model.specs.Rules.{Query, Aggregate, count_over, sum_over, least_over, greatest_over, next_key, single, Entry, query_entry, no_entry, let_entry, Assignment, Statement, create, update, delete, signal, emit, when, each, for_answer, with_object, subtransaction, let_value, veto, veto_with, on_rule, fire, Body, empty, ◌then◌, Rule, Library, no_class}
 use Rattle.hp_model.specs.Refusals.{Path, under_root, item_at, Limit, classes_limit, fields_limit, rules_limit, expression_limit, event_limit, nesting_limit, text_limit, depth_limit_word, arguments_limit, wrong_shape, bad_name, over_limit, Decoded}
 use Rattle.hp_model.specs.Parts.{is_name}
-pub use Rattle.hp_model.specs.Scopes.{class_names, field_names, query_names}
+pub use Rattle.hp_model.specs.Scopes.{class_names, field_names, query_names, Names, taken, no_names, knowing_row, knowing_value, names_of}
 pub use Rattle.hp_model.specs.StatementGrammar.{assigned_names}
 
 -- the result of a check: it passes, or gives the first fault
@@ -50,15 +50,15 @@ abbrev pub each_check : {A : Type 0} → (List A → Path → A → Checked) →
 each_check check path before i [] = Ok tt
 each_check check path before i (x ∷ xs) = check before (item_at path i) x >>= λ _. each_check check path (before ++ x ∷ []) (suc i) xs
 
--- ---- expressions over rows of these names
+-- ---- expressions with these names
 
 abbrev pub constant_check : Value → Checked
 constant_check (text s) = limit_check 1024 text_limit (length s)
 constant_check v = Ok tt
 
-unfoldable pub field_check : List Name → Path → (x field : Name) → Checked
+unfoldable pub field_check : Names → Path → (x field : Name) → Checked
 field_check names path x f = do
-  _ ← known_name_check names (item_at path 1) x
+  _ ← known_name_check names.rows (item_at path 1) x
   name_check (item_at path 2) f
 
 -- two operands, each checked by `part`
@@ -67,7 +67,7 @@ operands_check part path a b = do
   _ ← part (item_at path 1) a
   part (item_at path 2) b
 
-abbrev pub expression_parts_check : (part : Path → Expression → Checked) → List Name → Path → Expression → Checked
+abbrev pub expression_parts_check : (part : Path → Expression → Checked) → Names → Path → Expression → Checked
 expression_parts_check part names path (constant v) = constant_check v
 expression_parts_check part names path (arithmetic op a b) = operands_check part path a b
 expression_parts_check part names path (negated a) = part (item_at path 1) a
@@ -76,17 +76,18 @@ expression_parts_check part names path (both a b) = operands_check part path a b
 expression_parts_check part names path (either a b) = operands_check part path a b
 expression_parts_check part names path (compared op a b) = operands_check part path a b
 expression_parts_check part names path (field_of x f) = field_check names path x f
-expression_parts_check part names path (key_of x) = known_name_check names (item_at path 1) x
+expression_parts_check part names path (key_of x) = known_name_check names.rows (item_at path 1) x
 expression_parts_check part names path (new_field i f) = name_check (item_at path 2) f
 expression_parts_check part names path (old_field i f) = name_check (item_at path 2) f
+expression_parts_check part names path (value_named x) = known_name_check names.values (item_at path 1) x
 expression_parts_check part names path e = Ok tt
 
 -- an expression of at most this number of levels
-unfoldable pub expression_check : List Name → (levels : ℕ) → Path → Expression → Checked
+unfoldable pub expression_check : Names → (levels : ℕ) → Path → Expression → Checked
 expression_check names zero path e = Err (over_limit expression_limit)
 expression_check names (suc levels) path e = expression_parts_check (expression_check names levels) names path e
 
-abbrev pub whole_expression_check : List Name → Path → Expression → Checked
+abbrev pub whole_expression_check : Names → Path → Expression → Checked
 whole_expression_check names path e = expression_check names 16 path e
 
 -- ---- events over this number of classes
@@ -112,12 +113,33 @@ event_check classes (suc levels) path e = event_parts_check (event_check classes
 
 -- ---- statements
 
--- what a body may name besides rows, and whether it is an action; an action may use its rule's queries
+-- what a body may name besides rows and values, and whether it is an action; an action may use its rule's queries
 pub record Scope : Type 0 where
   pub classes : List ClassDef
   pub rules : ℕ
   pub in_action : Bool
   pub queries : List Name
+
+-- ---- aggregates over this number of classes
+
+unfoldable pub over_check : (classes : ℕ) → Names → Path → (variable : Name) → (class : ℕ) → (predicate : Expression) → Checked
+over_check classes names path x class predicate = do
+  _ ← new_name_check (taken names) (item_at path 1) x
+  _ ← number_check classes (item_at path 2) class
+  whole_expression_check (knowing_row x names) (item_at path 3) predicate
+
+unfoldable pub terms_check : (classes : ℕ) → Names → Path → (variable : Name) → (class : ℕ) → (predicate term : Expression) → Checked
+terms_check classes names path x class predicate term = do
+  _ ← over_check classes names path x class predicate
+  whole_expression_check (knowing_row x names) (item_at path 4) term
+
+abbrev pub aggregate_check : (classes : ℕ) → Names → Path → Aggregate → Checked
+aggregate_check classes names path (count_over x class predicate) = over_check classes names path x class predicate
+aggregate_check classes names path (sum_over x class predicate term) = terms_check classes names path x class predicate term
+aggregate_check classes names path (least_over x class predicate term) = terms_check classes names path x class predicate term
+aggregate_check classes names path (greatest_over x class predicate term) = terms_check classes names path x class predicate term
+aggregate_check classes names path (next_key class) = number_check classes (item_at path 1) class
+aggregate_check classes names path (single e) = whole_expression_check names path e
 
 -- the fields of a class
 abbrev pub fields_of : Scope → (class : ℕ) → List Field
@@ -132,86 +154,93 @@ assigned_check fields assigned path x = do
   _ ← new_name_check assigned path x
   if is_known fields x then Ok tt else Err (bad_name path)
 
-unfoldable pub assignment_check : List Field → List Name → List Assignment → Path → Assignment → Checked
+unfoldable pub assignment_check : List Field → Names → List Assignment → Path → Assignment → Checked
 assignment_check fields names before path a = do
   _ ← assigned_check (field_names fields) (assigned_names before) (item_at path 0) a.field
   whole_expression_check names (item_at path 1) a.value
 
-abbrev pub assignments_check : List Field → List Name → Path → List Assignment → Checked
+abbrev pub assignments_check : List Field → Names → Path → List Assignment → Checked
 assignments_check fields names path pairs = each_check (assignment_check fields names) path [] 0 pairs
 
-unfoldable pub create_check : Scope → List Name → Path → (class : ℕ) → Expression → List Assignment → Checked
+unfoldable pub create_check : Scope → Names → Path → (class : ℕ) → Expression → List Assignment → Checked
 create_check scope names path class key pairs = do
   _ ← class_check scope (item_at path 1) class
   _ ← whole_expression_check names (item_at path 2) key
   _ ← assignments_check (fields_of scope class) names (item_at path 3) pairs
   if nat_lt (length pairs) (length (fields_of scope class)) then Err (bad_name (item_at path 3)) else Ok tt
 
-unfoldable pub update_check : Scope → List Name → Path → (class : ℕ) → Expression → List Assignment → Checked
+unfoldable pub update_check : Scope → Names → Path → (class : ℕ) → Expression → List Assignment → Checked
 update_check scope names path class key pairs = do
   _ ← class_check scope (item_at path 1) class
   _ ← whole_expression_check names (item_at path 2) key
   assignments_check (fields_of scope class) names (item_at path 3) pairs
 
-unfoldable pub delete_check : Scope → List Name → Path → (class : ℕ) → Expression → Checked
+unfoldable pub delete_check : Scope → Names → Path → (class : ℕ) → Expression → Checked
 delete_check scope names path class key = do
   _ ← class_check scope (item_at path 1) class
   whole_expression_check names (item_at path 2) key
 
-unfoldable pub arguments_check : List Name → Path → List Expression → Checked
+unfoldable pub arguments_check : Names → Path → List Expression → Checked
 arguments_check names path arguments = do
   _ ← limit_check 32 arguments_limit (length arguments)
   each_check (λ _. whole_expression_check names) path [] 0 arguments
 
-unfoldable pub signal_check : List Name → Path → Name → List Expression → Checked
+unfoldable pub signal_check : Names → Path → Name → List Expression → Checked
 signal_check names path x arguments = do
   _ ← name_check (item_at path 1) x
   arguments_check names (item_at path 2) arguments
 
--- the check of a statement at a path, with these names of rows in scope
+-- the check of a statement at a path, with these names in scope
 abbrev pub StatementCheck : Type 0
-StatementCheck = List Name → Path → Statement → Checked
+StatementCheck = Names → Path → Statement → Checked
 
 -- the statements of a body from an index
-abbrev pub statements_check : StatementCheck → List Name → Path → ℕ → Body → Checked
+abbrev pub statements_check : StatementCheck → Names → Path → ℕ → Body → Checked
 statements_check check names path i empty = Ok tt
 statements_check check names path i (s then rest) = check names (item_at path i) s >>= λ _. statements_check check names path (suc i) rest
 
-abbrev pub body_check : StatementCheck → List Name → Path → Body → Checked
+abbrev pub body_check : StatementCheck → Names → Path → Body → Checked
 body_check check names path body = statements_check check names path 0 body
 
-unfoldable pub when_check : StatementCheck → List Name → Path → Expression → (then_body else_body : Body) → Checked
+unfoldable pub when_check : StatementCheck → Names → Path → Expression → (then_body else_body : Body) → Checked
 when_check check names path e then_body else_body = do
   _ ← whole_expression_check names (item_at path 1) e
   _ ← body_check check names (item_at path 2) then_body
   body_check check names (item_at path 3) else_body
 
-unfoldable pub each_row_check : Scope → StatementCheck → List Name → Path → (variable : Name) → (class : ℕ) → Expression → Body → Checked
+unfoldable pub each_row_check : Scope → StatementCheck → Names → Path → (variable : Name) → (class : ℕ) → Expression → Body → Checked
 each_row_check scope check names path x class predicate body = do
-  _ ← new_name_check names (item_at path 1) x
+  _ ← new_name_check (taken names) (item_at path 1) x
   _ ← class_check scope (item_at path 2) class
-  _ ← whole_expression_check (x ∷ names) (item_at path 3) predicate
-  body_check check (x ∷ names) (item_at path 4) body
+  _ ← whole_expression_check (knowing_row x names) (item_at path 3) predicate
+  body_check check (knowing_row x names) (item_at path 4) body
 
-unfoldable pub for_answer_check : Scope → StatementCheck → List Name → Path → (query : Name) → Body → Checked
+unfoldable pub for_answer_check : Scope → StatementCheck → Names → Path → (query : Name) → Body → Checked
 for_answer_check scope check names path x body = do
   _ ← known_name_check scope.queries (item_at path 1) x
   body_check check names (item_at path 2) body
 
-unfoldable pub with_object_check : Scope → StatementCheck → List Name → Path → (variable : Name) → (class : ℕ) → Expression → Body → Checked
+unfoldable pub with_object_check : Scope → StatementCheck → Names → Path → (variable : Name) → (class : ℕ) → Expression → Body → Checked
 with_object_check scope check names path x class key body = do
-  _ ← new_name_check names (item_at path 1) x
+  _ ← new_name_check (taken names) (item_at path 1) x
   _ ← class_check scope (item_at path 2) class
   _ ← whole_expression_check names (item_at path 3) key
-  body_check check (x ∷ names) (item_at path 4) body
+  body_check check (knowing_row x names) (item_at path 4) body
 
-unfoldable pub subtransaction_check : StatementCheck → List Name → Path → (body otherwise : Body) → Checked
+unfoldable pub subtransaction_check : StatementCheck → Names → Path → (body otherwise : Body) → Checked
 subtransaction_check check names path body otherwise = do
   _ ← body_check check names (item_at path 1) body
   body_check check names (item_at path 2) otherwise
 
+unfoldable pub let_value_check : Scope → StatementCheck → Names → Path → Name → Aggregate → Body → Checked
+let_value_check scope check names path x a body = do
+  _ ← new_name_check (taken names) (item_at path 1) x
+  _ ← aggregate_check (length scope.classes) names (item_at path 2) a
+  body_check check (knowing_value x names) (item_at path 3) body
+
 abbrev pub is_veto : Statement → Bool
 is_veto veto = true
+is_veto (veto_with e) = true
 is_veto s = false
 
 -- a veto stands in an action
@@ -219,7 +248,7 @@ abbrev pub veto_check : Scope → Path → Statement → Checked
 veto_check scope path s = if is_veto s && not scope.in_action then Err (wrong_shape path) else Ok tt
 
 -- the parts of a statement, with the statements in it checked by `check`
-abbrev pub statement_parts_check : Scope → StatementCheck → List Name → Path → Statement → Checked
+abbrev pub statement_parts_check : Scope → StatementCheck → Names → Path → Statement → Checked
 statement_parts_check scope check names path (create class key pairs) = create_check scope names path class key pairs
 statement_parts_check scope check names path (update class key pairs) = update_check scope names path class key pairs
 statement_parts_check scope check names path (delete class key) = delete_check scope names path class key
@@ -230,6 +259,8 @@ statement_parts_check scope check names path (each x class predicate body) = eac
 statement_parts_check scope check names path (for_answer x body) = for_answer_check scope check names path x body
 statement_parts_check scope check names path (with_object x class key body) = with_object_check scope check names path x class key body
 statement_parts_check scope check names path (subtransaction body otherwise) = subtransaction_check check names path body otherwise
+statement_parts_check scope check names path (let_value x a body) = let_value_check scope check names path x a body
+statement_parts_check scope check names path (veto_with e) = whole_expression_check names (item_at path 1) e
 statement_parts_check scope check names path (on_rule op n) = number_check scope.rules (item_at path 1) n
 statement_parts_check scope check names path (fire n) = number_check scope.rules (item_at path 1) n
 statement_parts_check scope check names path s = Ok tt
@@ -239,7 +270,7 @@ unfoldable pub statement_check : Scope → (levels : ℕ) → StatementCheck
 statement_check scope zero names path s = veto_check scope path s >>= λ _. Err (over_limit nesting_limit)
 statement_check scope (suc levels) names path s = veto_check scope path s >>= λ _. statement_parts_check scope (statement_check scope levels) names path s
 
-abbrev pub whole_body_check : Scope → List Name → Path → Body → Checked
+abbrev pub whole_body_check : Scope → Names → Path → Body → Checked
 whole_body_check scope names path body = body_check (statement_check scope 16) names path body
 
 -- ---- classes
@@ -276,25 +307,36 @@ heads_check path rules = do
   _ ← limit_check 256 rules_limit (length rules)
   each_check head_check path [] 0 rules
 
--- a query's predicate may name its own row and the rows of earlier queries
-unfoldable pub query_check : (classes : ℕ) → List Query → Path → Query → Checked
-query_check classes before path q = do
-  _ ← new_name_check (query_names before) (item_at path 0) q.name
-  _ ← number_check classes (item_at path 1) q.class
-  whole_expression_check (q.name ∷ query_names before) (item_at path 2) q.predicate
+-- a query with its name, class and predicate at these paths; the predicate may name what the earlier entries do, and its
+-- own row
+unfoldable pub query_check : (classes : ℕ) → Names → (first second third : Path) → Query → Checked
+query_check classes names first second third q = do
+  _ ← new_name_check (taken names) first q.name
+  _ ← number_check classes second q.class
+  whole_expression_check (knowing_row q.name names) third q.predicate
 
-abbrev pub queries_check : (classes : ℕ) → Path → List Query → Checked
-queries_check classes path queries = each_check (query_check classes) path [] 0 queries
+unfoldable pub let_entry_check : (classes : ℕ) → Names → Path → Name → Aggregate → Checked
+let_entry_check classes names path x a = do
+  _ ← new_name_check (taken names) (item_at path 1) x
+  aggregate_check classes names (item_at path 2) a
 
--- what the action of a rule with these queries may name
-abbrev pub action_scope : List ClassDef → (rules : ℕ) → List Query → Scope
-action_scope classes rules queries = record { classes = classes; rules = rules; in_action = true; queries = query_names queries }
+abbrev pub entry_check : (classes : ℕ) → List Entry → Path → Entry → Checked
+entry_check classes before path (query_entry q) = query_check classes (names_of before) (item_at path 0) (item_at path 1) (item_at path 2) q
+entry_check classes before path (no_entry q) = query_check classes (names_of before) (item_at path 1) (item_at path 2) (item_at path 3) q
+entry_check classes before path (let_entry x a) = let_entry_check classes (names_of before) path x a
+
+abbrev pub condition_check : (classes : ℕ) → Path → List Entry → Checked
+condition_check classes path entries = each_check (entry_check classes) path [] 0 entries
+
+-- what the action of a rule with this condition may name besides rows and values
+abbrev pub action_scope : List ClassDef → (rules : ℕ) → List Entry → Scope
+action_scope classes rules condition = record { classes = classes; rules = rules; in_action = true; queries = query_names condition }
 
 unfoldable pub rule_check : List ClassDef → (rules : ℕ) → Path → Rule → Checked
 rule_check classes rules path r = do
   _ ← event_check (length classes) 16 (item_at path 1) r.event
-  _ ← queries_check (length classes) (item_at path 3) r.condition
-  whole_body_check (action_scope classes rules r.condition) (query_names r.condition) (item_at path 5) r.action
+  _ ← condition_check (length classes) (item_at path 3) r.condition
+  whole_body_check (action_scope classes rules r.condition) (names_of r.condition) (item_at path 5) r.action
 
 abbrev pub rules_check : List ClassDef → (rules : ℕ) → Path → List Rule → Checked
 rules_check classes count path rules = each_check (λ _. rule_check classes count) path [] 0 rules
@@ -319,7 +361,7 @@ script_scope library = record { classes = library.classes; rules = length librar
 
 -- the body of a script at a path
 abbrev pub script_body_check : Library → Path → Body → Checked
-script_body_check library path body = whole_body_check (script_scope library) [] path body
+script_body_check library path body = whole_body_check (script_scope library) no_names path body
 
 -- ---- checked values
 

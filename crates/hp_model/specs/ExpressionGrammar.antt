@@ -6,11 +6,11 @@ use Rattle.serde_json.specs.Data.{Data, number, boolean, string}
 use Rattle.serde_json.specs.Find.{as_i64}
 use Rattle.hp_model.specs.Values as V
 use Rattle.hp_model.specs.Values.{Name, ◌>>=◌}
-use Rattle.hp_model.specs.Expressions.{Arithmetic, plus, minus, times, quotient, remainder, Comparison, equal, unequal, less, at_most, greater, at_least, Expression, constant, arithmetic, negated, inverted, both, either, compared, field_of, key_of, new_field, old_field, key_in, argument, time_of, occurrence_count}
+use Rattle.hp_model.specs.Expressions.{Arithmetic, plus, minus, times, quotient, remainder, Comparison, equal, unequal, less, at_most, greater, at_least, Expression, constant, arithmetic, negated, inverted, both, either, compared, field_of, key_of, new_field, old_field, key_in, argument, time_of, occurrence_count, value_named, time_now}
 use Rattle.hp_model.specs.Refusals.{Path, item_at, expression_limit, text_limit, over_limit, Decoded, shaped, whole}
 use Rattle.hp_model.specs.Json.{Form, form_of, beside}
 use Rattle.hp_model.specs.Parts.{name_at, index_at}
-use Rattle.hp_model.specs.Scopes.{row_at}
+use Rattle.hp_model.specs.Scopes.{Version, is_fourth, Setting, row_at, let_at}
 
 -- an expression whose parts are still JSON
 pub data ExpressionForm : Type 0 where
@@ -27,7 +27,8 @@ pub data ExpressionForm : Type 0 where
   key_in_form : (part : Data) → ExpressionForm
   argument_form : (part place : Data) → ExpressionForm
   time_form : (part : Data) → ExpressionForm
-  count_form : ExpressionForm
+  count_form now_form : ExpressionForm
+  value_form : (name : Data) → ExpressionForm
 
 abbrev pub arithmetic_of : List ℕ → Option Arithmetic
 arithmetic_of word = beside word ((codes "+", plus) ∷ (codes "-", minus) ∷ (codes "*", times) ∷ (codes "/", quotient) ∷ (codes "%", remainder) ∷ [])
@@ -50,33 +51,43 @@ form_of_two word a b =
     option_or (option_map (λ op. arithmetic_form op a b) (arithmetic_of word))
     (option_or (option_map (λ op. comparison_form op a b) (comparison_of word)) (other_form_of_two word a b))
 
-abbrev pub expression_form : List ℕ → List Data → Option ExpressionForm
-expression_form word [] = if bytes_eq word (codes "count") then Some count_form else None
-expression_form word (a ∷ []) = form_of_one word a
-expression_form word (a ∷ b ∷ []) = form_of_two word a b
-expression_form word parts = None
+-- the forms of all versions
+abbrev pub common_form : List ℕ → List Data → Option ExpressionForm
+common_form word [] = if bytes_eq word (codes "count") then Some count_form else None
+common_form word (a ∷ []) = form_of_one word a
+common_form word (a ∷ b ∷ []) = form_of_two word a b
+common_form word parts = None
 
-abbrev pub expression_form_at : Path → Data → Decoded ExpressionForm
-expression_form_at path (number n) = do
+-- the forms of version 4 alone
+abbrev pub new_expression_form : List ℕ → List Data → Option ExpressionForm
+new_expression_form word [] = beside word ((codes "now", now_form) ∷ [])
+new_expression_form word (a ∷ []) = beside word ((codes "value", value_form a) ∷ [])
+new_expression_form word parts = None
+
+abbrev pub expression_form : Version → List ℕ → List Data → Option ExpressionForm
+expression_form version word parts = option_or (common_form word parts) (if is_fourth version then new_expression_form word parts else None)
+
+abbrev pub expression_form_at : Version → Path → Data → Decoded ExpressionForm
+expression_form_at version path (number n) = do
   z ← whole path (as_i64 n)
   Ok (number_form z)
-expression_form_at path (boolean b) = Ok (truth_form b)
-expression_form_at path (string t) = Ok (text_form t)
-expression_form_at path d = shaped path (option_and_then (λ (f : Form). expression_form f.word f.parts) (form_of d))
+expression_form_at version path (boolean b) = Ok (truth_form b)
+expression_form_at version path (string t) = Ok (text_form t)
+expression_form_at version path d = shaped path (option_and_then (λ (f : Form). expression_form version f.word f.parts) (form_of d))
 
 -- at most 1,024 bytes
 unfoldable pub text_at : List ℕ → Decoded Expression
 text_at t = if nat_lt 1024 (length t) then Err (over_limit text_limit) else Ok (constant (V.text t))
 
-unfoldable pub field_of_at : (rows : List Name) → Path → Data → Data → Decoded Expression
-field_of_at rows path variable field = do
-  x ← row_at rows (item_at path 1) variable
+unfoldable pub field_of_at : Setting → Path → Data → Data → Decoded Expression
+field_of_at setting path variable field = do
+  x ← row_at setting.names (item_at path 1) variable
   f ← name_at (item_at path 2) field
   Ok (field_of x f)
 
-unfoldable pub key_of_at : (rows : List Name) → Path → Data → Decoded Expression
-key_of_at rows path variable = do
-  x ← row_at rows (item_at path 1) variable
+unfoldable pub key_of_at : Setting → Path → Data → Decoded Expression
+key_of_at setting path variable = do
+  x ← row_at setting.names (item_at path 1) variable
   Ok (key_of x)
 
 unfoldable pub new_field_at : Path → Data → Data → Decoded Expression
@@ -107,6 +118,11 @@ time_of_at path part = do
   i ← index_at (item_at path 1) part
   Ok (time_of i)
 
+unfoldable pub value_named_at : Setting → Path → Data → Decoded Expression
+value_named_at setting path name = do
+  x ← let_at setting.names (item_at path 1) name
+  Ok (value_named x)
+
 -- two operands, each read by `operand`
 unfoldable pub operands_at : (operand : Path → Data → Decoded Expression) → Path → Data → Data → Decoded (Expression × Expression)
 operands_at operand path a b = do
@@ -115,42 +131,44 @@ operands_at operand path a b = do
   Ok (left, right)
 
 -- the expression of a form, whose operands are read by `operand`
-abbrev pub expression_from : (rows : List Name) → (operand : Path → Data → Decoded Expression) → Path → ExpressionForm → Decoded Expression
-expression_from rows operand path (number_form z) = Ok (constant (V.integer z))
-expression_from rows operand path (truth_form b) = Ok (constant (V.boolean b))
-expression_from rows operand path (text_form t) = text_at t
-expression_from rows operand path (arithmetic_form op a b) = do
+abbrev pub expression_from : Setting → (operand : Path → Data → Decoded Expression) → Path → ExpressionForm → Decoded Expression
+expression_from setting operand path (number_form z) = Ok (constant (V.integer z))
+expression_from setting operand path (truth_form b) = Ok (constant (V.boolean b))
+expression_from setting operand path (text_form t) = text_at t
+expression_from setting operand path (arithmetic_form op a b) = do
   operands ← operands_at operand path a b
   Ok (arithmetic op operands.0 operands.1)
-expression_from rows operand path (comparison_form op a b) = do
+expression_from setting operand path (comparison_form op a b) = do
   operands ← operands_at operand path a b
   Ok (compared op operands.0 operands.1)
-expression_from rows operand path (negated_form a) = do
+expression_from setting operand path (negated_form a) = do
   e ← operand (item_at path 1) a
   Ok (negated e)
-expression_from rows operand path (inverted_form a) = do
+expression_from setting operand path (inverted_form a) = do
   e ← operand (item_at path 1) a
   Ok (inverted e)
-expression_from rows operand path (both_form a b) = do
+expression_from setting operand path (both_form a b) = do
   operands ← operands_at operand path a b
   Ok (both operands.0 operands.1)
-expression_from rows operand path (either_form a b) = do
+expression_from setting operand path (either_form a b) = do
   operands ← operands_at operand path a b
   Ok (either operands.0 operands.1)
-expression_from rows operand path (field_form variable field) = field_of_at rows path variable field
-expression_from rows operand path (key_form variable) = key_of_at rows path variable
-expression_from rows operand path (new_form part field) = new_field_at path part field
-expression_from rows operand path (old_form part field) = old_field_at path part field
-expression_from rows operand path (key_in_form part) = key_in_at path part
-expression_from rows operand path (argument_form part place) = argument_at path part place
-expression_from rows operand path (time_form part) = time_of_at path part
-expression_from rows operand path count_form = Ok occurrence_count
+expression_from setting operand path (field_form variable field) = field_of_at setting path variable field
+expression_from setting operand path (key_form variable) = key_of_at setting path variable
+expression_from setting operand path (new_form part field) = new_field_at path part field
+expression_from setting operand path (old_form part field) = old_field_at path part field
+expression_from setting operand path (key_in_form part) = key_in_at path part
+expression_from setting operand path (argument_form part place) = argument_at path part place
+expression_from setting operand path (time_form part) = time_of_at path part
+expression_from setting operand path count_form = Ok occurrence_count
+expression_from setting operand path now_form = Ok time_now
+expression_from setting operand path (value_form name) = value_named_at setting path name
 
 -- an expression of at most this number of levels
-unfoldable pub expression_within : (rows : List Name) → ℕ → Path → Data → Decoded Expression
-expression_within rows zero path d = expression_form_at path d >>= λ form. Err (over_limit expression_limit)
-expression_within rows (suc levels) path d = expression_form_at path d >>= λ form. expression_from rows (expression_within rows levels) path form
+unfoldable pub expression_within : Setting → ℕ → Path → Data → Decoded Expression
+expression_within setting zero path d = expression_form_at setting.version path d >>= λ form. Err (over_limit expression_limit)
+expression_within setting (suc levels) path d = expression_form_at setting.version path d >>= λ form. expression_from setting (expression_within setting levels) path form
 
--- an expression, with these names of rows in scope; a literal is one level
-abbrev pub expression_at : (rows : List Name) → Path → Data → Decoded Expression
-expression_at names = expression_within names 16
+-- an expression, in this setting; a literal is one level
+abbrev pub expression_at : Setting → Path → Data → Decoded Expression
+expression_at setting = expression_within setting 16

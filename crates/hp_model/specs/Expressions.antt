@@ -3,7 +3,7 @@ use Rattle.std.specs.Prelude.{ℕ, zero, ℤ, pos, ◌+ℤ◌, ◌-ℤ◌, ◌*�
 use Rattle.std.specs.Ordering.{int_eq, nat_cmp, is_lt}
 use Rattle.std.specs.Cmp.Lexicographic.{slice_cmp}
 use Rattle.std.specs.Map.{lookup}
-use Rattle.hp_model.specs.Values.{Name, Value, integer, boolean, text, Row, KeyedRow, wrong_kind, overflow, divide_by_zero, no_parameter, Outcome, ◌>>=◌, or_cause, fits_64}
+use Rattle.hp_model.specs.Values.{Name, NamedValues, Value, integer, boolean, text, Row, KeyedRow, wrong_kind, overflow, divide_by_zero, no_parameter, Outcome, ◌>>=◌, or_cause, fits_64}
 use Rattle.hp_model.specs.Occurrences.{Primitive, created, updated, deleted, signalled, moment_reached, Occurrence}
 
 pub data Arithmetic : Type 0 where
@@ -28,15 +28,24 @@ pub data Expression : Type 0 where
   argument : (part place : ℕ) → Expression
   time_of : (part : ℕ) → Expression
   occurrence_count : Expression
+  -- the value of a `let`, and the clock's moment while the unit runs
+  value_named : Name → Expression
+  time_now : Expression
 
--- the environment of an expression: the occurrence, if there is one, and the rows by name, the innermost first
+-- the environment of an expression: the occurrence, if there is one, the rows and the values of `let`s by name, the
+-- innermost first, and the clock's moment
 pub record Environment : Type 0 where
   pub occurrence : Option Occurrence
   pub rows : List (Name × KeyedRow)
+  pub values : NamedValues
+  pub now : ℕ
 
--- the environment with one more name
+-- the environment with one more name, of a row or of a value
 abbrev pub bound : Name → KeyedRow → Environment → Environment
-bound x row env = record { occurrence = env.occurrence; rows = (x, row) ∷ env.rows }
+bound x row env = record { occurrence = env.occurrence; rows = (x, row) ∷ env.rows; values = env.values; now = env.now }
+
+abbrev pub holding : Name → Value → Environment → Environment
+holding x v env = record { occurrence = env.occurrence; rows = env.rows; values = (x, v) ∷ env.values; now = env.now }
 
 abbrev pub as_integer : Value → Outcome ℤ
 as_integer (integer z) = Ok z
@@ -94,6 +103,10 @@ part_of env i = or_cause (parts_at env.occurrence i) no_parameter
 -- the row named x; a checked expression uses no other name
 abbrev pub row_named : Environment → Name → Outcome KeyedRow
 row_named env x = or_cause (lookup (bytes_eq x) env.rows) wrong_kind
+
+-- the value of the `let` named x; a checked expression uses no other name
+abbrev pub value_at : Environment → Name → Outcome Value
+value_at env x = or_cause (lookup (bytes_eq x) env.values) wrong_kind
 
 abbrev pub field_in : Row → Name → Outcome Value
 field_in row f = or_cause (lookup (bytes_eq f) row) wrong_kind
@@ -186,3 +199,5 @@ value_of env (time_of i) = do
   p ← part_of env i
   moment_of p
 value_of env occurrence_count = count_in env.occurrence
+value_of env (value_named x) = value_at env x
+value_of env time_now = in_range (pos env.now)

@@ -1,14 +1,14 @@
 -- Kinds: which kinds of values expressions give, read off the library alone; and the law that where each use is of the
 -- right kind, nothing ends because of a wrong kind or a part that the occurrence lacks.
-use Rattle.std.specs.Prelude.{ℕ, suc, Bool, true, false, ◌&&◌, ◌||◌, ◌==◌, IsTrue, ⊤, ◌≡◌, List, [], ◌∷◌, ◌++◌, map, Option, Some, None, is_some, option_map, unwrap_or, bytes_eq, slice_get}
+use Rattle.std.specs.Prelude.{ℕ, suc, Bool, true, false, ◌&&◌, ◌||◌, ◌==◌, IsTrue, ⊤, ◌≡◌, List, [], ◌∷◌, ◌++◌, Option, Some, None, is_some, option_map, unwrap_or, bytes_eq, slice_get, if◌then◌else◌}
 use Rattle.std.specs.Bool.{then_some}
 use Rattle.std.specs.List.{list_all, list_any, AllByRecursion}
 use Rattle.std.specs.Map.{lookup}
 use Rattle.hp_model.specs.Values.{Name, Value, Kind, integer_kind, boolean_kind, text_kind, Field, Cause, exists, missing, wrong_kind, overflow, divide_by_zero, no_parameter, depth_exceeded, requested, vetoed, kind_of, is_kind}
 use Rattle.hp_model.specs.Occurrences.{Primitive, signalled}
 use Rattle.hp_model.specs.Events.{Pattern, on_create, on_update, on_delete, on_signal, at_moment, every_moment, Event, pattern_event, or_event, seq_event, closure_event}
-use Rattle.hp_model.specs.Expressions.{Comparison, equal, unequal, less, at_most, greater, at_least, Expression, constant, arithmetic, negated, inverted, both, either, compared, field_of, key_of, new_field, old_field, key_in, argument, time_of, occurrence_count}
-use Rattle.hp_model.specs.Rules.{Query, Assignment, Statement, create, update, delete, signal, emit, when, each, for_answer, with_object, subtransaction, abort, veto, on_rule, fire, Body, empty, ◌then◌, Rule, Library, class_at, rule_at}
+use Rattle.hp_model.specs.Expressions.{Comparison, equal, unequal, less, at_most, greater, at_least, Expression, constant, arithmetic, negated, inverted, both, either, compared, field_of, key_of, new_field, old_field, key_in, argument, time_of, occurrence_count, value_named, time_now}
+use Rattle.hp_model.specs.Rules.{Aggregate, count_over, sum_over, least_over, greatest_over, next_key, single, Entry, query_entry, no_entry, let_entry, Assignment, Statement, create, update, delete, signal, emit, when, each, for_answer, with_object, subtransaction, let_value, abort, veto, veto_with, on_rule, fire, Body, empty, ◌then◌, Rule, Library, class_at, rule_at}
 use Rattle.hp_model.specs.Firing.{kind_in}
 use Rattle.hp_model.specs.State.{State, RuleState, IsFit}
 use Rattle.hp_model.specs.Tree.{Node, sub_node, fire_node, act_node}
@@ -92,14 +92,18 @@ columns_by false e = columns_of e
 
 -- ---- expressions
 
--- what is known at a place: the occurrence's columns, if there is an occurrence, and the classes of the rows by name,
--- the innermost first
+-- what is known at a place: the occurrence's columns, if there is an occurrence, and the classes of the rows and the
+-- sorts of the values by name, the innermost first
 pub record Scope : Type 0 where
   pub columns : Option Columns
   pub rows : List (Name × ℕ)
+  pub values : List (Name × Sort)
 
 abbrev pub with_name : Name → ℕ → Scope → Scope
-with_name x class scope = record { columns = scope.columns; rows = (x, class) ∷ scope.rows }
+with_name x class scope = record { columns = scope.columns; rows = (x, class) ∷ scope.rows; values = scope.values }
+
+abbrev pub with_sort : Name → Sort → Scope → Scope
+with_sort x s scope = record { columns = scope.columns; rows = scope.rows; values = (x, s) ∷ scope.values }
 
 -- the sort is known, and is exactly this kind
 abbrev pub is_only : Kind → Option Sort → Bool
@@ -205,6 +209,8 @@ sort_of library d scope (key_in i) = part_sort scope.columns i key_sort
 sort_of library d scope (argument i j) = part_sort scope.columns i (argument_sort d j)
 sort_of library d scope (time_of i) = part_sort scope.columns i moment_sort
 sort_of library d scope occurrence_count = then_some (is_some scope.columns) (only integer_kind)
+sort_of library d scope (value_named x) = lookup (bytes_eq x) scope.values
+sort_of library d scope time_now = Some (only integer_kind)
 
 -- an expression whose value never overflows and never divides by zero: it has no arithmetic and no count
 abbrev pub is_calm : Expression → Bool
@@ -217,7 +223,43 @@ is_calm (compared op a b) = is_calm a && is_calm b
 is_calm occurrence_count = false
 is_calm e = true
 
+-- ---- aggregates
+
+-- all predicates are booleans
+abbrev pub is_test : Library → Declared → Scope → (variable : Name) → (class : ℕ) → (predicate : Expression) → Bool
+is_test library d scope x class predicate = is_only boolean_kind (sort_of library d (with_name x class scope) predicate)
+
+-- the sort, if it is of integers or of texts
+abbrev pub ordered : Option Sort → Option Sort
+ordered o = then_some (are_ordered o o) (unwrap_or o any)
+
+-- the sort of an aggregate's value, if all in it is of the right kinds
+abbrev pub aggregate_sort : Library → Declared → Scope → Aggregate → Option Sort
+aggregate_sort library d scope (count_over x class predicate) = then_some (is_test library d scope x class predicate) (only integer_kind)
+aggregate_sort library d scope (sum_over x class predicate term) =
+    then_some (is_test library d scope x class predicate && is_only integer_kind (sort_of library d (with_name x class scope) term)) (only integer_kind)
+aggregate_sort library d scope (least_over x class predicate term) =
+    if is_test library d scope x class predicate then ordered (sort_of library d (with_name x class scope) term) else None
+aggregate_sort library d scope (greatest_over x class predicate term) =
+    if is_test library d scope x class predicate then ordered (sort_of library d (with_name x class scope) term) else None
+aggregate_sort library d scope (next_key class) = Some (only integer_kind)
+aggregate_sort library d scope (single e) = sort_of library d scope e
+
+-- an aggregate that never overflows and never divides by zero
+abbrev pub is_aggregate_calm : Aggregate → Bool
+is_aggregate_calm (count_over x class predicate) = is_calm predicate
+is_aggregate_calm (sum_over x class predicate term) = false
+is_aggregate_calm (least_over x class predicate term) = is_calm predicate && is_calm term
+is_aggregate_calm (greatest_over x class predicate term) = is_calm predicate && is_calm term
+is_aggregate_calm (next_key class) = false
+is_aggregate_calm (single e) = is_calm e
+
 -- ---- statements
+
+-- within the scope of a `let`, if its aggregate is of the right kinds
+abbrev pub if_sorted : Option Sort → (Sort → Bool) → Bool
+if_sorted None test = false
+if_sorted (Some s) test = test s
 
 abbrev pub gives_sort : Sort → Option Sort → Bool
 gives_sort any o = is_some o
@@ -260,8 +302,11 @@ abbrev mutual
   statement_kinded library d scope queries (with_object x class key body) =
       is_only integer_kind (sort_of library d scope key) && body_kinded library d (with_name x class scope) queries body
   statement_kinded library d scope queries (subtransaction body otherwise) = body_kinded library d scope queries body && body_kinded library d scope queries otherwise
+  statement_kinded library d scope queries (let_value x a body) =
+      if_sorted (aggregate_sort library d scope a) (λ s. body_kinded library d (with_sort x s scope) queries body)
   statement_kinded library d scope queries abort = true
   statement_kinded library d scope queries veto = true
+  statement_kinded library d scope queries (veto_with e) = is_some (sort_of library d scope e)
   statement_kinded library d scope queries (on_rule op n) = true
   statement_kinded library d scope queries (fire n) = is_fired d n
 
@@ -283,6 +328,8 @@ abbrev mutual
   is_statement_calm (for_answer x body) = is_body_calm body
   is_statement_calm (with_object x class key body) = is_calm key && is_body_calm body
   is_statement_calm (subtransaction body otherwise) = is_body_calm otherwise
+  is_statement_calm (let_value x a body) = is_aggregate_calm a && is_body_calm body
+  is_statement_calm (veto_with e) = is_calm e
   is_statement_calm s = true
 
   pub is_body_calm : Body → Bool
@@ -291,45 +338,58 @@ abbrev mutual
 
 -- ---- rules, libraries and units
 
-abbrev pub queries_kinded : Library → Declared → Scope → List Query → Bool
-queries_kinded library d scope [] = true
-queries_kinded library d scope (q ∷ qs) =
-    is_only boolean_kind (sort_of library d (with_name q.name q.class scope) q.predicate) && queries_kinded library d (with_name q.name q.class scope) qs
+-- each entry is of the right kinds, in the scope of those before it
+abbrev pub entries_kinded : Library → Declared → Scope → List Entry → Bool
+entries_kinded library d scope [] = true
+entries_kinded library d scope (query_entry q ∷ es) =
+    is_test library d scope q.name q.class q.predicate && entries_kinded library d (with_name q.name q.class scope) es
+entries_kinded library d scope (no_entry q ∷ es) = is_test library d scope q.name q.class q.predicate && entries_kinded library d scope es
+entries_kinded library d scope (let_entry x a ∷ es) =
+    if_sorted (aggregate_sort library d scope a) (λ s. entries_kinded library d (with_sort x s scope) es)
 
--- an action knows the first row of each answer
-abbrev pub with_queries : Scope → List Query → Scope
-with_queries scope [] = scope
-with_queries scope (q ∷ qs) = with_queries (with_name q.name q.class scope) qs
+-- an action knows the first row of each answer, and each value
+abbrev pub with_entries : Library → Declared → Scope → List Entry → Scope
+with_entries library d scope [] = scope
+with_entries library d scope (query_entry q ∷ es) = with_entries library d (with_name q.name q.class scope) es
+with_entries library d scope (no_entry q ∷ es) = with_entries library d scope es
+with_entries library d scope (let_entry x a ∷ es) =
+    with_entries library d (with_sort x (unwrap_or (aggregate_sort library d scope a) any) scope) es
 
-abbrev pub query_classes : List Query → List (Name × ℕ)
-query_classes qs = map (λ (q : Query). (q.name, q.class)) qs
+abbrev pub query_classes : List Entry → List (Name × ℕ)
+query_classes [] = []
+query_classes (query_entry q ∷ es) = (q.name, q.class) ∷ query_classes es
+query_classes (no_entry q ∷ es) = query_classes es
+query_classes (let_entry x a ∷ es) = query_classes es
 
 -- the scope of a rule's condition
 abbrev pub rule_scope : (fired : Bool) → Rule → Scope
-rule_scope fired rule = record { columns = Some (columns_by fired rule.event); rows = [] }
+rule_scope fired rule = record { columns = Some (columns_by fired rule.event); rows = []; values = [] }
 
 abbrev pub rule_kinded : Library → Declared → (fired : Bool) → Rule → Bool
 rule_kinded library d fired rule =
-    queries_kinded library d (rule_scope fired rule) rule.condition && body_kinded library d (with_queries (rule_scope fired rule) rule.condition) (query_classes rule.condition) rule.action
+    entries_kinded library d (rule_scope fired rule) rule.condition
+    && body_kinded library d (with_entries library d (rule_scope fired rule) rule.condition) (query_classes rule.condition) rule.action
 
 -- the first rule of the list is the n-th
 abbrev pub rules_kinded : Library → Declared → (n : ℕ) → List Rule → Bool
 rules_kinded library d n [] = true
 rules_kinded library d n (rule ∷ rules) = rule_kinded library d (is_fired d n) rule && rules_kinded library d (suc n) rules
 
--- all predicates of the rule's condition are calm
-abbrev pub is_condition_calm : List Query → Bool
+-- all entries of the rule's condition are calm
+abbrev pub is_condition_calm : List Entry → Bool
 is_condition_calm [] = true
-is_condition_calm (q ∷ qs) = is_calm q.predicate && is_condition_calm qs
+is_condition_calm (query_entry q ∷ es) = is_calm q.predicate && is_condition_calm es
+is_condition_calm (no_entry q ∷ es) = is_calm q.predicate && is_condition_calm es
+is_condition_calm (let_entry x a ∷ es) = is_aggregate_calm a && is_condition_calm es
 
 abbrev pub library_kinded : Library → Declared → Bool
 library_kinded library d = rules_kinded library d 0 library.rules
 
 abbrev pub no_scope : Scope
-no_scope = record { columns = None; rows = [] }
+no_scope = record { columns = None; rows = []; values = [] }
 
 abbrev pub unit_kinded : Library → Declared → Unit → Bool
-unit_kinded library d (transaction body) = body_kinded library d no_scope [] body
+unit_kinded library d (transaction now body) = body_kinded library d no_scope [] body
 unit_kinded library d (moment t) = true
 
 -- ---- the causes that kinds leave

@@ -18,6 +18,7 @@ pub mod Parts
 pub mod Scopes
 pub mod ExpressionGrammar
 pub mod EventGrammar
+pub mod AggregateGrammar
 pub mod StatementGrammar
 pub mod RuleHeads
 pub mod Decode

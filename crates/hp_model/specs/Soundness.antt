@@ -1,5 +1,6 @@
 -- When a call on other cells stands for a step of the definitions, and an attempt for a firing.
-use Rattle.std.specs.Prelude.{◌≡◌, ℕ, List, Option}
+use Rattle.std.specs.Prelude.{◌≡◌, List, Option}
+use Rattle.hp_model.specs.Values.{Veto}
 use Rattle.hp_model.specs.Rules.{Library}
 use Rattle.hp_model.specs.State.{State, IsOrdered}
 use Rattle.hp_model.specs.Tree.{Task, Items, without_detachments}
@@ -21,7 +22,7 @@ answer_of c = record { end = c.end; queued = c.queued; detached = c.detached; it
 
 -- the answer of a firing
 pub record FiringAnswer : Type 0 where
-  pub vetoed_by : Option ℕ
+  pub vetoed_by : Option Veto
   pub queued : List Task
   pub detached : List Detached
   pub items : Items

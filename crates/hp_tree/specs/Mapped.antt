@@ -4,7 +4,7 @@ use Rattle.std.specs.Borrow.{Bor}
 use Rattle.hp_model.specs.Values as V
 use Rattle.hp_model.specs.Tree as T
 use Rattle.hp_model.specs.Cascade as C
-use Rattle.hp_value.specs.Mapped.{value, cause, coupling, rule_operation}
+use Rattle.hp_value.specs.Mapped.{value, cause, veto, coupling, rule_operation}
 use Rattle.hp_value.specs.declared.value.Value.{Value}
 pub use Rattle.hp_tree.specs.Names.{object_name, objects_of}
 use Rattle.hp_tree.specs.declared.operation.Operation.{Operation}
@@ -14,7 +14,7 @@ use Rattle.hp_tree.specs.declared.node.ConditionEnd.TheVariants.{WithoutAction, 
 use Rattle.hp_tree.specs.declared.node.What.{What}
 use Rattle.hp_tree.specs.declared.node.What.TheVariants.{Sub, Fire, Act}
 use Rattle.hp_tree.specs.declared.node.Ending.{Ending}
-use Rattle.hp_tree.specs.declared.node.Ending.TheVariants.{Committed, Aborted}
+use Rattle.hp_tree.specs.declared.node.Ending.TheVariants.{Committed, Aborted, Vetoed}
 use Rattle.hp_tree.specs.declared.node.Item.{Item, Row_of-Item, end_of-Item, more_of-Item}
 use Rattle.hp_tree.specs.declared.node.Item.TheVariants.{Operation as AnOperation, Emit, Node' as ANode}
 use Rattle.hp_tree.specs.declared.report.TopReport.{TopReport}
@@ -40,6 +40,7 @@ what (Act rule place) = T.act_node rule (coupling place)
 abbrev pub ending : Ending → T.Ending
 ending Committed = T.committed
 ending (Aborted c) = T.aborted (cause c)
+ending (Vetoed v) = T.aborted (V.vetoed (veto v))
 
 abbrev mutual
   -- an item in front of others

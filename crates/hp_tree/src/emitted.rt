@@ -41,7 +41,7 @@ fn add_emit<'a>(item: &'a Item, values: &mut Vec<&'a Value>) -> Result<(), Alloc
         Item::Operation(_) => {}
         Item::Emit(value) => values.push(value)?,
         Item::Node(node) => {
-            if let Ending::Committed = node.end {
+            if let Ending::Committed = &node.end {
                 add_emits(&node.items, values)?;
             }
         }

@@ -1,7 +1,7 @@
 //! The nodes of a tree and their items.
 
 use crate::operation::Operation;
-use hp_value::{Cause, Coupling, RuleNo, Value};
+use hp_value::{Cause, Coupling, RuleNo, Value, Veto};
 
 /// The result of a condition.
 #[derive(Clone, Copy, Debug, PartialEq, Eq)]
@@ -40,12 +40,14 @@ pub enum What {
 }
 
 /// How a transaction ended.
-#[derive(Clone, Copy, Debug, PartialEq, Eq)]
+#[derive(Debug, Drop, PartialEq, Eq)]
 pub enum Ending {
     /// Its effects belong to the transaction around it, or are permanent.
     Committed,
     /// It had no effect, for this cause.
     Aborted(Cause),
+    /// It had no effect, since a rule vetoed.
+    Vetoed(Veto),
 }
 
 /// A nested transaction (Moss), with what it did up to its end.

@@ -42,7 +42,7 @@ fn replay_item(objects: &mut Objects, item: &Item) -> Result<(), AllocError>
         Item::Operation(operation) => apply(objects, operation)?,
         Item::Emit(_) => {}
         Item::Node(node) => {
-            if let Ending::Committed = node.end {
+            if let Ending::Committed = &node.end {
                 replay_items(objects, &node.items)?;
             }
         }

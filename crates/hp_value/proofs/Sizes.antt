@@ -1,6 +1,6 @@
 -- How large expressions are.
 use Rattle.std.proofs.Common.{ℕ, suc, ◌+◌}
-use Rattle.hp_model.specs.Expressions.{Expression, constant, arithmetic, negated, inverted, both, either, compared, field_of, key_of, new_field, old_field, key_in, argument, time_of, occurrence_count}
+use Rattle.hp_model.specs.Expressions.{Expression, constant, arithmetic, negated, inverted, both, either, compared, field_of, key_of, new_field, old_field, key_in, argument, time_of, occurrence_count, value_named, time_now}
 
 -- the number of operators in an expression
 abbrev pub operators : Expression → ℕ
@@ -19,3 +19,5 @@ operators (key_in i) = 0
 operators (argument i j) = 0
 operators (time_of i) = 0
 operators occurrence_count = 0
+operators (value_named x) = 0
+operators time_now = 0

@@ -9,7 +9,8 @@ use Rattle.hp_model.specs.Conditions as C
 use Rattle.hp_model.specs.ClassParts as P
 pub use Rattle.hp_value.specs.Rows.{value, kind, field, row_of}
 use Rattle.hp_value.specs.declared.halt.Cause.{Cause}
-use Rattle.hp_value.specs.declared.halt.Cause.TheVariants.{Exists, Missing, Kind, Overflow, DivideByZero, NoParameter, Depth, Asked, Vetoed}
+use Rattle.hp_value.specs.declared.halt.Cause.TheVariants.{Exists, Missing, Kind, Overflow, DivideByZero, NoParameter, Depth, Asked}
+use Rattle.hp_value.specs.declared.halt.Veto.{Veto}
 use Rattle.hp_value.specs.declared.halt.Halt.{Halt}
 use Rattle.hp_value.specs.declared.halt.Halt.TheVariants.{Cause as ByCause, Memory}
 use Rattle.hp_value.specs.declared.cell.Cell.{Cell}
@@ -33,10 +34,13 @@ use Rattle.hp_value.specs.declared.expr.Arithmetic.TheVariants.{Plus, Minus, Tim
 use Rattle.hp_value.specs.declared.expr.Comparison.{Comparison}
 use Rattle.hp_value.specs.declared.expr.Comparison.TheVariants.{Equal, Unequal, Less, AtMost, Greater, AtLeast}
 use Rattle.hp_value.specs.declared.expr.Expr.{Expr}
-use Rattle.hp_value.specs.declared.expr.Expr.TheVariants.{Constant, Arithmetic', Comparison', Negated', Not', And', Or', FieldOf, KeyOf, NewField, OldField, KeyIn, Argument, TimeOf, Count}
+use Rattle.hp_value.specs.declared.expr.Expr.TheVariants.{Constant, Arithmetic', Comparison', Negated', Not', And', Or', FieldOf, KeyOf, NewField, OldField, KeyIn, Argument, TimeOf, Count, ValueOf, Now}
 use Rattle.hp_value.specs.declared.env.Answer.{Answer}
 use Rattle.hp_value.specs.declared.env.Names.{Names, fold-Names}
 use Rattle.hp_value.specs.declared.env.Names.TheOpen.{Names-F}
+use Rattle.hp_value.specs.declared.env.NamedValue.{NamedValue}
+use Rattle.hp_value.specs.declared.env.Values.{Values, fold-Values}
+use Rattle.hp_value.specs.declared.env.Values.TheOpen.{Values-F}
 use Rattle.hp_value.specs.declared.env.Env.{Env}
 
 abbrev pub class_def : ClassDef → V.ClassDef
@@ -51,7 +55,9 @@ cause DivideByZero = V.divide_by_zero
 cause NoParameter = V.no_parameter
 cause Depth = V.depth_exceeded
 cause Asked = V.requested
-cause (Vetoed n) = V.vetoed n
+
+abbrev pub veto : Veto → V.Veto
+veto v = record { rule = v.rule; message = option_map value v.message }
 
 -- a result, with its value mapped by f
 abbrev pub outcome : {A B : Type 0} → (A → B) → Result A Cause → V.Outcome B
@@ -131,6 +137,8 @@ expression (KeyIn i) = E.key_in i
 expression (Argument i j) = E.argument i j
 expression (TimeOf i) = E.time_of i
 expression Count = E.occurrence_count
+expression (ValueOf x) = E.value_named (string_bytes x)
+expression Now = E.time_now
 
 -- a query's name with the rows of its answer
 abbrev pub answer : Answer → V.Name × List V.KeyedRow
@@ -141,7 +149,18 @@ answers as' = map answer as'
 
 -- the rows by name that answers alone bind
 abbrev pub answered_rows : C.Answers → List (V.Name × V.KeyedRow)
-answered_rows as' = (C.with_answers (record { occurrence = None; rows = [] }) as').rows
+answered_rows as' = (C.with_answers (record { occurrence = None; rows = []; values = []; now = 0 }) as').rows
+
+-- a value with its name
+abbrev pub named_value : NamedValue → V.Name × V.Value
+named_value v = (string_bytes v.name, value v.value)
+
+abbrev pub named_values : List NamedValue → V.NamedValues
+named_values vs = map named_value vs
+
+-- the values by name that a condition's values alone bind
+abbrev pub found_values : V.NamedValues → V.NamedValues
+found_values vs = (C.with_values (record { occurrence = None; rows = []; values = []; now = 0 }) vs).values
 
 -- the row that one answer binds to a name
 abbrev pub first_under : V.Name → V.Name × List V.KeyedRow → Option V.KeyedRow
@@ -155,8 +174,17 @@ rows_step (Names-F.Bound name key row outer) = (name.now, record { key = key; ro
 abbrev pub rows_in : Names → List (V.Name × V.KeyedRow)
 rows_in = fold-Names (List (V.Name × V.KeyedRow)) rows_step
 
+abbrev pub values_step : Values-F V.NamedValues → V.NamedValues
+values_step (Values-F.Found vs) = found_values (named_values vs.now)
+values_step (Values-F.Bound name v outer) = (name.now, value v.now) ∷ outer.now
+
+-- the values by name, the innermost first
+abbrev pub values_in : Values → V.NamedValues
+values_in = fold-Values V.NamedValues values_step
+
 abbrev pub environment : Env → E.Environment
-environment env = record { occurrence = option_map (λ o. occurrence o.now) env.occurrence; rows = rows_in env.rows }
+environment env =
+    record { occurrence = option_map (λ o. occurrence o.now) env.occurrence; rows = rows_in env.rows; values = values_in env.values; now = env.time }
 
 abbrev pub attribute : Attribute → P.Attribute
 attribute Key = P.key_attribute

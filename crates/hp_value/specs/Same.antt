@@ -1,12 +1,12 @@
 -- Whether two values of the model are the same, as tests; each test is true exactly where the two are equal.
-use Rattle.std.specs.Prelude.{ℕ, ℤ, ◌≡◌, refl, Bool, true, false, ◌&&◌, nat_eq, bytes_eq, List}
+use Rattle.std.specs.Prelude.{ℕ, ℤ, ◌≡◌, refl, Bool, true, false, ◌&&◌, nat_eq, bytes_eq, List, Option, None, Some}
 use Rattle.std.specs.Ordering.{int_eq}
 use Rattle.std.proofs.Common.{sym, ap, ◌∙◌}
 use mathlib.Core.Bool.{true≢false, beq}
 use lib.Pointwise.{pointwise, pointwise_decides, bytes_decides}
 use Rattle.std.specs.Bool.{Decides}
 use Rattle.std.specs.Cmp.{IsEquivalence, decided, unsigned_Decides, signed_Decides, booleans_Decides}
-use Rattle.hp_model.specs.Values.{Name, Value, integer, boolean, text, Row, KeyedRow}
+use Rattle.hp_model.specs.Values.{Name, Veto, Value, integer, boolean, text, Row, KeyedRow}
 use Rattle.hp_value.specs.Rows.{values_of}
 use Rattle.hp_model.specs.Occurrences.{Primitive, created, updated, deleted, signalled, commit_reached, moment_reached, Occurrence}
 
@@ -18,6 +18,14 @@ value_same v w = false
 
 abbrev pub pair_same : Name × Value → Name × Value → Bool
 pair_same p q = bytes_eq p.0 q.0 && value_same p.1 q.1
+
+abbrev pub message_same : Option Value → Option Value → Bool
+message_same None None = true
+message_same (Some v) (Some w) = value_same v w
+message_same m n = false
+
+abbrev pub veto_same : Veto → Veto → Bool
+veto_same a b = nat_eq a.rule b.rule && message_same a.message b.message
 
 abbrev pub row_same : Row → Row → Bool
 row_same = pointwise pair_same
@@ -60,6 +68,23 @@ pub pair_decides : (p q : Name × Value) → Decides (pair_same p q) (p ≡ q)
 pair_decides p q =
     both_decide _ _ (bytes_decides p.0 q.0) (value_decides p.1 q.1)
     (λ e f. ap (λ (n : Name). (n, p.1)) e ∙ ap (λ (v : Value). (q.0, v)) f) (λ e. (ap (λ x. x.0) e, ap (λ x. x.1) e))
+
+pub pair_equiv : IsEquivalence pair_same
+pair_equiv = decided pair_same pair_decides
+
+message_decides : (m n : Option Value) → Decides (message_same m n) (m ≡ n)
+message_decides None None = (λ e. refl, λ e. refl)
+message_decides (Some v) (Some w) = (λ e. ap Some ((value_decides v w).0 e), λ e. (value_decides v w).1 (cc))
+message_decides m n = (λ e. cc, λ e. cc)
+
+veto_decides : (a b : Veto) → Decides (veto_same a b) (a ≡ b)
+veto_decides a b =
+    let make : ℕ → Option Value → Veto = λ n m. record { rule = n; message = m } in
+    both_decide _ _ (unsigned_Decides a.rule b.rule) (message_decides a.message b.message)
+    (λ e f. ap (λ n. make n a.message) e ∙ ap (make b.rule) f) (λ e. (ap (λ x. x.rule) e, ap (λ x. x.message) e))
+
+pub veto_equiv : IsEquivalence veto_same
+veto_equiv = decided veto_same veto_decides
 
 pub row_decides : (r s : Row) → Decides (row_same r s) (r ≡ s)
 row_decides = pointwise_decides pair_decides

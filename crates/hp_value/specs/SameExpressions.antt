@@ -7,7 +7,7 @@ use Rattle.std.specs.Cmp.{IsEquivalence, decided, unsigned_Decides}
 use Rattle.hp_model.specs.Expressions.{Arithmetic, plus, minus, times, quotient, remainder}
 use Rattle.hp_model.specs.Expressions.{Comparison, equal, unequal, less, at_most, greater, at_least}
 use Rattle.hp_model.specs.Expressions.{Expression, constant, arithmetic, negated, inverted, both, either, compared, field_of, key_of}
-use Rattle.hp_model.specs.Expressions.{new_field, old_field, key_in, argument, time_of, occurrence_count}
+use Rattle.hp_model.specs.Expressions.{new_field, old_field, key_in, argument, time_of, occurrence_count, value_named, time_now}
 use Rattle.hp_value.specs.Same.{value_same, value_decides, both_decide}
 
 abbrev pub arithmetic_same : Arithmetic → Arithmetic → Bool
@@ -43,6 +43,8 @@ expression_same (key_in i) (key_in j) = nat_eq i j
 expression_same (argument i k) (argument j l) = nat_eq i j && nat_eq k l
 expression_same (time_of i) (time_of j) = nat_eq i j
 expression_same occurrence_count occurrence_count = true
+expression_same (value_named x) (value_named y) = bytes_eq x y
+expression_same time_now time_now = true
 expression_same a b = false
 
 -- ---- true exactly where the two are equal
@@ -94,6 +96,8 @@ expression_decides (argument m k) (argument n l) =
     both_decide _ _ (unsigned_Decides m n) (unsigned_Decides k l) (λ d e i. argument (d i) (e i)) (λ e. (cc, cc))
 expression_decides (time_of m) (time_of n) = (λ e. ap time_of ((unsigned_Decides m n).0 e), λ e. (unsigned_Decides m n).1 (cc))
 expression_decides occurrence_count occurrence_count = (λ e. refl, λ e. refl)
+expression_decides (value_named x) (value_named y) = (λ e. ap value_named ((bytes_decides x y).0 e), λ e. (bytes_decides x y).1 (cc))
+expression_decides time_now time_now = (λ e. refl, λ e. refl)
 expression_decides a b = (λ e. cc, λ e. cc)
 
 pub expression_equiv : IsEquivalence expression_same

@@ -16,6 +16,15 @@ pub struct Answer {
     pub rows: Vec<KeyedRow>,
 }
 
+/// A value by its name, as a `let` of a condition found it.
+#[derive(Debug, Drop)]
+pub struct NamedValue {
+    /// The name.
+    pub name: String,
+    /// The value.
+    pub value: Value,
+}
+
 /// The environment in which an expression is evaluated. It borrows all that it names: binding a name allocates nothing.
 #[derive(Clone, Copy)]
 pub struct Env<'a> {
@@ -23,6 +32,26 @@ pub struct Env<'a> {
     pub occurrence: Option<&'a Occurrence>,
     /// The rows by name.
     pub rows: Names<'a>,
+    /// The values by name.
+    pub values: Values<'a>,
+    /// The clock's moment while the unit runs.
+    pub time: u64,
+}
+
+/// Values by name, as a linked list on the stack. The innermost name comes first and hides outer ones.
+#[derive(Clone, Copy)]
+pub enum Values<'a> {
+    /// The values that a condition found; none in the body of a script. A later one hides an earlier one of its name.
+    Found(&'a [NamedValue]),
+    /// One more name, in front of the outer ones.
+    Bound {
+        /// The name.
+        name: &'a str,
+        /// The value that it means.
+        value: &'a Value,
+        /// The names bound outside this one.
+        outer: &'a Values<'a>,
+    },
 }
 
 /// Rows by name, as a linked list on the stack. The innermost name comes first and hides outer ones.
@@ -166,20 +195,125 @@ impl<'a> Names<'a> {
     }
 }
 
-impl<'a> Env<'a> {
-    ghost use Rattle.std.specs.Prelude.{◌≡◌, [], option_map};
-    ghost use Rattle.hp_model.specs.Conditions.{with_answers};
+impl PartialEq for NamedValue {
+    ghost use Rattle.std.specs.Ordering.{on};
+    ghost use Rattle.std.specs.Cmp.{on_equiv, partial_equiv_from_equiv};
+    ghost use Rattle.hp_value.specs.Same.{pair_same, pair_equiv};
+    ghost use Rattle.hp_value.specs.Mapped.{named_value};
+
+    ghost eq = { on named_value pair_same };
+
+    ghost laws = { partial_equiv_from_equiv (on_equiv named_value pair_equiv) };
+
+    fn eq(&self, other: &NamedValue) -> bool {
+        self.name == other.name && self.value == other.value
+    }
+}
+
+impl Eq for NamedValue {
+    ghost use Rattle.std.specs.Cmp.{on_equiv};
+    ghost use Rattle.hp_value.specs.Same.{pair_equiv};
+    ghost use Rattle.hp_value.specs.Mapped.{named_value};
+
+    ghost laws = { on_equiv named_value pair_equiv };
+}
+
+impl Clone for NamedValue {
+    ghost use Rattle.std.specs.Prelude.{◌≡◌};
+    ghost use Rattle.hp_value.specs.Mapped.{named_value};
+
+    ghost is_clone = { λ x y. named_value y ≡ named_value x };
+
+    fn clone(&self) -> Result<NamedValue, AllocError> {
+        Ok(NamedValue {
+            name: self.name.clone()?,
+            value: self.value.clone()?,
+        })
+    }
+}
+
+impl<'a> Values<'a> {
+    ghost use Rattle.std.specs.Prelude.{◌≡◌, ◌∷◌, option_map, bytes_eq};
+    ghost use Rattle.std.specs.Map.{lookup};
     ghost use Rattle.hp_value.specs.Mapped as mapped;
 
-    /// The environment in which a condition or an action begins.
-    pub fn new(occurrence: Option<&'a Occurrence>, answers: &'a [Answer]) -> Env<'a>
-        ensures { mapped.environment result ≡ with_answers
-            (record { occurrence = option_map (λ o. mapped.occurrence o.now) occurrence.entry; rows = [] })
-            (mapped.answers answers.entry.now) }
+    /// The value that those found bind to a name: the last one wins.
+    fn found(found: &'a [NamedValue], name: &str) -> Option<&'a Value>
+        ensures { option_map (λ v. mapped.value v.now) result
+            ≡ lookup (bytes_eq name.now) (mapped.found_values (mapped.named_values found.now)) }
+    {
+        let mut last = None;
+        for named in found {
+            if name == named.name.as_str() {
+                last = Some(&named.value);
+            }
+        }
+        last
+    }
+
+    /// The names that a condition's values bind.
+    pub fn new(found: &'a [NamedValue]) -> Values<'a>
+        ensures { mapped.values_in result ≡ mapped.found_values (mapped.named_values found.entry.now) }
+    {
+        Values::Found(found)
+    }
+
+    /// These names, and one more in front of them.
+    pub fn bound<'b>(&'b self, name: &'b str, value: &'b Value) -> Values<'b>
+        ensures { mapped.values_in result
+            ≡ (name.entry.now, mapped.value value.entry.now) ∷ mapped.values_in self.entry.now }
+    {
+        Values::Bound {
+            name,
+            value,
+            outer: self,
+        }
+    }
+
+    /// The innermost value of this name.
+    pub fn value(&self, name: &str) -> Option<&'a Value>
+        ensures { option_map (λ v. mapped.value v.now) result
+            ≡ lookup (bytes_eq name.now) (mapped.values_in self.now) }
+    {
+        match self {
+            Values::Found(found) => Values::found(found, name),
+            Values::Bound {
+                name: known,
+                value,
+                outer,
+            } => {
+                if name == *known {
+                    Some(value)
+                } else {
+                    outer.value(name)
+                }
+            }
+        }
+    }
+}
+
+impl<'a> Env<'a> {
+    ghost use Rattle.std.specs.Prelude.{◌≡◌, [], option_map};
+    ghost use Rattle.hp_model.specs.Conditions.{with_findings};
+    ghost use Rattle.hp_value.specs.Mapped as mapped;
+
+    /// The environment in which a condition or an action begins, at a moment of the clock. A condition begins without
+    /// answers and values; an action has those that its condition found.
+    pub fn new(
+        occurrence: Option<&'a Occurrence>,
+        answers: &'a [Answer],
+        values: &'a [NamedValue],
+        time: u64,
+    ) -> Env<'a>
+        ensures { mapped.environment result ≡ with_findings
+            (record { occurrence = option_map (λ o. mapped.occurrence o.now) occurrence.entry; rows = []; values = []; now = time })
+            (record { answers = mapped.answers answers.entry.now; values = mapped.named_values values.entry.now }) }
     {
         Env {
             occurrence,
             rows: Names::new(answers),
+            values: Values::new(values),
+            time,
         }
     }
 }
@@ -197,6 +331,20 @@ impl<'a> Env<'a> {
         Env {
             occurrence: self.occurrence,
             rows: self.rows.bound(name, key, row),
+            values: self.values,
+            time: self.time,
+        }
+    }
+
+    /// This environment with one more value, whose name hides outer ones.
+    pub fn holding<'b>(&'b self, name: &'b str, held: &'b Value) -> Env<'b>
+        ensures { environment result ≡ model.holding name.entry.now (value held.entry.now) (environment self.entry.now) }
+    {
+        Env {
+            occurrence: self.occurrence,
+            rows: self.rows,
+            values: self.values.bound(name, held),
+            time: self.time,
         }
     }
 
@@ -281,5 +429,20 @@ impl<'a> Env<'a> {
             Some(o) => Ok(Value::Int(in_range(o.count)?)),
             None => Err(Halt::Cause(Cause::NoParameter)),
         }
+    }
+
+    /// The value of the `let` of this name. `Kind` means that there is none; a checked expression uses no such name.
+    pub(crate) fn value_of(&self, name: &str) -> Result<Value, Halt>
+        ensures { Meets value result (model.value_of (environment self.now) (model.value_named name.now)) }
+    {
+        let v = self.values.value(name).ok_or(Cause::Kind)?;
+        Ok(v.clone()?)
+    }
+
+    /// The clock's moment, as a value.
+    pub(crate) fn moment(&self) -> Result<Value, Halt>
+        ensures { Meets value result (model.value_of (environment self.now) model.time_now) }
+    {
+        Ok(Value::Int(in_range(self.time)?))
     }
 }

@@ -34,6 +34,8 @@ impl Expr {
             Expr::Argument { part, place } => env.argument(*part, *place),
             Expr::TimeOf { part } => env.time_of(*part),
             Expr::Count => env.count(),
+            Expr::ValueOf { name } => env.value_of(name.as_str()),
+            Expr::Now => env.moment(),
             Expr::Arithmetic(op, a, b) => calculation(alloc, env, *op, a, b),
             Expr::Comparison(op, a, b) => comparing(alloc, env, *op, a, b),
             Expr::Negated(a) => negation(alloc, env, a),

@@ -97,6 +97,13 @@ pub enum Expr {
     },
     /// The count of the occurrence: how many occurrences it stands for.
     Count,
+    /// The value of the `let` of this name.
+    ValueOf {
+        /// The name.
+        name: String,
+    },
+    /// The clock's moment.
+    Now,
 }
 
 impl PartialEq for Expr {
@@ -142,7 +149,8 @@ impl PartialEq for Expr {
             (Expr::Argument { part: m, place: k }, Expr::Argument { part: n, place: l }) => {
                 m == n && k == l
             }
-            (Expr::Count, Expr::Count) => true,
+            (Expr::Count, Expr::Count) | (Expr::Now, Expr::Now) => true,
+            (Expr::ValueOf { name: x }, Expr::ValueOf { name: y }) => x == y,
             _ => false,
         }
     }
