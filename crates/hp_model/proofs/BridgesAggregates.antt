@@ -1,17 +1,11 @@
--- What an aggregate reads: of a class, the rows for which its predicate isn't false; for a next key, the keys.
+-- What an aggregate reads of a class: the rows for which its predicate isn't false.
 use Rattle.std.proofs.Common.{◌≡◌, refl, ap, sym, ◌∙◌, ℕ, ℤ, Bool, true, false, cond, List, [], ◌∷◌, Option, Some, None}
-use Rattle.std.specs.Prelude.{Ok, Err, filter, is_some, option_map, if◌then◌else◌}
-use Rattle.std.specs.List.{last_or}
-use Rattle.hp_model.specs.Values.{Name, Value, Row, KeyedRow, Outcome, ◌>>=◌}
+use Rattle.std.specs.Prelude.{Ok, Err, filter, if◌then◌else◌}
+use Rattle.hp_model.specs.Values.{Name, Value, KeyedRow, Outcome, ◌>>=◌}
 use Rattle.hp_model.specs.Expressions.{Expression, Environment, bound, as_boolean, value_of}
-use Rattle.hp_model.specs.Rules.{Library, next_key}
-use Rattle.hp_model.specs.State.{find_object}
-use Rattle.hp_model.specs.Conditions.{Merge, merged, key_after, present, aggregated}
+use Rattle.hp_model.specs.Conditions.{Merge, merged}
 use Rattle.hp_model.specs.Firing.{boolean_value}
 use Rattle.hp_model.specs.ClassParts.{ClassPart, belongs, picked}
-use Rattle.hp_model.specs.Cells.{Cells, object_cell, row_value, Changes, over, Read, Holds, AreKeys}
-use Rattle.hp_model.specs.Answers.{Finds}
-use Rattle.hp_model.proofs.BridgesKeys.{keys_are_class_keys}
 
 bind_assoc : {A B C : Type 0} (o : Outcome A) (f : A → Outcome B) (g : B → Outcome C) → (o >>= λ a. f a >>= g) ≡ (o >>= f) >>= g
 bind_assoc (Ok a) f g = refl
@@ -71,21 +65,3 @@ pub merged_by_part : (merge : Merge) (env : Environment) (x : Name) (predicate t
 merged_by_part merge env x predicate term p elsewhere so_far rows hits is =
     merged_kept merge env x predicate term (λ r. is_in (belongs p r)) (λ r e. elsewhere r (outside (belongs p r) e)) so_far rows
     ∙ ap (merged merge env x predicate term so_far) (sym (picked_kept p rows hits is))
-
--- ---- the next key
-
-some_row : (o : Option Row) → is_some (option_map row_value o) ≡ is_some o
-some_row None = refl
-some_row (Some row) = refl
-
--- a next key reads the keys of its class
-pub finds_next : (library : Library) (env : Environment) (class : ℕ) (keys : List ℤ) {reads : List Read} {writes : Changes}
-    → ((base : Cells) → Holds base reads → AreKeys (over base writes) class keys)
-    → Finds library (λ S. aggregated S.objects env (next_key class)) reads writes (present (key_after (last_or None keys)))
-finds_next library env class keys {reads} {writes} shows = record {
-  from = λ base held S ordered is.
-      let are = shows base held in
-      ap (λ ks. present (key_after (last_or None ks)))
-      (sym (keys_are_class_keys class S.objects keys ordered.objects_rise are.rise
-      (λ key. are.has key ∙ ap (λ (c : Cells). is_some (c (object_cell class key))) (sym is) ∙ some_row (find_object S.objects class key))));
-}

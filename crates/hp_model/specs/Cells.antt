@@ -1,5 +1,5 @@
 -- The cells of a state, layers of changes over cells, and the reads that hold in cells.
-use Rattle.std.specs.Prelude.{◌≡◌, ℕ, ℤ, Bool, false, ◌&&◌, ◌==◌, List, [], ◌∷◌, map, All, Option, Some, None, option_map, is_some, Ok, if◌then◌else◌}
+use Rattle.std.specs.Prelude.{◌≡◌, ℕ, ℤ, int_lt, Bool, true, false, ◌&&◌, ◌==◌, List, [], ◌∷◌, map, All, Option, Some, None, option_map, is_some, Ok, if◌then◌else◌}
 use Rattle.std.specs.Ordering.{int_eq, int_cmp}
 use Rattle.std.specs.List.{list_any}
 use Rattle.std.specs.List.Sorted.{IsStrictlySortedBy}
@@ -92,11 +92,27 @@ pub record ArePart (base : Cells) (class : ℕ) (p : ClassPart) (objects : List 
   pub has : (key : ℤ) → belongs_in p key (base (object_cell class key)) ≡ Ok (list_any (int_eq key) (map (λ (o : KeyedRow). o.key) objects))
   pub rows : All (λ (o : KeyedRow). base (object_cell class o.key) ≡ Some (row_value o.row)) objects
 
--- a read: a cell with its value or its absence, a class with its keys, a class with all of its objects, or a part of a
--- class with the part's objects
+-- whether a key lies above the greatest one, if there is one
+abbrev pub is_above : Option ℤ → ℤ → Bool
+is_above None key = true
+is_above (Some greatest) key = int_lt greatest key
+
+-- whether there is an object with the greatest key, if there is one
+abbrev pub is_there : Cells → (class : ℕ) → Option ℤ → Bool
+is_there base class None = true
+is_there base class (Some greatest) = is_some (base (object_cell class greatest))
+
+-- the greatest key of a class's objects; `None` if the class has no object
+pub record IsGreatestKey (base : Cells) (class : ℕ) (greatest : Option ℤ) : Type 0 where
+  pub there : is_there base class greatest ≡ true
+  pub above : (key : ℤ) → is_above greatest key ≡ true → is_some (base (object_cell class key)) ≡ false
+
+-- a read: a cell with its value or its absence, a class with its keys, with its greatest key, or with all of its
+-- objects, or a part of a class with the part's objects
 pub data Read : Type 0 where
   cell_read : Cell → Option CellValue → Read
   keys_read : (class : ℕ) → List ℤ → Read
+  greatest_read : (class : ℕ) → Option ℤ → Read
   objects_read : (class : ℕ) → List KeyedRow → Read
   part_read : (class : ℕ) → ClassPart → List KeyedRow → Read
 
@@ -104,6 +120,7 @@ pub data Read : Type 0 where
 abbrev pub ReadHolds : Cells → Read → Type 0
 ReadHolds base (cell_read cell value) = base cell ≡ value
 ReadHolds base (keys_read class keys) = AreKeys base class keys
+ReadHolds base (greatest_read class greatest) = IsGreatestKey base class greatest
 ReadHolds base (objects_read class objects) = AreObjects base class objects
 ReadHolds base (part_read class p objects) = ArePart base class p objects
 
@@ -112,6 +129,6 @@ ReadsHold base [] = Unit {0}
 ReadsHold base (r ∷ rs) = ReadHolds base r × ReadsHold base rs
 
 -- the reads hold in these cells: each recorded cell has the recorded value or absence, each recorded class the recorded
--- keys or objects, each recorded part of a class the recorded objects
+-- keys, greatest key or objects, each recorded part of a class the recorded objects
 pub record Holds (base : Cells) (reads : List Read) : Type 0 where
   pub each : ReadsHold base reads
