@@ -1,5 +1,5 @@
 -- What an aggregate reads of a class: the rows for which its predicate isn't false.
-use Rattle.std.proofs.Common.{◌≡◌, refl, ap, sym, ◌∙◌, ℕ, ℤ, Bool, true, false, cond, List, [], ◌∷◌, Option, Some, None}
+use Rattle.std.proofs.Common.{◌≡◌, refl, ap, sym, ◌∙◌, Bool, true, false, cond, List, [], ◌∷◌, Option, Some}
 use Rattle.std.specs.Prelude.{Ok, Err, filter, if◌then◌else◌}
 use Rattle.hp_model.specs.Values.{Name, Value, KeyedRow, Outcome, ◌>>=◌}
 use Rattle.hp_model.specs.Expressions.{Expression, Environment, bound, as_boolean, value_of}

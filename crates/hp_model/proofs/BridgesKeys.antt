@@ -17,7 +17,7 @@ use Rattle.std.proofs.lemmas.Map.Lookups.{btree_set_from_contains, exact_signed}
 use Rattle.hp_model.specs.Values.{Row, KeyedRow}
 use Rattle.hp_model.specs.State.{ObjectName, compare_names, Objects, find_object, rows_of}
 pub use Rattle.hp_model.specs.State.{class_keys}
-use Rattle.hp_model.specs.Cells.{Cells, cells, AreKeys}
+use Rattle.hp_model.specs.Cells.{Cells, AreKeys}
 use Rattle.hp_model.proofs.Ordered.{names_total}
 use Rattle.hp_model.proofs.BridgesCells.{name_at}
 

@@ -29,6 +29,8 @@ pub mod BridgesReads
 pub mod BridgesWrites
 pub mod BridgesOrdered
 pub mod BridgesSignals
+pub mod Alike
+pub mod Snapshots
 pub mod Faithful
 pub mod FaithfulFirings
 pub mod FaithfulTops

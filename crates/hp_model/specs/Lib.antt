@@ -49,5 +49,6 @@ pub mod States
 pub mod Accepting
 pub mod Sessions
 pub mod Kinds
+pub mod Snapshots
 pub mod Laws
 pub mod Chains
