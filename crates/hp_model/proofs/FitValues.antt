@@ -85,7 +85,7 @@ each_found P test (y ∷ ys) x h e = found_choice P (test y.0) y.1 (lookup test 
 
 -- ---- objects and occurrences
 
-values_fit : (fields : List Field) (row : Row) → IsTrue (row_fits fields row) → RowFits row
+pub values_fit : (fields : List Field) (row : Row) → IsTrue (row_fits fields row) → RowFits row
 values_fit [] [] h = tt
 values_fit [] (v ∷ vs) h = cc
 values_fit (f ∷ fs) [] h = cc
@@ -104,11 +104,11 @@ object_keyed library class key row h =
 
 -- ---- expressions
 
-unsigned_fits : (z : ℤ) → unsigned_abs z < 2 ^ 63 → IsTrue (fits_64 z)
+pub unsigned_fits : (z : ℤ) → unsigned_abs z < 2 ^ 63 → IsTrue (fits_64 z)
 unsigned_fits (pos n) h = lt-ltb n (2 ^ 63) h
 unsigned_fits (negsuc n) h = lt-ltb n (2 ^ 63) (omega (arith, h))
 
-fits_unsigned : (z : ℤ) → IsTrue (fits_64 z) → unsigned_abs z ≤ 2 ^ 63
+pub fits_unsigned : (z : ℤ) → IsTrue (fits_64 z) → unsigned_abs z ≤ 2 ^ 63
 fits_unsigned (pos n) h = let low = ltb-true n (2 ^ 63) h in omega (arith, low)
 fits_unsigned (negsuc n) h = let low = ltb-true n (2 ^ 63) h in omega (arith, low)
 
@@ -152,7 +152,7 @@ module _ (library : Library) (env : Environment) (fit : EnvironmentFits library 
   row_gives : (x : Name) → Gives KeyedFits (row_named env x)
   row_gives x = Gives-or (lookup (bytes_eq x) env.rows) wrong_kind (λ r is. each_found KeyedFits (bytes_eq x) env.rows r fit.1 is)
 
-field_gives : (row : Row) (f : Name) → RowFits row → Gives ValueFits (field_in row f)
+pub field_gives : (row : Row) (f : Name) → RowFits row → Gives ValueFits (field_in row f)
 field_gives row f h = Gives-or (lookup (bytes_eq f) row) wrong_kind (λ v is. each_found ValueFits (bytes_eq f) row v h is)
 
 new_gives : (library : Library) (p : Primitive) → PrimitiveFits library p → Gives RowFits (new_row p)

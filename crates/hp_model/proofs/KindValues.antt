@@ -14,7 +14,10 @@ use Rattle.hp_model.specs.Expressions.{Arithmetic, plus, minus, times, quotient,
 use Rattle.hp_model.specs.Rules.{Library, class_at}
 use Rattle.hp_model.specs.State.{object_fits, primitive_fits}
 use Rattle.hp_model.specs.Firing.{kind_in}
-use Rattle.hp_model.specs.Kinds.{Sort, only, any, only_if, has_sort, Declared, signature_of, covers, is_declared, Columns, Scope, is_only, meets, meet, common, common_at, part_sort, field_sort, new_sort, old_sort, key_sort, argument_sort, moment_sort, named_sort, are_alike, are_ordered, are_comparable, sort_of, is_calm, NotOfKinds}
+use Rattle.hp_model.specs.Kinds.{Sort, only, any, only_if, has_sort, Declared, signature_of, covers, is_declared, Columns, Scope, is_only, meets, meet, common, common_at, part_sort, field_sort, new_sort, old_sort, key_sort, argument_sort, moment_sort, named_sort, are_alike, are_ordered, are_comparable, sort_of, magnitude, is_small, is_result_calm, is_calm, NotOfKinds}
+use Rattle.hp_model.proofs.FitValues as Fact
+use Rattle.hp_model.proofs.FitValues.{RowFits, PrimitiveFits, OptionFits, values_fit}
+use Rattle.hp_model.proofs.Magnitudes.{Near, near_value, known_value, GivesInteger, calm_gives, calm_negation}
 
 -- ---- outcomes
 
@@ -134,6 +137,16 @@ pub integer_safe : {C : Cause → Type 0} (v : Value) → IsOf integer_kind v �
 integer_safe (integer z) h = Safe-value z tt
 integer_safe (boolean b) h = cc
 integer_safe (text s) h = cc
+
+-- the integer that a value is
+pub integer_known : {C : Cause → Type 0} (v : Value) → IsOf integer_kind v → Safe C (λ z. v ≡ integer z) (as_integer v)
+integer_known (integer z) h = Safe-value z refl
+integer_known (boolean b) h = cc
+integer_known (text s) h = cc
+
+-- a value of which more is known
+pub with_fact : {A : Type 0} {C : Cause → Type 0} {P Q : A → Type 0} {o : Outcome A} → Safe C P o → Fact.Gives Q o → Safe C (λ x. P x × Q x) o
+with_fact safe fact = record { value = λ x e. (safe.value x e, fact.fact x e); cause = safe.cause }
 
 pub boolean_safe : {C : Cause → Type 0} (v : Value) → IsOf boolean_kind v → Safe C (λ _. ⊤) (as_boolean v)
 boolean_safe (integer z) h = cc
@@ -617,20 +630,49 @@ module _ (library : Library) (d : Declared) where
     not_second true b e = e
     not_second false b e = refl
 
+    parts_fit : (o : Option Occurrence) → OccurrenceTyped library d o → OptionFits library o
+    parts_fit None h = tt
+    parts_fit (Some o) h = each o.parts h
+      where
+        each : (ps : List Primitive) → PartsTyped library d ps → AllByRecursion (PrimitiveFits library) ps
+        each [] k = tt
+        each (p ∷ ps) k = (k.0.0, each ps k.1)
+
+    rows_fit : (xs : List (Name × ℕ)) (ys : List (Name × KeyedRow)) → RowsTyped library xs ys → AllByRecursion (λ (b : Name × KeyedRow). RowFits b.1.row) ys
+    rows_fit [] [] h = tt
+    rows_fit [] (y ∷ ys) h = absurd h
+    rows_fit (x ∷ xs) [] h = absurd h
+    rows_fit (x ∷ xs) (y ∷ ys) h = (values_fit (class_at library x.1).fields y.1.row h.0.1, rows_fit xs ys h.1)
+
+    near : (e : Expression) → Fact.Gives (Near (magnitude e)) (value_of env e)
+    near e = near_value library env (parts_fit env.occurrence typed.parts) (rows_fit scope.rows env.rows typed.rows) e
+
+    -- what an operation gives, which faults only if it isn't calm
+    tested : (inner r : Bool) {r' : Bool} → r ≡ r' → (o : Outcome Value) → Gives IsArithmetic integer_kind o → (r' ≡ true → GivesInteger o) → Gives (λ c. IsArithmetic c × ((inner && r') ≡ false)) integer_kind o
+    tested inner true same o safe calm = let got = calm (sym same) in subst (Gives _ integer_kind) (sym got.1) (Safe-value (integer got.0) refl)
+    tested inner false same o safe calm = Safe-weaker (λ c k. (k, subst (λ b. (inner && b) ≡ false) same (not_second inner false refl))) (λ v k. k) safe
+
+    calculated : (op : Arithmetic) (a b : Expression) (inner : Bool) (x y : ℤ) (r : Bool) → is_result_calm op a b ≡ r → (is_result_calm op a b ≡ true → GivesInteger (calculate op x y))
+        → Gives (λ c. IsArithmetic c × ((inner && is_result_calm op a b) ≡ false)) integer_kind (calculate op x y)
+    calculated op a b inner x y r same calm = tested inner r (sym same) (calculate op x y) (calculate_safe op x y) calm
+
     -- a kinded expression gives a value of its sort, or a cause of arithmetic; never the latter if it is calm
     pub value_typed : (e : Expression) → Typed (ArithmeticOf e) (sort_of library d scope e) (value_of env e)
     value_typed (constant v) = constant_typed v
     value_typed (arithmetic op a b) =
         if_typed (is_only integer_kind (sort_of library d scope a) && is_only integer_kind (sort_of library d scope b)) integer_kind _ λ h.
         let parts = and_parts (is_only integer_kind (sort_of library d scope a)) (is_only integer_kind (sort_of library d scope b)) h in
-        Safe-then (only_gives integer_kind (sort_of library d scope a) (value_of env a) (Typed-weaker (λ c k. (k.0, refl)) (value_typed a)) parts.0) λ v hv.
-        Safe-then (only_gives integer_kind (sort_of library d scope b) (value_of env b) (Typed-weaker (λ c k. (k.0, refl)) (value_typed b)) parts.1) λ w hw.
-        Safe-then (integer_safe v hv) λ x _.
-        Safe-then (integer_safe w hw) λ y _. Safe-weaker (λ c k. (k, refl)) (λ z k. k) (calculate_safe op x y)
+        let r = is_result_calm op a b in
+        Safe-then (with_fact (only_gives integer_kind (sort_of library d scope a) (value_of env a) (Typed-weaker (λ c k. (k.0, not_first (is_calm a && is_calm b) r (not_first (is_calm a) (is_calm b) k.1))) (value_typed a)) parts.0) (near a)) λ v hv.
+        Safe-then (with_fact (with_fact (only_gives integer_kind (sort_of library d scope b) (value_of env b) (Typed-weaker (λ c k. (k.0, not_first (is_calm a && is_calm b) r (not_second (is_calm a) (is_calm b) k.1))) (value_typed b)) parts.1) (near b)) (known_value env b)) λ w hw.
+        Safe-then (integer_known v hv.0) λ x is_x.
+        Safe-then (integer_known w hw.0.0) λ y is_y.
+        calculated op a b (is_calm a && is_calm b) x y r refl (λ e. calm_gives op a b v w x y e hv.1 hw.0.1 hw.1 is_x is_y)
     value_typed (negated a) =
         if_typed (is_only integer_kind (sort_of library d scope a)) integer_kind _ λ h.
-        Safe-then (only_gives integer_kind (sort_of library d scope a) (value_of env a) (Typed-weaker (λ c k. (k.0, refl)) (value_typed a)) h) λ v hv.
-        Safe-then (integer_safe v hv) λ x _. Safe-weaker (λ c k. (k, refl)) (λ z k. k) (range_safe (neg_ℤ x))
+        Safe-then (with_fact (only_gives integer_kind (sort_of library d scope a) (value_of env a) (Typed-weaker (λ c k. (k.0, not_first (is_calm a) (is_small (magnitude a)) k.1)) (value_typed a)) h) (near a)) λ v hv.
+        Safe-then (integer_known v hv.0) λ x is_x.
+        tested (is_calm a) (is_small (magnitude a)) refl (in_range (neg_ℤ x)) (range_safe (neg_ℤ x)) (λ e. calm_negation a v x e hv.1 is_x)
     value_typed (inverted a) =
         if_typed (is_only boolean_kind (sort_of library d scope a)) boolean_kind _ λ h.
         Safe-then (only_gives boolean_kind (sort_of library d scope a) (value_of env a) (value_typed a) h) λ v hv.

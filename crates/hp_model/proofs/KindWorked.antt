@@ -1,11 +1,11 @@
 -- Worked rows of the kinds: what is kinded, and what isn't.
 use Rattle.std.proofs.Common.{◌≡◌, refl, [], ◌∷◌, codes, true, false}
 use Rattle.hp_model.specs.Values.{integer_kind, text_kind, boolean, text}
-use Rattle.hp_model.specs.Expressions.{Expression, constant, arithmetic, plus, compared, less, field_of, key_of, new_field, old_field, key_in, argument, occurrence_count, value_named}
+use Rattle.hp_model.specs.Expressions.{Expression, constant, arithmetic, plus, times, quotient, remainder, negated, compared, less, field_of, key_of, new_field, old_field, key_in, argument, occurrence_count, value_named}
 use Rattle.hp_model.specs.Events.{Event, pattern_event, on_create, on_update, on_delete, on_signal, or_event, seq_event}
 use Rattle.hp_model.specs.Rules.{Query, Aggregate, count_over, sum_over, greatest_over, single, query_entry, no_entry, let_entry, immediate, emit, signal, empty, ◌then◌, Library}
 use Rattle.hp_model.specs.Cascade.{transaction}
-use Rattle.hp_model.specs.Kinds.{only, Declared, library_kinded, unit_kinded, is_condition_calm}
+use Rattle.hp_model.specs.Kinds.{only, Declared, library_kinded, unit_kinded, is_calm, is_condition_calm}
 use Rattle.hp_model.proofs.Scripts.{number, acct_class, bal, rule, on_go, script}
 use Rattle.hp_model.proofs.Rows.{thinnest_script}
 
@@ -106,3 +106,29 @@ count_calm = refl
 
 pub sum_faults : is_condition_calm (let_entry (codes "t") all_balances ∷ []) ≡ false
 sum_faults = refl
+
+-- by its constants: half of a balance, the sum of small remainders, a product of small constants
+abbrev balance : Expression
+balance = field_of (codes "s") bal
+
+abbrev digit : Expression
+digit = arithmetic remainder balance (number 10)
+
+pub half_calm : is_calm (arithmetic quotient balance (number 2)) ≡ true
+half_calm = refl
+
+pub digits_calm : is_calm (arithmetic plus digit (arithmetic times digit (number 3))) ≡ true
+digits_calm = refl
+
+pub balance_plus_one : is_calm (arithmetic plus balance (number 1)) ≡ false
+balance_plus_one = refl
+
+-- the least integer of 64 bits, divided by 1 or -1
+pub by_minus_one : is_calm (arithmetic quotient balance (negated (number 1))) ≡ false
+by_minus_one = refl
+
+pub by_zero : is_calm (arithmetic remainder (number 1) (number 0)) ≡ false
+by_zero = refl
+
+pub by_another : is_calm (arithmetic quotient (number 1) balance) ≡ false
+by_another = refl

@@ -46,6 +46,7 @@ pub mod FitStates
 pub mod FitRows
 pub mod FitCourses
 pub mod FitUnits
+pub mod Magnitudes
 pub mod KindValues
 pub mod KindEvents
 pub mod KindRows

@@ -1,13 +1,13 @@
 -- Kinds: which kinds of values expressions give, read off the library alone; and the law that where each use is of the
 -- right kind, nothing ends because of a wrong kind or a part that the occurrence lacks.
-use Rattle.std.specs.Prelude.{ℕ, suc, Bool, true, false, ◌&&◌, ◌||◌, ◌==◌, IsTrue, ⊤, ◌≡◌, List, [], ◌∷◌, ◌++◌, Option, Some, None, is_some, option_map, unwrap_or, bytes_eq, slice_get, if◌then◌else◌}
+use Rattle.std.specs.Prelude.{ℕ, zero, suc, ◌+◌, ◌*◌, ◌/◌, ◌^◌, nat_lt, unsigned_abs, Bool, true, false, ◌&&◌, ◌||◌, ◌==◌, IsTrue, ⊤, ◌≡◌, List, [], ◌∷◌, ◌++◌, Option, Some, None, is_some, option_map, unwrap_or, bytes_eq, slice_get, if◌then◌else◌}
 use Rattle.std.specs.Bool.{then_some}
 use Rattle.std.specs.List.{list_all, list_any, AllByRecursion}
 use Rattle.std.specs.Map.{lookup}
-use Rattle.hp_model.specs.Values.{Name, Value, Kind, integer_kind, boolean_kind, text_kind, Field, Cause, exists, missing, wrong_kind, overflow, divide_by_zero, no_parameter, depth_exceeded, requested, vetoed, kind_of, is_kind}
+use Rattle.hp_model.specs.Values.{Name, Value, integer, Kind, integer_kind, boolean_kind, text_kind, Field, Cause, exists, missing, wrong_kind, overflow, divide_by_zero, no_parameter, depth_exceeded, requested, vetoed, kind_of, is_kind}
 use Rattle.hp_model.specs.Occurrences.{Primitive, signalled}
 use Rattle.hp_model.specs.Events.{Pattern, on_create, on_update, on_delete, on_signal, at_moment, every_moment, Event, pattern_event, or_event, seq_event, closure_event}
-use Rattle.hp_model.specs.Expressions.{Comparison, equal, unequal, less, at_most, greater, at_least, Expression, constant, arithmetic, negated, inverted, both, either, compared, field_of, key_of, new_field, old_field, key_in, argument, time_of, occurrence_count, value_named, time_now}
+use Rattle.hp_model.specs.Expressions.{Arithmetic, plus, minus, times, quotient, remainder, Comparison, equal, unequal, less, at_most, greater, at_least, Expression, constant, arithmetic, negated, inverted, both, either, compared, field_of, key_of, new_field, old_field, key_in, argument, time_of, occurrence_count, value_named, time_now}
 use Rattle.hp_model.specs.Rules.{Aggregate, count_over, sum_over, least_over, greatest_over, next_key, single, Entry, query_entry, no_entry, let_entry, Assignment, Statement, create, update, delete, signal, emit, when, each, for_answer, with_object, subtransaction, let_value, abort, veto, veto_with, on_rule, fire, Body, empty, ◌then◌, Rule, Library, class_at, rule_at}
 use Rattle.hp_model.specs.Firing.{kind_in}
 use Rattle.hp_model.specs.State.{State, RuleState, IsFit}
@@ -212,10 +212,66 @@ sort_of library d scope occurrence_count = then_some (is_some scope.columns) (on
 sort_of library d scope (value_named x) = lookup (bytes_eq x) scope.values
 sort_of library d scope time_now = Some (only integer_kind)
 
--- an expression whose value never overflows and never divides by zero: it has no arithmetic and no count
+-- ---- arithmetic that never faults
+
+-- a bound of what an operation gives, from bounds of its operands
+abbrev pub bounded_by : (ℕ → ℕ → ℕ) → Option ℕ → Option ℕ → Option ℕ
+bounded_by f (Some m) (Some n) = Some (f m n)
+bounded_by f None n = None
+bounded_by f (Some m) None = None
+
+-- the divisor's distance from 0, where it is a constant
+abbrev pub known_divisor : Expression → Option ℕ
+known_divisor (constant (integer z)) = Some (unsigned_abs z)
+known_divisor e = None
+
+abbrev pub quotient_bound : Option ℕ → (divisor : Option ℕ) → Option ℕ
+quotient_bound m None = m
+quotient_bound m (Some zero) = m
+quotient_bound m (Some (suc d)) = option_map (λ k. k / suc d) m
+
+-- how far from 0 an integer is at most that the expression gives, where that is known: what is read of an object or of
+-- an occurrence has 64 bits
+abbrev pub magnitude : Expression → Option ℕ
+magnitude (constant (integer z)) = Some (unsigned_abs z)
+magnitude (arithmetic plus a b) = bounded_by ◌+◌ (magnitude a) (magnitude b)
+magnitude (arithmetic minus a b) = bounded_by ◌+◌ (magnitude a) (magnitude b)
+magnitude (arithmetic times a b) = bounded_by ◌*◌ (magnitude a) (magnitude b)
+magnitude (arithmetic quotient a b) = quotient_bound (magnitude a) (known_divisor b)
+magnitude (arithmetic remainder a b) = magnitude b
+magnitude (negated a) = magnitude a
+magnitude (field_of x f) = Some (2 ^ 63)
+magnitude (new_field i f) = Some (2 ^ 63)
+magnitude (old_field i f) = Some (2 ^ 63)
+magnitude (key_in i) = Some (2 ^ 63)
+magnitude (argument i j) = Some (2 ^ 63)
+magnitude (time_of i) = Some (2 ^ 63)
+magnitude occurrence_count = Some (2 ^ 63)
+magnitude time_now = Some (2 ^ 63)
+magnitude e = None
+
+-- a result that is at most so far from 0 has 64 bits
+abbrev pub is_small : Option ℕ → Bool
+is_small None = false
+is_small (Some m) = nat_lt m (2 ^ 63)
+
+abbrev pub is_nonzero : (divisor : Option ℕ) → Bool
+is_nonzero None = false
+is_nonzero (Some d) = nat_lt 0 d
+
+-- the operation neither overflows nor divides by zero
+abbrev pub is_result_calm : Arithmetic → (left right : Expression) → Bool
+is_result_calm plus a b = is_small (bounded_by ◌+◌ (magnitude a) (magnitude b))
+is_result_calm minus a b = is_small (bounded_by ◌+◌ (magnitude a) (magnitude b))
+is_result_calm times a b = is_small (bounded_by ◌*◌ (magnitude a) (magnitude b))
+is_result_calm quotient a b = is_nonzero (known_divisor b) && is_small (quotient_bound (magnitude a) (known_divisor b))
+is_result_calm remainder a b = is_nonzero (known_divisor b) && is_small (quotient_bound (magnitude a) (known_divisor b))
+
+-- an expression whose value never overflows and never divides by zero. No arithmetic in it could, by its constants, and
+-- it counts no occurrences
 abbrev pub is_calm : Expression → Bool
-is_calm (arithmetic op a b) = false
-is_calm (negated a) = false
+is_calm (arithmetic op a b) = (is_calm a && is_calm b) && is_result_calm op a b
+is_calm (negated a) = is_calm a && is_small (magnitude a)
 is_calm (inverted a) = is_calm a
 is_calm (both a b) = is_calm a && is_calm b
 is_calm (either a b) = is_calm a && is_calm b
