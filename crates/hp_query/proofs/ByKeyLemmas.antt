@@ -139,8 +139,3 @@ module _ (env : Environment) (x : Name) (predicate : Expression) (hit : KeyedRow
           ap (λ (o : Outcome (List KeyedRow)). value_of (bound x r env) predicate >>= λ v. as_boolean v >>= λ keep. o >>= λ rows. Ok (if keep then r ∷ rows else rows)) same
       by false other same =
           selected-cons env x predicate r rs (Ok false) (false_elsewhere r other) ∙ bind_ok (selected env x predicate rs) ∙ same
-
-pub answered_by_key : (env : Environment) (x : Name) (predicate : Expression) (key : ℤ) (class : ℕ) (world : Objects) → IsFalseElsewhere env x predicate key → ObjectsRise world
-    → selected env x predicate (with_key key (find_object world class key)) ≡ answer env x class predicate world
-answered_by_key env x predicate key class world elsewhere rise =
-    sym (of_hits env x predicate (λ (r : KeyedRow). int_eq r.key key) elsewhere.elsewhere (rows_of class world) ∙ ap (selected env x predicate) (one_row class key world rise))

@@ -5,4 +5,5 @@ pub mod PlainLemmas
 pub mod ByKeyLemmas
 pub mod PartLemmas
 pub mod AskedLemmas
+mod CandidateLemmas
 pub mod Told

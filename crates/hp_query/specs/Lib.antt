@@ -1,4 +1,5 @@
 pub mod ByKey
+pub mod Candidates
 pub mod Looks
 pub mod Mapped
 pub mod Plain

@@ -1,5 +1,5 @@
 -- What the crate's types stand for in the model.
-use Rattle.std.specs.Prelude.{List, map, string_bytes}
+use Rattle.std.specs.Prelude.{List, [], ◌∷◌, Some, None, map, string_bytes}
 use Rattle.std.specs.Global.{Vec}
 use Rattle.hp_model.specs.Values as V
 use Rattle.hp_model.specs.Rules as R
@@ -7,6 +7,8 @@ use Rattle.hp_model.specs.Conditions as C
 use Rattle.hp_value.specs.declared.row.KeyedRow.{KeyedRow}
 use Rattle.hp_value.specs.Mapped.{keyed_row, expression, cause, answers, named_values}
 use Rattle.hp_query.specs.declared.query.Query.{Query}
+use Rattle.hp_query.specs.declared.candidates.Candidates.{Candidates}
+use Rattle.hp_query.specs.declared.candidates.Candidates.TheVariants as K
 use Rattle.hp_query.specs.declared.aggregate.Aggregate.{Aggregate}
 use Rattle.hp_query.specs.declared.aggregate.Aggregate.TheVariants as A
 use Rattle.hp_query.specs.declared.entry.Entry.{Entry}
@@ -33,6 +35,12 @@ entry (E.Let x a) = R.let_entry (string_bytes x) (aggregate a)
 
 abbrev pub keyed_rows : Vec KeyedRow → List V.KeyedRow
 keyed_rows rows = map keyed_row rows.items
+
+abbrev pub candidate_rows : Candidates → List V.KeyedRow
+candidate_rows (K.One None) = []
+candidate_rows (K.One (Some r)) = keyed_row r ∷ []
+candidate_rows (K.Part rows) = keyed_rows rows
+candidate_rows (K.All objects) = objects.value
 
 abbrev pub findings : Findings → C.Findings
 findings f = record { answers = answers f.answers.items; values = named_values f.values.items }

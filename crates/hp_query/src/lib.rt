@@ -8,6 +8,7 @@
 
 mod aggregate;
 mod by_key;
+mod candidates;
 mod collect;
 mod condition;
 mod entry;
