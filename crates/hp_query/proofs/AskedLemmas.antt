@@ -1,5 +1,5 @@
 -- Predicates that begin by asking for a part of a class, and their answers.
-use Rattle.std.proofs.Common.{◌≡◌, refl, sym, ap, ap₂, ◌∙◌, ℕ, ℤ, Bool, true, false, not, ◌&&◌, List, [], ◌∷◌, Ok, Err, if◌then◌else◌, int_eq, int_lt, arith}
+use Rattle.std.proofs.Common.{◌≡◌, refl, sym, ap, ap₂, ◌∙◌, ℕ, ℤ, Bool, true, false, not, ◌&&◌, List, Ok, Err, if◌then◌else◌, int_eq, int_lt, arith}
 use Rattle.std.specs.Prelude.{bytes_eq}
 use Rattle.std.specs.declared.cmp.Ordering.{Ordering}
 use Rattle.std.specs.declared.cmp.Ordering.TheVariants.{Less, Equal, Greater}
@@ -11,12 +11,9 @@ use Rattle.std.proofs.lemmas.Map.Text.{is_eq-slice_cmp}
 use lib.Pointwise.{bytes_decides}
 use Rattle.hp_model.specs.Values.{Name, Value, integer, boolean, text, KeyedRow, Outcome, ◌>>=◌}
 use Rattle.hp_model.specs.Expressions.{Expression, Comparison, equal, unequal, less, at_most, greater, at_least, both, compared, Environment, bound, as_boolean, field_in, is_equal, is_below, compare, value_of}
-use Rattle.hp_model.specs.ClassParts.{Attribute, key_attribute, field_attribute, attribute_of, ClassPart, lies_within, belongs, picked}
-use Rattle.hp_model.specs.Conditions.{selected, answer}
-use Rattle.hp_model.specs.State.{Objects, rows_of}
-use Rattle.hp_query.specs.Parts.{IsFalseOutside, AsksForPart, expression_of, turned, low_bound, high_bound}
+use Rattle.hp_model.specs.ClassParts.{Attribute, key_attribute, field_attribute, attribute_of, lies_within}
+use Rattle.hp_query.specs.Parts.{AsksForPart, expression_of, turned, low_bound, high_bound}
 use Rattle.hp_query.proofs.ByKeyLemmas.{value_stays, no_more, own_row}
-use Rattle.hp_query.proofs.SelectLemmas.{selected-cons, bind_ok}
 
 -- ---- two values that are in order aren't in the other order, and aren't equal
 

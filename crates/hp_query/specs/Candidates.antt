@@ -1,6 +1,6 @@
 -- The rows of a class on which a predicate has to be tested.
-use Rattle.std.specs.Prelude.{◌≡◌, Bool, false, List, filter, Ok}
-use Rattle.hp_model.specs.Values.{Name, KeyedRow}
+use Rattle.std.specs.Prelude.{◌≡◌, ℕ, Bool, false, List, length, filter, Ok}
+use Rattle.hp_model.specs.Values.{Name, KeyedRow, Outcome, ◌>>=◌}
 use Rattle.hp_model.specs.Expressions.{Expression, Environment, bound}
 use Rattle.hp_model.specs.Firing.{boolean_value}
 
@@ -9,3 +9,7 @@ pub record AreCandidates (env : Environment) (x : Name) (predicate : Expression)
   pub is_kept : KeyedRow → Bool
   pub kept : rows ≡ filter is_kept all
   pub elsewhere : (r : KeyedRow) → is_kept r ≡ false → boolean_value (bound x r env) predicate ≡ Ok false
+
+-- the number of rows of an answer
+abbrev pub counted : Outcome (List KeyedRow) → Outcome ℕ
+counted o = o >>= λ rows. Ok (length rows)

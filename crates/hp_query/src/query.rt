@@ -6,6 +6,7 @@ ghost use Rattle.hp_model.specs.State.{Objects};
 ghost use Rattle.hp_model.specs.Firing.{boolean_value};
 ghost use Rattle.hp_model.specs.Conditions as model;
 ghost use Rattle.hp_value.specs.Mapped.{Meets, keyed_row, environment, expression};
+ghost use Rattle.hp_query.specs.Candidates.{counted};
 ghost use Rattle.hp_query.specs.Looks.{ObjectsRise};
 ghost use Rattle.hp_query.specs.Mapped as mapped;
 ghost use Rattle.hp_query.specs.Mapped.{keyed_rows};
@@ -14,7 +15,7 @@ use crate::by_key::asks_key;
 use crate::candidates::{Asked, find_candidates};
 use crate::look::Look;
 use crate::part::asked_field;
-use hp_value::{ClassNo, Env, Expr, Halt, Key, KeyedRow, Row};
+use hp_value::{ClassNo, Env, Expr, Halt, KeyedRow};
 use std::alloc::{AllocError, Global};
 
 /// A query: the rows of a class for which a predicate is true. HiPAC's conditions are lists of queries.
@@ -94,42 +95,65 @@ pub fn selected_rows<L: Look>(
         env,
     };
     let found = find_candidates(alloc, &asked, look)?;
-    selected(alloc, name, found.rows(), predicate, env)
+    selected(alloc, &asked, found.rows())
+}
+
+/// The number of rows of a query's answer. It makes no list of them.
+///
+/// The errors are those of [`answer`].
+pub(crate) fn count_answer<L: Look>(
+    alloc: Global,
+    query: &Query,
+    env: &Env,
+    look: &mut L,
+) -> Result<usize, Halt>
+    ensures goes_on { L.goes_on look.old look.new }
+    ensures asks { L.asks query.now.class look.old look.new }
+    ensures narrows { (world : Objects) → L.allows look.new world → L.allows look.old world }
+    ensures count { let asked = mapped.query query.now in
+        (world : Objects) → ObjectsRise world → L.allows look.new world
+        → Meets (λ n. n) result
+        (counted (model.answer (environment env.now) asked.name asked.class asked.predicate world)) }
+{
+    let asked = Asked::new(query, env);
+    let found = find_candidates(alloc, &asked, look)?;
+    count_selected(alloc, &asked, found.rows())
+}
+
+/// The number of the given objects for which a predicate is true.
+fn count_selected(alloc: Global, asked: &Asked<'_>, objects: &[KeyedRow]) -> Result<usize, Halt>
+    ensures { Meets (λ n. n) result (counted (model.selected (environment asked.now.env.now) asked.now.name.now
+        (expression asked.now.predicate.now) (map keyed_row objects.now))) }
+{
+    let mut count = 0;
+    for object in objects {
+        if is_selected(alloc, asked, object)? {
+            count += 1;
+        }
+    }
+    Ok(count)
 }
 
 /// Those of the given objects for which a predicate is true, each tested under a name.
-fn selected(
-    alloc: Global,
-    name: &str,
-    objects: &[KeyedRow],
-    predicate: &Expr,
-    env: &Env,
-) -> Result<Vec<KeyedRow>, Halt>
-    ensures { Meets keyed_rows result
-        (model.selected (environment env.now) name.now (expression predicate.now) (map keyed_row objects.now)) }
+fn selected(alloc: Global, asked: &Asked<'_>, objects: &[KeyedRow]) -> Result<Vec<KeyedRow>, Halt>
+    ensures { Meets keyed_rows result (model.selected (environment asked.now.env.now) asked.now.name.now
+        (expression asked.now.predicate.now) (map keyed_row objects.now)) }
 {
     let mut rows = Vec::new(alloc);
     for object in objects {
-        if is_selected(alloc, name, object.key, &object.row, predicate, env)? {
+        if is_selected(alloc, asked, object)? {
             rows.push(object.clone()?).map_err(AllocError::from)?;
         }
     }
     Ok(rows)
 }
 
-/// Whether a predicate is true of a row, which its name means.
-fn is_selected(
-    alloc: Global,
-    name: &str,
-    key: Key,
-    row: &Row,
-    predicate: &Expr,
-    env: &Env,
-) -> Result<bool, Halt>
+/// Whether a predicate is true of an object, whose row its name means.
+pub(crate) fn is_selected(alloc: Global, asked: &Asked<'_>, object: &KeyedRow) -> Result<bool, Halt>
     ensures { Meets (λ b. b) result
-        (boolean_value (bound name.now (record { key = key; row = row.now }) (environment env.now))
-        (expression predicate.now)) }
+        (boolean_value (bound asked.now.name.now (keyed_row object.now) (environment asked.now.env.now))
+        (expression asked.now.predicate.now)) }
 {
-    let value = predicate.eval(alloc, &env.bound(name, key, row))?;
-    Ok(value.as_bool()?)
+    let env = asked.env.bound(asked.name, object.key, &object.row);
+    Ok(asked.predicate.eval(alloc, &env)?.as_bool()?)
 }
