@@ -59,7 +59,11 @@ fn aggregate_form<'a>(word: &str, parts: &'a [Value]) -> Option<AggregateForm<'a
                 class,
                 predicate,
             };
-            if word == "count" { Some(AggregateForm::Count(rows)) } else { None }
+            if word == "count" {
+                Some(AggregateForm::Count(rows))
+            } else {
+                None
+            }
         }
         [name, class, predicate, term] => {
             let rows = QueryForm {

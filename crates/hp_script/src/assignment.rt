@@ -78,7 +78,14 @@ pub(crate) fn assignments_at(
     let values = list_at(alloc, place, value)?;
     let mut pairs = Vec::with_capacity(alloc, values.len())?;
     for (i, value) in values.iter().enumerate() {
-        let pair = assignment_at(alloc, &place.item(i), fields, setting, pairs.as_slice(), value)?;
+        let pair = assignment_at(
+            alloc,
+            &place.item(i),
+            fields,
+            setting,
+            pairs.as_slice(),
+            value,
+        )?;
         pairs.push(pair)?;
     }
     Ok(pairs)

@@ -105,16 +105,18 @@ fn items_of(
     ensures reads { Gives schedule result
         (items_over (version_view version) (model_library library.now.value) (under_root (codes "items")) (view value.now)) }
 {
-    units_at(alloc, &Place::Member(Member::Items), version, library, value)
+    units_at(
+        alloc,
+        &Place::Member(Member::Items),
+        version,
+        library,
+        value,
+    )
 }
 
 /// The library in the root's members.
 #[tactic(auto, unfolding(crate::specs::Timed::library_at))]
-fn library_of(
-    alloc: Global,
-    version: Version,
-    root: &Root<'_>,
-) -> Result<Arc<Library>, DecodeError>
+fn library_of(alloc: Global, version: Version, root: &Root<'_>) -> Result<Arc<Library>, DecodeError>
     ensures { Gives (λ l. model_library l.value) result
         (library_at (version_view version) (root_view root.entry.now)) }
 {

@@ -50,11 +50,7 @@ fn action_at(
 }
 
 /// Whether a rule with this seventh part, which may be left out, is closed.
-fn closed_at(
-    alloc: Global,
-    place: &Place<'_>,
-    closing: Option<&Value>,
-) -> Result<bool, DecodeError>
+fn closed_at(alloc: Global, place: &Place<'_>, closing: Option<&Value>) -> Result<bool, DecodeError>
     ensures { Gives (λ b. b) result (closed_at (steps place.now) (option_map (λ v. view v.now) closing.entry)) }
 {
     match closing {

@@ -46,7 +46,11 @@ fn closing_in(version: Version, rest: &[Value]) -> Option<Option<&Value>>
 {
     match rest {
         [] => Some(None),
-        [closing] => if is_fourth(version) { Some(Some(closing)) } else { None },
+        [closing] => if is_fourth(version) {
+            Some(Some(closing))
+        } else {
+            None
+        },
         _ => None,
     }
 }

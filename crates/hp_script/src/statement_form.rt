@@ -62,10 +62,22 @@ fn statement_form_of_one<'a>(word: &str, part: &'a Value) -> Option<StatementFor
 {
     match word {
         "emit" => Some(StatementForm::Operation(OperationForm::Emit(part))),
-        "install" => Some(StatementForm::Operation(OperationForm::OnRule(RuleOperation::Install, part))),
-        "enable" => Some(StatementForm::Operation(OperationForm::OnRule(RuleOperation::Enable, part))),
-        "disable" => Some(StatementForm::Operation(OperationForm::OnRule(RuleOperation::Disable, part))),
-        "remove" => Some(StatementForm::Operation(OperationForm::OnRule(RuleOperation::Remove, part))),
+        "install" => Some(StatementForm::Operation(OperationForm::OnRule(
+            RuleOperation::Install,
+            part,
+        ))),
+        "enable" => Some(StatementForm::Operation(OperationForm::OnRule(
+            RuleOperation::Enable,
+            part,
+        ))),
+        "disable" => Some(StatementForm::Operation(OperationForm::OnRule(
+            RuleOperation::Disable,
+            part,
+        ))),
+        "remove" => Some(StatementForm::Operation(OperationForm::OnRule(
+            RuleOperation::Remove,
+            part,
+        ))),
         "fire" => Some(StatementForm::Operation(OperationForm::Fire(part))),
         _ => None,
     }
@@ -176,7 +188,10 @@ fn statement_form(version: Version, value: &Value) -> Option<StatementForm<'_>>
 fn is_veto(form: StatementForm<'_>) -> bool
     ensures { result ≡ is_veto (statement_form_view form.entry) }
 {
-    matches!(form, StatementForm::Operation(OperationForm::Veto | OperationForm::VetoWith(_)))
+    matches!(
+        form,
+        StatementForm::Operation(OperationForm::Veto | OperationForm::VetoWith(_))
+    )
 }
 
 /// The form of the statement at a place. A veto is allowed only in a rule's action.
