@@ -45,7 +45,7 @@ pub(crate) fn query_at(
         (query_at (class_names (scope_view scope.entry.now).classes) (setting_view setting.entry.now)
         (item_at (steps place.entry.now) first) (item_at (steps place.entry.now) (first + 1))
         (item_at (steps place.entry.now) (first + 2))
-        (view form.name.entry.now) (view form.class.entry.now) (view form.predicate.entry.now)) }
+        (view form.entry.name.now) (view form.entry.class.now) (view form.entry.predicate.now)) }
 {
     let name = new_row_at(alloc, &place.item(first), &setting.names, form.name)?;
     let class = class_at(alloc, &place.item(first + 1), scope, form.class)?;
