@@ -20,7 +20,7 @@ item_in (Err r) = None
 
 abbrev pub item_for : Stage → Line → Option Schedule
 item_for unopened l = None
-item_for (up base) l = item_in (request_of base.library base.clock l)
+item_for (up base) l = item_in (request_of base.version base.library base.clock l)
 item_for closed l = None
 
 abbrev pub value_if : Option Schedule → Decoded Data → List Data
