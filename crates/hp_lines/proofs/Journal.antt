@@ -10,7 +10,7 @@ use Rattle.hp_model.specs.Cascade.{Unit, Script, UnitReport, Evaluation, unit_re
 use Rattle.hp_model.specs.Scopes.{Scope}
 use Rattle.hp_model.specs.Refusals.{Path, Refusal, Decoded, under_root, item_at, over_limit, size_limit, shaped}
 use Rattle.hp_model.specs.Json.{list_of}
-use Rattle.hp_model.specs.Decode.{Version, Schedule, no_item, Root, version_at, root_of, json_at, unit_at, units_from, units_at, decode}
+use Rattle.hp_model.specs.Decode.{Version, Schedule, no_item, Root, version_at, root_of, json_at, unit_at, units_from, units_at, decode, script_of}
 use Rattle.hp_model.specs.Report.{Bytes, transaction_text, units_text}
 use Rattle.hp_model.specs.Output.{text_of}
 use Rattle.hp_report.specs.Text.{final_text}
@@ -336,7 +336,14 @@ replayed_by with_tree first later journal base script root entries items (Ok t) 
           ∙ ap (λ l. (units_text library with_tree 1 (run_units library t.script.units S).units ++ bodies) ++ final_text l base.state.objects base.state.rules) (sym on.library_is);
     }
 
+-- a text is read as its value, unless it is too long
+text_read : (text : Bytes) (d : Data) (script : Script) → decode d ≡ Ok script → json_at text ≡ Ok d
+    → script_of text ≡ cond (nat_lt 1048576 (length text)) (Err (over_limit size_limit)) (Ok script)
+unfolding script_of
+text_read text d script decoded value =
+    ap (λ r. cond (nat_lt 1048576 (length text)) (Err (over_limit size_limit)) r) (after_ok (json_at text) d decode value ∙ decoded)
+
 pub accepted_lines_replay : AcceptedLinesReplay
 accepted_lines_replay with_tree first later journal base ends j =
     let by = replayed_by with_tree first later journal base j.script j.root j.entries j.items (timed_script_of first) refl ends j.first_is j.root_is j.journal_is j.items_are j.entries_are in
-    record { script = by.script; decoded = by.decoded; library_is = by.library_is; state_is = by.state_is; report_is = by.report_is }
+    record { script = by.script; decoded = by.decoded; read_is = λ text value. text_read text journal by.script by.decoded value; library_is = by.library_is; state_is = by.state_is; report_is = by.report_is }
