@@ -10,7 +10,7 @@ use Rattle.hp_model.specs.Cascade.{Unit, Script, UnitReport, Evaluation, unit_re
 use Rattle.hp_model.specs.Scopes.{Scope}
 use Rattle.hp_model.specs.Refusals.{Path, Refusal, Decoded, under_root, item_at, over_limit, size_limit, shaped}
 use Rattle.hp_model.specs.Json.{list_of}
-use Rattle.hp_model.specs.Decode.{Schedule, no_item, Root, root_of, json_at, unit_at, units_from, units_at, decode}
+use Rattle.hp_model.specs.Decode.{Version, Schedule, no_item, Root, version_at, root_of, json_at, unit_at, units_from, units_at, decode, script_of}
 use Rattle.hp_model.specs.Report.{Bytes, transaction_text, units_text}
 use Rattle.hp_model.specs.Output.{text_of}
 use Rattle.hp_report.specs.Text.{final_text}
@@ -58,17 +58,17 @@ both : {A B : Type 0} (r : Decoded A) (f : A → Decoded B) (y : B) → (r >>= f
 both (Ok x) f y e = record { first = x; is = refl; then_is = e }
 both (Err r) f y e = cc
 
-from-append : (rules : List Rule) (scope : Scope) (path : Path) (before : Schedule) (i : ℕ) (ds es : List Data) (s : Schedule)
-    → units_from rules scope path before i ds ≡ Ok s → units_from rules scope path before i (ds ++ es) ≡ units_from rules scope path s (i + length ds) es
-from-append rules scope path before i [] es s read =
+from-append : (version : Version) (rules : List Rule) (scope : Scope) (path : Path) (before : Schedule) (i : ℕ) (ds es : List Data) (s : Schedule)
+    → units_from version rules scope path before i ds ≡ Ok s → units_from version rules scope path before i (ds ++ es) ≡ units_from version rules scope path s (i + length ds) es
+from-append version rules scope path before i [] es s read =
     let same : before ≡ s = cc in
     let place : i ≡ i + 0 = omega arith in
-    ap (λ (b : Schedule). units_from rules scope path b i es) same ∙ ap (λ n. units_from rules scope path s n es) place
-from-append rules scope path before i (d ∷ ds) es s read =
-    let parts = both (unit_at rules scope (item_at path i) before d) (λ next. units_from rules scope path next (suc i) ds) s read in
+    ap (λ (b : Schedule). units_from version rules scope path b i es) same ∙ ap (λ n. units_from version rules scope path s n es) place
+from-append version rules scope path before i (d ∷ ds) es s read =
+    let parts = both (unit_at version rules scope (item_at path i) before d) (λ next. units_from version rules scope path next (suc i) ds) s read in
     let place : suc i + length ds ≡ i + suc (length ds) = omega arith in
-    after_ok (unit_at rules scope (item_at path i) before d) parts.first (λ next. units_from rules scope path next (suc i) (ds ++ es)) parts.is
-    ∙ from-append rules scope path parts.first (suc i) ds es s parts.then_is ∙ ap (λ n. units_from rules scope path s n es) place
+    after_ok (unit_at version rules scope (item_at path i) before d) parts.first (λ next. units_from version rules scope path next (suc i) (ds ++ es)) parts.is
+    ∙ from-append version rules scope path parts.first (suc i) ds es s parts.then_is ∙ ap (λ n. units_from version rules scope path s n es) place
 
 -- ---- a line that is accepted
 
@@ -77,15 +77,15 @@ unless_ok true e r x h = cc
 unless_ok false e r x h = h
 
 -- its value, and what is read of it
-record IsItem (library : Library) (clock : ℕ) (l : Line) (s : Schedule) : Type 0 where
+record IsItem (version : Version) (library : Library) (clock : ℕ) (l : Line) (s : Schedule) : Type 0 where
   pub value : Data
   pub value_is : json_at l ≡ Ok value
-  pub reads : unit_at library.rules (library_scope library) [] (nothing_since clock) value ≡ Ok s
+  pub reads : unit_at version library.rules (library_scope library) [] (nothing_since clock) value ≡ Ok s
 
-item_or_show : (library : Library) (clock : ℕ) (d : Data) (form : Option ShowForm) (s : Schedule) → request_from library clock d form ≡ Ok (item s) → item_of library clock d ≡ Ok (item s)
+item_or_show : (version : Version) (library : Library) (clock : ℕ) (d : Data) (form : Option ShowForm) (s : Schedule) → request_from version library clock d form ≡ Ok (item s) → item_of version library clock d ≡ Ok (item s)
 unfolding show_of
-item_or_show library clock d None s h = h
-item_or_show library clock d (Some form) s h =
+item_or_show version library clock d None s h = h
+item_or_show version library clock d (Some form) s h =
     let shown = both (excerpt_from library form) (λ e. Ok (show e)) (item s) h in
     let clash : Ok (show shown.first) ≡ Ok (item s) = shown.then_is in
     cc
@@ -96,12 +96,12 @@ asked_for s = Ok (item s)
 same_item : (s t : Schedule) (r : Decoded Schedule) → r ≡ Ok s → asked_for s ≡ asked_for t → r ≡ Ok t
 same_item s t r read e = let same : s ≡ t = cc in read ∙ ap (λ (x : Schedule). Ok x) same
 
-item_read : (library : Library) (clock : ℕ) (l : Line) (s : Schedule) → request_of library clock l ≡ Ok (item s) → IsItem library clock l s
+item_read : (version : Version) (library : Library) (clock : ℕ) (l : Line) (s : Schedule) → request_of version library clock l ≡ Ok (item s) → IsItem version library clock l s
 unfolding request_of request_at item_of
-item_read library clock l s read =
-    let parts = both (json_at l) (request_at library clock) (item s) (unless_ok (nat_lt 1048576 (length l)) (over_limit size_limit) (json_at l >>= request_at library clock) (item s) read) in
-    let asked = item_or_show library clock parts.first (show_form_in parts.first) s parts.then_is in
-    let schedule = both (unit_at library.rules (library_scope library) [] (nothing_since clock) parts.first) (λ x. Ok (item x)) (item s) asked in
+item_read version library clock l s read =
+    let parts = both (json_at l) (request_at version library clock) (item s) (unless_ok (nat_lt 1048576 (length l)) (over_limit size_limit) (json_at l >>= request_at version library clock) (item s) read) in
+    let asked = item_or_show version library clock parts.first (show_form_in parts.first) s parts.then_is in
+    let schedule = both (unit_at version library.rules (library_scope library) [] (nothing_since clock) parts.first) (λ x. Ok (item x)) (item s) asked in
     record { value = parts.first; value_is = parts.is; reads = same_item schedule.first s _ schedule.is schedule.then_is }
 
 -- ---- lines after the first
@@ -115,7 +115,7 @@ record Leads (S : State) (before : Schedule) (base : RuleBase) : Type 0 where
 -- items that are read after others lead on, and say more
 record Leads_on (with_tree : Bool) (S : State) (path : Path) (base : RuleBase) (before : Schedule) (i : ℕ) (ds : List Data) (bodies : Bytes) (end : RuleBase) : Type 0 where
   pub all : Schedule
-  pub reads : units_from base.library.rules (library_scope base.library) path before i ds ≡ Ok all
+  pub reads : units_from base.version base.library.rules (library_scope base.library) path before i ds ≡ Ok all
   pub library_is : end.library ≡ base.library
   pub state_is : (run_units base.library all.units S).state ≡ end.state
   pub text : units_text base.library with_tree 1 (run_units base.library all.units S).units ≡ units_text base.library with_tree 1 (run_units base.library before.units S).units ++ bodies
@@ -124,7 +124,7 @@ record Leads_on (with_tree : Bool) (S : State) (path : Path) (base : RuleBase) (
 abbrev ran_to : RuleBase → Schedule → RuleBase
 ran_to base s =
     let e = run_units base.library s.units base.state in
-    record { library = base.library; state = e.state; clock = s.clock; units = base.units + length e.units }
+    record { version = base.version; library = base.library; state = e.state; clock = s.clock; units = base.units + length e.units }
 
 abbrev joined : Schedule → Schedule → Schedule
 joined before s = record { units = before.units ++ s.units; clock = s.clock }
@@ -162,24 +162,24 @@ text_joined with_tree S base before s leads =
 step : (with_tree : Bool) (S : State) (path : Path) (base : RuleBase) (before : Schedule) (i : ℕ) (l : Line) (ls : List Line) (end : RuleBase)
     → ((base : RuleBase) (before : Schedule) (i : ℕ) → Leads S before base → stage_after with_tree (up base) ls ≡ up end
     → Leads_on with_tree S path base before i (accepted with_tree (up base) ls) (accepted_bodies with_tree (up base) ls) end)
-    → Leads S before base → (r : Decoded Request) → request_of base.library base.clock l ≡ r → stage_after with_tree (later_answer with_tree base r).stage ls ≡ up end
+    → Leads S before base → (r : Decoded Request) → request_of base.version base.library base.clock l ≡ r → stage_after with_tree (later_answer with_tree base r).stage ls ≡ up end
     → Leads_on with_tree S path base before i (value_if (item_in r) (json_at l) ++ accepted with_tree (later_answer with_tree base r).stage ls)
     (body_if (item_in r) (later_answer with_tree base r).body ++ accepted_bodies with_tree (later_answer with_tree base r).stage ls) end
 step with_tree S path base before i l ls end rest leads (Err e) asked ends = rest base before i leads ends
 step with_tree S path base before i l ls end rest leads (Ok (show excerpt)) asked ends = rest base before i leads ends
 step with_tree S path base before i l ls end rest leads (Ok (item s)) asked ends =
-    let read = item_read base.library base.clock l s asked in
+    let read = item_read base.version base.library base.clock l s asked in
     let clock : nothing_since base.clock ≡ nothing_since before.clock = ap nothing_since (sym leads.clock_is) in
-    let alone = ap (λ b. unit_at base.library.rules (library_scope base.library) [] b read.value) (sym clock) ∙ read.reads in
-    let here = unit_goes base.library.rules (library_scope base.library) before read.value [] (item_at path i) s alone in
+    let alone = ap (λ b. unit_at base.version base.library.rules (library_scope base.library) [] b read.value) (sym clock) ∙ read.reads in
+    let here = unit_goes base.version base.library.rules (library_scope base.library) before read.value [] (item_at path i) s alone in
     let later = rest (ran_to base s) (joined before s) (suc i) (leads_joined S base before s leads) ends in
     let body = units_text base.library with_tree (base.units + 1) (run_units base.library s.units base.state).units in
     let more = accepted_bodies with_tree (up (ran_to base s)) ls in
     record {
       all = later.all;
       reads =
-          ap (λ v. units_from base.library.rules (library_scope base.library) path before i (value_if (Some s) v ++ accepted with_tree (up (ran_to base s)) ls)) read.value_is
-          ∙ after_ok _ (joined before s) (λ next. units_from base.library.rules (library_scope base.library) path next (suc i) (accepted with_tree (up (ran_to base s)) ls)) here
+          ap (λ v. units_from base.version base.library.rules (library_scope base.library) path before i (value_if (Some s) v ++ accepted with_tree (up (ran_to base s)) ls)) read.value_is
+          ∙ after_ok _ (joined before s) (λ next. units_from base.version base.library.rules (library_scope base.library) path next (suc i) (accepted with_tree (up (ran_to base s)) ls)) here
           ∙ later.reads;
       library_is = later.library_is;
       state_is = later.state_is;
@@ -204,46 +204,64 @@ later_lines with_tree S path base before i [] end leads ends =
     }
 later_lines with_tree S path base before i (l ∷ ls) end leads ends =
     step with_tree S path base before i l ls end (λ base' before' i' leads' ends'. later_lines with_tree S path base' before' i' ls end leads' ends')
-    leads (request_of base.library base.clock l) refl ends
+    leads (request_of base.version base.library base.clock l) refl ends
 
 -- ---- the first line
 
 -- what the first line's script is read from
 record Opening (script : Data) (root : Root) (items : List Data) (t : TimedScript) : Type 0 where
   pub schedule : Schedule
-  pub library_read : library_at root ≡ Ok t.script.library
-  pub items_read : units_from t.script.library.rules (library_scope t.script.library) (under_root (codes "items")) no_item 0 items ≡ Ok schedule
+  pub version_read : version_at (under_root (codes "version")) root.version ≡ Ok t.version
+  pub library_read : library_at t.version root ≡ Ok t.script.library
+  pub items_read : units_from t.version t.script.library.rules (library_scope t.script.library) (under_root (codes "items")) no_item 0 items ≡ Ok schedule
   pub units_are : t.script.units ≡ schedule.units
   pub clock_is : t.clock ≡ schedule.clock
 
-listed : (rules : List Rule) (scope : Scope) (path : Path) (d : Data) (ds : List Data) → list_of d ≡ Some ds → units_at rules scope path d ≡ units_from rules scope path no_item 0 ds
+listed : (version : Version) (rules : List Rule) (scope : Scope) (path : Path) (d : Data) (ds : List Data) → list_of d ≡ Some ds → units_at version rules scope path d ≡ units_from version rules scope path no_item 0 ds
 unfolding units_at
-listed rules scope path d ds is = ap (λ o. shaped path o >>= units_from rules scope path no_item 0) is
+listed version rules scope path d ds is = ap (λ o. shaped path o >>= units_from version rules scope path no_item 0) is
 
-abbrev timed : Library → Schedule → TimedScript
-timed library s = record { script = record { library = library; units = s.units }; clock = s.clock }
+abbrev timed : Version → Library → Schedule → TimedScript
+timed version library s = record { script = record { library = library; units = s.units }; version = version; clock = s.clock }
 
-abbrev read_timed : Library → Schedule → Decoded TimedScript
-read_timed library s = Ok (timed library s)
+abbrev read_timed : Version → Library → Schedule → Decoded TimedScript
+read_timed version library s = Ok (timed version library s)
+
+-- the items of a root over a library
+abbrev items_after : Version → Root → Library → Decoded TimedScript
+items_after version root library =
+    units_at version library.rules (library_scope library) (under_root (codes "items")) root.items >>= read_timed version library
+
+-- the library of a root and its items
+abbrev rest_after : Root → Version → Decoded TimedScript
+rest_after root version = library_at version root >>= items_after version root
+
+abbrev all_of : Root → Decoded TimedScript
+all_of root = version_at (under_root (codes "version")) root.version >>= rest_after root
+
+opened : (script : Data) (root : Root) (items : List Data) (t : TimedScript) (version : Version) (library : Library) (schedule : Schedule)
+    → timed version library schedule ≡ t → version_at (under_root (codes "version")) root.version ≡ Ok version → library_at version root ≡ Ok library
+    → units_from version library.rules (library_scope library) (under_root (codes "items")) no_item 0 items ≡ Ok schedule → Opening script root items t
+opened script root items t version library schedule same is_version is_library are_items =
+    subst (λ (x : TimedScript). Opening script root items x) same (record {
+      schedule = schedule;
+      version_read = is_version;
+      library_read = is_library;
+      items_read = are_items;
+      units_are = refl;
+      clock_is = refl;
+    })
 
 opening : (script : Data) (root : Root) (items : List Data) (t : TimedScript) → root_of script ≡ Some root → list_of root.items ≡ Some items → timed_script_at script ≡ Ok t → Opening script root items t
 unfolding timed_script_at
 opening script root items t root_is items_are read =
-    let of_root = sym (ap (λ o. shaped [] o >>= λ r. library_at r >>= λ library. units_at library.rules (library_scope library) (under_root (codes "items")) r.items >>= read_timed library) root_is) ∙ read in
-    let parts = both (library_at root) (λ library. units_at library.rules (library_scope library) (under_root (codes "items")) root.items >>= read_timed library) t of_root in
-    let library = parts.first in
-    let rest = both (units_at library.rules (library_scope library) (under_root (codes "items")) root.items) (read_timed library) t parts.then_is in
-    let same : timed library rest.first ≡ t = cc in
-    let library_is : library ≡ t.script.library = ap (λ (x : TimedScript). x.script.library) same in
-    record {
-      schedule = rest.first;
-      library_read = parts.is ∙ ap (λ l. Ok l) library_is;
-      items_read =
-          subst (λ (l : Library). units_from l.rules (library_scope l) (under_root (codes "items")) no_item 0 items ≡ Ok rest.first) library_is
-          (sym (listed library.rules (library_scope library) (under_root (codes "items")) root.items items items_are) ∙ rest.is);
-      units_are = ap (λ (x : TimedScript). x.script.units) (sym same);
-      clock_is = ap (λ (x : TimedScript). x.clock) (sym same);
-    }
+    let of_root = sym (ap (λ o. shaped [] o >>= all_of) root_is) ∙ read in
+    let head = both (version_at (under_root (codes "version")) root.version) (rest_after root) t of_root in
+    let part = both (library_at head.first root) (items_after head.first root) t head.then_is in
+    let rest = both (units_at head.first part.first.rules (library_scope part.first) (under_root (codes "items")) root.items) (read_timed head.first part.first) t part.then_is in
+    let same : timed head.first part.first rest.first ≡ t = cc in
+    opened script root items t head.first part.first rest.first same head.is part.is
+    (sym (listed head.first part.first.rules (library_scope part.first) (under_root (codes "items")) root.items items items_are) ∙ rest.is)
 
 -- ---- the journal
 
@@ -251,18 +269,20 @@ opening script root items t root_is items_are read =
 abbrev with_entries : Root → Data → Root
 with_entries root entries = record { version = root.version; depth = root.depth; classes = root.classes; rules = root.rules; items = entries }
 
-same_library : (root : Root) (entries : Data) → library_at (with_entries root entries) ≡ library_at root
+same_library : (version : Version) (root : Root) (entries : Data) → library_at version (with_entries root entries) ≡ library_at version root
 unfolding library_at
-same_library root entries = refl
+same_library version root entries = refl
 
-journal_read : (journal : Data) (root : Root) (entries : Data) (library : Library) (all : Schedule) → root_of journal ≡ Some (with_entries root entries) → library_at root ≡ Ok library
-    → units_at library.rules (library_scope library) (under_root (codes "items")) entries ≡ Ok all → timed_script_at journal ≡ read_timed library all
+journal_read : (journal : Data) (root : Root) (entries : Data) (version : Version) (library : Library) (all : Schedule) → root_of journal ≡ Some (with_entries root entries)
+    → version_at (under_root (codes "version")) root.version ≡ Ok version → library_at version root ≡ Ok library
+    → units_at version library.rules (library_scope library) (under_root (codes "items")) entries ≡ Ok all → timed_script_at journal ≡ read_timed version library all
 unfolding timed_script_at
-journal_read journal root entries library all is_root is_library is_all =
-    let units : Library → Decoded Schedule = λ l. units_at l.rules (library_scope l) (under_root (codes "items")) entries in
-    ap (λ o. shaped [] o >>= λ r. library_at r >>= λ l. units_at l.rules (library_scope l) (under_root (codes "items")) r.items >>= read_timed l) is_root
-    ∙ after_ok (library_at (with_entries root entries)) library (λ l. units l >>= read_timed l) (same_library root entries ∙ is_library)
-    ∙ after_ok (units library) all (read_timed library) is_all
+journal_read journal root entries version library all is_root is_version is_library is_all =
+    let whole = with_entries root entries in
+    ap (λ o. shaped [] o >>= all_of) is_root
+    ∙ after_ok (version_at (under_root (codes "version")) root.version) version (rest_after whole) is_version
+    ∙ after_ok (library_at version whole) library (items_after version whole) (same_library version root entries ∙ is_library)
+    ∙ after_ok (units_at version library.rules (library_scope library) (under_root (codes "items")) entries) all (read_timed version library) is_all
 
 first_read : (first : Line) (script : Data) (t : TimedScript) → json_at first ≡ Ok script → timed_script_of first ≡ Ok t → timed_script_at script ≡ Ok t
 unfolding timed_script_of
@@ -290,7 +310,7 @@ replayed_by with_tree first later journal base script root entries items (Ok t) 
     let S = initial_state library in
     let o = opening script root items t is_root are_items (first_read first script t value read) in
     let given : Schedule = record { units = t.script.units; clock = t.clock } in
-    let opened = ran_to (new_base library) given in
+    let opened = ran_to (new_base t.version library) given in
     let path = under_root (codes "items") in
     let ran_first = (run_units library t.script.units S).units in
     let from_none : length ran_first ≡ 0 + length ran_first = omega arith in
@@ -300,12 +320,12 @@ replayed_by with_tree first later journal base script root entries items (Ok t) 
       units_are = ap (λ us. length (run_units library us S).units) (sym o.units_are) ∙ from_none;
     } in
     let on = later_lines with_tree S path opened o.schedule (0 + length items) later base leads ends in
-    let all_read = listed library.rules (library_scope library) path entries (items ++ accepted with_tree (up opened) later) are_entries
-    ∙ from-append library.rules (library_scope library) path no_item 0 items (accepted with_tree (up opened) later) o.schedule o.items_read ∙ on.reads in
-    let timed_is = journal_read journal root entries library on.all is_journal o.library_read all_read in
+    let all_read = listed t.version library.rules (library_scope library) path entries (items ++ accepted with_tree (up opened) later) are_entries
+    ∙ from-append t.version library.rules (library_scope library) path no_item 0 items (accepted with_tree (up opened) later) o.schedule o.items_read ∙ on.reads in
+    let timed_is = journal_read journal root entries t.version library on.all is_journal o.version_read o.library_read all_read in
     let bodies = accepted_bodies with_tree (up opened) later in
     record {
-      script = (timed library on.all).script;
+      script = (timed t.version library on.all).script;
       decoded = sym (untimed_at journal) ∙ ap untimed timed_is;
       library_is = sym on.library_is;
       state_is = on.state_is;
@@ -316,7 +336,14 @@ replayed_by with_tree first later journal base script root entries items (Ok t) 
           ∙ ap (λ l. (units_text library with_tree 1 (run_units library t.script.units S).units ++ bodies) ++ final_text l base.state.objects base.state.rules) (sym on.library_is);
     }
 
+-- a text is read as its value, unless it is too long
+text_read : (text : Bytes) (d : Data) (script : Script) → decode d ≡ Ok script → json_at text ≡ Ok d
+    → script_of text ≡ cond (nat_lt 1048576 (length text)) (Err (over_limit size_limit)) (Ok script)
+unfolding script_of
+text_read text d script decoded value =
+    ap (λ r. cond (nat_lt 1048576 (length text)) (Err (over_limit size_limit)) r) (after_ok (json_at text) d decode value ∙ decoded)
+
 pub accepted_lines_replay : AcceptedLinesReplay
 accepted_lines_replay with_tree first later journal base ends j =
     let by = replayed_by with_tree first later journal base j.script j.root j.entries j.items (timed_script_of first) refl ends j.first_is j.root_is j.journal_is j.items_are j.entries_are in
-    record { script = by.script; decoded = by.decoded; library_is = by.library_is; state_is = by.state_is; report_is = by.report_is }
+    record { script = by.script; decoded = by.decoded; read_is = λ text value. text_read text journal by.script by.decoded value; library_is = by.library_is; state_is = by.state_is; report_is = by.report_is }

@@ -5,7 +5,7 @@ use Rattle.std.proofs.lemmas.List.{take_all, length-take-le}
 use Rattle.hp_model.specs.Values.{◌>>=◌}
 use Rattle.hp_model.specs.Rules.{Library}
 use Rattle.hp_model.specs.Refusals.{over_limit, size_limit}
-use Rattle.hp_model.specs.Decode.{json_at}
+use Rattle.hp_model.specs.Decode.{Version, json_at}
 use Rattle.hp_script.specs.Timed.{timed_script_at, timed_script_of}
 use Rattle.hp_script.specs.Requests.{request_at, request_of}
 use Rattle.hp_lines.specs.Lines.{Line}
@@ -15,9 +15,9 @@ long_script : (bytes : List ℕ) → 1048576 < length bytes → timed_script_of 
 unfolding timed_script_of
 long_script bytes h = ap (λ b. cond b (Err (over_limit size_limit)) (json_at bytes >>= timed_script_at)) (lt-ltb _ _ h)
 
-long_request : (library : Library) (clock : ℕ) (bytes : List ℕ) → 1048576 < length bytes → request_of library clock bytes ≡ Err (over_limit size_limit)
+long_request : (version : Version) (library : Library) (clock : ℕ) (bytes : List ℕ) → 1048576 < length bytes → request_of version library clock bytes ≡ Err (over_limit size_limit)
 unfolding request_of
-long_request library clock bytes h = ap (λ b. cond b (Err (over_limit size_limit)) (json_at bytes >>= request_at library clock)) (lt-ltb _ _ h)
+long_request version library clock bytes h = ap (λ b. cond b (Err (over_limit size_limit)) (json_at bytes >>= request_at version library clock)) (lt-ltb _ _ h)
 
 -- what gives the same for all long lines gives the same for what is kept
 cut : {A : Type 0} (most : ℕ) (f : List ℕ → A) (r : A) (l : Line) → ((bytes : List ℕ) → most ≤ length bytes → f bytes ≡ r) → f (take most l) ≡ f l
@@ -31,5 +31,5 @@ pub kept_answer : (with_tree : Bool) (stage : Stage) (l : Line) → answer with_
 kept_answer with_tree unopened l =
     ap (opening_answer with_tree) (cut 1048577 timed_script_of (Err (over_limit size_limit)) l (λ bytes h. long_script bytes (omega arith)))
 kept_answer with_tree (up base) l =
-    ap (later_answer with_tree base) (cut 1048577 (request_of base.library base.clock) (Err (over_limit size_limit)) l (λ bytes h. long_request base.library base.clock bytes (omega arith)))
+    ap (later_answer with_tree base) (cut 1048577 (request_of base.version base.library base.clock) (Err (over_limit size_limit)) l (λ bytes h. long_request base.version base.library base.clock bytes (omega arith)))
 kept_answer with_tree closed l = refl

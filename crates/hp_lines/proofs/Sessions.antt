@@ -31,6 +31,18 @@ pub clock_goes_on : output false (codes "{\"version\":1,\"classes\":[],\"rules\"
 unfolding script_on_literals library_at timed_script_at timed_script_of item_of request_at request_of
 clock_goes_on = refl
 
+-- in version 4 a line has the clock's moment, which a line `clock` moves, `let`s, and vetoes with a message
+pub fourth : output false (codes "{\"version\":4,\"classes\":[[\"a\",[]]],\"rules\":[[\"r\",[\"signal\",\"go\"],\"immediate\",[],\"immediate\",[[\"veto\",[\"now\"]]]]],\"items\":[[\"tx\",[[\"install\",\"r\"]]]]}\n[\"clock\",5]\n[\"tx\",[[\"signal\",\"go\",[]]]]\n[\"tx\",[[\"let\",\"k\",[\"next\",\"a\"],[[\"create\",\"a\",[\"value\",\"k\"],[]],[\"emit\",[\"now\"]]]]]]\n[\"show\"]")
+    ≡ lines (codes "unit 1 committed" ∷ codes "ok 1" ∷ codes "ok 1" ∷ codes "unit 2 aborted A9 r 5" ∷ codes "ok 2" ∷ codes "unit 3 committed" ∷ codes "emit 5" ∷ codes "ok 3" ∷ codes "object a 1" ∷ codes "rule r enabled" ∷ codes "ok 3" ∷ [])
+unfolding script_on_literals library_at timed_script_at timed_script_of excerpt_from show_of item_of request_at request_of
+fourth = refl
+
+-- what version 4 has alone is refused in a line of version 2
+pub second : output false (codes "{\"version\":2,\"classes\":[],\"rules\":[],\"items\":[]}\n[\"tx\",[[\"emit\",[\"now\"]]]]\n")
+    ≡ lines (codes "ok 0" ∷ codes "refused S2 /1/0/1" ∷ [])
+unfolding script_on_literals library_at timed_script_at timed_script_of item_of request_at request_of
+second = refl
+
 -- after a refused script nothing is answered
 pub refused_script : output false (codes "[]\n[\"show\"]\n") ≡ lines (codes "refused S2 /" ∷ [])
 unfolding script_on_literals library_at timed_script_at timed_script_of item_of request_at request_of

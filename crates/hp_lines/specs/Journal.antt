@@ -1,10 +1,10 @@
 -- Accepted lines are a journal: a script of their items gives the same answers and the same state.
-use Rattle.std.specs.Prelude.{◌≡◌, Bool, List, [], ◌∷◌, ◌++◌, Option, Some, None, Ok, Err}
+use Rattle.std.specs.Prelude.{◌≡◌, nat_lt, Bool, List, [], ◌∷◌, ◌++◌, length, Option, Some, None, Ok, Err, if◌then◌else◌}
 use Rattle.serde_json.specs.Data.{Data}
 use Rattle.hp_model.specs.Cascade.{Script, evaluate}
-use Rattle.hp_model.specs.Refusals.{Decoded}
+use Rattle.hp_model.specs.Refusals.{Decoded, over_limit, size_limit}
 use Rattle.hp_model.specs.Json.{list_of}
-use Rattle.hp_model.specs.Decode.{Schedule, Root, root_of, json_at, decode}
+use Rattle.hp_model.specs.Decode.{Schedule, Root, root_of, json_at, decode, script_of}
 use Rattle.hp_model.specs.Report.{Bytes}
 use Rattle.hp_model.specs.Output.{text_of}
 use Rattle.hp_report.specs.Text.{final_text}
@@ -20,7 +20,7 @@ item_in (Err r) = None
 
 abbrev pub item_for : Stage → Line → Option Schedule
 item_for unopened l = None
-item_for (up base) l = item_in (request_of base.library base.clock l)
+item_for (up base) l = item_in (request_of base.version base.library base.clock l)
 item_for closed l = None
 
 abbrev pub value_if : Option Schedule → Decoded Data → List Data
@@ -62,6 +62,8 @@ pub record IsJournal (with_tree : Bool) (first : Line) (later : List Line) (jour
 pub record Replays (with_tree : Bool) (first : Line) (later : List Line) (journal : Data) (base : RuleBase) : Type 0 where
   pub script : Script
   pub decoded : decode journal ≡ Ok script
+  -- a text of the journal is read as the script, unless it is longer than a script may be
+  pub read_is : (text : Bytes) → json_at text ≡ Ok journal → script_of text ≡ (if nat_lt 1048576 (length text) then Err (over_limit size_limit) else Ok script)
   pub library_is : script.library ≡ base.library
   pub state_is : (evaluate script).state ≡ base.state
   pub report_is : text_of with_tree (Ok script)

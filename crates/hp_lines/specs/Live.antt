@@ -4,7 +4,7 @@ use Rattle.hp_model.specs.Rules.{Library}
 use Rattle.hp_model.specs.State.{State, initial_state}
 use Rattle.hp_model.specs.Cascade.{run_units}
 use Rattle.hp_model.specs.Refusals.{Decoded}
-use Rattle.hp_model.specs.Decode.{Schedule}
+use Rattle.hp_model.specs.Decode.{Version, Schedule}
 use Rattle.hp_model.specs.Report.{Bytes, line, units_text}
 use Rattle.hp_model.specs.Output.{refusal_text}
 use Rattle.hp_report.specs.Text.{state_text, class_text, object_text}
@@ -14,15 +14,16 @@ use Rattle.hp_lines.specs.Lines.{Line, lines_of, kept_with, begun}
 
 -- ---- a running rule base
 
--- its library, its state, its clock's time, and how many units have run
+-- the version of its script, its library, its state, its clock's time, and how many units have run
 pub record RuleBase : Type 0 where
+  pub version : Version
   pub library : Library
   pub state : State
   pub clock : ℕ
   pub units : ℕ
 
-abbrev pub new_base : Library → RuleBase
-new_base library = record { library = library; state = initial_state library; clock = 0; units = 0 }
+abbrev pub new_base : Version → Library → RuleBase
+new_base version library = record { version = version; library = library; state = initial_state library; clock = 0; units = 0 }
 
 -- before the first line; a rule base is running; the script was refused, and later lines get no answer
 pub data Stage : Type 0 where
@@ -49,13 +50,13 @@ ran with_tree base schedule =
     record {
       body = units_text base.library with_tree (base.units + 1) e.units;
       last = ok_line units;
-      stage = up (record { library = base.library; state = e.state; clock = schedule.clock; units = units });
+      stage = up (record { version = base.version; library = base.library; state = e.state; clock = schedule.clock; units = units });
     }
 
 -- a refused line changes nothing
 abbrev pub opening_answer : (with_tree : Bool) → Decoded TimedScript → Answer
 opening_answer with_tree (Err r) = record { body = []; last = refusal_text r; stage = closed }
-opening_answer with_tree (Ok t) = ran with_tree (new_base t.script.library) (record { units = t.script.units; clock = t.clock })
+opening_answer with_tree (Ok t) = ran with_tree (new_base t.version t.script.library) (record { units = t.script.units; clock = t.clock })
 
 -- the lines of a part of a state
 abbrev pub excerpt_text : Library → State → Excerpt → Bytes
@@ -69,10 +70,10 @@ later_answer with_tree base (Ok (item schedule)) = ran with_tree base schedule
 later_answer with_tree base (Ok (show excerpt)) =
     record { body = excerpt_text base.library base.state excerpt; last = ok_line base.units; stage = up base }
 
--- the first line is a script; each later one is an item over its library, or asks for a part of the state
+-- the first line is a script; each later one is an item of its version over its library, or asks for a part of the state
 abbrev pub answer : (with_tree : Bool) → Stage → Line → Answer
 answer with_tree unopened l = opening_answer with_tree (timed_script_of l)
-answer with_tree (up base) l = later_answer with_tree base (request_of base.library base.clock l)
+answer with_tree (up base) l = later_answer with_tree base (request_of base.version base.library base.clock l)
 answer with_tree closed l = record { body = []; last = []; stage = closed }
 
 -- ---- lines, one after the other

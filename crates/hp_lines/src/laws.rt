@@ -5,7 +5,7 @@ ghost use Rattle.hp_lines.specs.Laws.{BytesAreLines, PiecesCompose, ScriptsAreRe
 
 /// Accepted lines replay as one script, whose items are those of the first line and then the accepted ones. The
 /// answers, without their last lines, are the text of the units in the script's report, and the state is the script's
-/// final state.
+/// final state. A text of the script is read as the script, unless it is longer than a script may be.
 pub fn accepted_lines_replay()
     ensures { AcceptedLinesReplay }
 {}

@@ -6,6 +6,7 @@ use Rattle.hp_model.specs.Output.{refusal_text}
 use Rattle.hp_rule.specs.Mapped.{library}
 use Rattle.hp_script.specs.Timed.{TimedScript, timed_script_of}
 use Rattle.hp_script.specs.Requests as R
+use Rattle.hp_script.specs.Versions.{version_view}
 use Rattle.hp_script.specs.Requests.{Request, request_of}
 use Rattle.hp_lines.specs.Live as L
 use Rattle.hp_live.specs.Kept.{StandsFor, IsStage, Answers}
@@ -15,25 +16,28 @@ use Rattle.hp_live.specs.declared.server.Stage.{Stage}
 use Rattle.hp_live.specs.declared.server.Stage.TheVariants.{Up}
 
 -- a line is read with what is kept as with what that stands for
-pub asked_of : (kept : RuleBase) (base : L.RuleBase) (line : List ℕ) (r : Decoded Request) → StandsFor kept base → request_of (library kept.library.value) kept.clock line ≡ r → request_of base.library base.clock line ≡ r
-asked_of kept base line r stands read = ap (λ l. request_of l base.clock line) stands.library_is ∙ ap (λ t. request_of (library kept.library.value) t line) (sym stands.clock_is) ∙ read
+pub asked_of : (kept : RuleBase) (base : L.RuleBase) (line : List ℕ) (r : Decoded Request) → StandsFor kept base → request_of (version_view kept.version) (library kept.library.value) kept.clock line ≡ r → request_of base.version base.library base.clock line ≡ r
+asked_of kept base line r stands read =
+    ap (λ v. request_of v base.library base.clock line) stands.version_is
+    ∙ ap (λ l. request_of (version_view kept.version) l base.clock line) stands.library_is
+    ∙ ap (λ t. request_of (version_view kept.version) (library kept.library.value) t line) (sym stands.clock_is) ∙ read
 
 -- by the kind of request
-answers_by : (text : String Global) (kept : RuleBase) (with_tree : Bool) (base : L.RuleBase) (line : List ℕ) (r : Decoded Request) → request_of base.library base.clock line ≡ r
+answers_by : (text : String Global) (kept : RuleBase) (with_tree : Bool) (base : L.RuleBase) (line : List ℕ) (r : Decoded Request) → request_of base.version base.library base.clock line ≡ r
     → Answers text (Up kept) (L.later_answer with_tree base r) → Answers text (Up kept) (L.answer with_tree (L.up base) line)
 answers_by text kept with_tree base line r read answers = subst (λ q. Answers text (Up kept) (L.later_answer with_tree base q)) (sym read) answers
 
-pub answers_item : (text : String Global) (old new : RuleBase) (with_tree : Bool) (base : L.RuleBase) (line : List ℕ) (s : Schedule) → StandsFor old base → request_of (library old.library.value) old.clock line ≡ Ok (R.item s)
+pub answers_item : (text : String Global) (old new : RuleBase) (with_tree : Bool) (base : L.RuleBase) (line : List ℕ) (s : Schedule) → StandsFor old base → request_of (version_view old.version) (library old.library.value) old.clock line ≡ Ok (R.item s)
     → string_bytes text ≡ (L.ran with_tree base s).body ++ (L.ran with_tree base s).last → StandsFor new (ran_base base s) → Answers text (Up new) (L.answer with_tree (L.up base) line)
 answers_item text old new with_tree base line s stands read is later =
     answers_by text new with_tree base line (Ok (R.item s)) (asked_of old base line (Ok (R.item s)) stands read) (record { text_is = is; stage_is = later })
 
-pub answers_show : (text : String Global) (kept : RuleBase) (with_tree : Bool) (base : L.RuleBase) (line : List ℕ) (e : R.Excerpt) → StandsFor kept base → request_of (library kept.library.value) kept.clock line ≡ Ok (R.show e)
+pub answers_show : (text : String Global) (kept : RuleBase) (with_tree : Bool) (base : L.RuleBase) (line : List ℕ) (e : R.Excerpt) → StandsFor kept base → request_of (version_view kept.version) (library kept.library.value) kept.clock line ≡ Ok (R.show e)
     → string_bytes text ≡ L.excerpt_text base.library base.state e ++ L.ok_line base.units → Answers text (Up kept) (L.answer with_tree (L.up base) line)
 answers_show text kept with_tree base line e stands read is =
     answers_by text kept with_tree base line (Ok (R.show e)) (asked_of kept base line (Ok (R.show e)) stands read) (record { text_is = is; stage_is = stands })
 
-pub answers_refusal : (text : String Global) (kept : RuleBase) (with_tree : Bool) (base : L.RuleBase) (line : List ℕ) (r : Refusal) → StandsFor kept base → request_of (library kept.library.value) kept.clock line ≡ Err r
+pub answers_refusal : (text : String Global) (kept : RuleBase) (with_tree : Bool) (base : L.RuleBase) (line : List ℕ) (r : Refusal) → StandsFor kept base → request_of (version_view kept.version) (library kept.library.value) kept.clock line ≡ Err r
     → string_bytes text ≡ refusal_text r → Answers text (Up kept) (L.answer with_tree (L.up base) line)
 answers_refusal text kept with_tree base line r stands read is =
     answers_by text kept with_tree base line (Err r) (asked_of kept base line (Err r) stands read) (record { text_is = is; stage_is = stands })
@@ -51,7 +55,7 @@ stands_up kept L.closed A is f = absurd is
 
 -- the answer to the script
 pub answers_script : (text : String Global) (new : RuleBase) (with_tree : Bool) (line : List ℕ) (t : TimedScript) → timed_script_of line ≡ Ok t
-    → string_bytes text ≡ (L.ran with_tree (L.new_base t.script.library) (record { units = t.script.units; clock = t.clock })).body ++ (L.ran with_tree (L.new_base t.script.library) (record { units = t.script.units; clock = t.clock })).last
-    → StandsFor new (ran_base (L.new_base t.script.library) (record { units = t.script.units; clock = t.clock })) → Answers text (Up new) (L.answer with_tree L.unopened line)
+    → string_bytes text ≡ (L.ran with_tree (L.new_base t.version t.script.library) (record { units = t.script.units; clock = t.clock })).body ++ (L.ran with_tree (L.new_base t.version t.script.library) (record { units = t.script.units; clock = t.clock })).last
+    → StandsFor new (ran_base (L.new_base t.version t.script.library) (record { units = t.script.units; clock = t.clock })) → Answers text (Up new) (L.answer with_tree L.unopened line)
 answers_script text new with_tree line t read is later =
     subst (λ q. Answers text (Up new) (L.opening_answer with_tree q)) (sym read) (record { text_is = is; stage_is = later })

@@ -7,6 +7,7 @@ use Rattle.hp_model.specs.State.{IsOrdered}
 use Rattle.hp_model.specs.Cells.{cells}
 use Rattle.hp_model.specs.Report.{Bytes}
 use Rattle.hp_rule.specs.Mapped.{library}
+use Rattle.hp_script.specs.Versions.{version_view}
 use Rattle.hp_store.specs.Stack.{cells_in}
 use Rattle.hp_lines.specs.Live as L
 use Rattle.hp_live.specs.declared.base.RuleBase.{RuleBase}
@@ -14,8 +15,9 @@ use Rattle.hp_live.specs.declared.server.Stage.{Stage}
 use Rattle.hp_live.specs.declared.server.Stage.TheVariants.{Unopened, Up, Closed}
 use Rattle.hp_live.specs.declared.server.Server.{Server}
 
--- a rule base with the same library, clock and number of units, whose state has the cells of the store and the objects
+-- a rule base with the same version, library, clock and number of units, whose state has the cells of the store and the objects
 pub record StandsFor (kept : RuleBase) (base : L.RuleBase) : Type 0 where
+  pub version_is : base.version ≡ version_view kept.version
   pub library_is : base.library ≡ library kept.library.value
   pub ordered : IsOrdered base.library base.state
   pub cells_are : cells base.library base.state ≡ cells_in kept.store

@@ -8,6 +8,7 @@ ghost use Rattle.hp_report.specs.Mapped.{unit_report};
 ghost use Rattle.hp_rule.specs.Mapped.{library as model_library, unit as model_unit};
 ghost use Rattle.hp_script.specs.Asked.{excerpt as model_excerpt};
 ghost use Rattle.hp_script.specs.Mapped.{schedule as model_schedule};
+ghost use Rattle.hp_script.specs.Versions.{version_view};
 ghost use Rattle.hp_lines.specs.Live as L;
 ghost use Rattle.hp_live.specs.Kept.{StandsFor};
 ghost use Rattle.hp_live.specs.Running.{with_state, ran_base};
@@ -16,7 +17,7 @@ use crate::options::Options;
 use hp_fire::Past;
 use hp_report::{class_text, final_statuses, object_text, replay_units, state_text, units_text};
 use hp_rule::{Library, Unit};
-use hp_script::{Excerpt, Schedule};
+use hp_script::{Excerpt, Schedule, Version};
 use hp_store::Store;
 use hp_top::{Runner, opening};
 use hp_tree::{Objects, UnitReport};
@@ -26,11 +27,13 @@ use std::mem;
 use std::sync::Arc;
 use std::thread::Threads;
 
-/// A rule base: its library, its state, its clock, and the number of units that have run.
+/// A rule base: its script's version and library, its state, its clock, and the number of units that have run.
 ///
 /// Of the units only their number is kept.
 #[derive(Drop)]
 pub(crate) struct RuleBase {
+    /// By its grammar later lines are read.
+    pub version: Version,
     pub library: Arc<Library>,
     pub store: Store,
     /// The objects of the store, by class and key.
@@ -42,15 +45,17 @@ pub(crate) struct RuleBase {
 }
 
 impl RuleBase {
-    /// The rule base of a library before its first unit, for this number of workers.
+    /// The rule base of a script of this version with this library, before its first unit, for this number of workers.
     pub(crate) fn new(
         alloc: Global,
+        version: Version,
         library: Arc<Library>,
         workers: usize,
     ) -> Result<RuleBase, AllocError>
-        ensures { IfOk result (λ base. StandsFor base (L.new_base (model_library library.value))) }
+        ensures { IfOk result (λ base. StandsFor base (L.new_base (version_view version) (model_library library.value))) }
     {
         Ok(RuleBase {
+            version,
             past: Past::new(alloc, &library, workers),
             library,
             store: opening(alloc)?,

@@ -50,7 +50,7 @@ fn open_by<T: Threads + Sync>(
     ensures { IfOk result (λ opened. (line : List ℕ) → timed_script_of line ≡ Ok (timed_script script) →
         Answers opened.0 opened.1 (L.answer options.tree L.unopened line)) }
 {
-    let mut base = RuleBase::new(alloc, script.library, options.workers)?;
+    let mut base = RuleBase::new(alloc, script.version, script.library, options.workers)?;
     let schedule = Schedule {
         units: script.items,
         clock: script.clock,
@@ -86,7 +86,7 @@ fn answer_later<T: Threads + Sync>(
     ensures { IfOk result (λ text. (now : L.RuleBase) →
         StandsFor base.old now → Answers text (Stage.Up base.new) (L.answer options.tree (L.up now) line.now)) }
 {
-    match decode_request(alloc, &base.library, base.clock, line) {
+    match decode_request(alloc, base.version, &base.library, base.clock, line) {
         Ok(Request::Item(schedule)) => base.run(rt, alloc, schedule, options),
         Ok(Request::Show(excerpt)) => base.show(alloc, excerpt),
         Err(DecodeError::Refused(refusal)) => refusal_text(alloc, &refusal),

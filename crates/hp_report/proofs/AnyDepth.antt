@@ -22,7 +22,7 @@ causes l d divide_by_zero = refl
 causes l d no_parameter = refl
 causes l d depth_exceeded = refl
 causes l d requested = refl
-causes l d (vetoed n) = refl
+causes l d (vetoed v) = refl
 
 endings : (l : Library) (d : ℕ) (e : Ending) → ending_words (limited l d) e ≡ ending_words l e
 endings l d committed = refl

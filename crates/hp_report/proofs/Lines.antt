@@ -63,6 +63,13 @@ word_put indent w ws start first second third done a b c d =
     let e : third ≡ first ++ words (w ∷ ws) = c ∙ ap (λ (l : Bytes). l ++ spaced ws) b ∙ append_assoc first w (spaced ws) ∙ ap (λ (l : Bytes). first ++ l) (sym (spaced_words w ws)) in
     words_put indent (w ∷ ws) start first third done a e d
 
+-- one word, and the others with their spaces
+pub first_word_put : (w : Bytes) (ws : List Bytes) (start first done : Bytes)
+    → first ≡ start ++ w → done ≡ first ++ spaced ws → done ≡ start ++ words (w ∷ ws)
+first_word_put w ws start first done a b =
+    let f : done ≡ (start ++ w) ++ spaced ws = cc in
+    f ∙ append_assoc start w (spaced ws) ∙ ap (λ (l : Bytes). start ++ l) (sym (spaced_words w ws))
+
 -- three words, and the others with their spaces
 pub three_words_put : (w x y : Bytes) (ws : List Bytes) (start first done : Bytes)
     → first ≡ start ++ (w ++ 32 ∷ (x ++ 32 ∷ y)) → done ≡ first ++ spaced ws → done ≡ start ++ words (w ∷ x ∷ y ∷ ws)

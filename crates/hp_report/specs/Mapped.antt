@@ -9,7 +9,7 @@ use Rattle.hp_value.specs.declared.occurrence.Coupling.{Coupling}
 use Rattle.hp_report.specs.declared.report.RuleStatus.{RuleStatus}
 use Rattle.hp_report.specs.declared.report.RuleStatus.TheVariants.{Absent, Enabled, Disabled}
 use Rattle.hp_report.specs.declared.report.Report.{Report}
-pub use Rattle.hp_value.specs.Mapped.{value, cause, coupling, rule_operation}
+pub use Rattle.hp_value.specs.Mapped.{value, cause, veto, coupling, rule_operation}
 pub use Rattle.hp_tree.specs.Mapped.{objects_of, operation, condition, what, ending, before, row_items, items_in, values_behind, top_report, unit_report}
 pub use Rattle.hp_rule.specs.Mapped.{rule, library}
 pub use Rattle.hp_report.specs.Named.{library_of}

@@ -71,12 +71,12 @@ fn replay_tops(initial: Objects, tops: &[TopReport]) -> Result<Objects, AllocErr
 fn replay_top(initial: Objects, top: &TopReport) -> Result<Objects, AllocError>
     ensures { IfOk result (λ objects. objects ≡ replay_transaction initial (model.top_report top.now)) }
 {
-    match top.end {
+    match &top.end {
         Ending::Committed => {
             let objects = replay(initial, &top.tree)?;
             Ok(objects)
         }
-        Ending::Aborted(_) => Ok(initial),
+        Ending::Aborted(_) | Ending::Vetoed(_) => Ok(initial),
     }
 }
 

@@ -9,7 +9,7 @@ ghost use Rattle.hp_report.specs.Text.{Gains, spaced};
 
 use crate::names::Names;
 use crate::text::objects::{put_object, put_object_name};
-use crate::text::words::{mode_word, put_cause, put_ending, put_value};
+use crate::text::words::{cause_word, mode_word, put_ending, put_value};
 use hp_tree::{ConditionEnd, Ending, Item, Operation, What};
 use hp_value::{RuleOperation, Value};
 use std::alloc::{AllocError, Global};
@@ -70,38 +70,44 @@ fn put_operation(
 
 /// How a condition and its action ended, each word after a space.
 fn put_condition(
+    alloc: Global,
     out: &mut String,
     names: &Names<'_>,
     condition: ConditionEnd,
-    end: Ending,
+    end: &Ending,
 ) -> Result<(), AllocError>
     ensures { OnOk result (Gains out.old out.new
-        (spaced (firing_words (model.library_of names.now) (model.condition condition) (model.ending end)))) }
+        (spaced (firing_words (model.library_of names.now) (model.condition condition) (model.ending end.now)))) }
 {
     match condition {
         ConditionEnd::WithoutAction => out.push_str(" unsatisfied none"),
         ConditionEnd::WithFault(cause) => {
-            out.push_str(" fault")?;
-            put_cause(out, names, cause)?;
-            out.push_str(" none")
+            let word = cause_word(cause);
+            write!(out, " fault {word} none")
         }
         ConditionEnd::WithAction => {
             out.push_str(" satisfied")?;
-            put_ending(out, names, end)
+            put_ending(alloc, out, names, end)
         }
         ConditionEnd::WithLaterAction => out.push_str(" satisfied later"),
     }
 }
 
 /// The words of a node.
-fn put_node(out: &mut String, names: &Names<'_>, what: What, end: Ending) -> Result<(), AllocError>
+fn put_node(
+    alloc: Global,
+    out: &mut String,
+    names: &Names<'_>,
+    what: What,
+    end: &Ending,
+) -> Result<(), AllocError>
     ensures { OnOk result (Gains out.old out.new
-        (words (node_words (model.library_of names.now) (model.what what) (model.ending end)))) }
+        (words (node_words (model.library_of names.now) (model.what what) (model.ending end.now)))) }
 {
     match what {
         What::Sub => {
             out.push_str("sub")?;
-            put_ending(out, names, end)?;
+            put_ending(alloc, out, names, end)?;
         }
         What::Fire {
             rule,
@@ -111,13 +117,13 @@ fn put_node(out: &mut String, names: &Names<'_>, what: What, end: Ending) -> Res
             let name = names.rule(rule);
             let mode = mode_word(place);
             write!(out, "fire {name} {mode}")?;
-            put_condition(out, names, condition, end)?;
+            put_condition(alloc, out, names, condition, end)?;
         }
         What::Act { rule, place } => {
             let name = names.rule(rule);
             let mode = mode_word(place);
             write!(out, "act {name} {mode}")?;
-            put_ending(out, names, end)?;
+            put_ending(alloc, out, names, end)?;
         }
     }
     Ok(())
@@ -161,18 +167,19 @@ pub fn put_emit(
 
 /// The line of a node.
 fn put_node_line(
+    alloc: Global,
     out: &mut String,
     names: &Names<'_>,
     indent: usize,
     what: What,
-    end: Ending,
+    end: &Ending,
 ) -> Result<(), AllocError>
     ensures { let library = model.library_of names.now in
         OnOk result (Gains out.old out.new
-        (line indent (node_words library (model.what what) (model.ending end)))) }
+        (line indent (node_words library (model.what what) (model.ending end.now)))) }
 {
     put_indent(out, indent)?;
-    put_node(out, names, what, end)?;
+    put_node(alloc, out, names, what, end)?;
     out.push_str("\n")?;
     Ok(())
 }
@@ -213,7 +220,7 @@ fn put_item(
         Item::Operation(operation) => put_operation_line(alloc, out, names, indent, operation)?,
         Item::Emit(value) => put_emit(alloc, out, indent, value)?,
         Item::Node(node) => {
-            put_node_line(out, names, indent, node.what, node.end)?;
+            put_node_line(alloc, out, names, indent, node.what, &node.end)?;
             let inner = indent.checked_add(2).ok_or(AllocError)?;
             put_items(alloc, out, names, inner, &node.items)?;
         }

@@ -27,9 +27,9 @@ fn put_emits(alloc: Global, out: &mut String, values: &[&Value]) -> Result<(), A
 fn put_committed(alloc: Global, out: &mut String, top: &TopReport) -> Result<(), AllocError>
     ensures { OnOk result (Gains out.old out.new (emit_lines (model.committed_emits (model.top_report top.now)))) }
 {
-    match top.end {
+    match &top.end {
         Ending::Committed => put_emits(alloc, out, &emits(alloc, &top.tree)?),
-        Ending::Aborted(_) => Ok(()),
+        Ending::Aborted(_) | Ending::Vetoed(_) => Ok(()),
     }
 }
 
@@ -75,6 +75,7 @@ fn put_heading(
 
 /// The line of a top-level transaction.
 fn put_top_line(
+    alloc: Global,
     out: &mut String,
     names: &Names<'_>,
     number: usize,
@@ -86,7 +87,7 @@ fn put_top_line(
         (line 0 (heading library number moment t.task ++ ending_words library t.ending))) }
 {
     put_heading(out, names, number, moment, top.task)?;
-    put_ending(out, names, top.end)?;
+    put_ending(alloc, out, names, &top.end)?;
     out.push_str("\n")?;
     Ok(())
 }
@@ -105,7 +106,7 @@ fn put_tops(
         (flat_map (transaction_text (model.library_of names.now) with_tree number u.time) u.transactions)) }
 {
     for top in &unit.tops {
-        put_top_line(out, names, number, unit.moment, top)?;
+        put_top_line(alloc, out, names, number, unit.moment, top)?;
         put_outcome(alloc, out, names, with_tree, top)?;
     }
     Ok(())

@@ -1,13 +1,15 @@
 //! The words of a report for values, causes, endings and modes.
 
-ghost use Rattle.std.specs.Prelude.{◌≡◌, IfOk, OnOk, string_bytes};
+ghost use Rattle.std.specs.Prelude.{◌≡◌, ◌∷◌, [], IfOk, OnOk, string_bytes};
+ghost use Rattle.hp_model.specs.Rules as R;
+ghost use Rattle.hp_model.specs.Values.{vetoed};
 ghost use Rattle.hp_model.specs.Report.{quoted, value_text, cause_words, ending_words, coupling_word};
 ghost use Rattle.hp_report.specs.Mapped as model;
 ghost use Rattle.hp_report.specs.Text.{Gains, spaced};
 
 use crate::names::Names;
 use hp_tree::Ending;
-use hp_value::{Cause, Coupling, Value};
+use hp_value::{Cause, Coupling, Value, Veto};
 use std::alloc::{AllocError, Global};
 use std::fmt::Write;
 
@@ -43,37 +45,60 @@ pub fn mode_word(mode: Coupling) -> &'static str
     }
 }
 
-/// The words of a cause, each after a space.
-pub fn put_cause(out: &mut String, names: &Names<'_>, cause: Cause) -> Result<(), AllocError>
-    ensures { OnOk result (Gains out.old out.new
-        (spaced (cause_words (model.library_of names.now) (model.cause cause)))) }
+/// The word for a cause that is no veto.
+pub fn cause_word(cause: Cause) -> &'static str
+    ensures { (library : R.Library) → cause_words library (model.cause cause) ≡ result.now ∷ [] }
 {
     match cause {
-        Cause::Exists => out.push_str(" A1"),
-        Cause::Missing => out.push_str(" A2"),
-        Cause::Kind => out.push_str(" A3"),
-        Cause::Overflow => out.push_str(" A4"),
-        Cause::DivideByZero => out.push_str(" A5"),
-        Cause::NoParameter => out.push_str(" A6"),
-        Cause::Depth => out.push_str(" A7"),
-        Cause::Asked => out.push_str(" A8"),
-        Cause::Vetoed(rule) => {
-            let name = names.rule(rule);
-            write!(out, " A9 {name}")
-        }
+        Cause::Exists => "A1",
+        Cause::Missing => "A2",
+        Cause::Kind => "A3",
+        Cause::Overflow => "A4",
+        Cause::DivideByZero => "A5",
+        Cause::NoParameter => "A6",
+        Cause::Depth => "A7",
+        Cause::Asked => "A8",
     }
 }
 
-/// The words of an ending, each after a space.
-pub fn put_ending(out: &mut String, names: &Names<'_>, ending: Ending) -> Result<(), AllocError>
+/// The words of a veto, each after a space: its code, its rule, and its message if it has one.
+fn put_veto(
+    alloc: Global,
+    out: &mut String,
+    names: &Names<'_>,
+    veto: &Veto,
+) -> Result<(), AllocError>
     ensures { OnOk result (Gains out.old out.new
-        (spaced (ending_words (model.library_of names.now) (model.ending ending)))) }
+        (spaced (cause_words (model.library_of names.now) (vetoed (model.veto veto.now))))) }
+{
+    let name = names.rule(veto.rule);
+    write!(out, " A9 {name}")?;
+    if let Some(message) = &veto.message {
+        out.push_str(" ")?;
+        put_value(alloc, out, message)?;
+    }
+    Ok(())
+}
+
+/// The words of an ending, each after a space.
+pub fn put_ending(
+    alloc: Global,
+    out: &mut String,
+    names: &Names<'_>,
+    ending: &Ending,
+) -> Result<(), AllocError>
+    ensures { OnOk result (Gains out.old out.new
+        (spaced (ending_words (model.library_of names.now) (model.ending ending.now)))) }
 {
     match ending {
         Ending::Committed => out.push_str(" committed"),
         Ending::Aborted(cause) => {
+            let word = cause_word(*cause);
+            write!(out, " aborted {word}")
+        }
+        Ending::Vetoed(veto) => {
             out.push_str(" aborted")?;
-            put_cause(out, names, cause)
+            put_veto(alloc, out, names, veto)
         }
     }
 }

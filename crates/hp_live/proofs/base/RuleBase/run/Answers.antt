@@ -38,6 +38,7 @@ returns-clause-state g c base stands =
     let above : c.in_ok-above.above ≡ c.in_ok-first.first + length items = grind arith in
     let last : c.in_ok-above.above - 1 ≡ base.units + length e.units = omega (arith, above, first, later.units_are, count) in
     record {
+      version_is = later.version_is;
       library_is = later.library_is;
       ordered = later.ordered;
       cells_are = later.cells_are;

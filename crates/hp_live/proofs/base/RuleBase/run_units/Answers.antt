@@ -27,6 +27,7 @@ returns-clause-state g c base stands =
     (ap (λ l. library l.now) c.new-runner.ensures.lib ∙ ap library c.deref.ensures ∙ sym stands.library_is) stands.ordered stands.cells_are in
     let reports_are : map unit_report c.deref-2.result.now ≡ rs = ap (map unit_report) c.deref-2.ensures.value ∙ ap (λ v. map unit_report v.items) c.in_ok-reports.ensures.all in
     record {
+      version_is = stands.version_is;
       library_is = stands.library_is;
       ordered = ran.led.ordered;
       cells_are = ran.led.reaches;
