@@ -2,8 +2,6 @@ pub mod RowLemmas
 pub mod SelectLemmas
 mod CollectLemmas
 pub mod PlainLemmas
-pub mod VerdictLemmas
-mod TurnLemmas
 pub mod ByKeyLemmas
 pub mod PartLemmas
 pub mod AskedLemmas

@@ -2,4 +2,5 @@ pub mod ByKey
 pub mod Looks
 pub mod Mapped
 pub mod Plain
+pub mod Same
 pub mod Parts
