@@ -3,7 +3,7 @@
 use hp_event::Pattern;
 use hp_ops::{create, set_rule};
 use hp_rule::{
-    Assignment, CheckError, Entry, EventExpr, Library, Query, Rule, RuleOperation, Step, Stmt, Task,
+    Aggregate, Assignment, CheckError, Entry, EventExpr, Library, Query, Rule, RuleOperation, Step, Stmt, Task,
 };
 use hp_store::Snapshot;
 use hp_value::{
@@ -107,6 +107,29 @@ pub fn is_above(alloc: Global, variable: &str, n: i64) -> Result<Box<Expr>, Allo
     let balance = balance_in(alloc, variable)?;
     let above = Expr::Comparison(Comparison::Greater, balance, number(alloc, n)?);
     Ok(Box::new(alloc, above)?)
+}
+
+// The value of a `let`.
+pub fn value_of(alloc: Global, name: &str) -> Result<Box<Expr>, AllocError> {
+    let name = text(alloc, name)?;
+    Ok(Box::new(alloc, Expr::ValueOf { name })?)
+}
+
+// The accounts with more than a number, each under the name `row`.
+pub fn above(alloc: Global, n: i64) -> Result<Query, AllocError> {
+    Ok(Query {
+        name: text(alloc, "row")?,
+        class: 0,
+        predicate: is_above(alloc, "row", n)?,
+    })
+}
+
+// The sum of the balances that are above a number.
+pub fn sum_above(alloc: Global, n: i64) -> Result<Aggregate, AllocError> {
+    Ok(Aggregate::Sum {
+        rows: above(alloc, n)?,
+        term: balance_in(alloc, "row")?,
+    })
 }
 
 // Emits the balance of the row with a name.

@@ -53,7 +53,7 @@ fn emitted(items: &[Item]) -> Last {
 }
 
 // The integers that the first firing emitted.
-fn emitted_inside(items: &[Item]) -> Last {
+pub fn emitted_inside(items: &[Item]) -> Last {
     for item in items {
         if let Item::Node(node) = item {
             return emitted(&node.items);

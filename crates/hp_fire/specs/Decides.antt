@@ -10,7 +10,7 @@ use Rattle.hp_model.specs.Soundness.{FiringAnswer}
 use Rattle.hp_model.specs.Answers.{FaithfulFiring, Finds}
 use Rattle.hp_model.specs.Rules.{rule_at}
 use Rattle.hp_model.proofs.Faithful.{Grows}
-use Rattle.hp_query.specs.declared.findings.Findings.{Findings as RustFindings}
+use Rattle.hp_query.specs.declared.entry.Findings.{Findings as RustFindings}
 use Rattle.hp_query.specs.Mapped.{findings}
 use Rattle.hp_tree.specs.Mapped.{what}
 use Rattle.hp_attempt.specs.Mapped.{firing}

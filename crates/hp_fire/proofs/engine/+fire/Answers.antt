@@ -20,7 +20,7 @@ use Rattle.hp_rule.proofs.Bodies.{row_body_lem}
 use Rattle.hp_ops.proofs.Worlds.{split_at}
 use Rattle.hp_fire.specs.Mapped.{context, course, group}
 use Rattle.hp_tree.specs.Mapped.{what}
-use Rattle.hp_query.specs.declared.findings.Findings.{Findings as RustFindings}
+use Rattle.hp_query.specs.declared.entry.Findings.{Findings as RustFindings}
 use Rattle.hp_fire.specs.declared.deciding.Decision.{Decision}
 use Rattle.hp_fire.specs.declared.deciding.Decision.TheVariants.{Acts}
 use Rattle.hp_fire.specs.Decides.{ThenActs, Decides}

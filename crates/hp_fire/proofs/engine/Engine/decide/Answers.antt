@@ -1,6 +1,6 @@
 use Rattle.std.proofs.Common.{ap, sym, ◌∙◌}
 use Rattle.hp_model.specs.Tree.{action_step}
-use Rattle.hp_query.specs.declared.findings.Findings.{Findings}
+use Rattle.hp_query.specs.declared.entry.Findings.{Findings}
 use Rattle.hp_query.specs.Mapped.{findings}
 use Rattle.hp_rule.specs.Mapped.{library, task, step}
 use Rattle.hp_fire.proofs.Decisions.{action_acts}
