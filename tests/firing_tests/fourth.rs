@@ -116,7 +116,7 @@ fn next_twice(alloc: Global) -> Result<Vec<Stmt>, AllocError> {
 #[test]
 fn a_let_is_found_on_the_view_as_it_is_then(rt: HostRuntime) -> Result<(), Fail> {
     let alloc = rt.alloc();
-    let seen = run(&rt, alloc, idle(alloc), idle(alloc), next_twice(alloc))?;
+    let seen = run(&rt, alloc, idle(alloc), makes(alloc), next_twice(alloc))?;
     assert_eq!(rt; seen.end, How::Done);
     assert_eq!(rt; seen.emitted, (Some(4), Some(3), None));
     Ok(())
@@ -134,7 +134,7 @@ fn least_of_none(alloc: Global) -> Result<Vec<Stmt>, AllocError> {
 #[test]
 fn a_let_without_a_value_aborts(rt: HostRuntime) -> Result<(), Fail> {
     let alloc = rt.alloc();
-    let seen = run(&rt, alloc, idle(alloc), idle(alloc), least_of_none(alloc))?;
+    let seen = run(&rt, alloc, idle(alloc), makes(alloc), least_of_none(alloc))?;
     assert_eq!(rt; seen.end, How::Abort(Cause::Missing));
     assert_eq!(rt; seen.items, 0);
     Ok(())
@@ -152,14 +152,14 @@ fn sums_later(alloc: Global) -> Result<Rule, AllocError> {
 #[test]
 fn a_later_action_has_the_value_that_was_found(rt: HostRuntime) -> Result<(), Fail> {
     let alloc = rt.alloc();
-    let lib = library(alloc, sums_later(alloc), idle(alloc))?;
+    let lib = library(alloc, sums_later(alloc), makes(alloc))?;
     let mut view = bank(alloc, &lib)?;
     let past = Past::new(alloc, &lib, 1);
     let engine = Engine::new(&rt, alloc, &lib, 1, &past);
     let course = engine.run_body(&mut view, &going(alloc)?, 0, MOMENT)?;
     let emptied = alone(alloc, set(alloc, 2, 0)?)?;
     let _ = engine.run_body(&mut view, &emptied, 0, MOMENT)?;
-    let group = engine.run_siblings(&mut view, &course.queued[..1], true)?;
+    let group = engine.run_siblings(&mut view, &course.queued, true)?;
     let course = group_course(alloc, group)?;
     assert_eq!(rt; look(&view, &course).inside, (Some(30), None, None));
     Ok(())

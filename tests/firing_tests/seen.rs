@@ -83,7 +83,7 @@ pub enum How {
     Veto(Said),
 }
 
-pub fn how(end: &End) -> How {
+pub fn how_of(end: &End) -> How {
     match end {
         End::Done => How::Done,
         End::Abort(cause) => How::Abort(*cause),
@@ -157,7 +157,7 @@ pub struct Seen {
 
 pub fn look(view: &View, course: &Course) -> Seen {
     Seen {
-        end: how(&course.end),
+        end: how_of(&course.end),
         items: course.items.len(),
         emitted: emitted(&course.items),
         inside: emitted_inside(&course.items),
