@@ -1,6 +1,6 @@
 -- Statements by their parts.
 use Rattle.std.proofs.Common.{◌≡◌, refl, sym, ap, ◌∙◌, subst, ℕ, List, [], ◌∷◌}
-use Rattle.std.specs.Prelude.{Result, Ok, Err, String, string_bytes}
+use Rattle.std.specs.Prelude.{Option, Some, None, Result, Ok, Err, String, string_bytes}
 use Rattle.std.specs.Global.{Global, Vec, Box}
 use Rattle.std.proofs.Common.{rules}
 use Rattle.hp_model.specs.Values.{Name, NamedValues, Value, Outcome}
@@ -27,7 +27,7 @@ use Rattle.hp_value.specs.declared.expr.Expr.{Expr}
 use Rattle.hp_value.specs.Mapped.{expression}
 use Rattle.hp_rule.specs.declared.library.Library.{Library as RustLibrary}
 use Rattle.hp_rule.specs.declared.stmt.Stmt.{Stmt}
-use Rattle.hp_rule.specs.declared.stmt.Stmt.TheVariants.{With}
+use Rattle.hp_rule.specs.declared.stmt.Stmt.TheVariants.{With, Veto}
 use Rattle.hp_rule.specs.declared.stmt.Stmt.TheViews.{the_lemmas}
 use Rattle.hp_rule.specs.Mapped.{library, statement, body_in}
 use Rattle.hp_rule.proofs.Bodies.{row_body_lem}
@@ -36,7 +36,7 @@ use Rattle.hp_view.proofs.Views.{GoesOn-same, GoesOn-then}
 use Rattle.hp_view.proofs.Reading.{GoesOn-only}
 use Rattle.hp_fire.specs.declared.course.Course.{Course}
 use Rattle.hp_fire.specs.Runs.{Runs, Steps, Finding, Looks, Makes}
-use Rattle.hp_fire.specs.Statements.{TasksStart}
+use Rattle.hp_fire.specs.Statements.{veto_statement, TasksStart}
 use Rattle.hp_fire.specs.Signals.{signal_of}
 use Rattle.hp_fire.proofs.Making.{steps_halt}
 use Rattle.hp_fire.proofs.Steps.{runs_as, found_cause, found_value, grows, only_written}
@@ -146,6 +146,12 @@ pub body_under : {library : Library} (b : Body) {x y : Context} {d e : ℕ} {v w
 body_under {library} b {x} {y} {d} {e} {v} {w} {a} same deep r =
     subst (λ (z : Context). Runs library (run_body b (level_at library z.environment.now e) z) v w a) same
     (subst (λ n. Runs library (run_body b (level_at library x.environment.now n) x) v w a) deep r)
+
+-- ---- a statement `veto`
+
+pub veto_is : (s : Stmt) (message : Option (Box Expr)) → s ≡ Veto message → veto_statement message ≡ statement s
+veto_is s None is = search (rules, the_lemmas)
+veto_is s (Some e) is = search (rules, the_lemmas)
 
 -- ---- a statement with a body, by its parts
 

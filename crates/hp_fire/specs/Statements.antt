@@ -1,16 +1,17 @@
 -- What the engine's calls do, for a library and the context of a statement.
-use Rattle.std.specs.Prelude.{⊤, ℕ, Bool, List, Option, Result, Ok, Err, map}
-use Rattle.std.specs.Global.{Vec}
+use Rattle.std.specs.Prelude.{⊤, ℕ, Bool, List, Option, Some, None, Result, Ok, Err, map}
+use Rattle.std.specs.Global.{Vec, Box}
 use Rattle.hp_model.specs.Values.{Name}
-use Rattle.hp_model.specs.Rules.{Statement, Body}
+use Rattle.hp_model.specs.Rules.{Statement, veto, veto_with, Body}
 use Rattle.hp_model.specs.Transactions.{Work, abort_by, for_each}
 use Rattle.hp_model.specs.Firing.{Level, Fire, level_at, run_statement, run_body, with_row, start, siblings, fire_task}
 use Rattle.hp_model.specs.Answers.{ended}
 use Rattle.hp_value.specs.declared.halt.Halt.{Halt}
 use Rattle.hp_value.specs.declared.halt.Halt.TheVariants.{Cause as ByCause, Memory}
+use Rattle.hp_value.specs.declared.expr.Expr.{Expr}
 use Rattle.hp_value.specs.declared.occurrence.Primitive.{Primitive}
 use Rattle.hp_value.specs.declared.row.KeyedRow.{KeyedRow}
-use Rattle.hp_value.specs.Mapped.{cause, keyed_row, primitive}
+use Rattle.hp_value.specs.Mapped.{cause, expression, keyed_row, primitive}
 use Rattle.hp_rule.specs.declared.library.Library.{Library}
 use Rattle.hp_rule.specs.declared.task.Task.{Task}
 use Rattle.hp_rule.specs.Mapped.{library, task}
@@ -38,6 +39,11 @@ body_work lib c b = run_body b (level_in lib c) (context c)
 -- what a body does for each of these rows, bound to a name
 abbrev pub body_for_each : Library → Context → Name → List KeyedRow → Body → Work
 body_for_each lib c name rows b = for_each (map keyed_row rows) (λ r. run_body b (level_in lib c) (with_row name r (context c)))
+
+-- a statement `veto`, perhaps with a message
+abbrev pub veto_statement : Option (Box Expr) → Statement
+veto_statement None = veto
+veto_statement (Some e) = veto_with (expression e.value)
 
 -- the statement runs, unless a cause ends it or memory runs out
 abbrev pub StatementRuns : Library → Context → Statement → Seeing → Seeing → Result Course Halt → Type 0

@@ -8,7 +8,8 @@ ghost use Rattle.hp_value.specs.Mapped.{expression, value, veto as veto_in};
 ghost use Rattle.hp_view.specs.Seeing.{Seeing};
 ghost use Rattle.hp_fire.specs.Mapped.{context as context_in, course as course_in, end};
 ghost use Rattle.hp_fire.specs.Runs.{Runs, Steps};
-ghost use Rattle.hp_rule.specs.Mapped.{library, veto_statement};
+ghost use Rattle.hp_fire.specs.Statements.{veto_statement};
+ghost use Rattle.hp_rule.specs.Mapped.{library};
 
 use crate::context::Context;
 use crate::course::{Course, End};

@@ -15,7 +15,7 @@ use Rattle.hp_model.specs.Firing.{Context, level_at, run_statement, run_body, wi
 use Rattle.hp_value.specs.Mapped.{keyed_row, value, expression, primitive, rule_operation}
 use Rattle.hp_query.specs.Mapped.{aggregate, findings, keyed_rows}
 use Rattle.hp_rule.specs.declared.stmt.Stmt.TheViews.{the_lemmas}
-use Rattle.hp_rule.specs.Mapped.{library, statement, veto_statement, body_in, task, assignment}
+use Rattle.hp_rule.specs.Mapped.{library, statement, body_in, task, assignment}
 use Rattle.hp_rule.proofs.Bodies.{row_body_lem}
 use Rattle.hp_ops.proofs.Worlds.{split_at}
 use Rattle.hp_fire.specs.Mapped.{context, course, group}
@@ -27,7 +27,7 @@ use Rattle.hp_fire.specs.Decides.{ThenActs, Decides}
 use Rattle.hp_fire.specs.Runs.{Runs, RunsGroup, Steps, Made, Makes, SubRuns}
 use Rattle.hp_fire.proofs.Decisions.{acts_runs}
 use Rattle.hp_fire.proofs.Making.{steps_halt}
-use Rattle.hp_fire.proofs.Stating.{with_is, findings_now, body_under, steps_at, runs_at, signal_makes, found_halt, found_steps}
+use Rattle.hp_fire.proofs.Stating.{with_is, veto_is, findings_now, body_under, steps_at, runs_at, signal_makes, found_halt, found_steps}
 use Rattle.hp_fire.proofs.Steps.{runs_answer, runs_ends, runs_value, found_value, sub_over, sub_then, body_each, loop_starts, loop_next, loop_stops, loop_ends}
 use Rattle.hp_fire.proofs.Starting.{signal_starts, signal_ready, then_starts, are_ready, start_none, start_single, single_measure, start_runs, group_measure, none_long, map_none, tasks_at}
 use denote.Param.{param}
@@ -247,7 +247,7 @@ Engine::statement-returns-in-Let g t c =
 pub Engine::statement-returns-in-Veto : goal.Engine::statement-returns-in-Veto
 Engine::statement-returns-in-Veto g t c =
     let level = level_at (library c.args.self.now.lib.now) c.args.context.now.env.time c.args.context.now.depth in
-    let is : veto_statement c.in-Veto.field-0.now ≡ statement c.args.stmt.now = search (rules, the_lemmas) in
+    let is = veto_is c.args.stmt.now c.in-Veto.message c.in-Veto.is in
     steps_at (library c.args.self.now.lib.now) level (context c.args.context.now) c.args.view.now c.args.view.now c.run_veto.result is (c.run_veto.ensures (library c.args.self.now.lib.now) level c.args.view.now)
 
 pub Engine::statement-returns-in-OnRule : goal.Engine::statement-returns-in-OnRule
