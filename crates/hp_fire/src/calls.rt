@@ -178,7 +178,7 @@ pub fn run_task<R: Threads + Sync>(
     width: usize,
 ) -> Result<Attempt, AllocError>
     ensures sound { IfOk result (λ a. IsSound (library lib.now) (attempt_of a)) }
-    ensures so_it_was { IfOk result (λ a. Holds (cells_in snapshot) a.reads) }
+    ensures reads_held { IfOk result (λ a. Holds (cells_in snapshot) a.reads) }
 {
     let past = Past::new(alloc, lib, width);
     let engine = Engine::new(rt, alloc, lib, width, &past);
