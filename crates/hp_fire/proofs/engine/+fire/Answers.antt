@@ -241,7 +241,7 @@ Engine::statement-returns-in-Abort g t c =
 
 pub Engine::statement-returns-in-Let : goal.Engine::statement-returns-in-Let
 Engine::statement-returns-in-Let g t c =
-    let is : R.let_value c.deref-in-Let.result.now (aggregate c.in-Let.aggregate.now) (body_in c.deref-in-Let-2.result.now) ≡ statement c.args.stmt.now = search (rules, the_lemmas, row_body_lem) in
+    let is : R.let_value c.deref-in-Let.result.now (aggregate c.in-Let.aggregate) (body_in c.deref-in-Let-2.result.now) ≡ statement c.args.stmt.now = search (rules, the_lemmas, row_body_lem) in
     steps_at (library c.args.self.now.lib.now) (level_at (library c.args.self.now.lib.now) c.args.context.now.env.time c.args.context.now.depth) (context c.args.context.now) c.args.view.now c.with_let.new.view c.with_let.result is c.with_let.ensures
 
 pub Engine::statement-returns-in-Veto : goal.Engine::statement-returns-in-Veto
