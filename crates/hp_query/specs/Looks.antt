@@ -1,16 +1,12 @@
 -- The worlds that a look at objects may show.
-use Rattle.std.specs.Prelude.{◌≡◌, ℕ, ℤ, List, [], ◌∷◌, map}
+use Rattle.std.specs.Prelude.{◌≡◌, ℕ, List, [], ◌∷◌, map}
 use Rattle.std.specs.List.Sorted.{IsStrictlySortedBy}
-use Rattle.hp_model.specs.Values.{Row, KeyedRow}
-use Rattle.hp_model.specs.State.{Objects, ObjectName, compare_names, rows_of}
+use Rattle.hp_model.specs.Values.{Row}
+use Rattle.hp_model.specs.State.{Objects, ObjectName, compare_names}
 
 -- the objects stand in order, each once
 abbrev pub ObjectsRise : Objects → Type 0
 ObjectsRise objects = IsStrictlySortedBy compare_names (map (λ (o : ObjectName × Row). o.0) objects)
-
--- the keys of a class's objects
-abbrev pub class_keys : ℕ → Objects → List ℤ
-class_keys class objects = map (λ (r : KeyedRow). r.key) (rows_of class objects)
 
 -- questions about these classes in turn, and none else; a class may have been asked for nothing
 abbrev pub AsksEach : {A : Type 0} → (ℕ → A → A → Type 0) → List ℕ → A → A → Type 0

@@ -6,15 +6,20 @@
 //! `AllocError` and `Halt::Memory` mean that memory ran out.
 #![tactic(auto)]
 
+mod aggregate;
 mod by_key;
+mod candidates;
 mod collect;
 mod condition;
+mod entry;
 mod look;
 mod part;
 mod plain;
 mod query;
 
-pub use condition::{Verdict, evaluate_condition};
+pub use aggregate::Aggregate;
+pub use condition::Verdict;
+pub use entry::{Entry, Findings};
 pub use look::Look;
 pub use part::asked_field;
 pub use plain::{ObjectName, PlainObjects};
