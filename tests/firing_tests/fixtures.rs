@@ -3,7 +3,7 @@
 use hp_event::Pattern;
 use hp_ops::{create, set_rule};
 use hp_rule::{
-    Assignment, CheckError, EventExpr, Library, Query, Rule, RuleOperation, Step, Stmt, Task,
+    Assignment, CheckError, Entry, EventExpr, Library, Query, Rule, RuleOperation, Step, Stmt, Task,
 };
 use hp_store::Snapshot;
 use hp_value::{
@@ -130,6 +130,7 @@ pub fn on_signal(
         condition: Vec::new(alloc),
         ca: Coupling::Immediate,
         action,
+        closed: false,
     })
 }
 
@@ -146,11 +147,11 @@ pub fn on_go(
 // The same with the query `rich`, for the accounts with more than 20.
 pub fn on_rich(alloc: Global, name: &str, action: Vec<Stmt>) -> Result<Rule, AllocError> {
     let mut rule = on_go(alloc, name, Coupling::Immediate, action)?;
-    rule.condition.push(Query {
+    rule.condition.push(Entry::Query(Query {
         name: text(alloc, "rich")?,
         class: 0,
         predicate: is_above(alloc, "rich", 20)?,
-    })?;
+    }))?;
     Ok(rule)
 }
 
@@ -233,6 +234,7 @@ pub fn task(alloc: Global, rule: RuleNo, place: Coupling) -> Result<Task, AllocE
         step: Step::Condition,
         place,
         depth: 1,
+        time: 0,
         occurrence: Arc::new(alloc, occurrence)?,
     })
 }
@@ -279,7 +281,7 @@ pub fn enriching(alloc: Global, is_first: bool) -> Result<Library, CheckError> {
 
 // A rule that creates account 5 and then vetoes.
 fn vetoes(alloc: Global) -> Result<Rule, AllocError> {
-    let action = both(alloc, make(alloc, 5, 50)?, Stmt::Veto)?;
+    let action = both(alloc, make(alloc, 5, 50)?, Stmt::Veto(None))?;
     on_go(alloc, "vetoes", Coupling::Immediate, action)
 }
 

@@ -7,7 +7,7 @@ use super::fixtures::{
 use super::groups::{Setup, fire_all_on};
 use super::seen::Balances;
 use hp_fire::{Gate, NoGate};
-use hp_rule::{Assignment, CheckError, Library, Query, Rule, Stmt, Task};
+use hp_rule::{Assignment, CheckError, Entry, Library, Query, Rule, Stmt, Task};
 use hp_store::{Snapshot, Store};
 use hp_top::keep_indexes;
 use hp_value::{Arithmetic, Comparison, Coupling, Expr, Halt, Key};
@@ -462,11 +462,11 @@ fn adds_to_found(alloc: Global, name: &str, predicate: Box<Expr>) -> Result<Rule
         body: alone(alloc, adds)?,
     };
     let mut rule = on_go(alloc, name, Coupling::Immediate, alone(alloc, each)?)?;
-    rule.condition.push(Query {
+    rule.condition.push(Entry::Query(Query {
         name: text(alloc, "row")?,
         class: 0,
         predicate,
-    })?;
+    }))?;
     Ok(rule)
 }
 

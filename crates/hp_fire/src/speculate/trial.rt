@@ -161,7 +161,7 @@ impl<
             };
             progress.pending.put(tried);
             progress.accept_sent(self.alloc, wave, view, receivers, wave.polls(1))?;
-            worker.note_veto(progress.settled.end);
+            worker.note_veto(progress.settled.end.is_some());
         }
         progress.accept_sent(self.alloc, wave, view, receivers, wave.polls(POLLS))
     }
