@@ -5,7 +5,7 @@ use hp_rule::Body;
 use hp_sessions::laws::apart;
 use hp_sessions::{Blank, Book, BookName, Entry, History, NoGate, Receipt, Refusal, Session, Unit};
 use hp_tree::{Ending, Item};
-use hp_value::{Cause, Cell, Key, Value};
+use hp_value::{Cause, Cell, Key};
 use hp_view::Seen;
 use std::alloc::Global;
 use std::marker::Brand;
@@ -174,9 +174,12 @@ fn units_of_disjoint_objects_both_commit(rt: HostRuntime) -> Result<(), Fail> {
     disjoint::<Brand, _>(&bank, bank.begun(2)?)
 }
 
-// What the body of an entry emitted first.
-fn told(entry: &Entry) -> Option<&Item> {
-    entry.reply.tops.first()?.tree.first()
+// The number that the body of an entry emitted first.
+fn told(entry: &Entry) -> Option<i64> {
+    match entry.reply.tops.first()?.tree.first()? {
+        Item::Emit(value) => value.as_int().ok(),
+        _ => None,
+    }
 }
 
 // A session's body and one on the current store, at moments of their own.
@@ -194,7 +197,7 @@ fn told_twice<K: BookName, R: Threads + Wait + Abort + Sync>(
     let history = book.end();
     for (entry, time) in history.entries().iter().zip([7, 3]) {
         assert_eq!(bank.rt; entry.time, time);
-        assert!(bank.rt; told(entry) == Some(&Item::Emit(Value::Int(time as i64))));
+        assert_eq!(bank.rt; told(entry), Some(time as i64));
     }
     Ok(())
 }

@@ -1,5 +1,5 @@
 -- Attempts that are accepted.
-use Rattle.std.proofs.Common.{◌≡◌, refl, sym, ap, ◌∙◌, subst, ℕ, ℤ, Option, List, [], ◌∷◌, ◌++◌, append-nil, length, take, drop, slice_index_or, inl, inr, arith}
+use Rattle.std.proofs.Common.{◌≡◌, refl, sym, ap, ◌∙◌, subst, ℕ, ℤ, Option, List, [], ◌∷◌, ◌++◌, append-nil, length, take, drop, slice_index_or, inl, inr, ⊎_elim, arith}
 use Rattle.std.specs.Prelude.{Result, Ok, Err, OnOk, OnErr}
 use Rattle.hp_model.specs.Rules.{Library}
 use Rattle.hp_model.specs.Tree.{Task}
@@ -11,7 +11,7 @@ use Rattle.hp_model.specs.Soundness.{firing_answer, Attempt}
 use Rattle.hp_model.proofs.BridgesCells.{stacked, over-over, Holds-front}
 use Rattle.hp_store.specs.Changes.{Entries, changes}
 use Rattle.hp_store.specs.Stack.{cells_in}
-use Rattle.hp_view.specs.Seeing.{Seeing, written, now_in, Shows, ShowsKeys, ShowsGreatest, ShowsObjects, ShowsPart, ReadsPart, IsSame, TakesIn, OnlyReads, ReadsMore, GoesOn, Restores, undone}
+use Rattle.hp_view.specs.Seeing.{Seeing, written, now_in, Shows, ShowsKeys, ShowsGreatest, ShowsObjects, ShowsPart, ReadsKeys, ReadsGreatestAlone, DeletesGreatest, ReadsGreatest, ReadsPart, IsSame, TakesIn, OnlyReads, ReadsMore, GoesOn, Restores, undone}
 use Rattle.hp_view.specs.Looks.{only_reads_then}
 use Rattle.hp_view.proofs.Views.{GoesOn-then}
 use Rattle.hp_value.specs.declared.cell.Cell.{Cell as RustCell}
@@ -20,7 +20,7 @@ use Rattle.hp_view.specs.declared.reads.Found.{Found}
 use Rattle.hp_view.specs.declared.reads.Seen.TheVariants.{Cell as OfCell}
 use Rattle.hp_view.specs.Mapped.{read}
 use Rattle.hp_view.specs.Adding.{AddsReads, IsOfClass, adds_then}
-use Rattle.hp_view.proofs.Adding.{adds_noted, adds_more}
+use Rattle.hp_view.proofs.Adding.{adds_noted, adds_more, adds_keys}
 use Rattle.hp_model.specs.States.{States, LeadsToOne, IsSoundFor, FaithfulFiringFor}
 use Rattle.hp_attempt.specs.Holding.{IsReadAgain, IsFor, IsForAny, IsAccepted, Covers}
 
@@ -117,6 +117,16 @@ into_rest first all r is into x fits = into x (subst (λ rs. IsForAny (written f
 pub adds_part : (P : Read → Type 0) {old new : Seeing} {n : ℕ} {p : ClassPart} → ((objects : List KeyedRow) → P (part_read n p objects)) → ReadsPart old new n p → AddsReads P old.reads new.reads
 adds_part P {old} {new} {n} {p} fits reads =
     subst (AddsReads P old.reads) (sym (ap (λ (v : Seeing). v.reads) reads.part_is.2)) (adds_noted P old.reads (part_read n p reads.part_is.0) (fits reads.part_is.0))
+
+-- a greatest key that is read adds its read, or the keys
+pub adds_greatest : (P : Read → Type 0) {old new : Seeing} {n : ℕ} → ((greatest : Option ℤ) → P (greatest_read n greatest)) → (DeletesGreatest old n → (keys : List ℤ) → P (keys_read n keys))
+    → ReadsGreatest old new n → AddsReads P old.reads new.reads
+adds_greatest P {old} {new} {n} alone instead reads =
+    ⊎_elim
+    (λ (r : ReadsGreatestAlone old new n).
+    subst (AddsReads P old.reads) (sym (ap (λ (v : Seeing). v.reads) r.greatest.2)) (adds_noted P old.reads (greatest_read n r.greatest.0) (alone r.greatest.0)))
+    (λ (r : DeletesGreatest old n × ReadsKeys old new n). adds_keys P (instead r.0) r.1)
+    reads.either
 
 -- a read of the class may be added for a part of it
 pub class_for_part : (layer : Changes) (n : ℕ) (p : ClassPart) (objects : List KeyedRow) (r : Read) → IsOfClass layer n r → IsFor layer (part_read n p objects) r

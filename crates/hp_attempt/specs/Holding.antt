@@ -1,11 +1,11 @@
 -- Reads that hold, and the first that doesn't.
-use Rattle.std.specs.Prelude.{◌≡◌, List, [], ◌∷◌, ◌++◌, None, ◌⊎◌}
-use Rattle.hp_model.specs.Cells.{Cells, Changes, over, Read, cell_read, keys_read, greatest_read, objects_read, part_read, ReadHolds, Holds}
+use Rattle.std.specs.Prelude.{◌≡◌, ℤ, List, [], ◌∷◌, ◌++◌, Some, None, ◌⊎◌}
+use Rattle.hp_model.specs.Cells.{Cells, object_cell, Changes, over, Read, cell_read, keys_read, greatest_read, objects_read, part_read, ReadHolds, Holds}
 use Rattle.hp_value.specs.Mapped.{cell}
 use Rattle.hp_view.specs.declared.reads.Seen.{Seen}
 use Rattle.hp_view.specs.declared.reads.Seen.TheVariants.{Cell as OfCell, Keys as OfKeys, Greatest as OfGreatest, Part as OfPart}
 use Rattle.hp_store.specs.Changes.{Entries}
-use Rattle.hp_view.specs.Adding.{AddsReads, IsOfClass, IsOfGreatest}
+use Rattle.hp_view.specs.Adding.{AddsReads, IsOfClass}
 use Rattle.hp_view.specs.Seeing.{Seeing, beneath, written, now_in, OnlyReads, TakesIn}
 
 -- a read of this cell, of this class's keys, alone or with the rows, of its greatest key, or of a part of it
@@ -37,14 +37,16 @@ pub record Covers (v : Seeing) (reads : List Read) : Type 0 where
 
 -- ---- the reads that settling adds
 
--- a read that may be added for one that an attempt made: one of the same. Where the view can't read a part alone, it reads
--- the class
+-- a read that may be added for one that an attempt made: one of the same. Where the view's writes delete an object with
+-- the greatest key, it reads the class's keys; where it can't read a part alone, it reads the class
 abbrev pub IsFor : Changes → (tried : Read) → Read → Type 0
 IsFor layer (cell_read q value) (cell_read c found) = (c ≡ q) × (layer q ≡ None)
 IsFor layer (cell_read q value) r = ⊥
 IsFor layer (keys_read n keys) (keys_read m found) = m ≡ n
 IsFor layer (keys_read n keys) r = ⊥
-IsFor layer (greatest_read n greatest) r = IsOfGreatest layer n r
+IsFor layer (greatest_read n greatest) (greatest_read m found) = m ≡ n
+IsFor layer (greatest_read n greatest) (keys_read m found) = (m ≡ n) × (key : ℤ) × (layer (object_cell n key) ≡ Some None)
+IsFor layer (greatest_read n greatest) r = ⊥
 IsFor layer (objects_read n objects) r = IsOfClass layer n r
 IsFor layer (part_read n part objects) (part_read m p found) = (m ≡ n) × (p ≡ part)
 IsFor layer (part_read n part objects) r = IsOfClass layer n r

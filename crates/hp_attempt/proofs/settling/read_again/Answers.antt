@@ -1,4 +1,5 @@
 use Rattle.std.proofs.Common.{◌≡◌, refl, ap, subst, sym}
+use Rattle.hp_model.specs.Cells.{greatest_read}
 use Rattle.hp_value.specs.Mapped.{cell}
 use Rattle.hp_view.specs.declared.reads.Seen.TheVariants.{Cell as OfCell}
 use Rattle.hp_view.specs.Adding.{AddsReads, adds_none}
@@ -6,7 +7,7 @@ use Rattle.hp_view.specs.Seeing.{Seeing, written}
 use Rattle.hp_view.proofs.Adding.{adds_cell}
 use Rattle.hp_view.specs.Mapped.{read, greatest_found}
 use Rattle.hp_attempt.specs.Holding.{IsReadAgain, IsFor}
-use Rattle.hp_attempt.proofs.Taking.{again_cell, again_greatest, where_ok, either_way}
+use Rattle.hp_attempt.proofs.Taking.{again_cell, again_greatest, adds_greatest, where_ok, either_way}
 use Rattle.hp_attempt.proofs.settling.read_again.Goals as goal
 
 pub returns-in-Cell-clause-again : goal.returns-in-Cell-clause-again
@@ -46,7 +47,13 @@ returns-in-Keys-clause-reads c =
 
 pub returns-in-Greatest-clause-reads : goal.returns-in-Greatest-clause-reads
 returns-in-Greatest-clause-reads c =
-    subst (λ s. AddsReads (IsFor (written c.args.view.now) (read (s, c.args.found.now))) c.args.view.now.reads c.read_greatest_key.new.self.reads) (sym c.in-Greatest.is) c.read_greatest_key.ensures.reads
+    let w = written c.args.view.now in
+    let r = greatest_read c.in-Greatest.class (greatest_found c.args.found.now) in
+    subst (λ s. AddsReads (IsFor w (read (s, c.args.found.now))) c.args.view.now.reads c.read_greatest_key.new.self.reads) (sym c.in-Greatest.is)
+    (either_way c.read_greatest_key.result
+    (adds_greatest (IsFor w r) (λ greatest. refl) (λ deletes keys. (refl, deletes.greatest.0, deletes.greatest.2)))
+    (λ (same : c.read_greatest_key.new.self ≡ c.args.view.now). adds_none (IsFor w r) (ap (λ (v : Seeing). v.reads) same))
+    c.read_greatest_key.ensures.reads c.read_greatest_key.ensures.err)
 
 pub returns-in-Part-clause-reads : goal.returns-in-Part-clause-reads
 returns-in-Part-clause-reads c =
