@@ -56,11 +56,7 @@ fn note_aggregate(
 }
 
 // Adds the field that a query asks for.
-fn note_query(
-    alloc: Global,
-    query: &Query,
-    asked: &mut Vec<AskedField>,
-) -> Result<(), AllocError> {
+fn note_query(alloc: Global, query: &Query, asked: &mut Vec<AskedField>) -> Result<(), AllocError> {
     match query.asked_field() {
         Some(field) => note(alloc, query.class, field, asked),
         None => Ok(()),
@@ -97,7 +93,9 @@ fn note_statement(
         }
         Stmt::For { body, .. } | Stmt::With { body, .. } => note_body(alloc, body, asked),
         Stmt::Let {
-            aggregate, body, ..
+            aggregate,
+            body,
+            ..
         } => {
             note_aggregate(alloc, aggregate, asked)?;
             note_body(alloc, body, asked)
