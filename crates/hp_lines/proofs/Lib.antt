@@ -4,3 +4,4 @@ pub mod Pieces
 pub mod Anywhere
 pub mod Journal
 pub mod Sessions
+pub mod Snapshots

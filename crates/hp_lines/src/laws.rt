@@ -2,6 +2,7 @@
 
 ghost use Rattle.hp_lines.specs.Journal.{AcceptedLinesReplay};
 ghost use Rattle.hp_lines.specs.Laws.{BytesAreLines, PiecesCompose, ScriptsAreRead};
+ghost use Rattle.hp_lines.specs.Snapshots.{AlikeAnswer, SnapshotsAnswer};
 
 /// Accepted lines replay as one script, whose items are those of the first line and then the accepted ones. The
 /// answers, without their last lines, are the text of the units in the script's report, and the state is the script's
@@ -23,4 +24,12 @@ pub fn pieces_compose()
 /// The first line is read as a script.
 pub fn scripts_are_read()
     ensures { ScriptsAreRead }
+{}
+
+/// A rule base that has read a snapshot answers each later line as the one of which the snapshot was taken, but for the
+/// numbers of units. No enabled rule may have a sequence or a closure, or be on `commit`.
+pub fn snapshots_answer()
+    // More generally, states that no later unit tells apart are told apart by no answer.
+    ensures alike { AlikeAnswer }
+    ensures snapshots { SnapshotsAnswer }
 {}
