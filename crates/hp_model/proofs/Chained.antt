@@ -1,10 +1,12 @@
 -- Worked rows of chains: what the definitions compute of these libraries.
+use Rattle.std.specs.Prelude.{◌==◌}
 use Rattle.std.proofs.Common.{◌≡◌, refl, ℕ, List, [], ◌∷◌, codes, true, false}
 use Rattle.std.specs.Fmt.{digits}
 use Rattle.hp_model.specs.Events.{Event, pattern_event, on_signal, on_commit, seq_event}
 use Rattle.hp_model.specs.Rules.{immediate, separate, signal, subtransaction, fire, empty, ◌then◌}
 use Rattle.hp_model.specs.Cascade.{transaction, Script}
 use Rattle.hp_model.specs.Chains.{rule_triggers, library_within, is_safe, is_safe_script}
+use Rattle.hp_model.specs.Idle.{with_idle}
 use Rattle.hp_model.proofs.Scripts.{lines, rule, on, go, say, installs, script}
 use Rattle.hp_model.proofs.Rows.{text_of, depth_limit_script}
 
@@ -70,3 +72,16 @@ idle_cycle_safe = refl
 
 up_unsafe : is_safe_script depth_limit_script ≡ false
 up_unsafe = refl
+
+-- the same rule beside another one, which alone is installed: the script is safe, since the rule may as well do nothing
+abbrev one_installed : Script
+one_installed =
+    script [] 16
+    (on (codes "a") (say 1 then empty) ∷ rule (codes "s") (pattern_event on_commit) separate [] immediate empty ∷ [])
+    (transaction 0 (installs 0 then go then empty) ∷ [])
+
+unsafe_by_the_other : is_safe_script one_installed ≡ false
+unsafe_by_the_other = refl
+
+safe_without_it : is_safe_script (record { library = with_idle (λ n. n == 0) one_installed.library; units = one_installed.units }) ≡ true
+safe_without_it = refl

@@ -14,6 +14,7 @@ pub mod Replayed
 pub mod Lawful
 pub mod GuardedTops
 pub mod Shallow
+pub mod Idle
 pub mod Limits
 pub mod Reached
 pub mod Levels

@@ -52,3 +52,4 @@ pub mod Kinds
 pub mod Snapshots
 pub mod Laws
 pub mod Chains
+pub mod Idle
