@@ -2,7 +2,7 @@
 use Rattle.std.specs.Prelude.{ℕ, Bool, true, false, ◌||◌, List, [], pos}
 use Rattle.hp_model.specs.Occurrences.{Primitive, created, updated, deleted, signalled, commit_reached, moment_reached}
 use Rattle.hp_model.specs.Events.{Pattern, at_moment, every_moment, matches, Event, pattern_event, or_event, seq_event, closure_event}
-use Rattle.hp_model.specs.Rules.{Statement, create, update, delete, signal, when, each, for_answer, with_object, subtransaction, fire, Rule}
+use Rattle.hp_model.specs.Rules.{Statement, create, update, delete, signal, when, each, for_answer, with_object, subtransaction, let_value, fire, Rule}
 use Rattle.hp_rule.specs.Noted.{of_class, of_name}
 use Rattle.hp_rule.specs.Index.{numbers_from}
 use Rattle.hp_analysis.specs.declared.listeners.Listeners.{Listeners}
@@ -47,5 +47,6 @@ is_plain (each x class predicate body) = false
 is_plain (for_answer x body) = false
 is_plain (with_object x class key body) = false
 is_plain (subtransaction body otherwise) = false
+is_plain (let_value x a body) = false
 is_plain (fire n) = false
 is_plain s = true

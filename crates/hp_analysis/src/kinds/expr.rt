@@ -101,7 +101,7 @@ pub(crate) fn row_field_sort(scope: &Scope<'_>, variable: &str, field: &str) -> 
 {
     match scope.rows.class(variable) {
         Some(class) => field_sort(scope.library, class, field),
-        None => Err(Reason::UnknownRow),
+        None => Err(Reason::UnknownName),
     }
 }
 
@@ -112,7 +112,7 @@ fn row_key_sort(scope: &Scope<'_>, variable: &str) -> Result<Sort, Reason>
 {
     match scope.rows.class(variable) {
         Some(_) => Ok(Sort::Only(Kind::Int)),
-        None => Err(Reason::UnknownRow),
+        None => Err(Reason::UnknownName),
     }
 }
 

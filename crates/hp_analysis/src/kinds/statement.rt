@@ -247,7 +247,7 @@ fn check_query_name(scope: &Scope<'_>, place: &Place<'_>, query: &str) -> Result
 {
     match first_class(scope.queries, query) {
         Some(_) => Ok(()),
-        None => Err(found(scope.alloc, place, Reason::UnknownRow)),
+        None => Err(found(scope.alloc, place, Reason::UnknownName)),
     }
 }
 
