@@ -77,7 +77,7 @@ impl RuleLists {
 
     /// The rules that are listed for a subject.
     pub fn rules(&self, subject: Subject<'_>) -> &[RuleNo]
-        ensures { result.now ≡ listed_of self.now subject }
+        ensures { result.now ≡ listed_of self.now subject.entry }
     {
         match subject {
             Subject::Created(class) => of_class(&self.created, class),
