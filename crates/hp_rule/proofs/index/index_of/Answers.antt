@@ -1,9 +1,10 @@
 use Rattle.std.proofs.Common.{rules, ◌≡◌, sym, ap, ◌∙◌, [], drop, map}
 use Rattle.std.proofs.lemmas.List.{drop_all}
 use Rattle.hp_rule.specs.Statements.{rule}
-use Rattle.hp_rule.specs.Index.{listed, may_mention, noted_from}
+use Rattle.hp_rule.specs.Index.{may_mention, noted_from}
+use Rattle.hp_rule.specs.RuleLists.{listed}
 use Rattle.hp_rule.proofs.Numbers.{noted_are}
-use Rattle.hp_rule.proofs.index.Index.of.Goals as goal
+use Rattle.hp_rule.proofs.index.index_of.Goals as goal
 
 pub returns : goal.returns
 returns c = λ p.

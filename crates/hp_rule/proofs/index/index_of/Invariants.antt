@@ -1,8 +1,9 @@
 use Rattle.std.proofs.Common.{◌≡◌, [], drop, map}
 use Rattle.hp_model.specs.Occurrences.{Primitive}
 use Rattle.hp_rule.specs.Statements.{rule}
-use Rattle.hp_rule.specs.Index.{listed, may_mention, noted_from}
-use Rattle.hp_rule.proofs.index.Index.of.Given as goal
+use Rattle.hp_rule.specs.Index.{may_mention, noted_from}
+use Rattle.hp_rule.specs.RuleLists.{listed}
+use Rattle.hp_rule.proofs.index.index_of.Given as goal
 
 -- the lists so far, with the rules to come, are those of all rules
 abbrev pub invariant-loop-n : goal.invariant-loop-n

@@ -2,9 +2,10 @@ use Rattle.std.proofs.Common.{rules, ◌≡◌, sym, ap, ◌∙◌, [], drop, ma
 use Rattle.std.proofs.lemmas.List.{drop_all}
 use Rattle.hp_rule.specs.Statements.{rule}
 use Rattle.hp_rule.specs.Index.{noted_from}
-use Rattle.hp_analysis.specs.Listeners.{listed, may_end}
+use Rattle.hp_rule.specs.RuleLists.{listed}
+use Rattle.hp_analysis.specs.Listeners.{may_end}
 use Rattle.hp_rule.proofs.Numbers.{noted_are}
-use Rattle.hp_analysis.proofs.listeners.Listeners.of.Goals as goal
+use Rattle.hp_analysis.proofs.listeners.listeners_of.Goals as goal
 
 pub returns : goal.returns
 returns c = λ p.
