@@ -2,6 +2,7 @@ use Rattle.std.proofs.Common.{sym, ap, ◌∙◌, ◌+◌, [], ◌∷◌, ◌++�
 use Rattle.hp_rule.specs.Mapped.{task}
 use Rattle.hp_model.proofs.FaithfulFirings.{goes_on}
 use Rattle.hp_view.proofs.Views.{GoesOn-same, GoesOn-then}
+use Rattle.hp_attempt.specs.Mapped.{veto_in}
 use Rattle.hp_attempt.proofs.Fronting.{none_yet, takes_none, no_outcomes, takes_same, takes_unpushed, on_err, front_end, front_ordered, ended, step, halting, not_halting, tasks_left}
 use Rattle.hp_attempt.proofs.front.settle_front.Goals as goal
 
