@@ -1,4 +1,6 @@
 pub mod ByKey
+pub mod Candidates
+pub mod Findings
 pub mod Looks
 pub mod Mapped
 pub mod Plain

@@ -8,6 +8,7 @@
 
 mod aggregate;
 mod by_key;
+mod candidates;
 mod collect;
 mod condition;
 mod entry;
@@ -15,9 +16,10 @@ mod look;
 mod part;
 mod plain;
 mod query;
+mod terms;
 
-pub use aggregate::Aggregate;
-pub use condition::Verdict;
+pub use aggregate::{Aggregate, aggregated, let_value};
+pub use condition::{Verdict, evaluate_condition};
 pub use entry::{Entry, Findings};
 pub use look::Look;
 pub use part::asked_field;
