@@ -9,7 +9,8 @@ use Rattle.hp_script.specs.declared.aggregate_form.AggregateForm.TheVariants.{Co
 
 abbrev pub aggregate_form_view : AggregateForm → A.AggregateForm
 aggregate_form_view (Count q) = A.count_form (view q.name.now) (view q.class.now) (view q.predicate.now)
-aggregate_form_view (Sum q term) = A.sum_form (view q.name.now) (view q.class.now) (view q.predicate.now) (view term.now)
+aggregate_form_view (Sum q term) =
+    A.sum_form (view q.name.now) (view q.class.now) (view q.predicate.now) (view term.now)
 aggregate_form_view (Least q term) =
     A.least_form (view q.name.now) (view q.class.now) (view q.predicate.now) (view term.now)
 aggregate_form_view (Greatest q term) =

@@ -17,7 +17,8 @@ setting_here c = setting_in c.scope c.names
 -- the statement of a form, with at most this many levels of statements in it
 abbrev pub form_here : Context Scope → (levels : ℕ) → StatementForm → Decoded Statement
 form_here c levels form =
-    statement_from (scope_view c.scope) (statement_within (scope_view c.scope) levels) (setting_here c) (steps c.place) form
+    let scope = scope_view c.scope in
+    statement_from scope (statement_within scope levels) (setting_here c) (steps c.place) form
 
 -- the statement that a value is, of at most this many levels
 abbrev pub statement_here : Context Scope → (levels : ℕ) → Data → Decoded Statement

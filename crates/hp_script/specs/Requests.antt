@@ -75,4 +75,5 @@ request_at version library clock d = request_from version library clock d (show_
 -- the size is checked first, as in a script
 unfoldable pub request_of : Version → Library → (clock : ℕ) → List ℕ → Decoded Request
 request_of version library clock bytes =
-    if nat_lt 1048576 (length bytes) then Err (over_limit size_limit) else json_at bytes >>= request_at version library clock
+    if nat_lt 1048576 (length bytes) then Err (over_limit size_limit)
+    else json_at bytes >>= request_at version library clock

@@ -30,7 +30,11 @@ timed_script_at d = do
   version ← version_at (under_root (codes "version")) root.version
   library ← library_at version root
   schedule ← units_at version library.rules (library_scope library) (under_root (codes "items")) root.items
-  Ok (record { script = record { library = library; units = schedule.units }; version = version; clock = schedule.clock })
+  Ok (record {
+    script = record { library = library; units = schedule.units };
+    version = version;
+    clock = schedule.clock;
+  })
 
 -- the script in the bytes, with its version and the time after it, or the first refusal
 unfoldable pub timed_script_of : List ℕ → Decoded TimedScript

@@ -33,7 +33,8 @@ fn over_at(
 ) -> Result<Query, DecodeError>
     ensures { Gives over result
         (over_at (class_names (scope_view scope.entry.now).classes) (setting_view setting.entry.now)
-        (steps place.entry.now) (view rows.entry.name.now) (view rows.entry.class.now) (view rows.entry.predicate.now)) }
+        (steps place.entry.now)
+        (view rows.entry.name.now) (view rows.entry.class.now) (view rows.entry.predicate.now)) }
 {
     query_at(alloc, place, 1, scope, setting, rows)
 }
@@ -50,8 +51,8 @@ fn terms_at(
 ) -> Result<(Query, Box<Expr>), DecodeError>
     ensures { Gives (λ p. (over p.0, expression p.1.value)) result
         (terms_at (class_names (scope_view scope.entry.now).classes) (setting_view setting.entry.now)
-        (steps place.entry.now) (view rows.entry.name.now) (view rows.entry.class.now) (view rows.entry.predicate.now)
-        (view term.now)) }
+        (steps place.entry.now)
+        (view rows.entry.name.now) (view rows.entry.class.now) (view rows.entry.predicate.now) (view term.now)) }
 {
     let rows = over_at(alloc, place, scope, setting, rows)?;
     let inner = setting.with_row(rows.name.as_str());

@@ -33,7 +33,8 @@ fn aggregate_form_of_four<'a>(
     term: &'a Value,
 ) -> Option<AggregateForm<'a>>
     ensures { option_map aggregate_form_view result ≡ aggregate_form word.now
-        (view rows.entry.name.now ∷ view rows.entry.class.now ∷ view rows.entry.predicate.now ∷ view term.entry.now ∷ []) }
+        (view rows.entry.name.now ∷ view rows.entry.class.now ∷ view rows.entry.predicate.now
+        ∷ view term.entry.now ∷ []) }
 {
     match word {
         "sum" => Some(AggregateForm::Sum(rows, term)),

@@ -103,7 +103,8 @@ fn items_of(
 ) -> Result<Schedule, DecodeError>
     ensures own { IfOk result (λ s. AreOf library.now.value s.units.items) }
     ensures reads { Gives schedule result
-        (items_over (version_view version) (model_library library.now.value) (under_root (codes "items")) (view value.now)) }
+        (items_over (version_view version) (model_library library.now.value) (under_root (codes "items"))
+        (view value.now)) }
 {
     units_at(
         alloc,

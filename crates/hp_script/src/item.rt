@@ -134,7 +134,8 @@ pub(crate) fn unit_at(
 ) -> Result<Schedule, DecodeError>
     ensures own { IfOk result (StayOf library.now.value before) }
     ensures reads { Gives schedule result
-        (item_over (version_view version) (model_library library.now.value) (steps place.now) (schedule before) (view value.now)) }
+        (item_over (version_view version) (model_library library.now.value) (steps place.now)
+        (schedule before) (view value.now)) }
 {
     match item_form_at(alloc, place, value)? {
         ItemForm::Transaction(body) => transaction_at(alloc, place, version, library, before, body),

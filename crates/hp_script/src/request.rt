@@ -148,7 +148,8 @@ fn item_of(
     value: &Value,
 ) -> Result<Request, DecodeError>
     ensures own { IfOk result (λ r. IsRequestOf library.now.value r) }
-    ensures reads { Gives request result (item_of (version_view version) (model_library library.now.value) clock (view value.now)) }
+    ensures reads { Gives request result
+        (item_of (version_view version) (model_library library.now.value) clock (view value.now)) }
 {
     let before = nothing_since(alloc, clock);
     let schedule = item_after(alloc, version, library, before, value)?;
@@ -164,7 +165,8 @@ fn request_at(
     clock: u64,
     value: &Value,
 ) -> Result<Request, DecodeError>
-    ensures reads { Gives request result (request_at (version_view version) (model_library library.now.value) clock (view value.now)) }
+    ensures reads { Gives request result
+        (request_at (version_view version) (model_library library.now.value) clock (view value.now)) }
     ensures own { IfOk result (λ r. IsRequestOf library.now.value r) }
 {
     match show_form_in(value) {
@@ -177,8 +179,9 @@ fn request_at(
 /// in it is checked against the library, and runs at the clock's time.
 ///
 /// `Refused` has the first fault, in the order of a script's checks: the size, which has a script's limit, the JSON
-/// text, and the item or what is to be shown, by a path from the line's own value. `Memory` means that memory ran out. More bytes than a
-/// script may have are refused before any memory is allocated, so with `Memory` the bytes are at most that many.
+/// text, and the item or what is to be shown, by a path from the line's own value. `Memory` means that memory ran out.
+/// More bytes than a script may have are refused before any memory is allocated, so with `Memory` the bytes are at most
+/// that many.
 #[tactic(auto, unfolding(crate::specs::Requests::request_of))]
 pub fn decode_request(
     alloc: Global,
@@ -187,7 +190,8 @@ pub fn decode_request(
     clock: u64,
     bytes: &[u8],
 ) -> Result<Request, DecodeError>
-    ensures reads { Gives request result (request_of (version_view version) (model_library library.now.value) clock bytes.now) }
+    ensures reads { Gives request result
+        (request_of (version_view version) (model_library library.now.value) clock bytes.now) }
     ensures own { IfOk result (λ r. IsRequestOf library.now.value r) }
     ensures too_long { 1048576 < length bytes.now → result ≡ Err (DecodeError.Refused (Refusal.S5 Limit.Size)) }
 {

@@ -203,7 +203,8 @@ pub(crate) fn statement_form_at<'a>(
     value: &'a Value,
 ) -> Result<StatementForm<'a>, DecodeError>
     ensures { Gives statement_form_view result
-        (statement_form_at (version_view scope.entry.now.version) (scope_view scope.entry.now) (steps place.now) (view value.entry.now)) }
+        (statement_form_at (version_view scope.entry.now.version) (scope_view scope.entry.now)
+        (steps place.now) (view value.entry.now)) }
 {
     let form = shaped(alloc, place, statement_form(scope.version, value))?;
     if is_veto(form) && !scope.in_action {

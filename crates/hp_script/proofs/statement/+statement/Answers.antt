@@ -29,7 +29,7 @@ with_at-returns t c =
 pub let_at-returns : goal.let_at-returns
 let_at-returns t c =
     let inner = c.with_value-inner.ensures in
-    let body = c.item-3.ensures in
+    let body = c.item-2.ensures in
     let_read _ _ _ _ _ _ _ _ _ _ _ (rw c.item.ensures at c.in_ok-name.ensures)
     (rw (c.setting_of-setting.ensures, c.item-place.ensures) at c.in_ok-aggregate.ensures)
     (rw (body.scope, body.names, body.place, inner.scope, inner.names, inner.place) at c.in_ok-body.ensures)
