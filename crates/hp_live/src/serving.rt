@@ -56,11 +56,11 @@ pub fn serve<T: Threads + Sync, R: Source, W: Sink>(
         if let Status::Refused = server.status() {
             return Ok(Status::Refused);
         }
+        if reader.ended() {
+            server.finish(rt, alloc, writer)?;
+            return Ok(server.status());
+        }
         match reader.read(&mut buf) {
-            Ok(0) => {
-                server.finish(rt, alloc, writer)?;
-                return Ok(server.status());
-            }
             Ok(count) => server.feed(rt, alloc, writer, &buf[..count])?,
             Err(_) => return Err(Fault::Read),
         }
