@@ -703,7 +703,7 @@ CASES = [
     Case(
         "the time, as other languages call it", "S2 /rules/0/5/0/1",
         action('["emit", «["now"]»]'),
-        '"now" begins no expression', "did you mean `time`?"),
+        '"now" begins no expression', "did you mean `time`?", "`now` is of version 4"),
     Case(
         "a value of the event without its part", "S2 /rules/0/5/0/1",
         action('["emit", «["new", "bal"]»]'),

@@ -144,11 +144,10 @@ def first_is_no_word(node: Node, grammar: Grammar) -> str:
 
 def what_instead(word: str, grammar: Grammar) -> list[str]:
     """What an unknown word may be meant for: a known word near it, or another kind of form, and what there is."""
-    if word in grammar.later:
-        return [f"`{word}` is of version 4"]
     meant = did_you_mean(word, grammar.words, grammar.habits)
-    if meant:
-        return [meant]
+    later = f"`{word}` is of version 4" if word in grammar.later else ""
+    if meant or later:
+        return [hint for hint in (meant, later) if hint]
     others = [other.what for other in GRAMMARS if word in other.words]
     other = [f"it begins {listed(others, 'or')}, and {grammar.what} is expected here"] if others else []
     return other + [words_of(grammar)]
