@@ -213,7 +213,8 @@ def signal_facts(primitive):
 def query_facts(query):
     given = [(one.name, one.row.name, one.row.key, one.rows) for one in query.given]
     key = None if query.fault else query.key
-    return (query.name, query.on, query.objects, given, key, query.keys, query.fault_key, query.failed, query.values)
+    return (query.word, query.name, query.on, query.objects, given, query.known, query.value, key, query.keys,
+            query.fault_key, query.failed, query.values)
 
 
 # ---- the comparison

@@ -1,4 +1,4 @@
-"""The definitions of hp_model in Python, plain and slow: events, states, expressions and conditions.
+"""The definitions of hp_model in Python, plain and slow: events, states, expressions, aggregates and conditions.
 
 A state is never changed but made anew, a rule's past is the whole list of what was signalled, and whether an event
 occurs is read from that list each time (specs/Events.antt, State.antt, Expressions.antt, Conditions.antt). Nothing here
@@ -193,16 +193,25 @@ def compare(word, v, w):
 
 @dataclass(frozen=True)
 class Environment:
-    """`occurrence` is None in a transaction's own body. Rows are triples of class, key and fields."""
+    """`occurrence` is None in a transaction's own body. Rows are triples of class, key and fields. `values` are those
+    of `let`s, and `now` is the clock's moment."""
 
     occurrence: Optional[Occurrence] = None
     rows: tuple = ()
+    values: tuple = ()
+    now: int = 0
 
     def bound(self, name, row):
         return replace(self, rows=((name, row),) + self.rows)
 
     def row(self, name):
         return next(row for bound, row in self.rows if bound == name)
+
+    def let(self, name, value):
+        return replace(self, values=((name, value),) + self.values)
+
+    def value(self, name):
+        return next(value for bound, value in self.values if bound == name)
 
     def part(self, number):
         if self.occurrence is None or number >= len(self.occurrence.parts):
@@ -227,6 +236,10 @@ def value_of(form, env):
         return not of_kind("bool", value_of(form[1], env))
     if word == "neg":
         return in_range(-of_kind("int", value_of(form[1], env)))
+    if word == "value":
+        return env.value(form[1])
+    if word == "now":
+        return in_range(env.now)
     return of_row(form, env) if word in ("of", "key") else of_occurrence(form, env)
 
 
@@ -261,30 +274,97 @@ def of_occurrence(form, env):
     return found if word == "arg" else in_range(found)
 
 
-# ---- conditions (specs/Conditions.antt)
+# ---- aggregates (specs/Conditions.antt)
+
+OVER_ROWS = ("count", "sum", "least", "greatest")
+
 
 def rows_of(name, state):
     return [(name, key, row) for (on, key), row in sorted(state.objects.items(), key=lambda one: one[0]) if on == name]
 
 
+def is_over_rows(aggregate):
+    """Whether an aggregate is one over the rows of a class; `["count"]` alone is an expression."""
+    return isinstance(aggregate, list) and aggregate[0] in OVER_ROWS and len(aggregate) > 1
+
+
+def is_next(aggregate):
+    return isinstance(aggregate, list) and aggregate[0] == "next"
+
+
+def next_key(name, state):
+    return in_range(max((key + 1 for _, key, _ in rows_of(name, state)), default=1))
+
+
+def put_together(word, total, term):
+    """The value of an aggregate over some rows and one more, of which it takes a term."""
+    if word == "count":
+        return total + 1
+    if word == "sum":
+        return in_range(total + of_kind("int", term))
+    if kind_of(term) == "bool":
+        raise Cause("A3")
+    before = compare("<", term, term if total is None else total)
+    after = compare(">", term, term if total is None else total)
+    return term if total is None or (before if word == "least" else after) else total
+
+
+# ---- conditions (specs/Conditions.antt)
+
 @dataclass
 class Asked:
-    """A query as it was asked: its environment and the rows of its class; its answer, or the row that met a fault."""
+    """An entry of a condition, or what a statement asks of a class, as it was asked: its name, the class and the
+    predicate; the aggregate of a `let`; its environment, the rows of its class, and the answers of earlier entries.
+    Then what was found: an answer, the value of a `let` (None for the least of no row), or a fault, with the row that
+    met it."""
 
+    word: str
     query: list
+    aggregate: Any
     env: Environment
     rows: list
     answers: tuple
     answer: Optional[list] = None
+    value: Any = None
     fault: str = ""
     fault_row: Any = None
 
 
-def asked(name, on, predicate, env, state, answers=()):
-    one = Asked([name, on, predicate], env, rows_of(on, state), answers, [])
+def asked(name, on, predicate, env, state, answers=(), word="query"):
+    """The answer of a query."""
+    one = Asked(word, [name, on, predicate], None, env, rows_of(on, state), answers, [])
     for row in one.rows:
         try:
             if of_kind("bool", value_of(predicate, env.bound(name, row))):
+                one.answer.append(row)
+        except Cause as cause:
+            one.fault, one.fault_row, one.answer = str(cause), row, None
+            break
+    return one
+
+
+def asked_value(name, aggregate, env, state, answers=()):
+    """The value of an aggregate."""
+    if is_over_rows(aggregate):
+        return _over_rows(name, aggregate, env, state, answers)
+    rows = rows_of(aggregate[1], state) if is_next(aggregate) else []
+    one = Asked("let", [name, None, None], aggregate, env, rows, answers)
+    try:
+        one.value = next_key(aggregate[1], state) if is_next(aggregate) else value_of(aggregate, env)
+    except Cause as cause:
+        one.fault = str(cause)
+    return one
+
+
+def _over_rows(name, aggregate, env, state, answers):
+    word, row_name, on, predicate, *terms = aggregate
+    one = Asked("let", [name, on, predicate], aggregate, env, rows_of(on, state), answers, [])
+    one.value = 0 if word in ("count", "sum") else None
+    for row in one.rows:
+        here = env.bound(row_name, row)
+        try:
+            if of_kind("bool", value_of(predicate, here)):
+                one.value = put_together(word, one.value, value_of(terms[0], here) if terms else 1)
                 one.answer.append(row)
         except Cause as cause:
             one.fault, one.fault_row, one.answer = str(cause), row, None

@@ -8,8 +8,9 @@ one clock.
 from dataclasses import dataclass, field, replace
 from typing import Any, Optional
 
-from definitions import (Cause, Environment, Occurrence, RuleState, Signal, State, asked, at_places, extended, frozen,
-                         mentions, occurrence_of, of_kind, operated_rule, text_of, value_of, with_row, with_rule)
+from definitions import (Cause, Environment, Occurrence, RuleState, Signal, State, asked, asked_value, at_places,
+                         extended, frozen, mentions, occurrence_of, of_kind, operated_rule, text_of, value_of, with_row,
+                         with_rule)
 
 DETACHED = ("separate", "dependent", "exclusive")
 DONE = ("done",)
@@ -19,7 +20,8 @@ DONE = ("done",)
 
 @dataclass(eq=False)
 class Node:
-    """A node of a tree: a top-level transaction, a `sub`, a condition with its action, an action, or a leaf."""
+    """A node of a tree: a top-level transaction, a `sub`, a condition with its action, an action, or a leaf.
+    `is_vetoing` says that a firing vetoed by failing, as its rule is closed."""
 
     word: str
     parent: Optional["Node"] = None
@@ -38,6 +40,7 @@ class Node:
     queries: list = field(default_factory=list)
     stop_path: str = ""
     stop_firing: Any = None
+    is_vetoing: bool = False
     number: tuple = ()
     ended: Optional[int] = None
 
@@ -70,8 +73,16 @@ class Task:
     trigger: Signal
     occurrence: Occurrence
     within: Node
-    answers: Optional[tuple] = None
+    found: Optional["Findings"] = None
     is_released: bool = False
+
+
+@dataclass(frozen=True)
+class Findings:
+    """What the entries of a satisfied condition found: answers of queries and values of `let`s, by name."""
+
+    answers: tuple = ()
+    values: tuple = ()
 
 
 @dataclass
@@ -111,25 +122,27 @@ class Run:
         self.rules = [[name, frozen(event), *others] for name, event, *others in script["rules"]]
         self.numbers = {rule[0]: number for number, rule in enumerate(self.rules)}
         self.classes = {name: dict(map(tuple, fields)) for name, fields in script["classes"]}
+        self.has_entries = script["version"] == 4
         self.limit = script.get("depth", 8)
         self.clock = 0
         self.signals, self.changes, self.operations, self.dropped, self.units = [], [], [], [], []
-        self.starts = []
+        self.starts, self.now = [], 0
         self.state = State({}, tuple(RuleState() for _ in self.rules))
         self._items()
 
     def _items(self):
-        time = 0
+        """The clock's moment, `now`, is that of the unit of a moment, and else the time of the last move."""
         for number, (word, content) in enumerate(self.script["items"]):
             path = f"/items/{number}/1"
             if word == "tx":
                 self._unit(None, lambda context, state: self.body(content, path, context, state))
                 continue
-            for moment in range(time + 1, content + 1):
+            for moment in range(self.now + 1, content + 1):
                 signal = Signal("time", time=moment)
                 if any(mentions(rule[1], signal) for rule in self.rules):
+                    self.now = moment
                     self._unit(moment, self._moment(moment, path))
-            time = content
+            self.now = content
 
     def _moment(self, moment, path):
         return lambda context, state: self.signal_in(Signal("time", time=moment), path, context, state)
@@ -161,7 +174,7 @@ class Run:
     def _top(self, node, work, transactions, detached, depth=0):
         node.number = (len(self.units), len(transactions))
         transactions.append(node)
-        context = Context(node, depth)
+        context = Context(node, depth, Environment(now=self.now))
         course = work(context, self.state).then(
             lambda state: self.signal_in(Signal("commit"), "", context, state))
         while course.end == DONE and course.queued:
@@ -244,43 +257,67 @@ class Run:
         return course
 
     def fire_task(self, task, parent, state):
-        """The result of a firing, and if its action vetoed the end that this gives the transaction around."""
+        """The result of a firing, and if it vetoed the end that this gives the transaction around."""
         rule = self.rules[task.rule]
-        word = "fire" if task.answers is None else "act"
+        word = "fire" if task.found is None else "act"
         node = self._add(parent, Node(word, rule=rule[0], mode=task.place, trigger=task.trigger,
                                       parts=task.occurrence.parts, count=task.occurrence.count))
-        answers = task.answers
-        if answers is None:
-            answers = self.verdict(node, rule, task, state)
-            if answers is None:
+        found = task.found
+        if found is None:
+            found = self.verdict(node, rule, task, state)
+            if found is None:
                 node.action, node.ended = "none", self._tick()
-                return Course(state), None
+                is_fault = node.condition.startswith("fault")
+                return Course(state), self._vetoing(rule, node, ("abort", "", "", None) if is_fault else DONE)
             if rule[4] != "immediate":
                 node.action, node.ended = "later", self._tick()
-                later = Task(task.rule, rule[4], task.depth, task.trigger, task.occurrence, parent, answers)
+                later = Task(task.rule, rule[4], task.depth, task.trigger, task.occurrence, parent, found)
                 return placed([later], state), None
-        env = Environment(task.occurrence)
-        for name, rows in answers:
+        env = Environment(task.occurrence, values=found.values, now=self.now)
+        for name, rows in found.answers:
             env = env.bound(name, rows[0])
-        context = Context(node, task.depth, env, answers, task.rule)
+        context = Context(node, task.depth, env, found.answers, task.rule)
         course = self.closed(node, state, self.body(rule[5], f"/rules/{task.rule}/5", context, state))
         node.action = "ran"
-        is_veto = course.end[0] == "veto"
-        vetoing = ("abort", f"A9 {rule[0]}", course.end[2], node) if is_veto else None
-        return replace(course, end=DONE), vetoing
+        return replace(course, end=DONE), self._vetoing(rule, node, course.end)
+
+    def _vetoing(self, rule, node, end):
+        """The end that a firing gives the transaction around, if it vetoed: by a statement of its action, or because
+        its rule is closed and the firing failed. A closed rule passes on a veto that aborted its action."""
+        word, *others = end
+        if word == "veto":
+            return ("abort", others[0], others[1], node)
+        if word == "done" or rule[6:] != ["closed"]:
+            return None
+        cause, path, firing = others
+        node.is_vetoing = not cause.startswith("A9")
+        return ("abort", f"A9 {rule[0]}", path, node) if node.is_vetoing else end
 
     def verdict(self, node, rule, task, state):
-        """The answers of a condition that is satisfied, else None."""
-        env, answers = Environment(task.occurrence), ()
-        for name, on, predicate in rule[3]:
-            one = asked(name, on, predicate, env, state, answers)
+        """What the entries of a condition found if it is satisfied, else None."""
+        env, answers = Environment(task.occurrence, now=self.now), ()
+        for entry in rule[3]:
+            one = self.entry(entry, env, state, answers)
             node.queries.append(one)
-            if not one.answer:
+            is_met = one.value is not None if one.word == "let" else bool(one.answer) == (one.word == "query")
+            if one.fault or not is_met:
                 node.condition = f"fault {one.fault}" if one.fault else "unsatisfied"
                 return None
-            env, answers = env.bound(name, one.answer[0]), answers + ((name, one.answer),)
+            name = one.query[0]
+            if one.word == "let":
+                env = env.let(name, one.value)
+            elif one.word == "query":
+                env, answers = env.bound(name, one.answer[0]), answers + ((name, one.answer),)
         node.condition = "satisfied"
-        return answers
+        return Findings(answers, env.values)
+
+    def entry(self, entry, env, state, answers):
+        """An entry as it is asked: a query, or in version 4 `no` or `let`."""
+        if self.has_entries and entry[0] == "no":
+            return asked(*entry[1:], env, state, answers, "no")
+        if self.has_entries and entry[0] == "let":
+            return asked_value(*entry[1:], env, state, answers)
+        return asked(*entry, env, state, answers)
 
     # ---- statements
 
@@ -372,6 +409,13 @@ class Run:
         row = (on, key, self.present(on, key, state))
         return self.for_each([row], name, body, path + "/4", context, state)
 
+    def do_let(self, statement, path, context, state):
+        _, name, aggregate, body = statement
+        one = asked_value(name, aggregate, context.env, state)
+        if one.fault or one.value is None:
+            raise Cause(one.fault or "A2")
+        return self.body(body, path + "/3", replace(context, env=context.env.let(name, one.value)), state)
+
     def do_sub(self, statement, path, context, state):
         node = self._add(context.node, Node("sub", path=path))
         inner = replace(context, node=node)
@@ -384,7 +428,9 @@ class Run:
         raise Cause("A8")
 
     def do_veto(self, statement, path, context, state):
-        return Course(state, end=("veto", f"A9 {self.rules[context.rule][0]}", path, None))
+        cause = " ".join(["A9", self.rules[context.rule][0]] + [text_of(value_of(form, context.env))
+                                                                for form in statement[1:]])
+        return Course(state, end=("veto", cause, path, None))
 
     def on_rule(self, statement, path, context, state):
         verb, number = statement[0], self.numbers[statement[1]]
@@ -414,17 +460,18 @@ def placed(tasks, state):
                   [task for task in tasks if task.place in DETACHED])
 
 
-# ---- the report with trees
+# ---- the report
 
-def report(run):
-    """The text that the program writes for the script, with trees."""
+def report(run, trees=True):
+    """The text that the program writes for the script, with or without trees."""
     lines = []
     for number, (time, transactions) in enumerate(run.units, 1):
         for node in transactions:
             unit = f"unit {number}" + ("" if time is None else f" time {time}")
             lines.append(f"{node.mode} {node.rule} {_end(node)}" if node.rule else f"{unit} {_end(node)}")
             lines += [] if node.cause else [f"emit {text}" for text in _emits(node)]
-            _write(node, 1, lines)
+            if trees:
+                _write(node, 1, lines)
     lines.append("final")
     order = list(run.classes)
     for (name, key), row in sorted(run.state.objects.items(), key=lambda one: (order.index(one[0][0]), one[0][1])):

@@ -61,10 +61,12 @@ def _trigger(node):
 
 
 def _fate(run, node, outer):
+    if node.is_vetoing:
+        return "vetoed"
     if node.action in ("none", "later"):
         return "did nothing" if node.action == "none" else "put its action off"
     if node.cause:
-        return "vetoed" if node.cause == f"A9 {node.rule}" else "failed"
+        return "vetoed" if node.cause.split(" ")[:2] == ["A9", node.rule] else "failed"
     if _is_idle(run, node):
         return "did nothing"
     return "acted in vain" if outer else "acted"
@@ -91,7 +93,7 @@ def fault_facts(run):
 
 def dropped_facts(run):
     """The dropped tasks, each with the transaction in which it was made."""
-    return sorted((one.top.number, run.rules[one.task.rule][0], one.task.place, one.task.answers is not None,
+    return sorted((one.top.number, run.rules[one.task.rule][0], one.task.place, one.task.found is not None,
                    one.task.trigger.number, tuple(part.number for part in one.task.occurrence.parts), one.why,
                    place(one.by) or ()) for one in run.dropped)
 
@@ -99,9 +101,25 @@ def dropped_facts(run):
 # ---- queries
 
 def query_facts(asked):
+    """The facts on an entry; a `let` has the word of its aggregate."""
     name, on, predicate = asked.query
-    named = _rows_named(predicate) - {name}
+    word, row_name, forms = asked.word, name, [predicate]
+    if asked.word == "let":
+        over, next_key = definitions.is_over_rows(asked.aggregate), definitions.is_next(asked.aggregate)
+        word = asked.aggregate[0] if over or next_key else "expression"
+        row_name, forms = (asked.aggregate[1], asked.aggregate[3:]) if over else (None, [asked.aggregate])
+        on = asked.aggregate[1] if next_key else on or ""
+    named = {name for form in forms for name in _named(form, ("of", "key"))} - {row_name}
     given = [(other, rows[0][0], rows[0][1], len(rows)) for other, rows in asked.answers if other in named]
+    values = {name for form in forms for name in _named(form, ("value",))}
+    known = [(let, definitions.text_of(value)) for let, value in reversed(asked.env.values) if let in values]
+    value = None if asked.value is None or asked.fault else definitions.text_of(asked.value)
+    looked = (None, [], None, None, []) if predicate is None else _looked(asked, row_name, predicate)
+    return (word, name, on, len(asked.rows), given, known, value, *looked)
+
+
+def _looked(asked, name, predicate):
+    """The key that was asked for, the keys found, the one that met a fault, and why the one asked for doesn't fit."""
     key = _asked_key(asked, name, _conjuncts(predicate)[0])
     failed, values = None, []
     row = next((row for row in asked.rows if row[1] == key), None)
@@ -111,7 +129,7 @@ def query_facts(asked):
         values = [one for leaf in _leaves(failed) for one in _value(leaf, env)]
     keys = [row[1] for row in asked.answer or []]
     fault_key = asked.fault_row[1] if asked.fault else None
-    return name, on, len(asked.rows), given, None if asked.fault else key, keys, fault_key, failed, values
+    return None if asked.fault else key, keys, fault_key, failed, values
 
 
 def _conjuncts(test):
@@ -119,15 +137,15 @@ def _conjuncts(test):
 
 
 def _leaves(form):
-    """The forms that take a value from a row or an occurrence."""
+    """The forms that take a value from something else than expressions."""
     if not isinstance(form, list):
         return []
-    leaf = form[0] in ("of", "key", "new", "old", "id", "arg", "time", "count")
+    leaf = form[0] in ("of", "key", "new", "old", "id", "arg", "time", "count", "value", "now")
     return [form] if leaf else [leaf for part in form[1:] for leaf in _leaves(part)]
 
 
-def _rows_named(form):
-    return {leaf[1] for leaf in _leaves(form) if leaf[0] in ("of", "key")}
+def _named(form, words):
+    return {leaf[1] for leaf in _leaves(form) if leaf[0] in words}
 
 
 def _value(leaf, env):
@@ -142,7 +160,7 @@ def _asked_key(asked, name, test):
     if not asked.rows or not isinstance(test, list) or test[0] != "=" or ["key", name] not in test[1:]:
         return None
     other = test[2] if test[1] == ["key", name] else test[1]
-    if name in _rows_named(other):
+    if name in _named(other, ("of", "key")):
         return None
     try:
         value = definitions.value_of(other, asked.env)
@@ -183,7 +201,7 @@ def _fates(run, nodes, dropped):
 def _fired_by_statements(nodes, dropped):
     """How many tasks of a rule the statement `fire` made, by those that ran and those that were dropped."""
     triggers = [node.trigger for node in nodes if node.word == "fire"]
-    triggers += [one.task.trigger for one in dropped if one.task.answers is None]
+    triggers += [one.task.trigger for one in dropped if one.task.found is None]
     return sum(1 for trigger in triggers if trigger.kind == "fire")
 
 

@@ -17,7 +17,7 @@ from .notes import Note, Signal
 from .pasts import Hearing
 from .places import Places
 from .positions import NotJson
-from .report import Fire, Operation, Report
+from .report import Act, Fire, Operation, Report
 from .values import Primitive
 
 TOO_LONG = "The script does more than is followed here"
@@ -118,10 +118,12 @@ def derived(account: Account, doubt: str, is_own: bool) -> Account:
     fired = _fired_by_statements(account.base)
     plain = {rule.name: rule.event for rule in account.base.rules
              if is_own and language.has_one_part(rule.event) and rule.name not in fired}
+    closed = {rule.name for rule in account.base.rules if rule.is_closed}
     for unit in account.report.units:
         for transaction in unit.transactions:
             transaction.note = Note(None, unit=unit.number)
             _derive(transaction, plain)
+            _derive_vetoes(transaction, closed)
     account.doubt = doubt
     return account
 
@@ -149,6 +151,15 @@ def _derive(holder: Any, plain: Dict[str, List[Any]]) -> None:
             _derive(node, plain)
             if any(isinstance(inner, Operation) and not inner.on_object for inner in report.walk(node)):
                 last = None
+
+
+def _derive_vetoes(transaction: Any, closed: Set[str]) -> None:
+    """The firings of closed rules that vetoed because they failed: all that did, but for those that passed on a veto or
+    vetoed by a statement."""
+    for node in report.walk(transaction):
+        if isinstance(node, (Fire, Act)) and node.rule in closed:
+            is_fault = isinstance(node, Fire) and node.condition.startswith("fault ")
+            node.note.vetoed_by_failing = is_fault or node.end.cause not in (None, "A9")
 
 
 def _matches(event: Optional[List[Any]], operation: Operation) -> bool:

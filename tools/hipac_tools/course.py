@@ -8,15 +8,19 @@ compares its report with the one of this course, and a course that disagrees is 
 from __future__ import annotations
 
 import sys
-from dataclasses import dataclass
+from dataclasses import dataclass, replace
 from typing import Any, Callable, Dict, Iterable, List, Optional, Tuple
 
 from . import language, pasts
-from .notes import ABORT, Dropped, Given, NO_ABORT, Note, Query, Signal, Stop, VETO, ancestry
+from .language import Over
+from .notes import ABORT, Dropped, EXPRESSION, Given, NO, NO_ABORT, Note, Query, Signal, Stop, VETO, ancestry
 from .pasts import Hearing, Past
 from .report import (Act, COMMITTED, Emit, End, FinalObject, Fire, Holder, Operation, Report, Sub, Transaction, Unit)
-from .rulebase import Query as Asked, Rule, RuleBase, numbered_items
-from .values import Environment, Fault, Occurrence, Primitive, Row, evaluate, is_int, kind_of, truth, value_text
+from .rulebase import Entry, Let, Rule, RuleBase, numbered_items
+from .values import (
+    Environment, Fault, Occurrence, Primitive, Row, evaluate, is_int, key_after, kind_of, put_together, truth,
+    value_text,
+)
 
 STEPS = 3_000_000
 RECURSION = 10_000
@@ -35,7 +39,7 @@ class Aborting(Exception):
 
 
 class Vetoing(Exception):
-    """Passes out of the action that vetoes."""
+    """Passes out of the action that vetoes, to the transaction around the firing."""
 
     def __init__(self, stop: Stop):
         super().__init__(stop.words)
@@ -44,15 +48,15 @@ class Vetoing(Exception):
 
 @dataclass
 class Task:
-    """A condition to test, or (with answers) an action to run. One that runs later keeps the top-level transaction that
-    it was made in."""
+    """A condition to test, or (with what that found) an action to run. One that runs later keeps the top-level
+    transaction that it was made in."""
 
     rule: Rule
     mode: str
     depth: int
     trigger: Signal
     occurrence: Occurrence
-    answers: Optional[Dict[str, List[Row]]] = None
+    found: Optional[Environment] = None
     made_in: Any = None
     released: bool = False
 
@@ -88,6 +92,7 @@ class Course:
         self.detached: List[Task] = []
         self.here: Any = None
         self.top: Any = None
+        self.now = 0
 
     # Units
 
@@ -98,9 +103,11 @@ class Course:
         for number, (item, _, moments) in enumerate(numbered_items(self.base)):
             path = f"/items/{number}/1"
             if item[0] == "tx":
-                self._unit(result, None, lambda: self._body(item[1], path, Environment(), 0))
-            for moment in moments:
-                self._unit(result, moment, lambda: self._signal(Primitive("time", moment=moment), path, 0))
+                self._unit(result, None, lambda: self._body(item[1], path, Environment(now=self.now), 0))
+            for self.now in moments:
+                moment = Primitive("time", moment=self.now)
+                self._unit(result, self.now, lambda: self._signal(moment, path, 0))
+            self.now = self.now if item[0] == "tx" else item[1]
         for name in self.kinds:
             for key in sorted(self.objects[name]):
                 result.objects.append(FinalObject(name, key, _texts(self.objects[name][key])))
@@ -177,7 +184,7 @@ class Course:
             node.end = stop.end
 
     def _drop(self, task: Task, why: int, by: Any = None) -> None:
-        dropped = Dropped(task.rule.name, task.mode, task.answers is not None, task.trigger, task.occurrence, why, by)
+        dropped = Dropped(task.rule.name, task.mode, task.found is not None, task.trigger, task.occurrence, why, by)
         task.made_in.note.dropped.append(dropped)
 
     def _put(self, container: Dict[Any, Any], name: Any, value: Any) -> None:
@@ -289,6 +296,14 @@ class Course:
         row = Row(of, key, self._row("with", of, key))
         self._body(body, path + "/4", environment.naming(name, row), depth)
 
+    def _let(self, statement: List[Any], path: str, environment: Environment, depth: int) -> None:
+        _, name, aggregate, body = statement
+        looked = self._looked("", aggregate, environment)
+        value = self._value(aggregate, looked, environment)
+        if value is None:
+            raise Fault("A2", f"`let {name}`: there is no object for the {aggregate[0]} one of {looked.on}")
+        self._body(body, path + "/3", environment.holding(name, value), depth)
+
     def _sub(self, statement: List[Any], path: str, environment: Environment, depth: int) -> None:
         node, parent, mark = self._add(Sub(COMMITTED), path), self.here, self._mark()
         self.here = node
@@ -309,7 +324,8 @@ class Course:
 
     def _veto(self, statement: List[Any], path: str, environment: Environment, depth: int) -> None:
         action = next(node for node in self._ancestors() if isinstance(node, (Fire, Act)))
-        raise Vetoing(Stop(End("A9", action.rule), "its statement `veto`", path))
+        message = [value_text(evaluate(form, environment)) for form in statement[1:]]
+        raise Vetoing(Stop(End("A9", action.rule, *message), "its statement `veto`", path))
 
     def _ancestors(self) -> List[Any]:
         """The nodes that are open, the innermost first."""
@@ -398,78 +414,155 @@ class Course:
                 raise
 
     def _task(self, task: Task) -> None:
-        """Runs one firing; if its action vetoes, the transaction around the firing aborts."""
+        """Runs one firing; if it vetoes, the transaction around the firing aborts."""
         self._count_step()
-        if task.answers is not None:
+        if task.found is not None:
             node = self._add(Act(task.rule.name, task.mode, COMMITTED), "", trigger=task.trigger,
                              occurrence=task.occurrence)
-            self._action(node, task, task.answers)
+            self._action(node, task, task.found)
             return
         node = self._add(Fire(task.rule.name, task.mode, "satisfied", "none"), "", trigger=task.trigger,
                          occurrence=task.occurrence)
-        answers = self._condition(node, task)
-        if answers is None:
-            return
-        if task.rule.ca == "immediate":
+        found = self._condition(node, task)
+        if found is None:
+            if task.rule.is_closed and node.condition != "unsatisfied":
+                self._veto_by_failing(node, "")
+        elif task.rule.ca == "immediate":
             node.action = COMMITTED
-            self._action(node, task, answers)
+            self._action(node, task, found)
         else:
             node.action = "later"
-            self._set_aside(Task(task.rule, task.rule.ca, task.depth, task.trigger, task.occurrence, answers))
+            self._set_aside(Task(task.rule, task.rule.ca, task.depth, task.trigger, task.occurrence, found))
 
-    def _condition(self, node: Fire, task: Task) -> Optional[Dict[str, List[Row]]]:
-        environment = Environment(task.occurrence)
-        for asked in task.rule.queries:
-            query = Query(asked.name, asked.class_name, len(self.objects[asked.class_name]), _given(asked, environment))
-            node.note.queries.append(query)
+    def _veto_by_failing(self, node: Any, path: str) -> None:
+        """The veto of a firing that failed, as its rule is closed."""
+        node.note.vetoed_by_failing = True
+        raise Aborting(Stop(End("A9", node.rule), f"vetoed by {node.rule}", path, node))
+
+    # Conditions
+
+    def _condition(self, node: Fire, task: Task) -> Optional[Environment]:
+        """What the entries found, as the environment of the action; None if one of them isn't satisfied."""
+        environment = Environment(task.occurrence, now=self.now)
+        for entry in task.rule.entries:
+            asked = self._looked(entry.name, _asked(entry), environment)
+            if isinstance(entry, Let):
+                asked.word = entry.aggregate[0] if not language.is_single(entry.aggregate) else EXPRESSION
+            elif entry.is_no:
+                asked.word = NO
+            node.note.queries.append(asked)
             try:
-                answer = self._answer(asked, query, environment)
+                after = self._entry(entry, asked, environment)
             except Fault as fault:
-                node.condition, query.fault = "fault " + fault.cause, fault.words
+                node.condition, asked.fault = "fault " + fault.cause, fault.words
                 return None
-            if not answer:
+            if after is None:
                 node.condition = "unsatisfied"
                 return None
-            environment.rows[asked.name] = answer[0]
-            environment.answers[asked.name] = answer
-        return environment.answers
+            environment = after
+        return environment
 
-    def _answer(self, asked: Asked, query: Query, environment: Environment) -> List[Row]:
+    def _entry(self, entry: Entry, asked: Query, environment: Environment) -> Optional[Environment]:
+        """What is known after an entry; None if it isn't satisfied."""
+        if isinstance(entry, Let):
+            value = self._value(entry.aggregate, asked, environment)
+            return None if value is None else environment.holding(entry.name, value)
+        answer = self._answer(_asked(entry), asked, environment)
+        if entry.is_no:
+            return None if answer else environment
+        if not answer:
+            return None
+        answers = {**environment.answers, entry.name: answer}
+        return replace(environment.naming(entry.name, answer[0]), answers=answers)
+
+    def _looked(self, name: str, form: Any, environment: Environment) -> Query:
+        """The note of an entry, with what it takes from the entries before; `form` is an aggregate, or the rows that a
+        query looks at."""
+        over = form if isinstance(form, Over) else language.over(form)
+        on = over.class_name if over is not None else form[1] if language.is_next(form) else ""
+        parts = [form] if over is None else [over.predicate, over.term]
+        named = {tuple(leaf[:2]) for part in parts if part is not None for leaf in language.leaves(part)}
+        rows = [Given(row, found[0], len(found)) for row, found in environment.answers.items()
+                if {("of", row), ("key", row)} & named]
+        known = [(let, value_text(value)) for let, value in environment.values.items() if ("value", let) in named]
+        return Query(name, on, len(self.objects[on]) if on else 0, rows, known)
+
+    def _answer(self, over: Over, query: Query, environment: Environment) -> List[Row]:
         """The rows that fit. If the query asked for one object by its key and it doesn't fit, the note says why."""
-        try:
-            query.key = self._asked_key(asked, environment)
-        except Fault:
-            query.fault_key = min(self.objects[asked.class_name])
-            raise
-        rows, answer = self._rows(asked.class_name, query.key), []
-        for row in rows:
+        answer = []
+        for row in self._looked_at(over, query, environment):
             query.fault_key = row.key
-            if self._true_of(asked.predicate, environment.naming(asked.name, row), "the predicate"):
+            if self._true_of(over.predicate, environment.naming(over.name, row), "the predicate"):
                 answer.append(row)
         query.keys, query.fault_key = [row.key for row in answer], None
-        if query.key is not None and rows and not answer:
-            here = environment.naming(asked.name, rows[0])
-            query.failed = next(test for test in language.conjuncts(asked.predicate) if not evaluate(test, here))
-            query.values = _values_in(query.failed, here)
+        self._note_failing(over, query, environment)
         return answer
 
-    def _asked_key(self, asked: Asked, environment: Environment) -> Optional[int]:
+    def _looked_at(self, over: Over, query: Query, environment: Environment) -> List[Row]:
+        """The rows that a predicate is tried on, with the key that it asks for in the note."""
+        try:
+            query.key = self._asked_key(over, environment)
+        except Fault:
+            query.fault_key = min(self.objects[over.class_name])
+            raise
+        return self._rows(over.class_name, query.key)
+
+    def _note_failing(self, over: Over, query: Query, environment: Environment) -> None:
+        """Why the one object that was asked for by its key doesn't fit."""
+        rows = [] if query.key is None or query.keys else self._rows(over.class_name, query.key)
+        for row in rows:
+            here = environment.naming(over.name, row)
+            query.failed = next(test for test in language.conjuncts(over.predicate) if not evaluate(test, here))
+            query.values = _values_in(query.failed, here)
+
+    def _asked_key(self, over: Over, environment: Environment) -> Optional[int]:
         """The key of the one object that a query looks at; None if it looks at the whole class, or if the program
         doesn't evaluate the key."""
-        first = language.conjuncts(asked.predicate)[0]
-        if not self.objects[asked.class_name] or not language.is_key_asked(asked.name, first):
+        first = language.conjuncts(over.predicate)[0]
+        if not self.objects[over.class_name] or not language.is_key_asked(over.name, first):
             return None
-        key = evaluate(first[2] if first[1] == ["key", asked.name] else first[1], environment)
+        key = evaluate(first[2] if first[1] == ["key", over.name] else first[1], environment)
         return key if is_int(key) else None
 
-    def _action(self, node: Any, task: Task, answers: Dict[str, List[Row]]) -> None:
-        rows = {name: answer[0] for name, answer in answers.items()}
-        environment = Environment(task.occurrence, rows, answers)
+    # Aggregates
+
+    def _value(self, aggregate: Any, query: Query, environment: Environment) -> Any:
+        """The value of an aggregate; None for the least or the greatest of no row."""
+        over = language.over(aggregate)
+        if over is not None:
+            value = self._over_rows(aggregate[0], over, query, environment)
+        elif language.is_next(aggregate):
+            self._count_step()
+            value = key_after(max(self.objects[aggregate[1]], default=None), aggregate[1])
+        else:
+            value = evaluate(aggregate, environment)
+        query.value = None if value is None else value_text(value)
+        return value
+
+    def _over_rows(self, word: str, over: Over, query: Query, environment: Environment) -> Any:
+        """Row by row the predicate, then the term, then what it comes to with those before."""
+        value, keys = (0 if word in ("count", "sum") else None), []
+        for row in self._looked_at(over, query, environment):
+            query.fault_key = row.key
+            here = environment.naming(over.name, row)
+            if self._true_of(over.predicate, here, "the predicate"):
+                value = put_together(word, value, None if over.term is None else evaluate(over.term, here))
+                keys.append(row.key)
+        query.keys, query.fault_key = keys, None
+        self._note_failing(over, query, environment)
+        return value
+
+    def _action(self, node: Any, task: Task, found: Environment) -> None:
+        """Runs an action. A closed rule passes on the veto of another firing inside it."""
         parent, mark, self.here = self.here, self._mark(), node
         try:
-            self._body(task.rule.action, self.bodies[task.rule.name], environment, task.depth)
+            self._body(task.rule.action, self.bodies[task.rule.name], found, task.depth)
         except Aborting as aborting:
             self._abort(node, mark, aborting.stop)
+            if task.rule.is_closed and aborting.stop.end.cause == "A9":
+                raise
+            if task.rule.is_closed:
+                self._veto_by_failing(node, aborting.stop.path)
         except Vetoing as vetoing:
             self._abort(node, mark, vetoing.stop)
             raise Aborting(Stop(vetoing.stop.end, f"vetoed by {task.rule.name}", vetoing.stop.path, node))
@@ -496,7 +589,7 @@ _NONE = object()
 _STATEMENTS: Dict[str, Callable[..., None]] = {
     "create": Course._create, "update": Course._update, "delete": Course._delete, "signal": Course._signal_statement,
     "emit": Course._emit, "if": Course._if, "each": Course._each, "for": Course._for, "with": Course._with,
-    "sub": Course._sub, "abort": Course._give_up, "veto": Course._veto, "fire": Course._fire,
+    "let": Course._let, "sub": Course._sub, "abort": Course._give_up, "veto": Course._veto, "fire": Course._fire,
     "install": Course._set_rule, "enable": Course._set_rule, "disable": Course._set_rule, "remove": Course._set_rule,
 }
 
@@ -513,10 +606,9 @@ def _listeners(rules: List[Rule]) -> Dict[Tuple[str, str], List[Rule]]:
     return found
 
 
-def _given(asked: Asked, environment: Environment) -> List[Given]:
-    """What a predicate takes from the queries before its own."""
-    named = {leaf[1] for leaf in language.leaves(asked.predicate) if leaf[0] in language.OF_A_ROW} - {asked.name}
-    return [Given(name, rows[0], len(rows)) for name, rows in environment.answers.items() if name in named]
+def _asked(entry: Entry) -> Any:
+    """The rows that a query or a `no` looks at, or the aggregate of a `let`."""
+    return entry.aggregate if isinstance(entry, Let) else Over(entry.name, entry.class_name, entry.predicate)
 
 
 def _values_in(test: Any, environment: Environment) -> List[Tuple[Any, str]]:

@@ -16,7 +16,7 @@ WORDS = {
     DROPPED: "was dropped", PUT_OFF: "put its action off",
 }
 """What a task comes to: its action committed, committed and was undone later, vetoed, or aborted; the condition or the
-action did nothing; it never ran. An action that is put off counts by what the task that it becomes comes to."""
+action did nothing; it never ran. A closed rule vetoes by failing, too. An action that is put off counts by what the task that it becomes comes to."""
 
 
 @dataclass
@@ -56,6 +56,8 @@ def line_of(node: Any) -> str:
     mode = " ".join(what + ["action"] if isinstance(node, Act) else what)
     fate = fate_of(node)
     cause = str(node.end).split(" ", 1)[1] if fate == FAILED else ""
+    if node.note.vetoed_by_failing and not node.end.committed:
+        cause = str(node.end.cause)
     if isinstance(node, Fire) and node.condition.startswith("fault"):
         cause = node.condition
     return node.rule + (f" ({mode})" if mode else "") + f" {WORDS[fate]}" + (f" ({cause})" if cause else "")
@@ -74,10 +76,12 @@ def _is_by_event(one: Any) -> bool:
 
 def fate_of(node: Any) -> int:
     """The fate of one task."""
+    if node.note.vetoed_by_failing:
+        return VETOED
     if isinstance(node, Fire) and not isinstance(node.action, End):
         return NOTHING if node.action == "none" else PUT_OFF
     if node.end.committed and is_idle(node):
         return NOTHING
     if node.end.committed:
         return UNDONE if undone_by(node) is not None else ACTED
-    return VETOED if node.end == End("A9", node.rule) else FAILED
+    return VETOED if node.end.is_veto_of(node.rule) else FAILED

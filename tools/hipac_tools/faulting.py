@@ -32,9 +32,9 @@ class Fault:
 
     @property
     def place(self) -> str:
-        """Which query met the fault of a condition, and at which object, as the end of a sentence."""
+        """Which entry met the fault of a condition, and at which object, as the end of a sentence."""
         met = [query for query in self.node.note.queries if self.is_condition and query.fault is not None]
-        return f", in query {met[0].name} at {met[0].on} {met[0].fault_key}" if met else ""
+        return f", in {reasons.entry_name(met[0])}{reasons.at_object(met[0])}" if met else ""
 
     @property
     def what(self) -> str:
@@ -73,6 +73,8 @@ def vetoes(account: Account, rule: str) -> bool:
 
 def consequence(account: Account, fault: Fault) -> str:
     """What follows from a fault."""
+    if fault.node.note.vetoed_by_failing:
+        return f"So {fault.node.rule} vetoed, as it is closed."
     if vetoes(account, fault.node.rule):
         return f"So {fault.node.rule} didn't veto."
     return "So its action didn't run." if fault.is_condition else "Only the action was undone."

@@ -80,4 +80,6 @@ def all_faults(account: Account) -> Iterator[Tuple[Unit, Optional[Transaction], 
 def what_became(account: Account, fault: Fault) -> List[str]:
     """What followed from a fault, if that wasn't undone."""
     undone = reasons.undone_words(fault.node)
+    if fault.node.note.vetoed_by_failing:
+        return [consequence(account, fault)[:-1] + f": {undone}."]
     return [f"That was undone, as {undone}."] if undone else [consequence(account, fault)]

@@ -50,6 +50,7 @@ class Node:
     ec: str = ""
     ca: str = ""
     may_fire: bool = True
+    is_closed: bool = False
 
     @property
     def is_rule(self) -> bool:
@@ -58,8 +59,9 @@ class Node:
 
     @property
     def couplings(self) -> str:
-        """The couplings in short: the second is left out if it is immediate."""
-        return self.ec if self.ca in ("", "immediate") else f"{self.ec}, then {self.ca}"
+        """The couplings in short: the second is left out if it is immediate. A closed rule is marked."""
+        couplings = self.ec if self.ca in ("", "immediate") else f"{self.ec}, then {self.ca}"
+        return couplings + (", closed" if self.is_closed else "")
 
 
 @dataclass(frozen=True)
@@ -144,7 +146,7 @@ def build(rulebase: RuleBase, is_live: bool = False) -> Graph:
     sources = influence.all_deeds(rulebase, is_live)
     reach = influence.reach(rulebase, sources)
     nodes = [Node(name) for name in sources if name not in rules]
-    nodes += [Node(rule.name, when_text(rule.event), rule.ec, rule.ca, rule.name in reach.firing)
+    nodes += [Node(rule.name, when_text(rule.event), rule.ec, rule.ca, rule.name in reach.firing, rule.is_closed)
               for rule in rulebase.rules]
     edges = list(_edges(rulebase, sources))
     possible = _possible(rules, edges, reach)

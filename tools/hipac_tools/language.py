@@ -8,6 +8,7 @@ an event or a predicate that several tools ask.
 from __future__ import annotations
 
 import re
+from dataclasses import dataclass
 from itertools import islice, product
 from typing import Any, Iterable, Iterator, Mapping, Optional
 
@@ -36,30 +37,76 @@ OF_THE_OCCURRENCE: dict[str, tuple[str, ...]] = {
 }
 OF_A_PART = tuple(word for word, parts in OF_THE_OCCURRENCE.items() if "i" in parts)
 OF_A_ROW: dict[str, tuple[str, ...]] = {"of": ("row", "field"), "key": ("row",)}
+OF_A_LET: dict[str, tuple[str, ...]] = {"value": ("let",)}
+OF_THE_CLOCK: dict[str, tuple[str, ...]] = {"now": ()}
+LEAVES = (*OF_A_ROW, *OF_THE_OCCURRENCE, *OF_A_LET, *OF_THE_CLOCK)
+"""The forms that take a value from something else than expressions."""
 EXPRESSIONS: dict[str, tuple[str, ...]] = {
     **{word: ("a", "b") for word in TWO_OPERANDS}, **{word: ("a",) for word in ONE_OPERAND},
-    **OF_A_ROW, **OF_THE_OCCURRENCE,
+    **OF_A_ROW, **OF_THE_OCCURRENCE, **OF_A_LET, **OF_THE_CLOCK,
 }
+
+OVER_ROWS: dict[str, tuple[str, ...]] = {
+    "count": ("x", "class", "predicate"),
+    **{word: ("x", "class", "predicate", "term") for word in ("sum", "least", "greatest")},
+}
+AGGREGATES: dict[str, tuple[str, ...]] = {**OVER_ROWS, "next": ("class",)}
+"""What stands in a `let` beside expressions."""
+
+ENTRIES: dict[str, tuple[str, ...]] = {"no": ("x", "class", "predicate"), "let": ("name", "aggregate")}
+"""The entries of a condition that are no queries."""
 
 STATEMENTS: dict[str, tuple[str, ...]] = {
     "create": ("class", "key", "pairs"), "update": ("class", "key", "pairs"), "delete": ("class", "key"),
     "signal": ("name", "args"), "emit": ("expression",), "if": ("expression", "body", "body"),
     "each": ("name", "class", "predicate", "body"), "for": ("query", "body"),
-    "with": ("name", "class", "key", "body"), "sub": ("body", "otherwise"), "abort": (), "veto": (),
+    "with": ("name", "class", "key", "body"), "let": ("name", "aggregate", "body"), "sub": ("body", "otherwise"),
+    "abort": (), "veto": ("message?",),
     **{word: ("rule",) for word in RULE_OPERATIONS},
 }
 
+OPTIONAL = "?"
+"""Ends the name of a last part that may be left out."""
+
 ITEMS: dict[str, tuple[str, ...]] = {"tx": ("body",), "clock": ("t",)}
+
+# ---- the versions
+
+VERSIONS = (1, 2, 4)
+OF_FOURTH_VERSION = ("value", "now", "let", "no", *AGGREGATES)
+"""The words of version 4, each in its place; elsewhere `count` and `next` are no new words."""
+CLOSED = "closed"
+"""A rule's seventh part."""
+
+
+def is_fourth(version: int) -> bool:
+    return version == 4
+
+
+def expressions_of(version: int) -> dict[str, tuple[str, ...]]:
+    return EXPRESSIONS if is_fourth(version) else {word: parts for word, parts in EXPRESSIONS.items()
+                                                   if word not in (*OF_A_LET, *OF_THE_CLOCK)}
+
+
+def statements_of(version: int) -> dict[str, tuple[str, ...]]:
+    if is_fourth(version):
+        return STATEMENTS
+    return {word: () if word == "veto" else parts for word, parts in STATEMENTS.items() if word != "let"}
+
+
+def counts(parts: tuple[str, ...]) -> range:
+    """How many parts a form may have after its word."""
+    return range(len(parts) - any(part.endswith(OPTIONAL) for part in parts), len(parts) + 1)
 
 # ---- the sort of each part, by its name
 
-NAME, PLACE, MOMENT, PERIOD, EVENT, EXPRESSION, PAIRS, ARGUMENTS, BODY = (
-    "name", "place", "moment", "period", "event", "expression", "pairs", "arguments", "body")
+NAME, PLACE, MOMENT, PERIOD, EVENT, EXPRESSION, AGGREGATE, PAIRS, ARGUMENTS, BODY = (
+    "name", "place", "moment", "period", "event", "expression", "aggregate", "pairs", "arguments", "body")
 SORTS = {
-    **dict.fromkeys(("name", "class", "row", "field", "query", "rule"), NAME),
-    **dict.fromkeys(("i", "j"), PLACE), "t": MOMENT, "first": MOMENT, "period": PERIOD,
-    "event": EVENT, **dict.fromkeys(("a", "b", "expression", "predicate", "key"), EXPRESSION),
-    "pairs": PAIRS, "args": ARGUMENTS, "body": BODY, "otherwise": BODY,
+    **dict.fromkeys(("name", "class", "row", "field", "query", "rule", "let", "x"), NAME),
+    **dict.fromkeys(("i", "j"), PLACE), "t": MOMENT, "first": MOMENT, "period": PERIOD, "event": EVENT,
+    **dict.fromkeys(("a", "b", "expression", "predicate", "key", "term", "message?"), EXPRESSION),
+    "aggregate": AGGREGATE, "pairs": PAIRS, "args": ARGUMENTS, "body": BODY, "otherwise": BODY,
 }
 
 # ---- what a part of an occurrence has
@@ -78,7 +125,6 @@ DETACHED = ("separate", "dependent", "exclusive")
 """The modes whose tasks run in a top-level transaction of their own."""
 
 KINDS = ("int", "bool", "text")
-VERSIONS = (1, 2)
 DEFAULT_DEPTH, MOST_DEPTH = 8, 16
 MOST_LEVELS = 16
 """So deep do events, expressions and statements nest."""
@@ -91,7 +137,7 @@ LEAST, GREATEST = -(2 ** 63), 2 ** 63 - 1
 
 
 def modes_of(version: int) -> tuple[str, ...]:
-    return MODES if version == 2 else tuple(mode for mode in MODES if mode != SECOND_VERSION_MODE)
+    return tuple(mode for mode in MODES if mode != SECOND_VERSION_MODE) if version == 1 else MODES
 
 
 def is_name(text: str) -> bool:
@@ -175,6 +221,38 @@ def due_moments(events: Iterable[Form], former: int, now: int) -> list[int]:
     return sorted(moments)[:MOST_MOMENTS + 1]
 
 
+# ---- aggregates
+
+
+@dataclass(frozen=True)
+class Over:
+    """The rows that a query, `no` or an aggregate looks at, and the term that an aggregate takes of each."""
+
+    name: str
+    class_name: str
+    predicate: Form
+    term: Optional[Form] = None
+
+
+def is_over_rows(aggregate: Form) -> bool:
+    """Whether it is an aggregate over rows; `["count"]` by itself is an expression."""
+    return isinstance(aggregate, list) and aggregate[0] in OVER_ROWS and len(aggregate) > 1
+
+
+def over(aggregate: Form) -> Optional[Over]:
+    """What an aggregate over rows looks at; None for another one and for an expression."""
+    return Over(*aggregate[1:]) if is_over_rows(aggregate) else None
+
+
+def is_next(aggregate: Form) -> bool:
+    return isinstance(aggregate, list) and aggregate[0] == "next"
+
+
+def is_single(aggregate: Form) -> bool:
+    """Whether it is an expression."""
+    return not is_over_rows(aggregate) and not is_next(aggregate)
+
+
 # ---- predicates
 
 def is_key_asked(name: str, test: Form) -> bool:
@@ -215,9 +293,9 @@ def names_row(expression: Form, name: str) -> bool:
 
 
 def leaves(expression: Form) -> list[Form]:
-    """The forms in an expression that take a value from a row or an occurrence, from left to right."""
+    """The forms in an expression that take a value from something else, from left to right."""
     if not isinstance(expression, list):
         return []
-    if expression[0] in OF_A_ROW or expression[0] in OF_THE_OCCURRENCE:
+    if expression[0] in LEAVES:
         return [expression]
     return [leaf for part in expression[1:] for leaf in leaves(part)]

@@ -26,6 +26,10 @@ class Signal:
         return str(self.primitive) if self.primitive is not None else "a statement `fire`"
 
 
+QUERY, NO, EXPRESSION = "query", "no", "expression"
+"""The words of entries that have no aggregate."""
+
+
 @dataclass
 class Given:
     """An earlier query that a predicate names: the first row of its answer, and how many rows there are."""
@@ -37,14 +41,18 @@ class Given:
 
 @dataclass
 class Query:
-    """What a query of a condition found: the keys of its answer, or its fault and the key of the object that met it. If
-    it asked for one object by its key and that doesn't fit: the first test of its predicate that failed, and the values
-    in it."""
+    """What an entry of a condition found: the keys of its answer, or its fault and the key of the object that met it.
+    If it asked for one object by its key and that doesn't fit: the first test of its predicate that failed, and the
+    values in it. Of a `let`, whose word is the one of its aggregate, the value as a text; None if it has none. A `let`
+    that looks at no rows is on no class. `known` are the values of earlier `let`s that it names."""
 
     name: str
     on: str
     objects: int
     given: List[Given] = field(default_factory=list)
+    known: List[Tuple[str, str]] = field(default_factory=list)
+    word: str = QUERY
+    value: Optional[str] = None
     key: Optional[int] = None
     keys: List[int] = field(default_factory=list)
     fault: Optional[str] = None
@@ -85,7 +93,7 @@ class Dropped:
 @dataclass
 class Note:
     """A node's parent and place in the script; for a top-level transaction the unit's number, for a firing its
-    trigger, for an aborted node the reason."""
+    trigger and whether it vetoed because it failed and its rule is closed, for an aborted node the reason."""
 
     parent: Optional[Holder]
     path: str = ""
@@ -94,6 +102,7 @@ class Note:
     occurrence: Optional[Occurrence] = None
     queries: List[Query] = field(default_factory=list)
     stop: Optional[Stop] = None
+    vetoed_by_failing: bool = False
     signals: List[Signal] = field(default_factory=list)
     dropped: List[Dropped] = field(default_factory=list)
 

@@ -8,7 +8,7 @@ from . import language
 from .influence import ANY_LATER, Deeds, Reach
 from .language import Form, asks_part
 from .printing import event_text
-from .rulebase import RuleBase, numbered_items
+from .rulebase import Let, RuleBase, numbered_items
 from .wording import listed
 
 Kinds = Mapping[str, Mapping[str, str]]
@@ -69,24 +69,36 @@ def _not_heard(rulebase: RuleBase, sources: dict[str, Deeds]) -> list[str]:
 
 
 def scans(rulebase: RuleBase) -> list[str]:
-    """The queries and the statements `each` that look at all objects of a class."""
+    """The queries, the `no`s, the `let`s and the statements `each` that look at all objects of a class."""
     return list(_scans(rulebase, {one.name: dict(one.fields) for one in rulebase.classes}))
 
 
 def _scans(rulebase: RuleBase, kinds: Kinds) -> Iterator[str]:
     for rule in rulebase.rules:
-        for query in rule.queries:
-            if not asks_part(query.name, query.predicate, kinds[query.class_name]):
-                yield f"rule {rule.name}, query {query.name}: all of {query.class_name}"
-        for found in _scanning_each(rule.action, kinds):
+        for entry in rule.entries:
+            if isinstance(entry, Let):
+                yield from (f"rule {rule.name}, {found}" for found in _scanning_let(entry.name, entry.aggregate, kinds))
+            elif not asks_part(entry.name, entry.predicate, kinds[entry.class_name]):
+                what = "no" if entry.is_no else "query"
+                yield f"rule {rule.name}, {what} {entry.name}: all of {entry.class_name}"
+        for found in _scanning(rule.action, kinds):
             yield f"rule {rule.name}, {found}"
     for item, unit, _ in numbered_items(rulebase):
         if item[0] == "tx":
-            for found in _scanning_each(item[1], kinds):
+            for found in _scanning(item[1], kinds):
                 yield f"unit {unit}, {found}"
 
 
-def _scanning_each(body: list[Form], kinds: Kinds) -> Iterator[str]:
+def _scanning(body: list[Form], kinds: Kinds) -> Iterator[str]:
+    """The statements of a body that look at all objects of a class."""
     for statement in language.statements(body):
         if statement[0] == "each" and not asks_part(statement[1], statement[3], kinds[statement[2]]):
             yield f"for each {statement[1]}: all of {statement[2]}"
+        elif statement[0] == "let":
+            yield from _scanning_let(statement[1], statement[2], kinds)
+
+
+def _scanning_let(name: str, aggregate: Form, kinds: Kinds) -> Iterator[str]:
+    over = language.over(aggregate)
+    if over is not None and not asks_part(over.name, over.predicate, kinds[over.class_name]):
+        yield f"let {name}: all of {over.class_name}"

@@ -111,26 +111,30 @@ def rule_text(rule: Rule, rulebase: RuleBase | None = None) -> str:
 def rule_head(rule: Rule) -> str:
     """The rule's name, its event, and where the condition is tested; without a condition, where the action runs."""
     numbered = not language.has_one_part(rule.event) and uses_parts(rule)
-    action_place = "" if rule.queries or rule.ca == "immediate" else f", then {WHERE[rule.ca]}"
-    return f"rule {rule.name}: {when_text(rule.event, numbered)}, {WHERE[rule.ec]}{action_place}:"
+    action_place = "" if rule.entries or rule.ca == "immediate" else f", then {WHERE[rule.ca]}"
+    what = "closed rule" if rule.is_closed else "rule"
+    return f"{what} {rule.name}: {when_text(rule.event, numbered)}, {WHERE[rule.ec]}{action_place}:"
 
 
 def condition_lines(rule: Rule, one_part: bool) -> list[str]:
-    """One line for each query of the condition."""
+    """One line for each entry of the condition."""
     lines = []
-    for query in rule.queries:
-        lead = "and" if lines else "if"
-        row = f"{lead} some {query.class_name} {query.name}"
-        if query.predicate is True:
+    for entry in rule.entries:
+        lead = "and " if lines else ""
+        if isinstance(entry, scripts.Let):
+            lines.append(f"{lead}let {entry.name} be {aggregate_text(entry.aggregate, one_part)}")
+            continue
+        row = f"{lead or 'if '}{'no' if entry.is_no else 'some'} {entry.class_name} {entry.name}"
+        if entry.predicate is True:
             lines.append(f"{row} is there")
         else:
-            lines.append(f"{row} has {expression_text(query.predicate, one_part)}")
+            lines.append(f"{row} has {expression_text(entry.predicate, one_part)}")
     return lines
 
 
 def then_words(rule: Rule) -> str:
     """The words between condition and action; none if there is no condition."""
-    if not rule.queries:
+    if not rule.entries:
         return ""
     return "then" if rule.ca == "immediate" else f"then {WHERE[rule.ca]}:"
 
@@ -141,7 +145,7 @@ def uses_parts(rule: Rule) -> bool:
         if not isinstance(form, list):
             return False
         return bool(form) and form[0] in language.OF_A_PART or any(asks(part) for part in form)
-    return any(asks(query.predicate) for query in rule.queries) or asks(rule.action)
+    return any(asks(form) for _, form in rule.asked) or asks(rule.action)
 
 
 # Events.
@@ -232,7 +236,23 @@ def _expression(expression: Form, one_part: bool) -> tuple[str, int]:
         return f"{expression[1]}.{expression[2]}", ATOM
     if word == "key":
         return f"key of {expression[1]}", ATOM
+    if word == "value":
+        return f"the value {expression[1]}", ATOM
+    if word == "now":
+        return "now", ATOM
     return _of_occurrence(expression, one_part), ATOM
+
+
+def aggregate_text(aggregate: Form, one_part: bool = False) -> str:
+    """What a `let` gives a name: an aggregate, or an expression."""
+    over = language.over(aggregate)
+    if over is None:
+        return f"the next key of {aggregate[1]}" if language.is_next(aggregate) else expression_text(aggregate, one_part)
+    where = "" if over.predicate is True else f" that has {expression_text(over.predicate, one_part)}"
+    if over.term is None:
+        return f"the number of each {over.class_name} {over.name}{where}"
+    term = expression_text(over.term, one_part, OPERAND)
+    return f"the {aggregate[0]} of {term} over each {over.class_name} {over.name}{where}"
 
 
 def _is_chain(expression: Form) -> bool:
@@ -300,6 +320,9 @@ def statement_lines(statement: Form, indent: str = "", one_part: bool = False) -
     if word == "with":
         _, variable, class_name, key, body = statement
         return block_lines(f"with {class_name} {_key(key, one_part)} as {variable}:", body, indent, one_part)
+    if word == "let":
+        _, name, aggregate, body = statement
+        return block_lines(f"let {name} be {aggregate_text(aggregate, one_part)}:", body, indent, one_part)
     return [indent + _simple_statement(statement, one_part)]
 
 
@@ -332,6 +355,8 @@ def _simple_statement(statement: Form, one_part: bool) -> str:
         return f"signal {statement[1]}" + (f" with {values}" if values else "")
     if word == "emit":
         return f"emit {expression_text(statement[1], one_part)}"
+    if word == "veto" and len(statement) > 1:
+        return f"veto with {expression_text(statement[1], one_part)}"
     if word in language.RULE_OPERATIONS:
         return f"{word} rule {statement[1]}"
     return word

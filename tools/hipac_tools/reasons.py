@@ -7,7 +7,9 @@ from typing import Any, Dict, List, Optional
 
 from .answers import Shortfall, Silence, unit_of
 from .language import has_one_part
-from .notes import ABORT, Dropped, Given, NO_ABORT, Query, Signal, Stop, ancestry, is_idle, undone_by
+from .notes import (
+    ABORT, Dropped, EXPRESSION, Given, NO, NO_ABORT, QUERY, Query, Signal, Stop, ancestry, is_idle, undone_by,
+)
 from .pasts import ABSENT, Candidate, DISABLED, ENABLED, Fate
 from .places import marked
 from .printing import expression_text, noun_text
@@ -100,25 +102,55 @@ def _action_round(node: Any) -> Any:
 def action_sentence(node: Any, mode: str) -> str:
     """The fate of a firing's action, which has that mode."""
     if isinstance(node, Fire) and not isinstance(node.action, End):
+        if node.note.vetoed_by_failing:
+            return "It is closed, so it vetoed."
         return "So it did nothing." if node.action == "none" else f"Its action is {mode}, so it was put off."
     if node.end.committed:
         return "Its action ran and changed nothing." if is_idle(node) else "Its action committed."
-    if node.end == End("A9", node.rule):
-        return sentence(f"it vetoed{at(node.note.stop.path if node.note.stop else '')}")
-    return f"Its action {node.end}. {sentence(stop_words(node.end, node.note.stop))}"
+    if node.end.is_veto_of(node.rule):
+        return sentence(f"it vetoed{message_words(node.end)}{at(node.note.stop.path if node.note.stop else '')}")
+    closing = " It is closed, so it vetoed." if node.note.vetoed_by_failing else ""
+    return f"Its action {node.end}. {sentence(stop_words(node.end, node.note.stop))}{closing}"
+
+
+def message_words(end: End) -> str:
+    """The message of a veto, after a word."""
+    return "" if end.message is None else f" with {end.message}"
 
 
 def stop_words(end: End, stop: Optional[Stop]) -> str:
     """Why a transaction aborted, in a few words, without the chain that leads there."""
     if end.cause == "A9":
         if stop is None:
-            return f"rule {end.rule} vetoed; what triggered it {UNTOLD}"
+            return f"rule {end.rule} vetoed{message_words(end)}; what triggered it {UNTOLD}"
         if stop.firing is None:
             return f"the statement `veto`{at(stop.path)}"
-        return f"rule {end.rule} vetoed{at(stop.path)}"
+        if stop.firing.note.vetoed_by_failing:
+            return closing_words(stop.firing)
+        return f"rule {end.rule} vetoed{message_words(end)}{at(stop.path)}"
     if stop is None:
         return f"{CAUSES[str(end.cause)]}; which statement {UNTOLD}"
     return stop.words + at(stop.path)
+
+
+def closing_words(firing: Any) -> str:
+    """Why a closed rule vetoed that has no veto of its own there."""
+    if isinstance(firing, Fire) and firing.condition.startswith("fault "):
+        faults = [f": {query.fault}" for query in firing.note.queries if query.fault is not None]
+        cause = firing.condition.split(" ")[1]
+        return f"the closed rule {firing.rule} vetoed, as its condition ended with a fault ({cause}){''.join(faults)}"
+    end, stop = firing.end, firing.note.stop
+    return f"the closed rule {firing.rule} vetoed, as its action aborted ({end.cause}): {stop_words(end, stop)}"
+
+
+def entry_name(query: Query) -> str:
+    """`query q`, `no k`, `let n`."""
+    return f"{query.word if query.word in (QUERY, NO) else 'let'} {query.name}"
+
+
+def at_object(query: Query) -> str:
+    """The object at which an entry met a fault, if it looks at objects."""
+    return "" if query.fault_key is None else f" at {query.on} {query.fault_key}"
 
 
 def undone_words(node: Any) -> str:
@@ -212,37 +244,51 @@ class Teller:
     # Conditions
 
     def query(self, query: Query, is_one_part: bool) -> str:
-        """What a query found, or why it found nothing."""
-        given = f", with {listed(map(_given_words, query.given))}" if query.given else ""
+        """What an entry found, or why it found nothing."""
+        given = [_given_words(one) for one in query.given] + [f"{name} = {value}" for name, value in query.known]
+        around = f", with {listed(given)}" if given else ""
+        is_let = query.word not in (QUERY, NO)
+        what = f"the value {query.name}" if is_let else entry_name(query)
         if query.fault is not None:
-            return f"query {query.name} met a fault at {query.on} {query.fault_key}{given}: {query.fault}"
+            return f"{what} met a fault{at_object(query)}{around}: {query.fault}"
+        if not is_let:
+            return f"{what} found {self._found(query, is_one_part, 'nothing')}{around}"
+        value = "isn't there" if query.value is None else f"is {query.value}"
+        if query.word == EXPRESSION:
+            return f"{what} {value}{around}"
+        if query.word == "next":
+            return f"{what} {value}, the next key of {query.on}"
+        return f"{what} {value}, the {query.word} over {self._found(query, is_one_part, 'no object')}{around}"
+
+    def _found(self, query: Query, is_one_part: bool, nothing: str) -> str:
+        """The rows that fit, or why there are none."""
         if query.objects == 0:
-            return f"query {query.name} found nothing, as there is no object of {query.on}"
+            return f"{nothing}, as there is no object of {query.on}"
         if query.key is None:
             keys = [str(key) for key in query.keys]
             found = f"{query.on} {some_of(keys, self.most.keys)}" if keys else "none that fits"
-            return f"query {query.name} found {found} among {counted(query.objects, 'object')} of {query.on}{given}"
+            return f"{found} among {counted(query.objects, 'object')} of {query.on}"
         if query.keys:
-            return f"query {query.name} found {query.on} {query.key}{given}"
+            return f"{query.on} {query.key}"
         if query.failed is None:
-            return f"query {query.name} found nothing, as there is no {query.on} {query.key}{given}"
+            return f"{nothing}, as there is no {query.on} {query.key}"
         test = expression_text(query.failed, is_one_part)
         values = [f"{expression_text(form, is_one_part)} is {value}" for form, value in query.values]
         where = f" ({some_of(list(dict.fromkeys(values)), self.most.fields)})" if values else ""
-        return f"query {query.name} found nothing, as {test} isn't true of {query.on} {query.key}{where}{given}"
+        return f"{nothing}, as {test} isn't true of {query.on} {query.key}{where}"
 
     def queries(self, firing: Fire) -> List[str]:
-        """How a condition went, query by query."""
+        """How a condition went, entry by entry."""
         occurrence = firing.note.occurrence
         is_one_part = occurrence is not None and len(occurrence.signals) <= 1
         queries = [sentence(self.query(query, is_one_part)) for query in firing.note.queries]
         if queries:
             return queries
         if firing.condition == "satisfied":
-            return [] if occurrence is not None else ["Each query found an object."]
+            return [] if occurrence is not None else ["Each entry was met."]
         if firing.condition == "unsatisfied":
-            return [f"A query found nothing; which one {UNTOLD}."]
-        return [f"A query met a fault: {CAUSES[firing.condition.split(' ')[1]]}."]
+            return [f"An entry wasn't met; which one {UNTOLD}."]
+        return [f"An entry met a fault: {CAUSES[firing.condition.split(' ')[1]]}."]
 
     def condition(self, firing: Fire) -> List[str]:
         """Whether a condition was satisfied, and why."""

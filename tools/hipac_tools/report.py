@@ -19,10 +19,12 @@ class ReportFault(Exception):
 
 @dataclass(frozen=True)
 class End:
-    """How a transaction ended: committed if there is no cause."""
+    """How a transaction ended: committed if there is no cause. After a veto: the rule's name, and the message as the
+    report writes it, if there is one."""
 
     cause: Optional[str] = None
     rule: Optional[str] = None
+    message: Optional[str] = None
 
     @property
     def committed(self) -> bool:
@@ -31,7 +33,11 @@ class End:
     def __str__(self) -> str:
         if self.cause is None:
             return "committed"
-        return "aborted " + self.cause + (" " + self.rule if self.rule else "")
+        return " ".join(["aborted", self.cause] + [one for one in (self.rule, self.message) if one is not None])
+
+    def is_veto_of(self, rule: str) -> bool:
+        """Whether the rule of this name vetoed."""
+        return self.cause == "A9" and self.rule == rule
 
 
 COMMITTED = End()
@@ -288,8 +294,8 @@ def _operation(text: str) -> Operation:
 def _end(text: str) -> End:
     if text == "committed":
         return COMMITTED
-    words = text.split(" ")
-    if words[0] != "aborted" or len(words) != (3 if words[1] == "A9" else 2):
+    words = text.split(" ", 3)
+    if words[0] != "aborted" or len(words) not in ((3, 4) if words[1] == "A9" else (2,)):
         raise ValueError
     return End(*words[1:])
 

@@ -8,13 +8,10 @@ from __future__ import annotations
 
 import json
 from dataclasses import dataclass
-from typing import Any, Iterator, NoReturn
+from typing import Any, Iterator, NoReturn, Union
 
 from . import command, journal, language
 from .language import Form
-
-TABLES = {"event": language.EVENTS, "expression": language.EXPRESSIONS, "statement": language.STATEMENTS}
-
 
 class Refused(Exception):
     """The text isn't a script. The message says where, and which word says more."""
@@ -37,21 +34,39 @@ class Class:
 
 @dataclass(frozen=True)
 class Query:
-    """One query of a condition: the rows of a class for which the predicate is true."""
+    """One query of a condition: the rows of a class for which the predicate is true. Of a `no` there are to be none."""
     name: str
     class_name: str
     predicate: Form
+    is_no: bool = False
+
+
+@dataclass(frozen=True)
+class Let:
+    """One `let` of a condition: a name for the value of an aggregate."""
+    name: str
+    aggregate: Form
+
+
+Entry = Union[Query, Let]
 
 
 @dataclass(frozen=True)
 class Rule:
-    """A rule: its event, its condition and its action, with the two couplings between them."""
+    """A rule: its event, its condition and its action, with the two couplings between them. If it is closed, a firing
+    that fails vetoes."""
     name: str
     event: Form
     ec: str
-    queries: list[Query]
+    entries: list[Entry]
     ca: str
     action: list[Form]
+    is_closed: bool = False
+
+    @property
+    def asked(self) -> list[tuple[str, Form]]:
+        """The names of the condition's entries, each with what it asks: a predicate or an aggregate."""
+        return [(entry.name, entry.aggregate if isinstance(entry, Let) else entry.predicate) for entry in self.entries]
 
     @property
     def detaches(self) -> bool:
@@ -109,19 +124,27 @@ def _no_number(word: str) -> NoReturn:
 class _Reader:
     """Turns JSON values into the parts of a script, and refuses each value of a wrong shape by its path."""
 
+    def __init__(self) -> None:
+        self.version = language.VERSIONS[0]
+        self.tables = {"event": language.EVENTS}
+
     def root(self, value: Any) -> RuleBase:
         members = {"version", "classes", "rules", "items"}
         if not isinstance(value, dict) or set(value) - {"depth"} != members:
             self._refuse("")
-        self._whole(value["version"], "/version", *language.VERSIONS)
+        if type(value["version"]) is not int or value["version"] not in language.VERSIONS:
+            self._refuse("/version")
+        self.version = value["version"]
+        self.tables["expression"] = language.expressions_of(self.version)
+        self.tables["statement"] = language.statements_of(self.version)
         depth = value.get("depth")
         if "depth" in value:
             self._whole(depth, "/depth", 1, language.MOST_DEPTH)
         return RuleBase(
-            version=value["version"],
+            version=self.version,
             depth=depth,
             classes=[self._class(one, path) for one, path in self._list(value["classes"], "/classes")],
-            rules=[self._rule(one, path, value["version"]) for one, path in self._list(value["rules"], "/rules")],
+            rules=[self._rule(one, path) for one, path in self._list(value["rules"], "/rules")],
             items=[self._item(one, path) for one, path in self._list(value["items"], "/items")])
 
     def _class(self, value: Any, path: str) -> Class:
@@ -133,22 +156,51 @@ class _Reader:
             fields.append((self._name(field[0], place + "/0"), self._one_of(field[1], place + "/1", language.KINDS)))
         return Class(name, fields)
 
-    def _rule(self, value: Any, path: str, version: int) -> Rule:
-        self._parts(value, path, 6)
-        modes = language.modes_of(version)
+    def _rule(self, value: Any, path: str) -> Rule:
+        is_closed = language.is_fourth(self.version) and isinstance(value, list) and len(value) == 7
+        self._parts(value, path, 7 if is_closed else 6)
+        modes = language.modes_of(self.version)
         name = self._name(value[0], path + "/0")
         self._form(value[1], path + "/1", "event", 1)
         ec = self._one_of(value[2], path + "/2", modes)
-        queries = [self._query(one, place) for one, place in self._list(value[3], path + "/3")]
+        entries = [self._entry(one, place) for one, place in self._list(value[3], path + "/3")]
         ca = self._one_of(value[4], path + "/4", modes)
         self._body(value[5], path + "/5", 1)
-        return Rule(name, value[1], ec, queries, ca, value[5])
+        if is_closed:
+            self._one_of(value[6], path + "/6", (language.CLOSED,))
+        return Rule(name, value[1], ec, entries, ca, value[5], is_closed)
 
-    def _query(self, value: Any, path: str) -> Query:
+    def _entry(self, value: Any, path: str) -> Entry:
+        word = value[0] if language.is_fourth(self.version) and isinstance(value, list) and value else ""
+        if word == "let":
+            self._parts(value, path, 3)
+            self._aggregate(value[2], path + "/2")
+            return Let(self._name(value[1], path + "/1"), value[2])
+        if word == "no":
+            self._parts(value, path, 4)
+            return Query(*self._over(value[1:], path, 1), True)
         self._parts(value, path, 3)
-        name, class_name = self._name(value[0], path + "/0"), self._name(value[1], path + "/1")
-        self._form(value[2], path + "/2", "expression", 1)
-        return Query(name, class_name, value[2])
+        return Query(*self._over(value, path, 0))
+
+    def _over(self, parts: list[Any], path: str, first: int) -> tuple[str, str, Form]:
+        """A name, a class and a predicate, of which the first has this number."""
+        name, class_name = self._name(parts[0], f"{path}/{first}"), self._name(parts[1], f"{path}/{first + 1}")
+        self._form(parts[2], f"{path}/{first + 2}", "expression", 1)
+        return name, class_name, parts[2]
+
+    def _aggregate(self, value: Any, path: str) -> None:
+        """An aggregate, or an expression."""
+        word = value[0] if isinstance(value, list) and value and isinstance(value[0], str) else ""
+        if word not in language.AGGREGATES or value == ["count"]:
+            self._form(value, path, "expression", 1)
+            return
+        self._parts(value, path, len(language.AGGREGATES[word]) + 1)
+        if word == "next":
+            self._name(value[1], path + "/1")
+            return
+        self._over(value[1:4], path, 1)
+        for term in value[4:]:
+            self._form(term, path + "/4", "expression", 1)
 
     def _item(self, value: Any, path: str) -> Form:
         self._parts(value, path, 2)
@@ -169,11 +221,12 @@ class _Reader:
         if sort == "expression" and not isinstance(value, list):
             self._literal(value, path)
             return
-        table = TABLES[sort]
+        table = self.tables[sort]
         if not isinstance(value, list) or not value or not isinstance(value[0], str) or value[0] not in table:
             self._refuse(path)
         sorts = language.sorts(table[value[0]])
-        self._parts(value, path, len(sorts) + 1)
+        if len(value) - 1 not in language.counts(table[value[0]]):
+            self._refuse(path)
         for position, (part, part_sort) in enumerate(zip(value[1:], sorts), 1):
             inner = level + 1 if part_sort in (sort, "body") else 1
             self._part(part, f"{path}/{position}", part_sort, inner)
@@ -182,6 +235,8 @@ class _Reader:
         """One part of a form, by its sort in the tables."""
         if sort in ("event", "expression"):
             self._form(value, path, sort, level)
+        elif sort == "aggregate":
+            self._aggregate(value, path)
         elif sort == "body":
             self._body(value, path, level)
         elif sort == "name":

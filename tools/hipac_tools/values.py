@@ -7,7 +7,7 @@ names are right, and only run-time faults occur here.
 from __future__ import annotations
 
 import json
-from dataclasses import dataclass, field
+from dataclasses import dataclass, field, replace
 from typing import Any, Callable, Dict, List, Optional, Tuple
 
 from .language import GREATEST, LEAST
@@ -70,17 +70,22 @@ class Occurrence:
 
 @dataclass
 class Environment:
-    """What an expression may name: the occurrence, rows by name, and whole answers by the query's name."""
+    """What an expression may name: the occurrence, rows by name, whole answers by the query's name, the values of
+    `let`s, and the clock's moment."""
 
     occurrence: Optional[Occurrence] = None
     rows: Dict[str, Row] = field(default_factory=dict)
     answers: Dict[str, List[Row]] = field(default_factory=dict)
+    values: Dict[str, Any] = field(default_factory=dict)
+    now: int = 0
 
     def naming(self, name: str, row: Row) -> "Environment":
         """The same with one more row named."""
-        rows = dict(self.rows)
-        rows[name] = row
-        return Environment(self.occurrence, rows, self.answers)
+        return replace(self, rows={**self.rows, name: row})
+
+    def holding(self, name: str, value: Any) -> "Environment":
+        """The same with one more value named."""
+        return replace(self, values={**self.values, name: value})
 
 
 def value_text(value: Any) -> str:
@@ -126,6 +131,26 @@ def _in_range(value: int, words: str) -> int:
     if not LEAST <= value <= GREATEST:
         raise Fault("A4", words + " is outside 64 bits")
     return value
+
+
+def put_together(word: str, total: Any, term: Any) -> Any:
+    """What an aggregate of this word comes to with one more term; `total` is None before the first one."""
+    if word == "count":
+        return (total or 0) + 1
+    if word == "sum":
+        if not is_int(term):
+            raise Fault("A3", f"`sum` asks for whole numbers and met {value_text(term)}")
+        return _in_range((total or 0) + term, f"the sum {total or 0} + {value_text(term)}")
+    if isinstance(term, bool):
+        raise Fault("A3", f"`{word}` asks for whole numbers or texts and met {value_text(term)}")
+    if total is None:
+        return term
+    return term if _ordered("<" if word == "least" else ">", term, total) else total
+
+
+def key_after(greatest: Optional[int], name: str) -> int:
+    """The next key of a class, by its greatest one."""
+    return 1 if greatest is None else _in_range(greatest + 1, f"the next key of {name}")
 
 
 def _arithmetic(word: str, left: Any, right: Any) -> int:
@@ -253,4 +278,6 @@ def _count(expression: List[Any], environment: Environment) -> int:
 _FORMS: Dict[str, Callable[[List[Any], Environment], Any]] = {
     "neg": _negative, "not": _not, "of": _of, "key": _key, "new": _side, "old": _side,
     "id": _id, "arg": _argument, "time": _moment, "count": _count,
+    "value": lambda expression, environment: environment.values[expression[1]],
+    "now": lambda expression, environment: _in_range(environment.now, "the moment"),
 }

@@ -210,8 +210,10 @@ def is_part_of_veto(node: Any) -> bool:
     """Whether a veto only passed through a node, on its way to the transaction that it aborts."""
     if node.end.cause != "A9":
         return False
-    stop = node.note.stop
-    return node.note.parent.end == node.end if stop is None else stop.firing is None
+    stop, around = node.note.stop, node.note.parent
+    if stop is None or around.note.stop is None:
+        return around.end == node.end if stop is None else stop.firing is None
+    return stop.firing is None or around.note.stop.firing is stop.firing
 
 
 class RuleText:

@@ -11,7 +11,8 @@ EXAMPLES = sorted((REPOSITORY / "examples").glob("*.json"))
 
 CONFUSING_NAMES = ("or", "and", "not", "some", "has", "key", "of", "new", "old", "part", "the", "its", "count", "found",
                    "that", "is", "there", "with", "true", "then", "if", "at", "in", "as", "for", "each", "once",
-                   "moment", "argument", "else", "try", "rule", "a", "stock")
+                   "moment", "argument", "else", "try", "rule", "a", "stock", "let", "be", "no", "value", "now", "next",
+                   "number", "sum", "least", "over")
 CONFUSING_TEXTS = ("", "a", '"', "\\", '\\"', "a and b", ", then", "line\nbreak", "\u2028", "\u00a0", "é", "- 5",
                    "x" * 120, "many words " * 20, "\\u2028", "\x7f", "\t")
 COUPLINGS = ("immediate", "deferred", "separate", "dependent", "exclusive")
@@ -33,13 +34,15 @@ class RandomScripts:
 
     def __init__(self, seed: int) -> None:
         self.random = random.Random(seed)
+        self.version = 1
 
     def script(self) -> dict:
-        root: dict[str, Any] = {"version": self.random.choice((1, 2)), "classes": self.some(self.class_form),
-                                "rules": [], "items": []}
+        self.version = self.random.choice((1, 2, 4, 4))
+        root: dict[str, Any] = {"version": self.version, "classes": self.some(self.class_form), "rules": [],
+                                "items": []}
         if self.random.random() < 0.5:
             root["depth"] = self.random.randint(1, 16)
-        root["rules"] = self.some(lambda: self.rule(root["version"]))
+        root["rules"] = self.some(self.rule)
         clock = 0
         for _ in range(self.random.randrange(4)):
             clock += self.random.choice((0, 1, 5, 40))
@@ -56,10 +59,32 @@ class RandomScripts:
     def class_form(self) -> list:
         return [self.name(), self.some(lambda: [self.name(), self.random.choice(("int", "bool", "text"))])]
 
-    def rule(self, version: int) -> list:
-        modes = COUPLINGS if version == 2 else COUPLINGS[:4]
-        queries = self.some(lambda: [self.name(), self.name(), self.expression(3)], 2)
-        return [self.name(), self.event(3), self.random.choice(modes), queries, self.random.choice(modes), self.body(3)]
+    def rule(self) -> list:
+        modes = COUPLINGS[:4] if self.version == 1 else COUPLINGS
+        closed = ["closed"] * (self.version == 4 and self.random.random() < 0.5)
+        return [self.name(), self.event(3), self.random.choice(modes), self.some(self.entry, 3),
+                self.random.choice(modes), self.body(3), *closed]
+
+    def entry(self) -> list:
+        word = self.random.choice(("query", "no", "let") if self.version == 4 else ("query",))
+        if word == "let":
+            return ["let", self.name(), self.aggregate(3)]
+        name = self.name()
+        if word == "query":
+            name = "some" if self.version == 4 and name in ("no", "let") else name
+            return [name, self.name(), self.predicate()]
+        return ["no", name, self.name(), self.predicate()]
+
+    def predicate(self) -> Any:
+        return True if self.random.random() < 0.3 else self.expression(3)
+
+    def aggregate(self, depth: int) -> Any:
+        word = self.random.choice(("count", "sum", "least", "greatest", "next", "expression"))
+        if word == "expression":
+            return self.expression(depth)
+        if word == "next":
+            return ["next", self.name()]
+        return [word, self.name(), self.name(), self.predicate()] + [self.expression(depth)] * (word != "count")
 
     def event(self, depth: int) -> list:
         word = self.random.choice(("create", "update", "delete", "signal", "commit", "at", "every")
@@ -75,7 +100,7 @@ class RandomScripts:
     def expression(self, depth: int) -> Any:
         binary = ("+", "-", "*", "/", "%", "and", "or", "=", "!=", "<", "<=", ">", ">=")
         word = self.random.choice(("literal", "of", "key", "new", "old", "id", "arg", "time", "count")
-                                  + (binary + ("neg", "not") * 3) * (depth > 0))
+                                  + ("value", "now") * (self.version == 4) + (binary + ("neg", "not") * 3) * (depth > 0))
         place = self.random.choice((0, 0, 1, 65535))
         if word == "literal":
             return self.random.choice((0, 1, -1, 2 ** 63 - 1, -2 ** 63, True, False) + CONFUSING_TEXTS)
@@ -83,16 +108,18 @@ class RandomScripts:
             return [word, self.expression(depth - 1), self.expression(depth - 1)]
         return {"of": [word, self.name(), self.name()], "key": [word, self.name()], "new": [word, place, self.name()],
                 "old": [word, place, self.name()], "arg": [word, place, self.random.randrange(3)], "count": [word],
-                "id": [word, place], "time": [word, place]}.get(word) or [word, self.expression(depth - 1)]
+                "id": [word, place], "time": [word, place], "value": [word, self.name()], "now": [word]}.get(word) or [word, self.expression(depth - 1)]
 
     def body(self, depth: int) -> list:
         return self.some(lambda: self.statement(depth))
 
     def statement(self, depth: int) -> list:
         word = self.random.choice(("create", "update", "delete", "signal", "emit", "abort", "veto", "install", "fire")
-                                  + ("if", "each", "for", "with", "sub") * 2 * (depth > 0))
+                                  + ("if", "each", "for", "with", "sub") * 2 * (depth > 0)
+                                  + ("let",) * 2 * (depth > 0 and self.version == 4))
         pairs = self.some(lambda: [self.name(), self.expression(2)])
         inner = [self.body(depth - 1), self.body(depth - 1)] if depth else []
+        message = self.some(lambda: self.expression(2), 1) if self.version == 4 else []
         return {"create": lambda: [word, self.name(), self.expression(2), pairs],
                 "update": lambda: [word, self.name(), self.expression(2), pairs],
                 "delete": lambda: [word, self.name(), self.expression(2)],
@@ -102,7 +129,9 @@ class RandomScripts:
                 "each": lambda: [word, self.name(), self.name(), self.expression(3), inner[0]],
                 "for": lambda: [word, self.name(), inner[0]],
                 "with": lambda: [word, self.name(), self.name(), self.expression(2), inner[0]],
+                "let": lambda: [word, self.name(), self.aggregate(2), inner[0]],
                 "sub": lambda: [word] + inner,
+                "veto": lambda: [word, *message],
                 "install": lambda: [word, self.name()],
                 "fire": lambda: [word, self.name()]}.get(word, lambda: [word])()
 

@@ -3,7 +3,7 @@ from __future__ import annotations
 
 import json
 import re
-from typing import Any
+from typing import Any, Optional
 
 from hipac_tools.printing import CONTINUED, WHERE
 
@@ -49,6 +49,8 @@ def paragraph(root: dict, block: Block) -> None:
     words = block.line()
     if words.takes("class"):
         root["classes"].append(class_form(words))
+    elif words.takes("closed", "rule"):
+        root["rules"].append(rule_form(words, block) + ["closed"])
     elif words.takes("rule"):
         root["rules"].append(rule_form(words, block))
     elif words.takes("unit"):
@@ -80,22 +82,21 @@ def rule_form(words: Words, block: Block) -> list:
     event = words.event()
     one_part = not (re.search(r"'(seq|closure)'", repr(event)))
     words.take(",")
-    ec, ca, queries = words.where(), "immediate", []
+    ec, ca, entries = words.where(), "immediate", []
     if words.takes(",", "then"):
         ca = words.where()
     words.take(":")
     words.one_part = block.one_part = one_part
     if words.is_done():
         words = block.line()
-    while words.peek(0) in ("if", "and") and words.peek(1) == "some" and words.peek(2) != ".":
-        words.take(words.peek(0), "some")
-        class_name, row = words.next(), words.next()
-        predicate = words.predicate()
-        queries.append([row, class_name, predicate])
+    entry = words.entry()
+    while entry is not None:
+        entries.append(entry)
         if words.is_done():
             words = block.line()
+        entry = words.entry()
     indent = 2
-    if queries:
+    if entries:
         words.take("then")
         if words.peek(0) == "in" or words.peek(0) == "at":
             ca = words.where()
@@ -104,8 +105,8 @@ def rule_form(words: Words, block: Block) -> list:
             words.take(":")
         indent = 4
     if words.is_done():
-        return [name, event, ec, queries, ca, block.statements(indent)]
-    return [name, event, ec, queries, ca, block.begun(words, indent)]
+        return [name, event, ec, entries, ca, block.statements(indent)]
+    return [name, event, ec, entries, ca, block.begun(words, indent)]
 
 
 class Block:
@@ -148,6 +149,10 @@ class Block:
             return ["sub", self.body(words, indent), self.other("otherwise", indent)]
         if words.takes("for", "each"):
             return self.each(words, indent)
+        if words.takes("let"):
+            name, aggregate = words.let()
+            words.take(":")
+            return ["let", name, aggregate, self.body(words, indent)]
         if words.takes("with"):
             class_name, key = words.next(), words.atom()
             words.take("as")
@@ -246,6 +251,47 @@ class Words:
             self.take(")")
         return event
 
+    # Conditions.
+
+    def entry(self) -> Optional[list]:
+        """The entry that comes next; None if none does. A `let` with a colon behind it is a statement."""
+        lead = 1 if self.peek(0) in ("if", "and") else 0
+        word, place = self.peek(lead), self.place
+        if lead and word in ("some", "no") and self.peek(lead + 1) != ".":
+            self.place += 2
+            class_name, row = self.next(), self.next()
+            return ["no"] * (word == "no") + [row, class_name, self.predicate()]
+        if word != "let" or self.peek(lead + 1) == ".":
+            return None
+        self.place += lead + 1
+        name, aggregate = self.let()
+        if self.peek(0) == ":":
+            self.place = place
+            return None
+        return ["let", name, aggregate]
+
+    def let(self) -> tuple[str, Any]:
+        """The name of a `let` and its aggregate."""
+        name = self.next()
+        self.take("be")
+        if self.takes("the", "next", "key", "of"):
+            return name, ["next", self.next()]
+        if self.takes("the", "number", "of", "each"):
+            return name, ["count", *self.over()]
+        if self.peek(0) == "the" and self.peek(1) in ("sum", "least", "greatest"):
+            self.take("the")
+            word = self.next()
+            self.take("of")
+            term = self.expression(4)
+            self.take("over", "each")
+            return name, [word, *self.over(), term]
+        return name, self.expression()
+
+    def over(self) -> list:
+        """The class, the variable and the predicate of an aggregate, in the order of its form."""
+        class_name, row = self.next(), self.next()
+        return [row, class_name, self.expression() if self.takes("that", "has") else True]
+
     # Expressions.
 
     def predicate(self) -> Any:
@@ -296,7 +342,11 @@ class Words:
             name = self.next()
             if name == "count":
                 return ["count"]
+            if name == "value":
+                return ["value", self.next()]
             return [{"key": "id", "moment": "time"}[name], self.part() if word == "the" else 0]
+        if word == "now":
+            return ["now"]
         what: object = self.number() if word == "argument" else self.next()
         part = self.part() if self.peek(0) == "in" else 0
         return ["arg", part, what] if word == "argument" else [word, part, what]
@@ -316,6 +366,8 @@ class Words:
         if word == "signal":
             return [word, self.next(), self.listed()]
         if word == "emit":
+            return [word, self.expression()]
+        if word == "veto" and self.takes("with"):
             return [word, self.expression()]
         if word in OPERATIONS:
             self.take("rule")

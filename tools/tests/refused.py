@@ -198,7 +198,7 @@ CASES = [
     Case(
         "no members", "S2 /",
         '«{}»',
-        "the member `version` is missing, and so are `classes`, `rules` and `items`", '"version" is the number 1 or 2'),
+        "the member `version` is missing, and so are `classes`, `rules` and `items`", '"version" is the number 1, 2 or 4'),
     Case(
         "a version alone", "S2 /",
         '«{"version": 3}»',
@@ -237,19 +237,19 @@ CASES = [
     Case(
         "an unknown version", "S6",
         script(version='«3»'),
-        "version 3 isn't known: there are 1 and 2"),
+        "version 3 isn't known: there are 1, 2 and 4"),
     Case(
         "a version below 1", "S6",
         script(version='«0»'),
-        "version 0 isn't known: there are 1 and 2"),
+        "version 0 isn't known: there are 1, 2 and 4"),
     Case(
         "a version before the depth", "S6",
         script(version='«-1»', more=' "depth": 0,'),
-        "version -1 isn't known: there are 1 and 2"),
+        "version -1 isn't known: there are 1, 2 and 4"),
     Case(
         "a doubled version, of which the last counts", "S6",
         script(more=' "version": «7»,'),
-        "version 7 isn't known: there are 1 and 2"),
+        "version 7 isn't known: there are 1, 2 and 4"),
     Case(
         "a depth that is a text", "S2 /depth",
         script(more=' "depth": «"8"»,'),
@@ -703,7 +703,7 @@ CASES = [
     Case(
         "the time, as other languages call it", "S2 /rules/0/5/0/1",
         action('["emit", «["now"]»]'),
-        '"now" begins no expression', "did you mean `time`?"),
+        '"now" begins no expression', "did you mean `time`?", "`now` is of version 4"),
     Case(
         "a value of the event without its part", "S2 /rules/0/5/0/1",
         action('["emit", «["new", "bal"]»]'),
@@ -932,12 +932,12 @@ CASES = [
     Case(
         "a variable before the class", "S4 /items/0/1/0/4/0/1",
         body('["each", "x", "acct", true, [["with", «"x"», "nobody", 1, []]]]'),
-        "a row `x` is there already", "a variable's name is new among the rows that are known",
+        "a row `x` is there already", "a variable's name is new among the names that are known",
         "the first one is here:"),
     Case(
         "a variable named like a query", "S4 /rules/0/5/0/1",
         action('["with", «"x"», "acct", 1, []]', queries='[["x", "acct", true]]'),
-        "a row `x` is there already", "a variable's name is new among the rows that are known",
+        "a row `x` is there already", "a variable's name is new among the names that are known",
         "the first one is here:"),
     Case(
         "an unknown class in an each", "S4 /items/0/1/0/2",

@@ -239,7 +239,7 @@ class Wholes(unittest.TestCase):
             self.assertEqual(read_back(script_text(rulebase.read(json.dumps(root)))), root, example.name)
 
     def test_random_scripts_can_be_read_back(self) -> None:
-        for seed in range(150):
+        for seed in range(250):
             root = RandomScripts(seed).script()
             text = script_text(rulebase.read(json.dumps(root)))
             read, wanted = (json.dumps(one, sort_keys=True) for one in (read_back(text), root))

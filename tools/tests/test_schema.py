@@ -33,6 +33,7 @@ UNSAID_CASES = {
     "a part with a point": "JSON Schema takes 0.0 for a whole number",
     "a time with a point": "JSON Schema takes 5.0 for a whole number",
     "a text of 513 letters of two bytes": "JSON Schema counts letters, not bytes",
+    "the time, as other languages call it": "in expressions and statements the forms of all versions are accepted",
     "a name with a line feed": "in Python's patterns $ stands before a last line feed too",
 }
 
@@ -41,6 +42,20 @@ def said(name: str, refusal: str) -> bool:
     """Whether a schema can say why the case of this name is refused. If not, it may still mark another fault of it."""
     code, _, rest = refusal.partition(" ")
     return name not in UNSAID_CASES and (code in ("S2", "S3", "S6") or code == "S5" and rest not in UNSAID_LIMITS)
+
+
+FOURTH = {
+    "no": '[["no", "a", "acct", true]]', "let": '[["let", "n", ["count", "a", "acct", true]]]',
+    "sum": '[["let", "n", ["sum", "a", "acct", true, ["of", "a", "bal"]]]]', "next": '[["let", "n", ["next", "acct"]]]',
+    "a plain let": '[["let", "n", ["count"]]]', "a query": '[["a", "acct", ["=", ["now"], 1]]]',
+}
+"""Conditions of version 4."""
+
+NOT_FOURTH = {
+    "a sum without its term": '[["let", "n", ["sum", "a", "acct", true]]]', "no without a class": '[["no", "a", true]]',
+    "an aggregate in a predicate": '[["a", "acct", ["sum", "s", "acct", true, 1]]]', "three parts of next":
+    '[["let", "n", ["next", "acct", 1]]]', "value of two": '[["let", "n", ["value", "a", "b"]]]', "no list": '["no"]',
+}
 
 
 class Schema(unittest.TestCase):
@@ -83,6 +98,21 @@ class Schema(unittest.TestCase):
             with self.subTest(name):
                 self.assertTrue(self.valid(script))
 
+    def test_conditions_of_version_4(self) -> None:
+        for accepted, conditions in ((True, FOURTH), (False, NOT_FOURTH)):
+            for name, condition in conditions.items():
+                with self.subTest(name):
+                    self.assertEqual(self.valid(json.loads(with_condition(4, condition))), accepted)
+
+    def test_closed_rules_and_entries_are_of_version_4(self) -> None:
+        for version in (1, 2, 4):
+            with self.subTest(version):
+                self.assertTrue(self.valid(json.loads(with_condition(version, "[]"))))
+                closed = json.loads(with_condition(version, "[]"))
+                closed["rules"][0].append("closed")
+                self.assertEqual(self.valid(closed), version == 4)
+                self.assertEqual(self.valid(json.loads(with_condition(version, FOURTH["no"]))), version == 4)
+
     def test_refused_scripts_are_marked_as_far_as_a_schema_can_say(self) -> None:
         marked = 0
         for case in CASES:
@@ -109,11 +139,17 @@ class Schema(unittest.TestCase):
                 self.assertTrue(unsaid(script, refusal), (refusal, script))
 
 
+def with_condition(version: int, condition: str) -> str:
+    """A script with one rule that has this condition."""
+    rule = f'["r", ["signal", "go"], "immediate", {condition}, "immediate", []]'
+    return f'{{"version": {version}, "classes": [["acct", [["bal", "int"]]]], "rules": [{rule}], "items": []}}'
+
+
 def unsaid(script: object, refusal: str) -> bool:
     """Whether a schema can't say why the script is refused."""
     code, _, rest = refusal.partition(" ")
     if code == "S2":
-        return goes_back(script, rest)
+        return goes_back(script, rest) or is_of_a_later_version(script, rest)
     if code == "S3":
         return at(script, rest) == int(at(script, rest))
     return code == "S4" or rest in UNSAID_LIMITS or rest == "text"
@@ -123,6 +159,13 @@ def at(script: Any, path: str) -> Any:
     for step in path.strip("/").split("/"):
         script = script[int(step)] if isinstance(script, list) else script[step]
     return script
+
+
+def is_of_a_later_version(script: Any, path: str) -> bool:
+    """Whether the value at the path is an expression or a statement that only version 4 has: the schema has it in
+    each."""
+    value = at(script, path) if path != "/" else None
+    return script["version"] != 4 and isinstance(value, list) and value[:1] in (["veto"], ["value"], ["now"], ["let"])
 
 
 def goes_back(script: Any, path: str) -> bool:

@@ -2,13 +2,15 @@
 
 from __future__ import annotations
 
-from ..language import HAVING, MOST_LEVELS, OF_A_ROW, OF_THE_OCCURRENCE, is_key_asked
+from ..language import HAVING, MOST_LEVELS, OF_A_LET, OF_A_ROW, OF_THE_OCCURRENCE, is_key_asked
 from ..printing import event_text
 from ..wording import listed
 from .faults import Place
-from .forms import EXPRESSIONS
-from .parts import check_whole, did_you_mean, first_word, form_at, index_at, is_number, kind_of, name_at, names_there
-from .scope import Row, Scope
+from .parts import (
+    check_whole, did_you_mean, first_word, form_at, index_at, is_number, kind_of, known_name_at, name_at, names_there,
+    new_name_at,
+)
+from .scope import Class, Row, Scope
 
 MOST_TEXT_BYTES = 1_024
 
@@ -45,6 +47,39 @@ def read_predicate(place: Place, scope: Scope, name: str, what: str) -> None:
             return
 
 
+def read_over(parts: list[Place], scope: Scope, what: str) -> tuple[Row, Scope]:
+    """The variable, the class and the predicate of `no` or of an aggregate: its row, and what is known inside."""
+    row = Row(new_row_at(parts[0], scope), read_class(parts[1], scope), parts[0], False)
+    inner = scope.with_row(row)
+    scope.gathered.go_on(lambda: read_predicate(parts[2], inner, row.name, f"{what} `{row.name}`"))
+    return row, inner
+
+
+def new_row_at(place: Place, scope: Scope) -> str:
+    hint = "a variable's name is new among the names that are known"
+    noun = scope.noun_of(place.node.value, "a row")
+    return new_name_at(place, "a variable's name", noun, scope.taken(), hint)
+
+
+def read_class(place: Place, scope: Scope) -> Class:
+    return scope.classes[known_name_at(place, "a class's name", "class", scope.classes)]
+
+
+def read_aggregate(place: Place, scope: Scope) -> None:
+    """Reads what a `let` gives a name: an aggregate, or an expression. `["count"]` is an expression."""
+    word = first_word(place.node)
+    if word not in scope.forms.aggregates.words or (word == "count" and len(place.node.items) == 1):
+        read_expression(place, scope)
+        return
+    _, parts = form_at(place, scope.forms.aggregates)
+    if word == "next":
+        read_class(parts[0], scope)
+        return
+    row, inner = read_over(parts, scope, f"`{word}`")
+    for term in parts[3:]:
+        read_expression(term, inner)
+
+
 def conjuncts(place: Place) -> list[Place]:
     """The tests that `and` joins, in the order in which they are made."""
     if first_word(place.node) == "and":
@@ -68,12 +103,14 @@ def read_form(place: Place, scope: Scope, level: int) -> None:
     if not isinstance(place.node.value, list):
         raise place.wrong_shape(
             f"an expression is a number, a truth value, a text or a list [word, ..], and this is {kind_of(place.node)}")
-    word, parts = form_at(place, EXPRESSIONS)
+    word, parts = form_at(place, scope.forms.expressions)
     check_level(place, level)
     if word in OF_THE_OCCURRENCE:
         read_of_occurrence(place, word, parts, scope)
     elif word in OF_A_ROW:
         read_of_row(word, parts, scope)
+    elif word in OF_A_LET:
+        value_at(parts[0], scope)
     else:
         for part in parts:
             read_expression(part, scope, level + 1)
@@ -96,6 +133,22 @@ def row_at(place: Place, scope: Scope) -> Row:
     if name not in scope.rows:
         raise place.bad_name(f"no row is called `{name}` here", which_row(name, scope))
     return scope.rows[name]
+
+
+def value_at(place: Place, scope: Scope) -> None:
+    """The name of a `let` that is known."""
+    name = name_at(place, "the name of a `let`")
+    if name not in scope.values:
+        raise place.bad_name(f"no `let` is called `{name}` here", which_value(name, scope))
+
+
+def which_value(name: str, scope: Scope) -> str:
+    """What may be meant by the name of a `let` that isn't known."""
+    if name in scope.rows:
+        return f'`{name}` is a row, and a field of it is ["of", "{name}", field]'
+    known = list(scope.values)
+    there = names_there("let", known) if known else "no `let` is known here"
+    return scope.not_yet.get(name) or did_you_mean(name, known) or there
 
 
 def which_row(name: str, scope: Scope) -> str:

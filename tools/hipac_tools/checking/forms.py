@@ -27,9 +27,11 @@ class Grammar:
     words: Mapping[str, tuple[str, ...]]
     habits: Mapping[str, str]
     """Words that other languages have in these places, with the word meant."""
+    later: tuple[str, ...] = ()
+    """Words of later versions than the script's."""
 
     def written(self, word: str) -> str:
-        return f"[{', '.join((quoted(word), *self.words[word]))}]"
+        return f"[{', '.join((quoted(word), *self.words[word]))}]".replace(language.OPTIONAL, "")
 
     def named(self) -> str:
         """`event` of `an event`."""
@@ -43,11 +45,12 @@ def quoted(word: str) -> str:
 CLASS = Shape("a class", ("name", "fields"))
 FIELD = Shape("a field", ("name", "kind"))
 RULE = Shape("a rule", ("name", "event", "ec", "queries", "ca", "action"))
+CLOSED_RULE = Shape("a rule", (*RULE.parts, quoted(language.CLOSED)))
 QUERY = Shape("a query", ("name", "class", "predicate"))
 PAIR = Shape("a pair", ("field", "expression"))
 
 ROOT_MEMBERS = {
-    "version": "the number 1 or 2",
+    "version": "the number 1, 2 or 4",
     "depth": "how deep firings may nest, 1 to 16",
     "classes": "a list of classes, perhaps empty",
     "rules": "a list of rules, perhaps empty",
@@ -73,26 +76,49 @@ EVENTS = Grammar(
     },
 )
 
-EXPRESSIONS = Grammar(
-    "an expression",
-    language.EXPRESSIONS,
-    {
-        "==": "=", "eq": "=", "is": "=", "<>": "!=", "ne": "!=", "lt": "<", "le": "<=", "=<": "<=", "gt": ">",
-        "ge": ">=", "=>": ">=", "&&": "and", "||": "or", "!": "not", "mod": "%", "rem": "%", "div": "/", "add": "+",
-        "plus": "+", "sub": "-", "minus": "-", "mul": "*", "times": "*", "negate": "neg", "get": "of", "field": "of",
-        "after": "new", "before": "old", "now": "time",
-    },
-)
+EXPRESSION_HABITS = {
+    "==": "=", "eq": "=", "is": "=", "<>": "!=", "ne": "!=", "lt": "<", "le": "<=", "=<": "<=", "gt": ">",
+    "ge": ">=", "=>": ">=", "&&": "and", "||": "or", "!": "not", "mod": "%", "rem": "%", "div": "/", "add": "+",
+    "plus": "+", "sub": "-", "minus": "-", "mul": "*", "times": "*", "negate": "neg", "get": "of", "field": "of",
+    "after": "new", "before": "old", "let": "value",
+}
 
-STATEMENTS = Grammar(
-    "a statement",
-    language.STATEMENTS,
-    {
-        "insert": "create", "set": "update", "modify": "update", "print": "emit", "raise": "signal", "trigger": "fire",
-        "foreach": "each", "when": "if", "try": "sub", "rollback": "abort", "uninstall": "remove", "let": "with",
-        "assert": "create", "retract": "delete", "notify": "emit", "refuse": "veto", "reject": "veto",
-    },
-)
+STATEMENT_HABITS = {
+    "insert": "create", "set": "update", "modify": "update", "print": "emit", "raise": "signal", "trigger": "fire",
+    "foreach": "each", "when": "if", "try": "sub", "rollback": "abort", "uninstall": "remove",
+    "assert": "create", "retract": "delete", "notify": "emit", "refuse": "veto", "reject": "veto",
+}
+
+
+
+@dataclass(frozen=True)
+class Forms:
+    """The forms of a version."""
+
+    version: int
+    expressions: Grammar
+    statements: Grammar
+    aggregates: Grammar
+    entries: Grammar
+
+    @property
+    def is_fourth(self) -> bool:
+        return language.is_fourth(self.version)
+
+
+def forms_of(version: int) -> Forms:
+    """The forms of a version, and the words of the later ones."""
+    is_fourth = language.is_fourth(version)
+    # In earlier versions the moment of an occurrence is the nearest to what `now` may mean.
+    habits = EXPRESSION_HABITS if is_fourth else {**EXPRESSION_HABITS, "now": "time"}
+    let = {} if is_fourth else {"let": "with"}
+    later = () if is_fourth else language.OF_FOURTH_VERSION
+    return Forms(
+        version, Grammar("an expression", language.expressions_of(version), habits, later),
+        Grammar("a statement", language.statements_of(version), {**STATEMENT_HABITS, **let}, later),
+        Grammar("an aggregate", language.AGGREGATES, {}),
+        Grammar("an entry", language.ENTRIES if is_fourth else {}, {}))
+
 
 ITEMS = Grammar(
     "an item",
@@ -100,4 +126,5 @@ ITEMS = Grammar(
     {"transaction": "tx", "time": "clock", "wait": "clock", "run": "tx"},
 )
 
-GRAMMARS = (EVENTS, EXPRESSIONS, STATEMENTS, ITEMS)
+LATEST = forms_of(language.VERSIONS[-1])
+GRAMMARS = (EVENTS, LATEST.expressions, LATEST.statements, LATEST.aggregates, ITEMS)

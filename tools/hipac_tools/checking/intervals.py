@@ -10,7 +10,7 @@ from dataclasses import dataclass, field, replace
 from functools import reduce
 from typing import Callable, Mapping, Optional
 
-from ..language import GREATEST, HAVING, KINDS, LEAST, OF_A_ROW, OF_THE_OCCURRENCE, Form
+from ..language import GREATEST, HAVING, KINDS, LEAST, LEAVES, Form
 from ..positions import Node
 from .faults import Place
 
@@ -57,14 +57,19 @@ class Known:
     very many."""
     rows: Mapping[str, str] = field(default_factory=dict)
     """The class of each row."""
+    values: Mapping[str, Value] = field(default_factory=dict)
+    """The values of each `let`."""
     bounds: Mapping[str, Value] = field(default_factory=dict)
-    """What tests said of a row's or an occurrence's values, by their forms."""
+    """What tests said of such values, by their forms."""
 
     def with_row(self, name: str, of: str) -> Known:
         return replace(self.without(name), rows={**self.rows, name: of})
 
+    def with_value(self, name: str, value: Value) -> Known:
+        return replace(self.without(name), values={**self.values, name: value})
+
     def without(self, name: str) -> Known:
-        """The same without what tests said of a row, as another row gets its name."""
+        """The same without what tests said of a row or a `let`, as another one gets its name."""
         kept = {text: value for text, value in self.bounds.items() if f"'{name}'" not in text}
         return replace(self, bounds=kept)
 
@@ -95,7 +100,7 @@ class Reader:
         word = form[0]
         if word in ("and", "or"):
             return self._decided(place, known)
-        if word in OF_A_ROW or word in OF_THE_OCCURRENCE:
+        if word in LEAVES:
             found = self._leaf(place, known)
             return found.met(known.bounds[repr(form)]) if repr(form) in known.bounds else found
         operands = [self.value(place.item(number), known) for number in range(1, len(form))]
@@ -166,8 +171,13 @@ class Reader:
     # Rows and occurrences
 
     def _leaf(self, place: Place, known: Known) -> Value:
-        """A value of a row or of the occurrence. What always ends with a cause has a warning of its own."""
+        """A value of a row, a `let`, the clock or the occurrence. What always ends with a cause has a warning of its
+        own."""
         word, *parts = place.node.value
+        if word == "now":
+            return Value(INT, 0)
+        if word == "value":
+            return known.values[parts[0]]
         if word == "key":
             return WHOLE
         if word == "count":
@@ -266,15 +276,15 @@ def narrowed(word: str, left: Value, right: Value) -> Value:
 
 
 def bounded(known: Known, form: Form, value: Value) -> Known:
-    """What is known with a bound on a value of a row or of the occurrence."""
+    """What is known with a bound on a value."""
     if not is_leaf(form) or not value.kinds or value.least > value.most:
         return known
     return replace(known, bounds={**known.bounds, repr(form): value})
 
 
 def is_leaf(form: Form) -> bool:
-    """Whether a form takes a value from a row or the occurrence."""
-    return isinstance(form, list) and (form[0] in OF_A_ROW or form[0] in OF_THE_OCCURRENCE)
+    """Whether a form takes a value from something else than expressions."""
+    return isinstance(form, list) and form[0] in LEAVES
 
 
 def at_form(form: Form) -> Place:

@@ -6,7 +6,7 @@ import re
 from dataclasses import dataclass
 from typing import Iterable, Iterator, Mapping, Optional
 
-from ..language import GREATEST, LEAST, MOST_NAME_BYTES, MOST_PLACE, NAME_LETTERS, is_name
+from ..language import GREATEST, LEAST, MOST_NAME_BYTES, MOST_PLACE, NAME_LETTERS, counts, is_name
 from ..near import NO_HABITS, nearest
 from ..positions import Node, shortened
 from ..wording import listed
@@ -115,7 +115,7 @@ def form_at(place: Place, grammar: Grammar) -> tuple[str, list[Place]]:
     if word not in grammar.words:
         raise place.wrong_shape(f"{quoted(shortened(word))} begins no {grammar.named()}", *what_instead(word, grammar))
     parts = place.items()[1:]
-    if len(parts) != len(grammar.words[word]):
+    if len(parts) not in counts(grammar.words[word]):
         raise place.wrong_shape(wrong_count(word, grammar, len(parts)), other_word(word, len(parts)))
     return word, parts
 
@@ -145,16 +145,18 @@ def first_is_no_word(node: Node, grammar: Grammar) -> str:
 def what_instead(word: str, grammar: Grammar) -> list[str]:
     """What an unknown word may be meant for: a known word near it, or another kind of form, and what there is."""
     meant = did_you_mean(word, grammar.words, grammar.habits)
-    if meant:
-        return [meant]
+    later = f"`{word}` is of version 4" if word in grammar.later else ""
+    if meant or later:
+        return [hint for hint in (meant, later) if hint]
     others = [other.what for other in GRAMMARS if word in other.words]
     other = [f"it begins {listed(others, 'or')}, and {grammar.what} is expected here"] if others else []
     return other + [words_of(grammar)]
 
 
 def wrong_count(word: str, grammar: Grammar, have: int) -> str:
-    want = len(grammar.words[word])
-    return f"{grammar.written(word)} has {count_of(want)} after its word, and this has {have or 'none'}"
+    least, most = counts(grammar.words[word])[0], counts(grammar.words[word])[-1]
+    want = count_of(most) if least == most else f"{least} or {count_of(most)}"
+    return f"{grammar.written(word)} has {want} after its word, and this has {have or 'none'}"
 
 
 def other_word(word: str, have: int) -> str:

@@ -7,6 +7,7 @@ from typing import Callable, Mapping, Optional, TypeVar
 
 from ..language import Form
 from .faults import Fault, Note, Place, Refused
+from .forms import Forms, LATEST
 
 Result = TypeVar("Result")
 
@@ -28,7 +29,7 @@ class Class:
 
 @dataclass(frozen=True)
 class Row:
-    """A name that stands for a row of a class: a query, or a variable of `each` or `with`."""
+    """A name that stands for a row of a class: a query, or a variable of `each`, `with`, `no` or an aggregate."""
 
     name: str
     class_read: Class
@@ -96,9 +97,12 @@ class Scope:
     classes: Mapping[str, Class]
     rules: Mapping[str, Place]
     gathered: Gathered
+    forms: Forms = LATEST
     rows: Mapping[str, Row] = field(default_factory=dict)
+    values: Mapping[str, Place] = field(default_factory=dict)
+    """The names of `let`s."""
     not_yet: Mapping[str, str] = field(default_factory=dict)
-    """Rows that aren't known at the place although they may seem to be, each with the reason."""
+    """Names that aren't known at the place although they may seem to be, each with the reason."""
     has_occurrence: bool = True
     """Whether something occurred: not in a body of the script."""
     shapes: Optional[list[tuple[Form, ...]]] = None
@@ -107,8 +111,16 @@ class Scope:
     def with_row(self, row: Row) -> Scope:
         return replace(self, rows={**self.rows, row.name: row})
 
-    def row_places(self) -> Mapping[str, Place]:
-        return {name: row.place for name, row in self.rows.items()}
+    def with_value(self, name: str, place: Place) -> Scope:
+        return replace(self, values={**self.values, name: place})
+
+    def taken(self) -> Mapping[str, Place]:
+        """The names of rows and of `let`s, which are one set."""
+        return {**{name: row.place for name, row in self.rows.items()}, **self.values}
+
+    def noun_of(self, name: object, otherwise: str) -> str:
+        """What a name that is taken is of."""
+        return "a `let`" if isinstance(name, str) and name in self.values else otherwise
 
     def queries(self) -> list[str]:
         return [name for name, row in self.rows.items() if row.is_query]
@@ -117,4 +129,6 @@ class Scope:
         """What another thing of this name is, where a row is expected."""
         if name in self.not_yet:
             return self.not_yet[name]
+        if name in self.values:
+            return f'`{name}` is a `let`, and its value is ["value", "{name}"]'
         return f"`{name}` is a class, and the name of a row is expected here" if name in self.classes else None

@@ -9,23 +9,25 @@ from dataclasses import dataclass, replace
 from typing import Optional
 
 from ..language import (
-    KINDS, MODES, MOST_DEPTH, MOST_MOMENTS, SECOND_VERSION_MODE, VERSIONS, is_beginning, is_name, modes_of, shapes,
+    CLOSED, KINDS, MODES, MOST_DEPTH, MOST_MOMENTS, SECOND_VERSION_MODE, VERSIONS, is_beginning, is_name, modes_of,
+    shapes,
 )
 from ..positions import Node, shortened
 from ..wording import listed
 from .events import Moments, read_event
-from .expressions import read_predicate
+from .expressions import read_aggregate, read_class, read_over, read_predicate
 from .faults import Faulty, Place, Refused
 from .forms import (
-    CLASS, EXPRESSIONS, FIELD, ITEMS, KIND_HABITS, MODE_HABITS, NEEDED_MEMBERS, QUERY, ROOT_MEMBERS, RULE, Shape,
+    CLASS, CLOSED_RULE, FIELD, Forms, ITEMS, KIND_HABITS, MODE_HABITS, NEEDED_MEMBERS, QUERY, ROOT_MEMBERS, RULE, Shape,
+    forms_of,
 )
 from .guards import hint_of_faults
 from .parts import (
-    Limit, did_you_mean, first_word, form_at, kind_of, known_name_at, list_at, new_name_at, shape_at, short_list_at,
-    up_to_bare, whole_number_at, word_at,
+    Limit, did_you_mean, first_word, form_at, kind_of, list_at, new_name_at, shape_at, short_list_at, up_to_bare,
+    whole_number_at, word_at,
 )
 from .scope import Class, Enough, Gathered, Row, Scope, Warned
-from .statements import read_body
+from .statements import LET_IS_KNOWN_AFTER_IT, new_let_at, read_body
 
 CLASSES = Limit("a script", 64, "classes", "classes")
 FIELDS = Limit("a class", 32, "fields", "fields")
@@ -66,11 +68,12 @@ def read_parts(place: Place, gathered: Gathered, is_live: bool) -> Script:
     for key in place.node.doubled:
         gathered.warn(Place(key), f"the member `{shortened(key.value)}` stands here again: its last value counts")
     classes = read_classes(place.member("classes"), gathered)
-    names, heads = read_heads(place.member("rules"), gathered)
-    scope = Scope(classes, names, gathered)
+    forms = forms_of(version)
+    names, heads = read_heads(place.member("rules"), forms, gathered)
+    scope = Scope(classes, names, gathered, forms)
     moments = Moments()
     for parts in heads:
-        read_rule(parts, scope, moments, place.member("version"), version)
+        read_rule(parts, scope, moments, place.member("version"))
     items = read_items(place.member("items"), replace(scope, has_occurrence=False), moments)
     if not gathered.faults:
         advise(place.member("items"), heads, scope, is_live)
@@ -85,7 +88,7 @@ def advise(items: Place, heads: list[list[Place]], scope: Scope, is_live: bool) 
     else:
         warn_of_silence(scope, len(items.node.items))
     kinds = {name: one.kinds for name, one in scope.classes.items()}
-    hint_of_faults(heads, items, kinds, is_live or not items.node.items, scope.gathered)
+    hint_of_faults(heads, items, kinds, is_live or not items.node.items, scope)
 
 
 # ---- the root, its version and depth
@@ -114,7 +117,7 @@ def extra_member(place: Place, key: Node, missing: list[str]) -> Refused:
 def read_version(place: Place) -> int:
     version = whole_number_at(place, "the version")
     if version not in VERSIONS:
-        raise place.refused("S6", f"version {version} isn't known: there are 1 and 2")
+        raise place.refused("S6", f"version {version} isn't known: there are {listed(map(str, VERSIONS))}")
     return version
 
 
@@ -139,6 +142,7 @@ class Declaration:
 A_CLASS = Declaration(CLASS, "a class's name", "a class")
 A_FIELD = Declaration(FIELD, "a field's name", "a field")
 A_RULE = Declaration(RULE, "a rule's name", "a rule")
+A_CLOSED_RULE = Declaration(CLOSED_RULE, "a rule's name", "a rule")
 
 
 def declared(place: Place, one: Declaration, names: dict[str, Place], gathered: Gathered,
@@ -202,37 +206,46 @@ def read_fields(place: Place, gathered: Gathered) -> dict[str, str]:
 # ---- rules
 
 
-def read_heads(place: Place, gathered: Gathered) -> tuple[dict[str, Place], list[list[Place]]]:
+def read_heads(place: Place, forms: Forms, gathered: Gathered) -> tuple[dict[str, Place], list[list[Place]]]:
     """The places of all rules' names, and the parts of each rule; only the forms and the names are read."""
     heads: list[list[Place]] = []
     names: dict[str, Place] = {}
     for rule_place in declarations(place, "`rules`", "rules", RULES, gathered):
-        parts = declared(rule_place, A_RULE, names, gathered, without_queries(rule_place.node))
+        is_long = forms.is_fourth and len(rule_place.node.items) == len(CLOSED_RULE.parts)
+        form = A_CLOSED_RULE if is_long else A_RULE
+        parts = declared(rule_place, form, names, gathered, other_head(rule_place.node, forms))
         if parts is not None:
             heads.append(parts)
     return names, heads
 
 
-def without_queries(node: Node) -> str:
-    """What helps where a rule of five parts has its second mode in the place of the queries."""
-    is_one_less = len(node.items) == len(RULE.parts) - 1
-    forgotten = is_one_less and node.items[2].value in MODES and node.items[3].value in MODES
+def other_head(node: Node, forms: Forms) -> str:
+    """What helps where a rule of five parts has its second mode in the place of the queries, or where one of seven is
+    closed."""
+    parts, items = len(RULE.parts), node.items
+    if len(items) == parts + 1 and items[parts].value == CLOSED and not forms.is_fourth:
+        return "closed rules are of version 4"
+    if len(items) > parts and forms.is_fourth:
+        return f"its seventh part is \"{CLOSED}\", or it is left out"
+    forgotten = len(items) == parts - 1 and items[2].value in MODES and items[3].value in MODES
     return "the queries stand between the modes; where there are none, write []" if forgotten else ""
 
 
-def read_rule(parts: list[Place], scope: Scope, moments: Moments, version_place: Place, version: int) -> None:
-    """The other five parts of a rule. Its action knows all its queries."""
-    _, event, event_mode, queries, action_mode, action = parts
-    gathered = scope.gathered
+def read_rule(parts: list[Place], scope: Scope, moments: Moments, version_place: Place) -> None:
+    """The other parts of a rule. Its action knows all names of its condition."""
+    _, event, event_mode, entries, action_mode, action, *closing = parts
+    gathered, version = scope.gathered, scope.forms.version
     gathered.is_rule_doubtful = False
     is_event = gathered.go_on(lambda: read_event(event, scope, moments) or True, False)
     gathered.go_on(lambda: read_mode(event_mode, version_place, version))
     asking = replace(scope, shapes=shapes(event.node.value) if is_event else None)
-    acting = gathered.go_on(lambda: read_condition(queries, asking))
+    acting = gathered.go_on(lambda: read_condition(entries, asking))
     gathered.is_rule_doubtful = gathered.is_rule_doubtful or acting is None
     gathered.go_on(lambda: read_mode(action_mode, version_place, version))
     gathered.go_on(lambda: read_body(action, acting or asking, what="the action of a rule"))
     gathered.is_rule_doubtful = False
+    for place in closing:
+        gathered.go_on(lambda: read_closing(place))
 
 
 def read_mode(place: Place, version_place: Place, version: int) -> None:
@@ -242,38 +255,81 @@ def read_mode(place: Place, version_place: Place, version: int) -> None:
     word_at(place, "a mode", modes_of(version), MODE_HABITS)
 
 
+def read_closing(place: Place) -> None:
+    if place.node.value != CLOSED:
+        raise place.wrong_shape(f"the seventh part of a rule is \"{CLOSED}\", or it is left out")
+
+
+# ---- conditions
+
+AN_ENTRY = "queries [name, class, predicate]"
+
+
 def read_condition(place: Place, scope: Scope) -> Scope:
-    """The queries of a condition; what is known after them."""
-    query_places = list_at(place, "the condition", "queries [name, class, predicate]")
-    if first_word(place.node) in EXPRESSIONS.words:
-        message = "a condition is a list of queries [name, class, predicate], and this is a text"
-        raise query_places[0].wrong_shape(message, "a test that needs no object is an `if` in the action")
-    for position, query_place in enumerate(up_to_bare(query_places)):
-        row = scope.gathered.go_on(lambda: read_query(query_place, place, scope))
-        if row is None:
-            scope.gathered.is_rule_doubtful = True
-            continue
-        scope = scope.with_row(row)
-        later = dict.fromkeys(names_of(query_places[position + 1:]), QUERY_COMES_LATER)
-        within, predicate = replace(scope, not_yet=later), query_place.item(2)
-        scope.gathered.go_on(lambda: read_predicate(predicate, within, row.name, f"the query `{row.name}`"))
+    """The entries of a condition; what is known after them."""
+    entries = list_at(place, "the condition", AN_ENTRY)
+    word = first_word(place.node)
+    if word in scope.forms.expressions.words:
+        message = f"a condition is a list of {AN_ENTRY}, and this is a text"
+        raise entries[0].wrong_shape(message, "a test that needs no object is an `if` in the action")
+    for position, entry in enumerate(up_to_bare(entries)):
+        within = replace(scope, not_yet=later_names(entries[position + 1:], scope.forms))
+        knowing = scope.gathered.go_on(lambda: read_entry(entry, place, within))
+        scope.gathered.is_rule_doubtful = scope.gathered.is_rule_doubtful or knowing is None
+        scope = scope if knowing is None else replace(knowing, not_yet=scope.not_yet)
     return scope
+
+
+def read_entry(entry: Place, entries: Place, scope: Scope) -> Scope:
+    """One entry; what is known after it."""
+    if first_word(entry.node) in scope.forms.entries.words:
+        word, parts = form_at(entry, scope.forms.entries)
+        if word == "let":
+            return read_let_entry(parts, scope)
+        read_over(parts, scope, "`no`")
+        return scope
+    row = read_query(entry, entries, scope)
+    scope = scope.with_row(row)
+    scope.gathered.go_on(lambda: read_predicate(entry.item(2), scope, row.name, f"the query `{row.name}`"))
+    return scope
+
+
+def read_let_entry(parts: list[Place], scope: Scope) -> Scope:
+    """A name, which is known after its aggregate."""
+    name = new_let_at(parts[0], scope)
+    within = replace(scope, not_yet={**scope.not_yet, name: LET_IS_KNOWN_AFTER_IT})
+    scope.gathered.go_on(lambda: read_aggregate(parts[1], within))
+    return scope.with_value(name, parts[0])
 
 
 def read_query(query_place: Place, queries: Place, scope: Scope) -> Row:
     """The row that a query finds; its predicate is read later."""
-    name_place, class_place, _ = shape_at(query_place, QUERY, outside=queries)
-    name = new_name_at(name_place, "a query's name", "a query", scope.row_places())
-    class_name = known_name_at(class_place, "a class's name", "class", scope.classes)
-    return Row(name, scope.classes[class_name], name_place, True)
+    name_place, class_place, _ = shape_at(query_place, QUERY, other_entry(query_place.node, scope.forms), queries)
+    noun = scope.noun_of(name_place.node.value, "a query")
+    name = new_name_at(name_place, "a query's name", noun, scope.taken())
+    return Row(name, read_class(class_place, scope), name_place, True)
+
+
+def other_entry(node: Node, forms: Forms) -> str:
+    """What helps where an entry that isn't of the script's version stands in a condition."""
+    return "`no` is of version 4" if first_word(node) == "no" and not forms.is_fourth else ""
 
 
 QUERY_COMES_LATER = "that query comes later: a predicate knows its own row and the queries before it"
+LET_COMES_LATER = "that `let` comes later: an entry knows the names before it"
 
 
-def names_of(query_places: list[Place]) -> list[str]:
-    """The names that later queries have, as far as they can be seen before these are read."""
-    return [name for name in (first_word(place.node) for place in query_places) if name is not None]
+def later_names(entries: list[Place], forms: Forms) -> dict[str, str]:
+    """The names that later entries have, as far as they can be seen before these are read, and why they aren't
+    known."""
+    found = {}
+    for place in entries:
+        word = first_word(place.node)
+        if word is not None and word not in forms.entries.words:
+            found[word] = QUERY_COMES_LATER
+        elif word == "let" and len(place.node.items) > 1 and isinstance(place.node.items[1].value, str):
+            found[place.node.items[1].value] = LET_COMES_LATER
+    return found
 
 
 # ---- items

@@ -8,9 +8,9 @@ from typing import Callable
 from ..language import MOST_LEVELS, RULE_OPERATIONS
 from ..values import kind_of
 from ..wording import listed
-from .expressions import read_expression, read_predicate
+from .expressions import new_row_at, read_aggregate, read_class, read_expression, read_predicate
 from .faults import Place
-from .forms import PAIR, STATEMENTS
+from .forms import PAIR
 from .parts import (
     Limit, did_you_mean, first_word, form_at, known_name_at, list_at, name_at, names_there, new_name_at,
     shape_at, short_list_at, up_to_bare,
@@ -23,7 +23,7 @@ ARGUMENTS = Limit("a signal", 32, "arguments", "args")
 def read_body(place: Place, scope: Scope, level: int = 1, what: str = "a body") -> None:
     """Reads the statements of a body, which are so deep, 1 for an outermost body."""
     statements = list_at(place, what, "statements")
-    if first_word(place.node) in STATEMENTS.words:
+    if first_word(place.node) in scope.forms.statements.words:
         raise statements[0].wrong_shape("a body is a list of statements, and this is a statement's word",
                                         "put the statement into a list of its own: [[word, ..]]")
     for statement in up_to_bare(statements):
@@ -31,7 +31,7 @@ def read_body(place: Place, scope: Scope, level: int = 1, what: str = "a body") 
 
 
 def read_statement(place: Place, scope: Scope, level: int) -> None:
-    word, parts = form_at(place, STATEMENTS)
+    word, parts = form_at(place, scope.forms.statements)
     if word == "veto" and not scope.has_occurrence:
         hint = 'a transaction\'s own body ends itself with ["abort"]'
         raise place.wrong_shape('["veto"] stands only in a rule\'s action', hint)
@@ -45,10 +45,6 @@ def read_statement(place: Place, scope: Scope, level: int) -> None:
 
 
 # ---- operations on objects
-
-
-def read_class(place: Place, scope: Scope) -> Class:
-    return scope.classes[known_name_at(place, "a class's name", "class", scope.classes)]
 
 
 def read_key(place: Place, scope: Scope) -> None:
@@ -127,6 +123,12 @@ def read_emit(parts: list[Place], scope: Scope, level: int) -> None:
     read_expression(parts[0], scope)
 
 
+def read_veto(parts: list[Place], scope: Scope, level: int) -> None:
+    """The message, if there is one."""
+    for message in parts:
+        read_expression(message, scope)
+
+
 def read_rule_operation(word: str, parts: list[Place], scope: Scope) -> None:
     rule = known_name_at(parts[0], "a rule's name", "rule", scope.rules)
     if word == "install":
@@ -141,11 +143,6 @@ def read_if(parts: list[Place], scope: Scope, level: int) -> None:
     go_on(lambda: read_expression(parts[0], scope))
     go_on(lambda: read_body(parts[1], scope, level + 1))
     read_body(parts[2], scope, level + 1)
-
-
-def new_row_at(place: Place, scope: Scope) -> str:
-    hint = "a variable's name is new among the rows that are known"
-    return new_name_at(place, "a variable's name", "a row", scope.row_places(), hint)
 
 
 def read_each(parts: list[Place], scope: Scope, level: int) -> None:
@@ -165,6 +162,22 @@ def read_with(parts: list[Place], scope: Scope, level: int) -> None:
     read_body(parts[3], scope.with_row(row), level + 1)
 
 
+def read_let(parts: list[Place], scope: Scope, level: int) -> None:
+    """The body knows the name, and the aggregate doesn't."""
+    name = new_let_at(parts[0], scope)
+    scope.gathered.go_on(lambda: read_aggregate(parts[1], replace(scope, not_yet={name: LET_IS_KNOWN_AFTER_IT})))
+    read_body(parts[2], scope.with_value(name, parts[0]), level + 1)
+
+
+def new_let_at(place: Place, scope: Scope) -> str:
+    hint = "the name of a `let` is new among the names that are known"
+    noun = scope.noun_of(place.node.value, "a row")
+    return new_name_at(place, "the name of a `let`", noun, scope.taken(), hint)
+
+
+LET_IS_KNOWN_AFTER_IT = "it names the value that this gives, and is known after it"
+
+
 def read_for(parts: list[Place], scope: Scope, level: int) -> None:
     """Goes over the answer of one of the rule's queries."""
     name, queries = name_at(parts[0], "a query's name"), scope.queries()
@@ -178,6 +191,8 @@ def read_for(parts: list[Place], scope: Scope, level: int) -> None:
 def for_what_else(name: str, queries: list[str], scope: Scope) -> str:
     if name in scope.rows:
         return f"`{name}` is a variable, which is one row; `for` goes over a query's answer"
+    if name in scope.values:
+        return f"`{name}` is a `let`, which is one value; `for` goes over a query's answer"
     if not scope.has_occurrence:
         return '`for` stands in a rule\'s action; here ["each", name, class, predicate, body] finds rows'
     return did_you_mean(name, queries) or (names_there("query", queries) if queries else "its condition has no queries")
@@ -190,5 +205,6 @@ def read_sub(parts: list[Place], scope: Scope, level: int) -> None:
 
 READERS: dict[str, Callable[[list[Place], Scope, int], None]] = {
     "create": read_create, "update": read_update, "delete": read_delete, "signal": read_signal, "emit": read_emit,
-    "if": read_if, "each": read_each, "for": read_for, "with": read_with, "sub": read_sub,
+    "if": read_if, "each": read_each, "for": read_for, "with": read_with, "let": read_let, "sub": read_sub,
+    "veto": read_veto,
 }
