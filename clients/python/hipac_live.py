@@ -593,10 +593,10 @@ def _snapshot(script: Mapping[str, Any], state: State, time: int) -> List[bytes]
     """
     creates = [["create", it.class_name, it.key, [list(pair) for pair in it.fields.items()]] for it in state.objects]
     known = [rule[0] for rule in script["rules"]]
-    statuses = [(name, state.rules.get(name, "absent")) for name in known]
-    rules = [["install", name] for name, status in statuses if status != "absent"]
-    rules += [["disable", name] for name, status in statuses if status == "disabled"]
-    items = [*_moves(script["rules"], time), *_transactions(creates), *_transactions(rules)]
+    # In this order, and in one transaction, the definitions of a snapshot restore the rules.
+    operations = {"absent": [], "enabled": ["install"], "disabled": ["install", "disable"]}
+    rules = [[word, name] for name in known for word in operations[state.rules.get(name, "absent")]]
+    items = [*_moves(script["rules"], time), *_transactions(creates), ["tx", rules]]
     whole = _line({**script, "items": [*items, *script["items"]]})
     if len(whole) <= _MOST_BYTES:
         return [whole]
