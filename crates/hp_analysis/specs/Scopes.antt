@@ -1,5 +1,5 @@
 -- What scopes stand for in the definitions; the checks of what stands in a scope.
-use Rattle.std.specs.Prelude.{ℕ, List, [], ◌∷◌, map, option_map, Option, None, Some}
+use Rattle.std.specs.Prelude.{ℕ, List, [], ◌∷◌, map, option_map, Option, None, Some, string_bytes}
 use Rattle.hp_model.specs.Values.{Name, Kind}
 use Rattle.hp_model.specs.Rules as R
 use Rattle.hp_model.specs.Expressions as E
@@ -36,7 +36,7 @@ abbrev pub rows_in : Rows → List (Name × ℕ)
 rows_in = fold-Rows (List (Name × ℕ)) rows_step
 
 abbrev pub named_sort : NamedSort → Name × K.Sort
-named_sort n = (n.name.now, sort n.sort)
+named_sort n = (string_bytes n.name, sort n.sort)
 
 -- sorts by name, in front of others
 abbrev pub sorts_after : List (Name × K.Sort) → List (Name × K.Sort) → List (Name × K.Sort)

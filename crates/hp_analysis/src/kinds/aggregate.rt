@@ -18,7 +18,11 @@ use hp_value::{Expr, Kind};
 use std::alloc::Global;
 
 /// Checks the predicate of a query, which stands at the place.
-pub(crate) fn check_test(scope: &Scope<'_>, place: &Place<'_>, asked: &Query) -> Result<(), KindError>
+pub(crate) fn check_test(
+    scope: &Scope<'_>,
+    place: &Place<'_>,
+    asked: &Query,
+) -> Result<(), KindError>
     ensures { Passes result (model.test_check (library scope.now) (declared scope.now) (scope_in scope.now)
         (steps place.now) (query asked.now)) }
 {

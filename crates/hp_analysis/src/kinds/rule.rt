@@ -40,7 +40,7 @@ impl<'a> Base<'a> {
         self,
         known: &'a Columns<'a>,
         entries: &'a [Entry],
-        found: &'a [NamedSort<'a>],
+        found: &'a [NamedSort],
     ) -> Scope<'a>
         ensures library { result.library ≡ self.entry.library }
         ensures declared { result.declared ≡ self.entry.declared }
@@ -62,14 +62,14 @@ impl<'a> Base<'a> {
 
 /// Checks a query, and gives no value.
 #[tactic(auto, unfolding(crate::specs::Findings::query_check))]
-fn check_query<'e>(
+fn check_query(
     scope: &Scope<'_>,
     place: &Place<'_>,
-    asked: &'e Query,
-) -> Result<Option<NamedSort<'e>>, KindError>
-    ensures { Gives (λ n. scope_after_entry (scope_in scope.now) (query_entry (query asked.entry.now)) n) result
+    asked: &Query,
+) -> Result<Option<NamedSort>, KindError>
+    ensures { Gives (λ n. scope_after_entry (scope_in scope.now) (query_entry (query asked.now)) n) result
         (model.query_check (library scope.now) (declared_in scope.now) (scope_in scope.now) (steps place.now)
-        (query asked.entry.now)) }
+        (query asked.now)) }
 {
     check_test(scope, &place.item(2), asked)?;
     Ok(None)
@@ -77,14 +77,14 @@ fn check_query<'e>(
 
 /// Checks a query that is to have no answer, and gives no value.
 #[tactic(auto, unfolding(crate::specs::Findings::no_check))]
-fn check_no<'e>(
+fn check_no(
     scope: &Scope<'_>,
     place: &Place<'_>,
-    asked: &'e Query,
-) -> Result<Option<NamedSort<'e>>, KindError>
-    ensures { Gives (λ n. scope_after_entry (scope_in scope.now) (no_entry (query asked.entry.now)) n) result
+    asked: &Query,
+) -> Result<Option<NamedSort>, KindError>
+    ensures { Gives (λ n. scope_after_entry (scope_in scope.now) (no_entry (query asked.now)) n) result
         (model.no_check (library scope.now) (declared_in scope.now) (scope_in scope.now) (steps place.now)
-        (query asked.entry.now)) }
+        (query asked.now)) }
 {
     check_test(scope, &place.item(3), asked)?;
     Ok(None)
@@ -92,30 +92,31 @@ fn check_no<'e>(
 
 /// Checks a value, and gives its sort.
 #[tactic(auto, unfolding(crate::specs::Findings::let_check))]
-fn check_let<'e>(
+fn check_let(
     scope: &Scope<'_>,
     place: &Place<'_>,
-    name: &'e str,
+    name: &str,
     computed: &Aggregate,
-) -> Result<Option<NamedSort<'e>>, KindError>
+) -> Result<Option<NamedSort>, KindError>
     ensures { Gives (λ n. scope_after_entry (scope_in scope.now)
-        (let_entry name.entry.now (aggregate computed.now)) n) result
+        (let_entry name.now (aggregate computed.now)) n) result
         (model.let_check (library scope.now) (declared_in scope.now) (scope_in scope.now) (steps place.now)
-        name.entry.now (aggregate computed.now)) }
+        name.now (aggregate computed.now)) }
 {
     let sort = aggregate_sort(scope, &place.item(2), computed)?;
+    let name = String::from_str(scope.alloc, name)?;
     Ok(Some(NamedSort { name, sort }))
 }
 
 /// Checks an entry of a rule's condition, and gives the sort of its value, if it has one.
-fn check_entry<'e>(
+fn check_entry(
     scope: &Scope<'_>,
     place: &Place<'_>,
-    checked: &'e Entry,
-) -> Result<Option<NamedSort<'e>>, KindError>
-    ensures { Gives (λ n. scope_after_entry (scope_in scope.now) (entry checked.entry.now) n) result
+    checked: &Entry,
+) -> Result<Option<NamedSort>, KindError>
+    ensures { Gives (λ n. scope_after_entry (scope_in scope.now) (entry checked.now) n) result
         (model.entry_check (library scope.now) (declared_in scope.now) (scope_in scope.now) (steps place.now)
-        (entry checked.entry.now)) }
+        (entry checked.now)) }
 {
     match checked {
         Entry::Query(asked) => check_query(scope, place, asked),
@@ -128,15 +129,15 @@ fn check_entry<'e>(
 }
 
 /// Checks the condition of a rule, and gives the sorts of its values.
-fn check_condition<'e>(
+fn check_condition(
     base: Base<'_>,
     known: &Columns<'_>,
     place: &Place<'_>,
-    entries: &'e [Entry],
-) -> Result<Vec<NamedSort<'e>>, KindError>
-    ensures { Gives (λ ns. scope_there (columns known.now) (map entry entries.entry.now) ns.items) result
+    entries: &[Entry],
+) -> Result<Vec<NamedSort>, KindError>
+    ensures { Gives (λ ns. scope_there (columns known.now) (map entry entries.now) ns.items) result
         (model.entries_check (libraries.library base.entry.library.now) (declared base.entry.declared.now)
-        (steps place.now) (model.first_scope (columns known.now)) 0 (map entry entries.entry.now)) }
+        (steps place.now) (model.first_scope (columns known.now)) 0 (map entry entries.now)) }
 {
     let mut found = Vec::new(base.alloc);
     for (i, entry) in entries.iter().enumerate() {

@@ -8,9 +8,9 @@ ghost use Rattle.hp_analysis.specs.Scopes.{named_sort, sorts_after, sorts_in};
 use crate::kinds::sort::Sort;
 
 /// The sort of a value that has a name.
-#[derive(Clone, Copy)]
-pub(crate) struct NamedSort<'a> {
-    pub name: &'a str,
+#[derive(Debug, Drop)]
+pub(crate) struct NamedSort {
+    pub name: String,
     pub sort: Sort,
 }
 
@@ -18,18 +18,18 @@ pub(crate) struct NamedSort<'a> {
 #[derive(Clone, Copy)]
 pub(crate) enum Sorts<'a> {
     /// The values of a condition, in its order. A later one of the same name hides an earlier one.
-    Found(&'a [NamedSort<'a>]),
+    Found(&'a [NamedSort]),
     /// One more name, inside others.
     Bound(&'a str, Sort, &'a Sorts<'a>),
 }
 
 /// The sort of the last value of this name.
-fn last_sort(found: &[NamedSort<'_>], name: &str) -> Option<Sort>
+fn last_sort(found: &[NamedSort], name: &str) -> Option<Sort>
     ensures { option_map sort result ≡ lookup (bytes_eq name.now) (sorts_after [] (map named_sort found.now)) }
 {
     let mut last = None;
     for named in found {
-        if name == named.name {
+        if name == named.name.as_str() {
             last = Some(named.sort);
         }
     }

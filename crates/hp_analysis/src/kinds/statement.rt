@@ -235,11 +235,7 @@ fn check_emission(scope: &Scope<'_>, place: &Place<'_>, emitted: &Expr) -> Resul
 
 /// Checks that an aggregate has a sort.
 #[tactic(auto, unfolding(crate::specs::Findings::value_check))]
-fn check_value(
-    scope: &Scope<'_>,
-    place: &Place<'_>,
-    computed: &Aggregate,
-) -> Result<(), KindError>
+fn check_value(scope: &Scope<'_>, place: &Place<'_>, computed: &Aggregate) -> Result<(), KindError>
     ensures { Passes result (model.value_check (library scope.now) (declared scope.now) (scope_in scope.now)
         (steps place.now) (aggregate computed.now)) }
 {
@@ -249,11 +245,7 @@ fn check_value(
 
 /// The sort of an aggregate's value in its statement's body; any sort if the aggregate is refused.
 #[tactic(auto, using(crate::proofs::Judging::aggregate_given))]
-fn held_sort(
-    scope: &Scope<'_>,
-    place: &Place<'_>,
-    computed: &Aggregate,
-) -> Result<Sort, AllocError>
+fn held_sort(scope: &Scope<'_>, place: &Place<'_>, computed: &Aggregate) -> Result<Sort, AllocError>
     ensures { IfOk result (λ s. sort s ≡ unwrap_or
         (kinds.aggregate_sort (library scope.now) (declared scope.now) (scope_in scope.now) (aggregate computed.now))
         kinds.any) }
