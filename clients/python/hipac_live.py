@@ -140,17 +140,21 @@ class SnapshotFault(HipacError):
 
 @dataclass(frozen=True)
 class Ending:
-    """How a transaction ended: committed, or aborted with a cause A1 to A9. A9 is a veto, and has its rule."""
+    """How a transaction ended: committed, or aborted with a cause A1 to A9. A9 is a veto, and has its rule; in version
+    4 it may have a message."""
 
     cause: Optional[str] = None
     rule: Optional[str] = None
+    message: Optional[Value] = None
 
     @property
     def committed(self) -> bool:
         return self.cause is None
 
     def __str__(self) -> str:
-        return "committed" if self.cause is None else " ".join(filter(None, ("aborted", self.cause, self.rule)))
+        message = None if self.message is None else json.dumps(self.message, ensure_ascii=False)
+        words = ("aborted", self.cause, self.rule, message)
+        return "committed" if self.cause is None else " ".join(filter(None, words))
 
 
 @dataclass
@@ -229,6 +233,11 @@ class _Ended:
     def cause(self) -> Optional[str]:
         """A1 to A9, or None where it is committed."""
         return self.ending.cause
+
+    @property
+    def message(self) -> Optional[Value]:
+        """The message of the veto that aborted it, or None."""
+        return self.ending.message
 
 
 @dataclass
@@ -318,7 +327,7 @@ _NUMBER = r"(?:0|-?[1-9][0-9]*)"
 _TEXT = r'"(?:[^"\\\x00-\x1f]|\\["\\bfnrt]|\\u00[01][0-9a-f])*"'
 _VALUE = rf"(?:{_NUMBER}|true|false|{_TEXT})"
 _ROW = rf"(?: {_NAME}={_VALUE})*"
-_CAUSE = rf"(?:A[1-8]|A9 {_NAME})"
+_CAUSE = rf"(?:A[1-8]|A9 {_NAME}(?: {_VALUE})?)"
 _END = rf"(?:committed|aborted {_CAUSE})"
 _MODE = "(?:immediate|deferred|separate|dependent|exclusive)"
 _LIMIT = "(?:size|classes|fields|rules|expr|event|nesting|text|depth|args|moments)"
@@ -354,8 +363,10 @@ def _fields(text: str) -> Dict[str, Value]:
 
 def _ending(text: str) -> Ending:
     """`committed`, or the cause with or without `aborted` before it."""
-    words = text.split(" ")
-    return Ending() if words == ["committed"] else Ending(*(words[1:] if words[0] == "aborted" else words))
+    if text == "committed":
+        return Ending()
+    cause, *rule = text.removeprefix("aborted ").split(" ", 2)
+    return Ending(cause, *rule[:1], *map(_value, rule[1:]))
 
 
 def _fire(*parts: Optional[str]) -> Fire:

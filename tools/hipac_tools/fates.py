@@ -16,7 +16,8 @@ WORDS = {
     DROPPED: "was dropped", PUT_OFF: "put its action off",
 }
 """What a task comes to: its action committed, committed and was undone later, vetoed, or aborted; the condition or the
-action did nothing; it never ran. A closed rule vetoes by failing, too. An action that is put off counts by what the task that it becomes comes to."""
+action did nothing; it never ran. A closed rule vetoes by failing, too. An action that is put off counts by what the
+task that it becomes comes to."""
 
 
 @dataclass

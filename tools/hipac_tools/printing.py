@@ -247,7 +247,8 @@ def aggregate_text(aggregate: Form, one_part: bool = False) -> str:
     """What a `let` gives a name: an aggregate, or an expression."""
     over = language.over(aggregate)
     if over is None:
-        return f"the next key of {aggregate[1]}" if language.is_next(aggregate) else expression_text(aggregate, one_part)
+        is_next = language.is_next(aggregate)
+        return f"the next key of {aggregate[1]}" if is_next else expression_text(aggregate, one_part)
     where = "" if over.predicate is True else f" that has {expression_text(over.predicate, one_part)}"
     if over.term is None:
         return f"the number of each {over.class_name} {over.name}{where}"

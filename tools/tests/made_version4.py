@@ -1,5 +1,5 @@
-"""Random scripts of version 4 from a seed: all forms, faults of each cause, closed rules inside each other, and siblings
-that write what aggregates read."""
+"""Random scripts of version 4 from a seed: all forms, faults of each cause, closed rules inside each other, and
+siblings that write what aggregates read."""
 
 from .made_scripts import CLASSES, NUMBERS, ScriptMaker
 
@@ -68,8 +68,12 @@ class Version4Maker(ScriptMaker):
             return self.random.choice([self.number(known, 0), self.test(known), self.text(), ["count"]])
         row = name if self.chance(0.2) else self.name("x", known)
         inner = {**known, row: of}
-        over = [word, row, of, self.pick(True, True, self.predicate(inner))]
+        over = [word, row, of, self.looking(inner)]
         return over if word == "count" else over + [self.term(inner, row, of)]
+
+    def looking(self, known):
+        """The predicate of an aggregate."""
+        return self.pick(True, True, self.predicate(known))
 
     def term(self, known, row, of):
         """What is summed up or compared: mostly a field of the row or its key."""

@@ -100,7 +100,8 @@ class RandomScripts:
     def expression(self, depth: int) -> Any:
         binary = ("+", "-", "*", "/", "%", "and", "or", "=", "!=", "<", "<=", ">", ">=")
         word = self.random.choice(("literal", "of", "key", "new", "old", "id", "arg", "time", "count")
-                                  + ("value", "now") * (self.version == 4) + (binary + ("neg", "not") * 3) * (depth > 0))
+                                  + ("value", "now") * (self.version == 4)
+                                  + (binary + ("neg", "not") * 3) * (depth > 0))
         place = self.random.choice((0, 0, 1, 65535))
         if word == "literal":
             return self.random.choice((0, 1, -1, 2 ** 63 - 1, -2 ** 63, True, False) + CONFUSING_TEXTS)
@@ -108,7 +109,8 @@ class RandomScripts:
             return [word, self.expression(depth - 1), self.expression(depth - 1)]
         return {"of": [word, self.name(), self.name()], "key": [word, self.name()], "new": [word, place, self.name()],
                 "old": [word, place, self.name()], "arg": [word, place, self.random.randrange(3)], "count": [word],
-                "id": [word, place], "time": [word, place], "value": [word, self.name()], "now": [word]}.get(word) or [word, self.expression(depth - 1)]
+                "id": [word, place], "time": [word, place], "value": [word, self.name()],
+                "now": [word]}.get(word) or [word, self.expression(depth - 1)]
 
     def body(self, depth: int) -> list:
         return self.some(lambda: self.statement(depth))

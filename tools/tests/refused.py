@@ -198,7 +198,8 @@ CASES = [
     Case(
         "no members", "S2 /",
         '«{}»',
-        "the member `version` is missing, and so are `classes`, `rules` and `items`", '"version" is the number 1, 2 or 4'),
+        "the member `version` is missing, and so are `classes`, `rules` and `items`",
+        '"version" is the number 1, 2 or 4'),
     Case(
         "a version alone", "S2 /",
         '«{"version": 3}»',

@@ -7,7 +7,7 @@ import subprocess
 import sys
 import unittest
 
-from hipac_live import AnswerFault, PROGRAM, Refused, _Reader
+from hipac_live import AnswerFault, Ending, PROGRAM, Refused, _Reader
 
 from .making import REPOSITORY
 from .reading_back import lines_of
@@ -96,6 +96,25 @@ class RefusingTest(unittest.TestCase):
     def test_trees_that_nobody_asked_for(self):
         with self.assertRaises(AnswerFault):
             self.take("unit 1 committed", "  emit 1", trees=False)
+
+    def test_messages_of_vetoes(self):
+        for text, message in (('"full"', "full"), ('"a \\"b\\" none"', 'a "b" none'), ("-7", -7), ("true", True),
+                              ('""', "")):
+            with self.subTest(text):
+                end = f"aborted A9 r {text}"
+                lines = [f"unit 1 {end}", f"  fire r immediate satisfied {end}", f"    sub {end}",
+                         f"  act r deferred {end}", f"separate r {end}", "ok 1"]
+                answer = self.take(*lines)
+                unit = answer.units[0]
+                self.assertEqual((unit.cause, unit.ending.rule, unit.message), ("A9", "r", message))
+                self.assertEqual(unit.tree[0].items[0].ending, Ending("A9", "r", message))
+                self.assertEqual(list(lines_of(answer)), lines)
+        self.assertIsNone(self.take("unit 1 aborted A9 r", "ok 1").units[0].message)
+
+    def test_messages_that_are_none(self):
+        for message in ("full", "01", "null", "1 2", '"a" ', '"a', "None", "x=1"):
+            self.refuse(f"unit 1 aborted A9 r {message}")
+        self.refuse('unit 1 aborted A8 "full"')
 
     def test_answers_as_they_are_written(self):
         self.assertEqual(self.take("ok 4", count=4).count, 4)

@@ -10,7 +10,9 @@ from __future__ import annotations
 from dataclasses import dataclass, field, replace
 from typing import Iterable, Mapping, Optional
 
-from ..language import GREATEST, LEAST, RULE_OPERATIONS, Form, has_one_part, is_next, is_single, over, shapes, statements
+from ..language import (
+    GREATEST, LEAST, RULE_OPERATIONS, Form, has_one_part, is_next, is_single, over, shapes, statements,
+)
 from ..printing import aggregate_text
 from ..wording import counted
 from .faults import Place
