@@ -11,8 +11,13 @@ const CLASS: &str = r#"["item", [["stock", "int"], ["name", "text"]]]"#;
 
 /// A script of one class, `item`, with these rules and these items.
 pub fn script(alloc: Global, rules: &str, items: &str) -> Result<Script, Fail> {
+    script_of(alloc, 1, rules, items)
+}
+
+/// The same in a version of the language.
+pub fn script_of(alloc: Global, version: u8, rules: &str, items: &str) -> Result<Script, Fail> {
     let text = format!(in alloc;
-        r#"{{"version": 1, "classes": [{CLASS}], "rules": [{rules}], "items": [{items}]}}"#
+        r#"{{"version": {version}, "classes": [{CLASS}], "rules": [{rules}], "items": [{items}]}}"#
     )?;
     match decode(alloc, text.as_str().as_bytes()) {
         Ok(script) => Ok(script),

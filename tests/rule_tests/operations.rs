@@ -137,7 +137,7 @@ fn signalled(
         name: text(alloc, name)?,
         args: Vec::new(alloc),
     };
-    trigger(alloc, view, lib, &prim, depth)
+    trigger(alloc, view, lib, &prim, depth, 0)
 }
 
 // How many tasks a signal triggers.
@@ -175,7 +175,7 @@ fn fired(
     rule: RuleNo,
     depth: u8,
 ) -> Result<Facts, Halt> {
-    let task = fire(alloc, view, lib, rule, depth)?;
+    let task = fire(alloc, view, lib, rule, depth, 0)?;
     Ok(facts(&task))
 }
 

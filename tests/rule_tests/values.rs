@@ -41,11 +41,7 @@ fn let_entry(alloc: Global, name: &str, aggregate: Aggregate) -> Result<Entry, A
 }
 
 // The library of a rule with this condition and this action.
-fn library(
-    alloc: Global,
-    condition: Vec<Entry>,
-    action: Vec<Stmt>,
-) -> Result<Library, CheckError> {
+fn library(alloc: Global, condition: Vec<Entry>, action: Vec<Stmt>) -> Result<Library, CheckError> {
     let mut only: Rule = rule(alloc, "r", EventExpr::One(Pattern::Commit))?;
     only.condition = condition;
     only.action = action;

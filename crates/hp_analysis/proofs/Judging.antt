@@ -340,13 +340,14 @@ module _ (library : Library) (d : Declared) (scope : Scope) (path : Path) (x : N
   unfolding extreme_check
   extreme_given term =
       by (kind_check library d inside boolean_kind (item_at path 3) predicate) tests predicate_judged
+      (expression_check library d inside (item_at path 4) term >>= λ s. is_ordered (item_at path 4) s >>= λ _. Ok s) (K.ordered (sort_of library d inside term))
       (ordered_term (expression_check library d inside (item_at path 4) term) ∙ ap K.ordered (sort_given library d inside (item_at path 4) term))
     where
-      by : (r : Judged ⊤) (b : Bool) → passes r ≡ b → {later : Judged Sort} {o : Option Sort} → value_in later ≡ o → value_in (r >>= λ _. later) ≡ (if b then o else None)
-      by (Ok u) true e is = is
-      by (Err f) false e is = refl
-      by (Ok u) false e is = cc
-      by (Err f) true e is = cc
+      by : (r : Judged ⊤) (b : Bool) → passes r ≡ b → (later : Judged Sort) (o : Option Sort) → value_in later ≡ o → value_in (r >>= λ _. later) ≡ (if b then o else None)
+      by (Ok u) true e later o is = is
+      by (Err f) false e later o is = refl
+      by (Ok u) false e later o is = cc
+      by (Err f) true e later o is = cc
 
 pub aggregate_given : (library : Library) (d : Declared) (scope : Scope) (path : Path) (a : Aggregate) → value_in (aggregate_check library d scope path a) ≡ aggregate_sort library d scope a
 aggregate_given library d scope path (count_over x class predicate) = count_of_given library d scope path x class predicate

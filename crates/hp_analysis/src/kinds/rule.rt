@@ -2,6 +2,7 @@
 
 ghost use Rattle.std.specs.Prelude.{◌≡◌, map};
 ghost use Rattle.hp_query.specs.Mapped.{query, aggregate, entry};
+ghost use Rattle.hp_model.specs.Kinds.{query_classes};
 ghost use Rattle.hp_model.specs.Rules.{query_entry, no_entry, let_entry};
 ghost use Rattle.hp_rule.specs.Statements.{rule};
 ghost use Rattle.hp_rule.specs.Places.{steps};
@@ -128,6 +129,24 @@ fn check_entry(
     }
 }
 
+/// Checks the entry of a rule's condition after these entries, with the sorts of their values.
+fn check_next(
+    base: Base<'_>,
+    known: &Columns<'_>,
+    before: &[Entry],
+    found: &[NamedSort],
+    place: &Place<'_>,
+    next: &Entry,
+) -> Result<Option<NamedSort>, KindError>
+    ensures { let there = scope_there (columns known.now) (map entry before.now) found.now in
+        Gives (λ n. scope_after_entry there (entry next.now) n) result
+        (model.entry_check (libraries.library base.entry.library.now) (declared base.entry.declared.now) there
+        (steps place.now) (entry next.now)) }
+{
+    let scope = base.asked(known, before, found);
+    check_entry(&scope, place, next)
+}
+
 /// Checks the condition of a rule, and gives the sorts of its values.
 fn check_condition(
     base: Base<'_>,
@@ -141,15 +160,29 @@ fn check_condition(
 {
     let mut found = Vec::new(base.alloc);
     for (i, entry) in entries.iter().enumerate() {
-        let named = {
-            let scope = base.asked(known, &entries[..i], &found);
-            check_entry(&scope, &place.item(i), entry)?
-        };
-        if let Some(named) = named {
+        let here = place.item(i);
+        if let Some(named) = check_next(base, known, &entries[..i], &found, &here, entry)? {
             found.push(named)?;
         }
     }
     Ok(found)
+}
+
+/// Checks the action of a rule, with the sorts of its condition's values.
+fn check_action(
+    base: Base<'_>,
+    known: &Columns<'_>,
+    found: &[NamedSort],
+    place: &Place<'_>,
+    whole: &Rule,
+) -> Result<(), KindError>
+    ensures { let acting = rule whole.now in
+        Passes result (model.body_check (libraries.library base.entry.library.now)
+        (declared base.entry.declared.now) (scope_there (columns known.now) acting.condition found.now)
+        (query_classes acting.condition) (steps place.now) 0 acting.action) }
+{
+    let scope = base.asked(known, &whole.condition, found);
+    check_body(&whole.action, &scope, place)
 }
 
 /// Checks the condition and the action of a rule.
@@ -164,8 +197,7 @@ fn check_parts(
         (declared base.entry.declared.now) (columns known.now) (steps place.now) (rule whole.now)) }
 {
     let found = check_condition(base, known, &place.item(3), &whole.condition)?;
-    let scope = base.asked(known, &whole.condition, &found);
-    check_body(&whole.action, &scope, &place.item(5))
+    check_action(base, known, &found, &place.item(5), whole)
 }
 
 /// Checks a rule, which statements may fire or not.
