@@ -224,7 +224,7 @@ entry_sync = search (query_sync, aggregate_sync, expression_parts) depth 12
 ruleset statement_parts = (expr_sync, assignment_sync, aggregate_sync, expression_parts)
 
 pub stmt_sync : IsSync Stmt.the_field.row
-stmt_sync = stmt.sync-Stmt (search statement_parts depth 12) (search statement_parts depth 12) (search statement_parts depth 12) (search statement_parts depth 12) (search statement_parts depth 12) heap.Vec-sync (search statement_parts depth 12)
+stmt_sync = stmt.sync-Stmt (search statement_parts depth 12) (search statement_parts depth 12) (search statement_parts depth 12) (search statement_parts depth 12) (search statement_parts depth 12) heap.Vec-sync (search statement_parts depth 12) (search statement_parts depth 12) (search statement_parts depth 12)
 
 rule_sync : IsSync Rule.the_field.row
 rule_sync = search (event_send, event_sync, entry_sync, stmt_sync, expression_parts) depth 30 fits 20000
