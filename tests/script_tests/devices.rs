@@ -96,13 +96,26 @@ fn a_failed_read_is_the_fault(rt: HostRuntime) -> Result<(), Fail> {
 }
 
 #[test]
-fn a_piece_may_be_empty(rt: HostRuntime) -> Result<(), Fail> {
+fn nothing_is_written_by_no_call(rt: HostRuntime) -> Result<(), Fail> {
     let mut writer = writer(rt.alloc());
-    assert_eq!(rt; Sink::write(&mut writer, b"")?, 0);
-    assert!(rt; !Sink::failed(&writer));
-    let mut writer = self::writer(rt.alloc());
     write_text(&mut writer, b"")?;
+    assert!(rt; !Sink::failed(&writer));
     assert_eq!(rt; writer.into_inner().calls, 0);
+    Ok(())
+}
+
+#[test]
+fn a_source_is_not_read_after_its_end(rt: HostRuntime) -> Result<(), Fail> {
+    let mut reader = reader(b"abcde", 0);
+    let input = read_up_to(rt.alloc(), &mut reader, 5)?;
+    assert_eq!(rt; input.as_slice(), b"abcde");
+    assert!(rt; !Source::ended(&reader));
+    let rest = read_up_to(rt.alloc(), &mut reader, 5)?;
+    assert!(rt; rest.is_empty() && Source::ended(&reader));
+    let none = read_up_to(rt.alloc(), &mut reader, 5)?;
+    assert!(rt; none.is_empty());
+    // Five reads of a byte, and one that finds the end.
+    assert_eq!(rt; reader.into_inner().calls, 6);
     Ok(())
 }
 

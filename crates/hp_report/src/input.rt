@@ -30,8 +30,8 @@ impl From<AllocError> for ReadFault {
 
 /// Reads the bytes of a device up to its end, or the first `limit` of them.
 ///
-/// It never takes more than `limit` bytes from the device, and stops at the first read that fails. A read can fail only
-/// while fewer than `limit` bytes have been read. After a fault the bytes that were read are lost.
+/// It never takes more than `limit` bytes from the device, and stops at the first read that fails or finds the end. A
+/// read can fail only while fewer than `limit` bytes have been read. After a fault the bytes that were read are lost.
 pub fn read_up_to<R: Source>(
     alloc: Global,
     reader: &mut R,
@@ -49,10 +49,9 @@ pub fn read_up_to<R: Source>(
 {
     let mut input = Vec::new(alloc);
     let mut buf = [0u8; 4096];
-    while input.len() < limit {
+    while input.len() < limit && !reader.ended() {
         let room = (limit - input.len()).min(buf.len());
         match reader.read(&mut buf[..room]) {
-            Ok(0) => return Ok(input),
             Ok(count) => input.extend_from_slice(&buf[..count])?,
             Err(_) => return Err(ReadFault::Read),
         }
