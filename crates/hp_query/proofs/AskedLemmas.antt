@@ -1,5 +1,5 @@
 -- Predicates that begin by asking for a part of a class, and their answers.
-use Rattle.std.proofs.Common.{◌≡◌, refl, sym, ap, ap₂, ◌∙◌, ℕ, ℤ, Bool, true, false, not, ◌&&◌, List, [], ◌∷◌, Ok, Err, if◌then◌else◌, int_eq, int_lt, arith}
+use Rattle.std.proofs.Common.{◌≡◌, refl, sym, ap, ap₂, ◌∙◌, ℕ, ℤ, Bool, true, false, not, ◌&&◌, List, Ok, Err, if◌then◌else◌, int_eq, int_lt, arith}
 use Rattle.std.specs.Prelude.{bytes_eq}
 use Rattle.std.specs.declared.cmp.Ordering.{Ordering}
 use Rattle.std.specs.declared.cmp.Ordering.TheVariants.{Less, Equal, Greater}
@@ -11,12 +11,9 @@ use Rattle.std.proofs.lemmas.Map.Text.{is_eq-slice_cmp}
 use lib.Pointwise.{bytes_decides}
 use Rattle.hp_model.specs.Values.{Name, Value, integer, boolean, text, KeyedRow, Outcome, ◌>>=◌}
 use Rattle.hp_model.specs.Expressions.{Expression, Comparison, equal, unequal, less, at_most, greater, at_least, both, compared, Environment, bound, as_boolean, field_in, is_equal, is_below, compare, value_of}
-use Rattle.hp_model.specs.ClassParts.{Attribute, key_attribute, field_attribute, attribute_of, ClassPart, lies_within, belongs, picked}
-use Rattle.hp_model.specs.Conditions.{selected, answer}
-use Rattle.hp_model.specs.State.{Objects, rows_of}
-use Rattle.hp_query.specs.Parts.{IsFalseOutside, AsksForPart, expression_of, turned, low_bound, high_bound}
+use Rattle.hp_model.specs.ClassParts.{Attribute, key_attribute, field_attribute, attribute_of, lies_within}
+use Rattle.hp_query.specs.Parts.{AsksForPart, expression_of, turned, low_bound, high_bound}
 use Rattle.hp_query.proofs.ByKeyLemmas.{value_stays, no_more, own_row}
-use Rattle.hp_query.proofs.SelectLemmas.{selected-cons, bind_ok}
 
 -- ---- two values that are in order aren't in the other order, and aren't equal
 
@@ -159,28 +156,3 @@ asks_through_both x first second a op wanted asked = record {
     outside = λ r isnt. no_more (value_of (bound x r env) first) (value_of (bound x r env) second) ((asked.asks env c v free is).outside r isnt);
   };
 }
-
--- ---- answers
-
-module _ (env : Environment) (x : Name) (predicate : Expression) (p : ClassPart) (false_outside : IsFalseOutside env x predicate p) where
-  -- the part alone is tested, where for each object it is known whether it belongs to the part
-  pub of_part : (rows objects : List KeyedRow) → picked p rows ≡ Ok objects → selected env x predicate rows ≡ selected env x predicate objects
-  of_part [] objects is = let same : [] ≡ objects = cc in ap (selected env x predicate) same
-  of_part (r ∷ rs) objects is = by (belongs p r) (picked p rs) refl refl (λ rows later. of_part rs rows later) is
-    where
-      by : (o : Outcome Bool) (rest : Outcome (List KeyedRow)) → belongs p r ≡ o → picked p rs ≡ rest → ((rows : List KeyedRow) → picked p rs ≡ Ok rows → selected env x predicate rs ≡ selected env x predicate rows)
-          → (o >>= λ keep. rest >>= λ rows. Ok (if keep then r ∷ rows else rows)) ≡ Ok objects → selected env x predicate (r ∷ rs) ≡ selected env x predicate objects
-      by (Err c) rest here later others all = cc
-      by (Ok keep) (Err c) here later others all = cc
-      by (Ok true) (Ok rows) here later others all =
-          let same : r ∷ rows ≡ objects = cc in
-          ap (λ (o : Outcome (List KeyedRow)). value_of (bound x r env) predicate >>= λ v. as_boolean v >>= λ keep. o >>= λ qs. Ok (if keep then r ∷ qs else qs)) (others rows later)
-          ∙ ap (selected env x predicate) same
-      by (Ok false) (Ok rows) here later others all =
-          let same : rows ≡ objects = cc in
-          selected-cons env x predicate r rs (Ok false) (false_outside.outside r here) ∙ bind_ok (selected env x predicate rs) ∙ others rows later ∙ ap (selected env x predicate) same
-
--- the answer of a query, from the part that its predicate asks for
-pub answered_by_part : (env : Environment) (x : Name) (predicate : Expression) (p : ClassPart) (class : ℕ) (world : Objects) (objects : List KeyedRow) → IsFalseOutside env x predicate p → picked p (rows_of class world) ≡ Ok objects
-    → selected env x predicate objects ≡ answer env x class predicate world
-answered_by_part env x predicate p class world objects outside is = sym (of_part env x predicate p outside (rows_of class world) objects is)

@@ -1,18 +1,14 @@
 -- Predicates that begin by asking for one key, and their answers.
-use Rattle.std.proofs.Common.{◌≡◌, refl, sym, ap, ap₂, ◌∙◌, ℕ, ℤ, Bool, true, false, cond, List, [], ◌∷◌, filter, Option, Some, None, Ok, Err, if◌then◌else◌, int_eq}
+use Rattle.std.proofs.Common.{◌≡◌, refl, sym, ap, ap₂, ◌∙◌, ℕ, pos, Bool, true, false, cond, List, [], ◌∷◌, filter, Some, Ok, Err, if◌then◌else◌}
 use Rattle.std.specs.Prelude.{bytes_eq, neg_ℤ, not}
 use Rattle.std.specs.Map.{lookup}
 use Rattle.std.proofs.lemmas.Cmp.{int_eq_equiv}
 use lib.Pointwise.{bytes_decides}
 use Rattle.hp_model.specs.Values.{Name, Value, integer, boolean, text, KeyedRow, wrong_kind, Cause, Outcome, ◌>>=◌, or_cause}
-use Rattle.hp_model.specs.Occurrences.{Occurrence}
-use Rattle.hp_model.specs.Expressions.{Expression, constant, arithmetic, negated, inverted, both, either, compared, equal, field_of, key_of, new_field, old_field, key_in, argument, time_of, occurrence_count, Environment, bound, as_integer, as_boolean, in_range, calculate, compare, part_of, row_named, field_in, new_row, old_row, operation_key, argument_of, moment_of, count_in, value_of}
+use Rattle.hp_model.specs.Expressions.{Expression, constant, arithmetic, negated, inverted, both, either, compared, equal, field_of, key_of, new_field, old_field, key_in, argument, time_of, occurrence_count, value_named, time_now, Environment, bound, as_integer, as_boolean, in_range, calculate, compare, part_of, row_named, field_in, new_row, old_row, operation_key, argument_of, moment_of, count_in, value_at, value_of}
 use Rattle.hp_model.specs.Firing.{boolean_value}
-use Rattle.hp_model.specs.Conditions.{selected, answer}
-use Rattle.hp_model.specs.State.{Objects, find_object, rows_of}
-use Rattle.hp_query.specs.ByKey.{IsFalseElsewhere, AsksFor}
-use Rattle.hp_query.specs.Looks.{ObjectsRise}
-use Rattle.hp_query.proofs.RowLemmas.{with_key, one_row}
+use Rattle.hp_model.specs.Conditions.{selected}
+use Rattle.hp_query.specs.ByKey.{AsksFor}
 use Rattle.hp_query.proofs.SelectLemmas.{selected-cons, bind_ok}
 
 -- ---- what stays when one more row is bound
@@ -36,11 +32,6 @@ otherwise : (t b : Bool) (o p : Outcome Value) → Stays o p → Stays (if t the
 otherwise true b o p h = stays (Ok (boolean b))
 otherwise false b o p h = h
 
--- the parts of an occurrence don't depend on the rows
-same_part : (o : Option Occurrence) (rows more : List (Name × KeyedRow)) (i : ℕ) → part_of (record { occurrence = o; rows = rows }) i ≡ part_of (record { occurrence = o; rows = more }) i
-same_part None rows more i = refl
-same_part (Some o) rows more i = refl
-
 -- under a name that has no meaning yet
 module _ (env : Environment) (x : Name) (r : KeyedRow) (c : Cause) (free : row_named env x ≡ Err c) where
   named_stays : (y : Name) → Stays (row_named env y) (row_named (bound x r env) y)
@@ -54,7 +45,7 @@ module _ (env : Environment) (x : Name) (r : KeyedRow) (c : Cause) (free : row_n
       by false other = stays (row_named env y)
 
   part_stays : (i : ℕ) → Stays (part_of env i) (part_of (bound x r env) i)
-  part_stays i = record { so = λ p e. sym (same_part env.occurrence env.rows ((x, r) ∷ env.rows) i) ∙ e }
+  part_stays i = stays (part_of env i)
 
   -- an expression that has a value keeps it
   pub value_stays : (e : Expression) → Stays (value_of env e) (value_of (bound x r env) e)
@@ -83,6 +74,8 @@ module _ (env : Environment) (x : Name) (r : KeyedRow) (c : Cause) (free : row_n
   value_stays (argument i j) = stays_then (part_stays i) λ p. stays (argument_of p j)
   value_stays (time_of i) = stays_then (part_stays i) λ p. stays (moment_of p)
   value_stays occurrence_count = stays (count_in env.occurrence)
+  value_stays (value_named y) = stays (value_at env y)
+  value_stays time_now = stays (in_range (pos env.now))
 
 -- ---- which predicates ask for a key
 
@@ -143,8 +136,3 @@ module _ (env : Environment) (x : Name) (predicate : Expression) (hit : KeyedRow
           ap (λ (o : Outcome (List KeyedRow)). value_of (bound x r env) predicate >>= λ v. as_boolean v >>= λ keep. o >>= λ rows. Ok (if keep then r ∷ rows else rows)) same
       by false other same =
           selected-cons env x predicate r rs (Ok false) (false_elsewhere r other) ∙ bind_ok (selected env x predicate rs) ∙ same
-
-pub answered_by_key : (env : Environment) (x : Name) (predicate : Expression) (key : ℤ) (class : ℕ) (world : Objects) → IsFalseElsewhere env x predicate key → ObjectsRise world
-    → selected env x predicate (with_key key (find_object world class key)) ≡ answer env x class predicate world
-answered_by_key env x predicate key class world elsewhere rise =
-    sym (of_hits env x predicate (λ (r : KeyedRow). int_eq r.key key) elsewhere.elsewhere (rows_of class world) ∙ ap (selected env x predicate) (one_row class key world rise))

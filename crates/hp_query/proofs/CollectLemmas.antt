@@ -2,9 +2,9 @@
 use Rattle.std.proofs.Common.{suc, ◌+◌, ◌<◌, length, get_or, drop, pos, add-one, subst, ◌≡◌, ℕ, ℤ, List, [], ◌∷◌, ◌++◌, Some, None, refl, sym, ap, ◌∙◌, append_assoc, append-nil}
 use Rattle.std.proofs.Math.Seq.{drop-cons}
 use Rattle.hp_model.specs.Values.{Row, KeyedRow}
-use Rattle.hp_model.specs.State.{Objects, find_object, rows_of}
+use Rattle.hp_model.specs.State.{Objects, find_object, rows_of, class_keys}
 use Rattle.hp_value.specs.Mapped.{keys_of}
-use Rattle.hp_query.specs.Looks.{ObjectsRise, class_keys}
+use Rattle.hp_query.specs.Looks.{ObjectsRise}
 use Rattle.hp_query.proofs.RowLemmas.{AreFound, rows_found}
 
 split_at : (keys : List ℤ) (i : ℕ) (key : ℤ) → i < length keys → key ≡ get_or keys i (pos 0) → drop i keys ≡ key ∷ drop (i + 1) keys

@@ -7,4 +7,6 @@ mod TurnLemmas
 pub mod ByKeyLemmas
 pub mod PartLemmas
 pub mod AskedLemmas
+mod CandidateLemmas
+mod TermLemmas
 pub mod Told

@@ -9,10 +9,10 @@ use Rattle.std.proofs.lemmas.List.Kept.{IsStrictlySortedBy-filter}
 use Rattle.std.proofs.lemmas.Map.Views.{any-filter_same}
 use Rattle.hp_model.specs.Values.{Row, KeyedRow, Outcome, ◌>>=◌}
 use Rattle.hp_model.specs.ClassParts.{ClassPart, belongs, picked}
-use Rattle.hp_model.specs.State.{Objects, find_object, rows_of}
+use Rattle.hp_model.specs.State.{Objects, find_object, rows_of, class_keys}
 use Rattle.hp_model.specs.Cells.{Cells, CellValue, row_value, Changes, changed, over, object_cell, belongs_in, ArePart}
 use Rattle.hp_value.specs.Mapped.{keys_of}
-use Rattle.hp_query.specs.Looks.{ObjectsRise, class_keys}
+use Rattle.hp_query.specs.Looks.{ObjectsRise}
 use Rattle.hp_query.proofs.RowLemmas.{AreFound, rows_found, class_keys_rise, class_keys_has, same_keys}
 
 -- ---- a part under a layer

@@ -1,21 +1,22 @@
 -- The entries of a plain map, as objects of the model.
-use Rattle.std.proofs.Common.{◌≡◌, ℕ, ℤ, pos, negsuc, nat_lt, arith, Bool, true, false, not, ◌==◌, ◌&&◌, cond, List, [], ◌∷◌, Some, map, filter, refl, ap, ◌∙◌, IsTrue}
+use Rattle.std.proofs.Common.{◌≡◌, ℕ, ℤ, pos, negsuc, nat_lt, arith, Bool, true, false, not, ◌==◌, ◌&&◌, cond, List, [], ◌∷◌, ◌++◌, Option, Some, None, map, filter, refl, sym, ap, ◌∙◌, IsTrue}
 use Rattle.std.specs.declared.cmp.Ordering.{Ordering}
 use Rattle.std.specs.declared.cmp.Ordering.TheVariants.{Less, Equal, Greater}
 use Rattle.std.specs.declared.ops.Bound.TheVariants.{Included}
 use Rattle.std.specs.Ordering.{is_eq, is_le, is_lt, nat_cmp, int_cmp, ordering_then, match_ordering}
-use Rattle.std.specs.List.{list_all, AllByRecursion}
+use Rattle.std.specs.List.{list_all, last_or, AllByRecursion}
 use Rattle.std.specs.List.Sorted.{IsStrictlySortedBy}
 use Rattle.std.specs.Map.{lookup, remove_entry, keys_of}
 use Rattle.std.specs.BTreeMap.{is_at, insert_entry}
 use Rattle.std.specs.BTreeMap.Range.{range_contains}
 use Rattle.hp_model.specs.Values.{Row, KeyedRow, fits_64}
 use Rattle.hp_model.specs.State as M
-use Rattle.hp_model.specs.State.{Objects, compare_names, object_name, find_object, write_object, remove_object}
+use Rattle.hp_model.specs.State.{Objects, compare_names, object_name, find_object, write_object, remove_object, class_keys}
 use Rattle.hp_query.specs.declared.plain.ObjectName.{ObjectName}
 use Rattle.hp_query.specs.contracts.plain.ObjectNameOrd.TheImpl as order
-use Rattle.hp_query.specs.Looks.{ObjectsRise, class_keys}
+use Rattle.hp_query.specs.Looks.{ObjectsRise}
 use Rattle.std.proofs.lemmas.Bool.Decides.{nat_tests}
+use Rattle.std.proofs.lemmas.List.{map-append}
 use Rattle.hp_query.proofs.RowLemmas.{nat_at}
 use Rattle.hp_query.specs.Plain.{objects_in, KeysFit}
 
@@ -163,6 +164,19 @@ keys_between (e ∷ es) class fit =
         (cond b (named e ∷ filter (λ (o : M.ObjectName × Row). o.0.class == class) (objects_in es)) (filter (λ (o : M.ObjectName × Row). o.0.class == class) (objects_in es))))
     by true rest = ap (λ ks. e.0.key ∷ ks) rest
     by false rest = rest
+
+-- ---- the last key
+
+last_pushed : (keys : List ℤ) (o : Option ℤ) (k : ℤ) → last_or o (keys ++ k ∷ []) ≡ Some k
+last_pushed [] o k = refl
+last_pushed (j ∷ keys) o k = last_pushed keys (Some j) k
+
+-- the key of the last of a class's entries is the greatest
+pub last_key : (entries others : Entries) (last : ObjectName × Row) (keys : List ℤ) → entries ≡ others ++ last ∷ [] → map (λ (e : ObjectName × Row). e.0.key) entries ≡ keys
+    → Some last.0.key ≡ last_or None keys
+last_key entries others last keys is same =
+    let key_of : ObjectName × Row → ℤ = λ e. e.0.key in
+    sym (ap (last_or None) (sym same ∙ ap (map key_of) is ∙ map-append key_of others (last ∷ [])) ∙ last_pushed (map key_of others) None last.0.key)
 
 -- ---- the objects of a plain map are in order
 

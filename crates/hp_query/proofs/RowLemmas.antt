@@ -14,8 +14,8 @@ use Rattle.std.proofs.lemmas.Cmp.{nat_cmp_total, int_cmp_total, int_eq_equiv, ti
 use Rattle.std.proofs.lemmas.Map.Keys.{sorted_head, sorted_tail}
 use Rattle.std.proofs.lemmas.Map.Lookups.{exact_unsigned, exact_signed, btree_set_from_contains}
 use Rattle.hp_model.specs.Values.{Row, KeyedRow}
-use Rattle.hp_model.specs.State.{Objects, ObjectName, compare_names, object_name, find_object, rows_of}
-use Rattle.hp_query.specs.Looks.{ObjectsRise, class_keys}
+use Rattle.hp_model.specs.State.{Objects, ObjectName, compare_names, object_name, find_object, rows_of, class_keys}
+use Rattle.hp_query.specs.Looks.{ObjectsRise}
 
 then_equal : (r s : Ordering) → is_eq (ordering_then r s) ≡ true → (r ≡ Equal) × (s ≡ Equal)
 then_equal Less s h = cc

@@ -1,6 +1,6 @@
 -- The selection of a class's rows, one after another.
 use Rattle.std.proofs.Common.{◌+◌, ◌<◌, length, get_or, drop, subst, ◌≡◌, ℕ, Bool, true, false, List, [], ◌∷◌, ◌++◌, map, Ok, Err, if◌then◌else◌, refl, sym, ap, ◌∙◌, append_assoc, append-nil}
-use Rattle.std.proofs.lemmas.List.{at_drop_more}
+use Rattle.std.proofs.lemmas.List.{at_drop_more, length-append}
 use Rattle.hp_model.specs.Values.{Name, KeyedRow, Cause, Outcome, ◌>>=◌}
 use Rattle.hp_model.specs.Expressions.{Expression, Environment, bound, as_boolean, value_of}
 use Rattle.hp_model.specs.Firing.{boolean_value}
@@ -9,11 +9,16 @@ use Rattle.hp_value.specs.declared.halt.Halt.{Halt}
 use Rattle.hp_value.specs.declared.halt.Halt.TheVariants.{Memory, Cause as ByCause}
 use Rattle.hp_value.specs.declared.row.KeyedRow.{KeyedRow as RustRow}
 use Rattle.hp_value.specs.Mapped.{Meets, cause, keyed_row}
+use Rattle.hp_query.specs.Candidates.{counted}
 use Rattle.hp_query.specs.Mapped.{keyed_rows}
 
 -- the value of a predicate at a row
 abbrev pub test : Environment → Name → Expression → KeyedRow → Outcome Bool
 test env x predicate r = boolean_value (bound x r env) predicate
+
+-- an object is the first that is left
+pub next_left : (objects : List RustRow) (i : ℕ) (object : RustRow) → i < length objects → object ≡ get_or objects i object → map keyed_row (drop i objects) ≡ keyed_row object ∷ map keyed_row (drop (i + 1) objects)
+next_left objects i object within is = at_drop_more (map keyed_row) objects i object within ∙ ap (λ o. keyed_row o ∷ map keyed_row (drop (i + 1) objects)) (sym is)
 
 -- selected rows in front of those of the rest
 abbrev pub with_front : List KeyedRow → Outcome (List KeyedRow) → Outcome (List KeyedRow)
@@ -53,11 +58,10 @@ module _ (env : Environment) (x : Name) (predicate : Expression) (all : List Key
   pub left_at_first : IsLeft env x predicate all all []
   left_at_first = front_nothing (selected env x predicate all)
 
-  -- an object is the first that is left
   pub left_at : (objects : List RustRow) (i : ℕ) (object : RustRow) (front : List KeyedRow) → i < length objects → object ≡ get_or objects i object → IsLeft env x predicate all (map keyed_row (drop i objects)) front
       → IsLeft env x predicate all (keyed_row object ∷ map keyed_row (drop (i + 1) objects)) front
   left_at objects i object front within is left =
-      subst (λ rows. IsLeft env x predicate all rows front) (at_drop_more (map keyed_row) objects i object within ∙ ap (λ o. keyed_row o ∷ map keyed_row (drop (i + 1) objects)) (sym is)) left
+      subst (λ rows. IsLeft env x predicate all rows front) (next_left objects i object within is) left
 
   pub left_kept : (r : KeyedRow) (rest front : List KeyedRow) → IsLeft env x predicate all (r ∷ rest) front → Ok true ≡ test env x predicate r → IsLeft env x predicate all rest (front ++ r ∷ [])
   left_kept r rest front left holds =
@@ -78,3 +82,38 @@ module _ (env : Environment) (x : Name) (predicate : Expression) (all : List Key
 
   pub left_nothing : (front : List KeyedRow) → IsLeft env x predicate all [] front → Ok front ≡ selected env x predicate all
   left_nothing front left = ap Ok (sym (append-nil front)) ∙ left
+
+  -- ---- the same, with the number of rows in the front
+
+  pub record Counts (left : List KeyedRow) (count : ℕ) : Type 0 where
+    pub front : List KeyedRow
+    pub len : length front ≡ count
+    pub is_left : IsLeft env x predicate all left front
+
+  pub counts_first : Counts all 0
+  counts_first = record { front = []; len = refl; is_left = left_at_first }
+
+  pub counts_at : (objects : List RustRow) (i : ℕ) (object : RustRow) {count : ℕ} → i < length objects → object ≡ get_or objects i object → Counts (map keyed_row (drop i objects)) count
+      → Counts (keyed_row object ∷ map keyed_row (drop (i + 1) objects)) count
+  counts_at objects i object {count} within is counts = record { front = counts.front; len = counts.len; is_left = left_at objects i object counts.front within is counts.is_left }
+
+  pub counts_one : (r : KeyedRow) (rest : List KeyedRow) {count : ℕ} → Counts (r ∷ rest) count → Ok true ≡ test env x predicate r → Counts rest (count + 1)
+  counts_one r rest {count} counts holds = record {
+    front = counts.front ++ r ∷ [];
+    len = length-append counts.front (r ∷ []) ∙ ap (λ n. n + 1) counts.len;
+    is_left = left_kept r rest counts.front counts.is_left holds;
+  }
+
+  pub counts_none : (r : KeyedRow) (rest : List KeyedRow) {count : ℕ} → Counts (r ∷ rest) count → Ok false ≡ test env x predicate r → Counts rest count
+  counts_none r rest counts holds = record { front = counts.front; len = counts.len; is_left = left_dropped r rest counts.front counts.is_left holds }
+
+  counts_fault : (c : Cause) → Err c ≡ selected env x predicate all → Err c ≡ counted (selected env x predicate all)
+  counts_fault c is = ap counted is
+
+  pub counts_halt : (r : KeyedRow) (rest : List KeyedRow) {count : ℕ} (halt : Halt) → Counts (r ∷ rest) count → Meets {A = Bool} {B = Bool} (λ b. b) (Err halt) (test env x predicate r)
+      → Meets {A = ℕ} {B = ℕ} (λ n. n) (Err halt) (counted (selected env x predicate all))
+  counts_halt r rest (ByCause c) counts faults = counts_fault (cause c) (left_fault r rest counts.front (cause c) counts.is_left faults)
+  counts_halt r rest Memory counts faults = tt
+
+  pub counts_last : {count : ℕ} → Counts [] count → Ok count ≡ counted (selected env x predicate all)
+  counts_last counts = ap Ok (sym counts.len) ∙ ap counted (left_nothing counts.front counts.is_left)

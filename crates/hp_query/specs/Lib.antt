@@ -1,5 +1,8 @@
 pub mod ByKey
+pub mod Candidates
+pub mod Findings
 pub mod Looks
 pub mod Mapped
 pub mod Plain
+pub mod Same
 pub mod Parts

@@ -1,16 +1,27 @@
 -- The worlds that a look at objects may show.
-use Rattle.std.specs.Prelude.{◌≡◌, ℕ, ℤ, List, [], ◌∷◌, map}
+use Rattle.std.specs.Prelude.{◌≡◌, ℕ, List, [], ◌∷◌, map}
 use Rattle.std.specs.List.Sorted.{IsStrictlySortedBy}
-use Rattle.hp_model.specs.Values.{Row, KeyedRow}
-use Rattle.hp_model.specs.State.{Objects, ObjectName, compare_names, rows_of}
+use Rattle.hp_model.specs.Values.{Row}
+use Rattle.hp_model.specs.Rules.{Aggregate, count_over, sum_over, least_over, greatest_over, next_key, single, Entry, query_entry, no_entry, let_entry}
+use Rattle.hp_model.specs.State.{Objects, ObjectName, compare_names}
 
 -- the objects stand in order, each once
 abbrev pub ObjectsRise : Objects → Type 0
 ObjectsRise objects = IsStrictlySortedBy compare_names (map (λ (o : ObjectName × Row). o.0) objects)
 
--- the keys of a class's objects
-abbrev pub class_keys : ℕ → Objects → List ℤ
-class_keys class objects = map (λ (r : KeyedRow). r.key) (rows_of class objects)
+-- the classes that an aggregate or an entry of a condition asks about
+abbrev pub aggregate_classes : Aggregate → List ℕ
+aggregate_classes (count_over x class predicate) = class ∷ []
+aggregate_classes (sum_over x class predicate term) = class ∷ []
+aggregate_classes (least_over x class predicate term) = class ∷ []
+aggregate_classes (greatest_over x class predicate term) = class ∷ []
+aggregate_classes (next_key class) = class ∷ []
+aggregate_classes (single e) = []
+
+abbrev pub entry_classes : Entry → List ℕ
+entry_classes (query_entry q) = q.class ∷ []
+entry_classes (no_entry q) = q.class ∷ []
+entry_classes (let_entry x a) = aggregate_classes a
 
 -- questions about these classes in turn, and none else; a class may have been asked for nothing
 abbrev pub AsksEach : {A : Type 0} → (ℕ → A → A → Type 0) → List ℕ → A → A → Type 0

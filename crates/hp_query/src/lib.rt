@@ -6,15 +6,21 @@
 //! `AllocError` and `Halt::Memory` mean that memory ran out.
 #![tactic(auto)]
 
+mod aggregate;
 mod by_key;
+mod candidates;
 mod collect;
 mod condition;
+mod entry;
 mod look;
 mod part;
 mod plain;
 mod query;
+mod terms;
 
+pub use aggregate::{Aggregate, aggregated, let_value};
 pub use condition::{Verdict, evaluate_condition};
+pub use entry::{Entry, Findings};
 pub use look::Look;
 pub use part::asked_field;
 pub use plain::{ObjectName, PlainObjects};

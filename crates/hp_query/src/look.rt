@@ -1,10 +1,11 @@
 //! What a query reads.
 
-ghost use Rattle.std.specs.Prelude.{◌≡◌, ℕ, Ok, IfOk, IfSome};
-ghost use Rattle.hp_model.specs.State.{Objects, find_object, rows_of};
+ghost use Rattle.std.specs.Prelude.{◌≡◌, ℕ, Ok, None, IfOk, IfSome};
+ghost use Rattle.std.specs.List.{last_or};
+ghost use Rattle.hp_model.specs.State.{Objects, find_object, rows_of, class_keys};
 ghost use Rattle.hp_model.specs.ClassParts.{picked};
 ghost use Rattle.hp_value.specs.Mapped.{class_part};
-ghost use Rattle.hp_query.specs.Looks.{ObjectsRise, class_keys};
+ghost use Rattle.hp_query.specs.Looks.{ObjectsRise};
 ghost use Rattle.hp_query.specs.Mapped.{keyed_rows};
 
 use hp_value::{ClassNo, ClassPart, Key, KeyedRow, ObjectList, Row};
@@ -41,6 +42,13 @@ pub trait Look {
         ensures asks { asks class self.old self.new }
         ensures listed { IfOk result (λ keys. (world : Objects) →
             ObjectsRise world → allows self.new world → keys.items ≡ class_keys class world) };
+
+    /// The greatest key of a class's objects; `None` if the class has none.
+    fn greatest_key(&mut self, alloc: Global, class: ClassNo) -> Result<Option<Key>, AllocError>
+        ensures goes_on { goes_on self.old self.new }
+        ensures asks { asks class self.old self.new }
+        ensures found { IfOk result (λ found. (world : Objects) →
+            ObjectsRise world → allows self.new world → found ≡ last_or None (class_keys class world)) };
 
     /// All objects of a class with their rows, in ascending key order, if the look keeps such a list. The list is
     /// shared. `None` if the objects have to be read one by one.

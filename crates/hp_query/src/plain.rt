@@ -1,15 +1,16 @@
 //! Objects in a plain ordered map.
 
-ghost use Rattle.std.specs.Prelude.{◌≡◌, ◌↔◌, [], length, IsTrue, OnOk, OnErr, IfOk};
+ghost use Rattle.std.specs.Prelude.{◌≡◌, ◌↔◌, [], map, length, IsTrue, OnOk, OnErr};
 ghost use Rattle.std.specs.Option.{option_copied};
-ghost use Rattle.hp_model.specs.State.{find_object, write_object, remove_object};
-ghost use Rattle.hp_query.specs.Looks.{ObjectsRise, class_keys};
+ghost use Rattle.hp_model.specs.State.{find_object, write_object, remove_object, class_keys};
+ghost use Rattle.hp_query.specs.Looks.{ObjectsRise};
 ghost use Rattle.hp_query.specs.Plain.{objects_in, KeysFit};
 
 use crate::look::Look;
 use hp_value::{ClassNo, ClassPart, Key, KeyedRow, ObjectList, Row};
 use std::alloc::{AllocError, Global};
 use std::collections::BTreeMap;
+use std::collections::btree_map::Range;
 use std::marker::Model;
 use std::sync::Arc;
 
@@ -120,7 +121,19 @@ impl Look for PlainObjects {
     }
 
     fn keys(&mut self, alloc: Global, class: ClassNo) -> Result<Vec<Key>, AllocError> {
-        class_range(alloc, &self.rows, class)
+        let mut keys = Vec::new(alloc);
+        for (name, _) in class_entries(&self.rows, class) {
+            keys.push(name.key)?;
+        }
+        Ok(keys)
+    }
+
+    fn greatest_key(&mut self, alloc: Global, class: ClassNo) -> Result<Option<Key>, AllocError> {
+        let Some((name, _)) = class_entries(&self.rows, class).next_back() else {
+            return Ok(None);
+        };
+
+        Ok(Some(name.key))
     }
 
     fn objects(
@@ -141,14 +154,10 @@ impl Look for PlainObjects {
     }
 }
 
-// The range of a class's names: from the least key to the largest.
-fn class_range(
-    alloc: Global,
-    rows: &BTreeMap<ObjectName, Row>,
-    class: ClassNo,
-) -> Result<Vec<Key>, AllocError>
+// The entries of a class's objects: their names are those from its least to its largest key.
+fn class_entries(rows: &BTreeMap<ObjectName, Row>, class: ClassNo) -> Range<'_, ObjectName, Row>
     requires { KeysFit rows.now.entries }
-    ensures { IfOk result (λ keys. keys.items ≡ class_keys class (objects_in rows.now.entries)) }
+    ensures { map (λ e. e.0.key) result ≡ class_keys class (objects_in rows.entry.now.entries) }
 {
     let first = ObjectName {
         class,
@@ -158,9 +167,5 @@ fn class_range(
         class,
         key: Key::MAX,
     };
-    let mut keys = Vec::new(alloc);
-    for (name, _) in rows.range(first..=last) {
-        keys.push(name.key)?;
-    }
-    Ok(keys)
+    rows.range(first..=last)
 }

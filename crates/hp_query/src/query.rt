@@ -1,21 +1,21 @@
 //! Queries and their answers.
 
-ghost use Rattle.std.specs.Prelude.{◌≡◌, map, IfOk, IfSome};
+ghost use Rattle.std.specs.Prelude.{map};
 ghost use Rattle.hp_model.specs.Expressions.{bound};
 ghost use Rattle.hp_model.specs.State.{Objects};
 ghost use Rattle.hp_model.specs.Firing.{boolean_value};
 ghost use Rattle.hp_model.specs.Conditions as model;
 ghost use Rattle.hp_value.specs.Mapped.{Meets, keyed_row, environment, expression};
-ghost use Rattle.hp_query.specs.ByKey.{IsFalseElsewhere};
+ghost use Rattle.hp_query.specs.Candidates.{counted};
 ghost use Rattle.hp_query.specs.Looks.{ObjectsRise};
 ghost use Rattle.hp_query.specs.Mapped as mapped;
 ghost use Rattle.hp_query.specs.Mapped.{keyed_rows};
 
-use crate::by_key::{asked_key, asks_key};
-use crate::collect::objects_of;
+use crate::by_key::asks_key;
+use crate::candidates::{Asked, find_candidates};
 use crate::look::Look;
-use crate::part::{asked_field, asked_part};
-use hp_value::{ClassNo, Env, Expr, Halt, Key, KeyedRow, Row};
+use crate::part::asked_field;
+use hp_value::{ClassNo, Env, Expr, Halt, KeyedRow};
 use std::alloc::{AllocError, Global};
 
 /// A query: the rows of a class for which a predicate is true. HiPAC's conditions are lists of queries.
@@ -94,109 +94,66 @@ pub fn selected_rows<L: Look>(
         predicate,
         env,
     };
-    if let Some(key) = asked_key(alloc, name, predicate, env)? {
-        return selected_at(alloc, &asked, key, look);
-    }
-    if let Some(objects) = part_rows(alloc, &asked, look)? {
-        return selected(alloc, name, &objects, predicate, env);
-    }
-    let objects = objects_of(alloc, look, class)?;
-    selected(alloc, name, objects.rows(), predicate, env)
+    let found = find_candidates(alloc, &asked, look)?;
+    selected(alloc, &asked, found.rows())
 }
 
-/// A class, and a predicate that is tested on its rows under a name.
-#[derive(Clone, Copy)]
-struct Asked<'a> {
-    name: &'a str,
-    class: ClassNo,
-    predicate: &'a Expr,
-    env: &'a Env<'a>,
-}
-
-/// The answer where the predicate is false of all rows but those with one key.
-fn selected_at<L: Look>(
+/// The number of rows of a query's answer. It makes no list of them.
+///
+/// The errors are those of [`answer`].
+pub(crate) fn count_answer<L: Look>(
     alloc: Global,
-    asked: &Asked<'_>,
-    key: Key,
+    query: &Query,
+    env: &Env,
     look: &mut L,
-) -> Result<Vec<KeyedRow>, Halt>
-    requires { IsFalseElsewhere (environment asked.now.env.now) asked.now.name.now
-        (expression asked.now.predicate.now) key }
+) -> Result<usize, Halt>
     ensures goes_on { L.goes_on look.old look.new }
-    ensures asks { L.asks asked.now.class look.old look.new }
+    ensures asks { L.asks query.now.class look.old look.new }
     ensures narrows { (world : Objects) → L.allows look.new world → L.allows look.old world }
-    ensures answer { (world : Objects) → ObjectsRise world → L.allows look.new world
-        → Meets keyed_rows result
-        (model.answer (environment asked.now.env.now) asked.now.name.now asked.now.class
-        (expression asked.now.predicate.now) world) }
+    ensures count { let asked = mapped.query query.now in
+        (world : Objects) → ObjectsRise world → L.allows look.new world
+        → Meets (λ n. n) result
+        (counted (model.answer (environment env.now) asked.name asked.class asked.predicate world)) }
 {
-    match look.row(alloc, asked.class, key)? {
-        Some(row) => {
-            let objects = [KeyedRow { key, row }];
-            selected(alloc, asked.name, &objects, asked.predicate, asked.env)
+    let asked = Asked::new(query, env);
+    let found = find_candidates(alloc, &asked, look)?;
+    count_selected(alloc, &asked, found.rows())
+}
+
+/// The number of the given objects for which a predicate is true.
+fn count_selected(alloc: Global, asked: &Asked<'_>, objects: &[KeyedRow]) -> Result<usize, Halt>
+    ensures { Meets (λ n. n) result (counted (model.selected (environment asked.now.env.now) asked.now.name.now
+        (expression asked.now.predicate.now) (map keyed_row objects.now))) }
+{
+    let mut count = 0;
+    for object in objects {
+        if is_selected(alloc, asked, object)? {
+            count += 1;
         }
-        None => Ok(Vec::new(alloc)),
     }
-}
-
-/// The rows of the part of the class outside which the predicate is false. `None` if the predicate asks for no part, or
-/// the look doesn't find it.
-fn part_rows<L: Look>(
-    alloc: Global,
-    asked: &Asked<'_>,
-    look: &mut L,
-) -> Result<Option<Vec<KeyedRow>>, AllocError>
-    ensures goes_on { L.goes_on look.old look.new }
-    ensures asks { L.asks asked.now.class look.old look.new }
-    ensures narrows { (world : Objects) → L.allows look.new world → L.allows look.old world }
-    ensures answer { let env = environment asked.now.env.now in
-        let predicate = expression asked.now.predicate.now in
-        IfOk result (λ found. IfSome found (λ objects. (world : Objects) → ObjectsRise world → L.allows look.new world
-        → model.selected env asked.now.name.now predicate (keyed_rows objects)
-        ≡ model.answer env asked.now.name.now asked.now.class predicate world)) }
-{
-    let Some(compared) = asked_part(alloc, asked.name, asked.predicate, asked.env)? else {
-        return Ok(None);
-    };
-    match compared.class_part() {
-        Some(part) => look.part(alloc, asked.class, &part),
-        None => Ok(None),
-    }
+    Ok(count)
 }
 
 /// Those of the given objects for which a predicate is true, each tested under a name.
-fn selected(
-    alloc: Global,
-    name: &str,
-    objects: &[KeyedRow],
-    predicate: &Expr,
-    env: &Env,
-) -> Result<Vec<KeyedRow>, Halt>
-    ensures { Meets keyed_rows result
-        (model.selected (environment env.now) name.now (expression predicate.now) (map keyed_row objects.now)) }
+fn selected(alloc: Global, asked: &Asked<'_>, objects: &[KeyedRow]) -> Result<Vec<KeyedRow>, Halt>
+    ensures { Meets keyed_rows result (model.selected (environment asked.now.env.now) asked.now.name.now
+        (expression asked.now.predicate.now) (map keyed_row objects.now)) }
 {
     let mut rows = Vec::new(alloc);
     for object in objects {
-        if is_selected(alloc, name, object.key, &object.row, predicate, env)? {
+        if is_selected(alloc, asked, object)? {
             rows.push(object.clone()?).map_err(AllocError::from)?;
         }
     }
     Ok(rows)
 }
 
-/// Whether a predicate is true of a row, which its name means.
-fn is_selected(
-    alloc: Global,
-    name: &str,
-    key: Key,
-    row: &Row,
-    predicate: &Expr,
-    env: &Env,
-) -> Result<bool, Halt>
+/// Whether a predicate is true of an object, whose row its name means.
+pub(crate) fn is_selected(alloc: Global, asked: &Asked<'_>, object: &KeyedRow) -> Result<bool, Halt>
     ensures { Meets (λ b. b) result
-        (boolean_value (bound name.now (record { key = key; row = row.now }) (environment env.now))
-        (expression predicate.now)) }
+        (boolean_value (bound asked.now.name.now (keyed_row object.now) (environment asked.now.env.now))
+        (expression asked.now.predicate.now)) }
 {
-    let value = predicate.eval(alloc, &env.bound(name, key, row))?;
-    Ok(value.as_bool()?)
+    let env = asked.env.bound(asked.name, object.key, &object.row);
+    Ok(asked.predicate.eval(alloc, &env)?.as_bool()?)
 }

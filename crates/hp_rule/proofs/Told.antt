@@ -1,8 +1,8 @@
 -- What comparisons of rules and libraries tell: they are true exactly where what the two stand for is equal.
-use Rattle.std.proofs.Common.{◌≡◌, refl, ap, subst, sym, ℕ, List, string_bytes}
+use Rattle.std.proofs.Common.{◌≡◌, refl, ap, subst, sym, ℕ, Bool, List, string_bytes}
 use lib.Pointwise.{pointwise, bytes_decides}
 use Rattle.std.specs.Bool.{Decides}
-use Rattle.std.specs.Cmp.{unsigned_Decides}
+use Rattle.std.specs.Cmp.{unsigned_Decides, booleans_Decides}
 use Rattle.std.specs.Ordering.{on}
 use Rattle.hp_model.specs.Values.{Name, ClassDef}
 use Rattle.hp_model.specs.Events.{Event}
@@ -17,9 +17,8 @@ use Rattle.hp_value.specs.SameExpressions.{pair_decide}
 use Rattle.hp_value.proofs.Told.{lists_told, classes_told}
 use Rattle.hp_detect.specs.Mapped.{event}
 use Rattle.hp_detect.specs.Same.{event_decides}
-use Rattle.hp_query.specs.contracts.query.QueryPartialEq.TheImpl as queries
-use Rattle.hp_query.specs.Mapped.{query}
-use Rattle.hp_query.proofs.Told.{queries_told}
+use Rattle.hp_query.specs.Mapped.{entry}
+use Rattle.hp_query.specs.Same.{entry_same, entry_decides}
 use Rattle.hp_rule.specs.declared.stmt.Stmt.{Stmt}
 use Rattle.hp_rule.specs.declared.rule.Rule.{Rule}
 use Rattle.hp_rule.specs.declared.library.Library.{Library}
@@ -43,14 +42,14 @@ couplings_told c d = (λ e. cc, λ e. cc)
 
 rules_told : (r s : Rule) → Decides (rules.ghosts.eq r s) (rule r ≡ rule s)
 rules_told r s =
-    let make : Name → Event → R.Coupling → List R.Query → R.Coupling → R.Body → R.Rule = λ n e ec qs ac a. record { name = n; event = e; event_coupling = ec; condition = qs; action_coupling = ac; action = a } in
+    let make : Name → Event → R.Coupling → List R.Entry → R.Coupling → R.Body → Bool → R.Rule = λ n e ec qs ac a c. record { name = n; event = e; event_coupling = ec; condition = qs; action_coupling = ac; action = a; closed = c } in
     both_decide _ _ (bytes_decides (string_bytes r.name) (string_bytes s.name))
     (pair_decide _ _ (event_decides (event r.event.value) (event s.event.value))
     (pair_decide _ _ (couplings_told r.ec s.ec)
-    (pair_decide _ _ (lists_told query queries.ghosts.eq queries_told r.condition.items s.condition.items)
-    (pair_decide _ _ (couplings_told r.ca s.ca) (bodies_told r.action.items s.action.items)))))
-    (λ e f i. make (e i) (f.0 i) (f.1.0 i) (f.1.1.0 i) (f.1.1.1.0 i) (f.1.1.1.1 i))
-    (λ e. (ap (λ x. x.name) e, (ap (λ x. x.event) e, (ap (λ x. x.event_coupling) e, (ap (λ x. x.condition) e, (ap (λ x. x.action_coupling) e, ap (λ x. x.action) e))))))
+    (pair_decide _ _ (lists_told entry (on entry entry_same) (λ a b. entry_decides (entry a) (entry b)) r.condition.items s.condition.items)
+    (pair_decide _ _ (couplings_told r.ca s.ca) (pair_decide _ _ (bodies_told r.action.items s.action.items) (booleans_Decides r.closed s.closed))))))
+    (λ e f i. make (e i) (f.0 i) (f.1.0 i) (f.1.1.0 i) (f.1.1.1.0 i) (f.1.1.1.1.0 i) (f.1.1.1.1.1 i))
+    (λ e. (ap (λ x. x.name) e, (ap (λ x. x.event) e, (ap (λ x. x.event_coupling) e, (ap (λ x. x.condition) e, (ap (λ x. x.action_coupling) e, (ap (λ x. x.action) e, ap (λ x. x.closed) e)))))))
 
 pub libraries_told : (a b : Library) → Decides (libraries.ghosts.eq a b) (library a ≡ library b)
 libraries_told a b =

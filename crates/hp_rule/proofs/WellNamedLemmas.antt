@@ -7,9 +7,11 @@ use lib.Pointwise.{bytes_decides}
 use Rattle.std.proofs.lemmas.List.{map-append}
 use Rattle.std.proofs.lemmas.Map.Keys.{IsDistinct-push}
 use Rattle.hp_model.specs.Values.{Name, ClassDef, Field, ◌>>=◌}
-use Rattle.hp_model.specs.Expressions.{Expression, constant, arithmetic, negated, inverted, both, either, compared, field_of, key_of, new_field, old_field, key_in, argument, time_of, occurrence_count}
+use Rattle.hp_model.specs.Expressions.{Expression, constant, arithmetic, negated, inverted, both, either, compared, field_of, key_of, new_field, old_field, key_in, argument, time_of, occurrence_count, value_named, time_now}
 use Rattle.hp_model.specs.Events.{Pattern, on_create, on_update, on_delete, on_signal, on_commit, at_moment, every_moment, Event, pattern_event, or_event, seq_event, closure_event}
-use Rattle.hp_model.specs.Rules.{Query, Assignment, Statement, create, update, delete, signal, emit, when, each, for_answer, with_object, subtransaction, abort, veto, on_rule, fire, Body, empty, ◌then◌, Rule, Library}
+use Rattle.hp_model.specs.Rules.{Query, Aggregate, count_over, sum_over, least_over, greatest_over, next_key, single, Entry, query_entry, no_entry, let_entry}
+use Rattle.hp_model.specs.Rules.{Assignment, Statement, create, update, delete, signal, emit, when, each, for_answer, with_object, subtransaction, let_value, abort, veto, veto_with, on_rule, fire}
+use Rattle.hp_model.specs.Rules.{Body, empty, ◌then◌, Rule, Library}
 use Rattle.hp_model.specs.Refusals.{Path, under_root, item_at, Refusal, bad_name, Decoded}
 use Rattle.hp_model.specs.Checked as C
 use Rattle.hp_rule.specs.WellNamed as W
@@ -59,11 +61,11 @@ operands_pass : {A : Type 0} (part : Path → A → Decoded ⊤) (path : Path) (
 unfolding C.operands_check
 operands_pass part path a b is = (first_passed (part (item_at path 1) a) (part (item_at path 2) b) is, then_passed (part (item_at path 1) a) (part (item_at path 2) b) is)
 
-field_known : (names : List Name) (path : Path) (x f : Name) → Passed (C.field_check names path x f) → C.is_known names x ≡ true
+field_known : (names : C.Names) (path : Path) (x f : Name) → Passed (C.field_check names path x f) → C.is_known names.rows x ≡ true
 unfolding C.field_check
-field_known names path x f is = known names (item_at path 1) x (first_passed (C.known_name_check names (item_at path 1) x) _ is)
+field_known names path x f is = known names.rows (item_at path 1) x (first_passed (C.known_name_check names.rows (item_at path 1) x) _ is)
 
-pub expression_knows : (names : List Name) (levels : ℕ) (path : Path) (e : Expression) → Passed (C.expression_check names levels path e) → W.knows_expression names e ≡ true
+pub expression_knows : (names : C.Names) (levels : ℕ) (path : Path) (e : Expression) → Passed (C.expression_check names levels path e) → W.knows_expression names e ≡ true
 unfolding C.expression_check
 expression_knows names zero path e is = cc
 expression_knows names (suc levels) path (constant v) is = refl
@@ -82,13 +84,15 @@ expression_knows names (suc levels) path (compared op a b) is =
     let parts = operands_pass (C.expression_check names levels) path a b is in
     both_are (expression_knows names levels (item_at path 1) a parts.0) (expression_knows names levels (item_at path 2) b parts.1)
 expression_knows names (suc levels) path (field_of x f) is = field_known names path x f is
-expression_knows names (suc levels) path (key_of x) is = known names (item_at path 1) x is
+expression_knows names (suc levels) path (key_of x) is = known names.rows (item_at path 1) x is
 expression_knows names (suc levels) path (new_field i f) is = refl
 expression_knows names (suc levels) path (old_field i f) is = refl
 expression_knows names (suc levels) path (key_in i) is = refl
 expression_knows names (suc levels) path (argument i j) is = refl
 expression_knows names (suc levels) path (time_of i) is = refl
 expression_knows names (suc levels) path occurrence_count is = refl
+expression_knows names (suc levels) path (value_named x) is = known names.values (item_at path 1) x is
+expression_knows names (suc levels) path time_now is = refl
 
 pattern_knows : (classes : ℕ) (path : Path) (pattern : Pattern) → Passed (C.pattern_check classes path pattern) → W.knows_pattern classes pattern ≡ true
 pattern_knows classes path (on_create c) is = numbered classes (item_at path 1) c is
@@ -129,18 +133,18 @@ assigned : (fields before : List Name) (path : Path) (x : Name) → Passed (C.as
 unfolding C.assigned_check
 assigned fields before path x is = passed_if (C.is_known fields x) (bad_name path) (then_passed (C.new_name_check before path x) _ is)
 
-assignment_knows : (fields : List Field) (names : List Name) (before : List Assignment) (path : Path) (a : Assignment) → Passed (C.assignment_check fields names before path a)
+assignment_knows : (fields : List Field) (names : C.Names) (before : List Assignment) (path : Path) (a : Assignment) → Passed (C.assignment_check fields names before path a)
     → W.knows_assignment (C.field_names fields) names a ≡ true
 unfolding C.assignment_check
 assignment_knows fields names before path a is =
     both_are (assigned (C.field_names fields) (C.assigned_names before) (item_at path 0) a.field (first_passed (C.assigned_check (C.field_names fields) (C.assigned_names before) (item_at path 0) a.field) _ is))
     (expression_knows names 16 (item_at path 1) a.value (then_passed (C.assigned_check (C.field_names fields) (C.assigned_names before) (item_at path 0) a.field) _ is))
 
-assignments_know : (fields : List Field) (names : List Name) (path : Path) (pairs : List Assignment) → Passed (C.assignments_check fields names path pairs)
+assignments_know : (fields : List Field) (names : C.Names) (path : Path) (pairs : List Assignment) → Passed (C.assignments_check fields names path pairs)
     → list_all (λ a. W.knows_assignment (C.field_names fields) names a) pairs ≡ true
 assignments_know fields names path pairs is = each_passes (C.assignment_check fields names) _ (assignment_knows fields names) path [] 0 pairs is
 
-row_knows : (scope : C.Scope) (names : List Name) (path : Path) (class : ℕ) (key : Expression) (pairs : List Assignment) (last : Decoded ⊤)
+row_knows : (scope : C.Scope) (names : C.Names) (path : Path) (class : ℕ) (key : Expression) (pairs : List Assignment) (last : Decoded ⊤)
     → Passed (C.class_check scope (item_at path 1) class >>= λ _. C.whole_expression_check names (item_at path 2) key >>= λ _. C.assignments_check (C.fields_of scope class) names (item_at path 3) pairs >>= λ _. last)
     → W.knows_row scope names class key pairs ≡ true
 row_knows scope names path class key pairs last is =
@@ -150,11 +154,11 @@ row_knows scope names path class key pairs last is =
     (both_are (expression_knows names 16 (item_at path 2) key (first_passed (C.whole_expression_check names (item_at path 2) key) _ key_and_pairs))
     (assignments_know (C.fields_of scope class) names (item_at path 3) pairs (first_passed (C.assignments_check (C.fields_of scope class) names (item_at path 3) pairs) last just_pairs)))
 
-create_knows : (scope : C.Scope) (names : List Name) (path : Path) (class : ℕ) (key : Expression) (pairs : List Assignment) → Passed (C.create_check scope names path class key pairs) → W.knows_row scope names class key pairs ≡ true
+create_knows : (scope : C.Scope) (names : C.Names) (path : Path) (class : ℕ) (key : Expression) (pairs : List Assignment) → Passed (C.create_check scope names path class key pairs) → W.knows_row scope names class key pairs ≡ true
 unfolding C.create_check
 create_knows scope names path class key pairs is = row_knows scope names path class key pairs _ is
 
-update_knows : (scope : C.Scope) (names : List Name) (path : Path) (class : ℕ) (key : Expression) (pairs : List Assignment) → Passed (C.update_check scope names path class key pairs) → W.knows_row scope names class key pairs ≡ true
+update_knows : (scope : C.Scope) (names : C.Names) (path : Path) (class : ℕ) (key : Expression) (pairs : List Assignment) → Passed (C.update_check scope names path class key pairs) → W.knows_row scope names class key pairs ≡ true
 unfolding C.update_check
 update_knows scope names path class key pairs is =
     let key_and_pairs = then_passed (C.class_check scope (item_at path 1) class) _ is in
@@ -162,29 +166,56 @@ update_knows scope names path class key pairs is =
     (both_are (expression_knows names 16 (item_at path 2) key (first_passed (C.whole_expression_check names (item_at path 2) key) _ key_and_pairs))
     (assignments_know (C.fields_of scope class) names (item_at path 3) pairs (then_passed (C.whole_expression_check names (item_at path 2) key) _ key_and_pairs)))
 
-delete_knows : (scope : C.Scope) (names : List Name) (path : Path) (class : ℕ) (key : Expression) → Passed (C.delete_check scope names path class key) → (W.knows_class scope class && W.knows_expression names key) ≡ true
+delete_knows : (scope : C.Scope) (names : C.Names) (path : Path) (class : ℕ) (key : Expression) → Passed (C.delete_check scope names path class key) → (W.knows_class scope class && W.knows_expression names key) ≡ true
 unfolding C.delete_check
 delete_knows scope names path class key is =
     both_are (numbered (length scope.classes) (item_at path 1) class (first_passed (C.class_check scope (item_at path 1) class) _ is))
     (expression_knows names 16 (item_at path 2) key (then_passed (C.class_check scope (item_at path 1) class) _ is))
 
-arguments_know : (names : List Name) (path : Path) (arguments : List Expression) → Passed (C.arguments_check names path arguments) → list_all (λ e. W.knows_expression names e) arguments ≡ true
+arguments_know : (names : C.Names) (path : Path) (arguments : List Expression) → Passed (C.arguments_check names path arguments) → list_all (λ e. W.knows_expression names e) arguments ≡ true
 unfolding C.arguments_check
 arguments_know names path arguments is =
     each_passes (λ _. C.whole_expression_check names) _ (λ before path' e. expression_knows names 16 path' e) path [] 0 arguments (then_passed _ (C.each_check (λ _. C.whole_expression_check names) path [] 0 arguments) is)
 
-signal_knows : (names : List Name) (path : Path) (x : Name) (arguments : List Expression) → Passed (C.signal_check names path x arguments) → list_all (λ e. W.knows_expression names e) arguments ≡ true
+signal_knows : (names : C.Names) (path : Path) (x : Name) (arguments : List Expression) → Passed (C.signal_check names path x arguments) → list_all (λ e. W.knows_expression names e) arguments ≡ true
 unfolding C.signal_check
 signal_knows names path x arguments is = arguments_know names (item_at path 2) arguments (then_passed (C.name_check (item_at path 1) x) _ is)
 
+-- ---- aggregates
+
+module _ (classes : ℕ) (names : C.Names) where
+  over_knows : (path : Path) (x : Name) (class : ℕ) (predicate : Expression) → Passed (C.over_check classes names path x class predicate) → W.knows_over classes names x class predicate ≡ true
+  unfolding C.over_check
+  over_knows path x class predicate is =
+      let named = then_passed (C.new_name_check (C.taken names) (item_at path 1) x) _ is in
+      both_are (numbered classes (item_at path 2) class (first_passed (C.number_check classes (item_at path 2) class) _ named))
+      (expression_knows (C.knowing_row x names) 16 (item_at path 3) predicate (then_passed (C.number_check classes (item_at path 2) class) _ named))
+
+  terms_know : (path : Path) (x : Name) (class : ℕ) (predicate term : Expression) → Passed (C.terms_check classes names path x class predicate term)
+      → W.knows_terms classes names x class predicate term ≡ true
+  unfolding C.terms_check
+  terms_know path x class predicate term is =
+      both_are (over_knows path x class predicate (first_passed (C.over_check classes names path x class predicate) _ is))
+      (expression_knows (C.knowing_row x names) 16 (item_at path 4) term (then_passed (C.over_check classes names path x class predicate) _ is))
+
+  aggregate_knows : (path : Path) (a : Aggregate) → Passed (C.aggregate_check classes names path a) → W.knows_aggregate classes names a ≡ true
+  aggregate_knows path (count_over x class predicate) is = over_knows path x class predicate is
+  aggregate_knows path (sum_over x class predicate term) is = terms_know path x class predicate term is
+  aggregate_knows path (least_over x class predicate term) is = terms_know path x class predicate term is
+  aggregate_knows path (greatest_over x class predicate term) is = terms_know path x class predicate term is
+  aggregate_knows path (next_key class) is = numbered classes (item_at path 1) class is
+  aggregate_knows path (single e) is = expression_knows names 16 path e is
+
+-- ---- statements with inner statements
+
 -- statements whose inner statements are checked by `check`, which establishes the property
-module _ (scope : C.Scope) (check : C.StatementCheck) (sure : (names : List Name) (path : Path) (s : Statement) → Passed (check names path s) → W.knows_statement scope names s ≡ true) where
-  body_knows : (names : List Name) (path : Path) (i : ℕ) (b : Body) → Passed (C.statements_check check names path i b) → W.knows_body scope names b ≡ true
+module _ (scope : C.Scope) (check : C.StatementCheck) (sure : (names : C.Names) (path : Path) (s : Statement) → Passed (check names path s) → W.knows_statement scope names s ≡ true) where
+  body_knows : (names : C.Names) (path : Path) (i : ℕ) (b : Body) → Passed (C.statements_check check names path i b) → W.knows_body scope names b ≡ true
   body_knows names path i empty is = refl
   body_knows names path i (s then rest) is =
       both_are (sure names (item_at path i) s (first_passed (check names (item_at path i) s) _ is)) (body_knows names path (suc i) rest (then_passed (check names (item_at path i) s) _ is))
 
-  when_knows : (names : List Name) (path : Path) (e : Expression) (t f : Body) → Passed (C.when_check check names path e t f) → (W.knows_expression names e && (W.knows_body scope names t && W.knows_body scope names f)) ≡ true
+  when_knows : (names : C.Names) (path : Path) (e : Expression) (t f : Body) → Passed (C.when_check check names path e t f) → (W.knows_expression names e && (W.knows_body scope names t && W.knows_body scope names f)) ≡ true
   unfolding C.when_check
   when_knows names path e t f is =
       let bodies = then_passed (C.whole_expression_check names (item_at path 1) e) _ is in
@@ -192,39 +223,51 @@ module _ (scope : C.Scope) (check : C.StatementCheck) (sure : (names : List Name
       (both_are (body_knows names (item_at path 2) 0 t (first_passed (C.body_check check names (item_at path 2) t) _ bodies))
       (body_knows names (item_at path 3) 0 f (then_passed (C.body_check check names (item_at path 2) t) _ bodies)))
 
-  each_row_knows : (names : List Name) (path : Path) (x : Name) (class : ℕ) (e : Expression) (b : Body) → Passed (C.each_row_check scope check names path x class e b)
-      → (W.knows_class scope class && (W.knows_expression (x ∷ names) e && W.knows_body scope (x ∷ names) b)) ≡ true
+  each_row_knows : (names : C.Names) (path : Path) (x : Name) (class : ℕ) (e : Expression) (b : Body) → Passed (C.each_row_check scope check names path x class e b)
+      → (W.knows_class scope class && (W.knows_expression (C.knowing_row x names) e && W.knows_body scope (C.knowing_row x names) b)) ≡ true
   unfolding C.each_row_check
   each_row_knows names path x class e b is =
-      let named = then_passed (C.new_name_check names (item_at path 1) x) _ is in
+      let named = then_passed (C.new_name_check (C.taken names) (item_at path 1) x) _ is in
       let inner = then_passed (C.class_check scope (item_at path 2) class) _ named in
       both_are (numbered (length scope.classes) (item_at path 2) class (first_passed (C.class_check scope (item_at path 2) class) _ named))
-      (both_are (expression_knows (x ∷ names) 16 (item_at path 3) e (first_passed (C.whole_expression_check (x ∷ names) (item_at path 3) e) _ inner))
-      (body_knows (x ∷ names) (item_at path 4) 0 b (then_passed (C.whole_expression_check (x ∷ names) (item_at path 3) e) _ inner)))
+      (both_are (expression_knows (C.knowing_row x names) 16 (item_at path 3) e (first_passed (C.whole_expression_check (C.knowing_row x names) (item_at path 3) e) _ inner))
+      (body_knows (C.knowing_row x names) (item_at path 4) 0 b (then_passed (C.whole_expression_check (C.knowing_row x names) (item_at path 3) e) _ inner)))
 
-  for_answer_knows : (names : List Name) (path : Path) (x : Name) (b : Body) → Passed (C.for_answer_check scope check names path x b) → (C.is_known scope.queries x && W.knows_body scope names b) ≡ true
+  for_answer_knows : (names : C.Names) (path : Path) (x : Name) (b : Body) → Passed (C.for_answer_check scope check names path x b) → (C.is_known scope.queries x && W.knows_body scope names b) ≡ true
   unfolding C.for_answer_check
   for_answer_knows names path x b is =
       both_are (known scope.queries (item_at path 1) x (first_passed (C.known_name_check scope.queries (item_at path 1) x) _ is))
       (body_knows names (item_at path 2) 0 b (then_passed (C.known_name_check scope.queries (item_at path 1) x) _ is))
 
-  with_object_knows : (names : List Name) (path : Path) (x : Name) (class : ℕ) (e : Expression) (b : Body) → Passed (C.with_object_check scope check names path x class e b)
-      → (W.knows_class scope class && (W.knows_expression names e && W.knows_body scope (x ∷ names) b)) ≡ true
+  with_object_knows : (names : C.Names) (path : Path) (x : Name) (class : ℕ) (e : Expression) (b : Body) → Passed (C.with_object_check scope check names path x class e b)
+      → (W.knows_class scope class && (W.knows_expression names e && W.knows_body scope (C.knowing_row x names) b)) ≡ true
   unfolding C.with_object_check
   with_object_knows names path x class e b is =
-      let named = then_passed (C.new_name_check names (item_at path 1) x) _ is in
+      let named = then_passed (C.new_name_check (C.taken names) (item_at path 1) x) _ is in
       let inner = then_passed (C.class_check scope (item_at path 2) class) _ named in
       both_are (numbered (length scope.classes) (item_at path 2) class (first_passed (C.class_check scope (item_at path 2) class) _ named))
       (both_are (expression_knows names 16 (item_at path 3) e (first_passed (C.whole_expression_check names (item_at path 3) e) _ inner))
-      (body_knows (x ∷ names) (item_at path 4) 0 b (then_passed (C.whole_expression_check names (item_at path 3) e) _ inner)))
+      (body_knows (C.knowing_row x names) (item_at path 4) 0 b (then_passed (C.whole_expression_check names (item_at path 3) e) _ inner)))
 
-  subtransaction_knows : (names : List Name) (path : Path) (b o : Body) → Passed (C.subtransaction_check check names path b o) → (W.knows_body scope names b && W.knows_body scope names o) ≡ true
+  subtransaction_knows : (names : C.Names) (path : Path) (b o : Body) → Passed (C.subtransaction_check check names path b o) → (W.knows_body scope names b && W.knows_body scope names o) ≡ true
   unfolding C.subtransaction_check
   subtransaction_knows names path b o is =
       both_are (body_knows names (item_at path 1) 0 b (first_passed (C.body_check check names (item_at path 1) b) _ is))
       (body_knows names (item_at path 2) 0 o (then_passed (C.body_check check names (item_at path 1) b) _ is))
 
-  parts_know : (names : List Name) (path : Path) (s : Statement) → Passed (C.veto_check scope path s) → Passed (C.statement_parts_check scope check names path s) → W.knows_statement scope names s ≡ true
+  let_value_knows : (names : C.Names) (path : Path) (x : Name) (a : Aggregate) (b : Body) → Passed (C.let_value_check scope check names path x a b)
+      → (W.knows_aggregate (length scope.classes) names a && W.knows_body scope (C.knowing_value x names) b) ≡ true
+  unfolding C.let_value_check
+  let_value_knows names path x a b is =
+      let named = then_passed (C.new_name_check (C.taken names) (item_at path 1) x) _ is in
+      let computed = C.aggregate_check (length scope.classes) names (item_at path 2) a in
+      both_are (aggregate_knows (length scope.classes) names (item_at path 2) a (first_passed computed _ named))
+      (body_knows (C.knowing_value x names) (item_at path 3) 0 b (then_passed computed _ named))
+
+  stands_in_action : (path : Path) → Passed (C.veto_check scope path veto) → scope.in_action ≡ true
+  stands_in_action path may = not_not scope.in_action (passed_unless (not scope.in_action) _ may)
+
+  parts_know : (names : C.Names) (path : Path) (s : Statement) → Passed (C.veto_check scope path s) → Passed (C.statement_parts_check scope check names path s) → W.knows_statement scope names s ≡ true
   parts_know names path (create class key pairs) may is = create_knows scope names path class key pairs is
   parts_know names path (update class key pairs) may is = update_knows scope names path class key pairs is
   parts_know names path (delete class key) may is = delete_knows scope names path class key is
@@ -235,45 +278,55 @@ module _ (scope : C.Scope) (check : C.StatementCheck) (sure : (names : List Name
   parts_know names path (for_answer x b) may is = for_answer_knows names path x b is
   parts_know names path (with_object x class e b) may is = with_object_knows names path x class e b is
   parts_know names path (subtransaction b o) may is = subtransaction_knows names path b o is
+  parts_know names path (let_value x a b) may is = let_value_knows names path x a b is
   parts_know names path abort may is = refl
-  parts_know names path veto may is = not_not scope.in_action (passed_unless (not scope.in_action) _ may)
+  parts_know names path veto may is = stands_in_action path may
+  parts_know names path (veto_with e) may is = both_are (stands_in_action path may) (expression_knows names 16 (item_at path 1) e is)
   parts_know names path (on_rule op n) may is = numbered scope.rules (item_at path 1) n is
   parts_know names path (fire n) may is = numbered scope.rules (item_at path 1) n is
 
-pub statement_knows : (scope : C.Scope) (levels : ℕ) (names : List Name) (path : Path) (s : Statement) → Passed (C.statement_check scope levels names path s) → W.knows_statement scope names s ≡ true
+pub statement_knows : (scope : C.Scope) (levels : ℕ) (names : C.Names) (path : Path) (s : Statement) → Passed (C.statement_check scope levels names path s) → W.knows_statement scope names s ≡ true
 unfolding C.statement_check
 statement_knows scope zero names path s is = let no = then_passed (C.veto_check scope path s) _ is in cc
 statement_knows scope (suc levels) names path s is =
     parts_know scope (C.statement_check scope levels) (statement_knows scope levels) names path s
     (first_passed (C.veto_check scope path s) _ is) (then_passed (C.veto_check scope path s) _ is)
 
-pub whole_body_knows : (scope : C.Scope) (names : List Name) (path : Path) (b : Body) → Passed (C.whole_body_check scope names path b) → W.knows_body scope names b ≡ true
+pub whole_body_knows : (scope : C.Scope) (names : C.Names) (path : Path) (b : Body) → Passed (C.whole_body_check scope names path b) → W.knows_body scope names b ≡ true
 whole_body_knows scope names path b is = body_knows scope (C.statement_check scope 16) (statement_knows scope 16) names path 0 b is
 
 -- ---- rules
 
-query_knows : (classes : ℕ) (before : List Query) (path : Path) (q : Query) → Passed (C.query_check classes before path q)
-    → (nat_lt q.class classes ≡ true) × (W.knows_expression (q.name ∷ C.query_names before) q.predicate ≡ true)
+query_knows : (classes : ℕ) (names : C.Names) (first second third : Path) (q : Query) → Passed (C.query_check classes names first second third q) → W.knows_over classes names q.name q.class q.predicate ≡ true
 unfolding C.query_check
-query_knows classes before path q is =
-    let later = then_passed (C.new_name_check (C.query_names before) (item_at path 0) q.name) _ is in (
-      numbered classes (item_at path 1) q.class (first_passed (C.number_check classes (item_at path 1) q.class) _ later),
-      expression_knows (q.name ∷ C.query_names before) 16 (item_at path 2) q.predicate (then_passed (C.number_check classes (item_at path 1) q.class) _ later),
-    )
+query_knows classes names first second third q is =
+    let named = then_passed (C.new_name_check (C.taken names) first q.name) _ is in
+    both_are (numbered classes second q.class (first_passed (C.number_check classes second q.class) _ named))
+    (expression_knows (C.knowing_row q.name names) 16 third q.predicate (then_passed (C.number_check classes second q.class) _ named))
 
-queries_know : (classes : ℕ) (path : Path) (before : List Query) (i : ℕ) (qs : List Query) → Passed (C.each_check (C.query_check classes) path before i qs) → W.knows_queries classes before qs ≡ true
-queries_know classes path before i [] is = refl
-queries_know classes path before i (q ∷ qs) is =
-    let one = query_knows classes before (item_at path i) q (first_passed (C.query_check classes before (item_at path i) q) _ is) in
-    both_are one.0 (both_are one.1 (queries_know classes path (before ++ q ∷ []) (suc i) qs (then_passed (C.query_check classes before (item_at path i) q) _ is)))
+let_entry_knows : (classes : ℕ) (names : C.Names) (path : Path) (x : Name) (a : Aggregate) → Passed (C.let_entry_check classes names path x a) → W.knows_aggregate classes names a ≡ true
+unfolding C.let_entry_check
+let_entry_knows classes names path x a is = aggregate_knows classes names (item_at path 2) a (then_passed (C.new_name_check (C.taken names) (item_at path 1) x) _ is)
+
+entry_knows : (classes : ℕ) (before : List Entry) (path : Path) (e : Entry) → Passed (C.entry_check classes before path e) → W.knows_entry classes (C.names_of before) e ≡ true
+entry_knows classes before path (query_entry q) is = query_knows classes (C.names_of before) (item_at path 0) (item_at path 1) (item_at path 2) q is
+entry_knows classes before path (no_entry q) is = query_knows classes (C.names_of before) (item_at path 1) (item_at path 2) (item_at path 3) q is
+entry_knows classes before path (let_entry x a) is = let_entry_knows classes (C.names_of before) path x a is
+
+entries_know : (classes : ℕ) (path : Path) (before : List Entry) (i : ℕ) (es : List Entry) → Passed (C.each_check (C.entry_check classes) path before i es) → W.knows_entries classes before es ≡ true
+entries_know classes path before i [] is = refl
+entries_know classes path before i (e ∷ es) is =
+    both_are (entry_knows classes before (item_at path i) e (first_passed (C.entry_check classes before (item_at path i) e) _ is))
+    (entries_know classes path (before ++ e ∷ []) (suc i) es (then_passed (C.entry_check classes before (item_at path i) e) _ is))
 
 rule_knows : (classes : List ClassDef) (rules : ℕ) (path : Path) (r : Rule) → Passed (C.rule_check classes rules path r) → W.knows_rule classes rules r ≡ true
 unfolding C.rule_check
 rule_knows classes rules path r is =
     let later = then_passed (C.event_check (length classes) 16 (item_at path 1) r.event) _ is in
+    let condition = C.condition_check (length classes) (item_at path 3) r.condition in
     both_are (event_knows (length classes) 16 (item_at path 1) r.event (first_passed (C.event_check (length classes) 16 (item_at path 1) r.event) _ is))
-    (both_are (queries_know (length classes) (item_at path 3) [] 0 r.condition (first_passed (C.queries_check (length classes) (item_at path 3) r.condition) _ later))
-    (whole_body_knows (C.action_scope classes rules r.condition) (C.query_names r.condition) (item_at path 5) r.action (then_passed (C.queries_check (length classes) (item_at path 3) r.condition) _ later)))
+    (both_are (entries_know (length classes) (item_at path 3) [] 0 r.condition (first_passed condition _ later))
+    (whole_body_knows (C.action_scope classes rules r.condition) (C.names_of r.condition) (item_at path 5) r.action (then_passed condition _ later)))
 
 -- ---- distinct names
 
@@ -366,4 +419,4 @@ library_fields_differ library is =
     classes_fields_distinct (under_root (codes "classes")) library.classes (first_passed classes _ (then_passed (C.depth_check library.depth_limit) _ is))
 
 pub body_is_well_named : (library : Library) (path : Path) (b : Body) → Passed (C.script_body_check library path b) → W.IsWellNamedBody library b
-body_is_well_named library path b is = whole_body_knows (C.script_scope library) [] path b is
+body_is_well_named library path b is = whole_body_knows (C.script_scope library) C.no_names path b is

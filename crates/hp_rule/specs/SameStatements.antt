@@ -8,9 +8,10 @@ use Rattle.hp_model.specs.Values.{Name}
 use Rattle.hp_model.specs.Expressions.{Expression}
 use Rattle.hp_model.specs.Rules.{Assignment, RuleOperation, install, enable, disable, remove}
 use Rattle.hp_model.specs.Rules.{Statement, create, update, delete, signal, emit, when, each, for_answer, with_object, subtransaction}
-use Rattle.hp_model.specs.Rules.{abort, veto, on_rule, fire, Body, empty, ◌then◌}
+use Rattle.hp_model.specs.Rules.{let_value, abort, veto, veto_with, on_rule, fire, Body, empty, ◌then◌}
 use Rattle.hp_value.specs.Same.{both_decide}
 use Rattle.hp_value.specs.SameExpressions.{pair_decide, expression_same, expression_decides}
+use Rattle.hp_query.specs.Same.{aggregate_same, aggregate_decides}
 
 abbrev pub assignment_same : Assignment → Assignment → Bool
 assignment_same a b = bytes_eq a.field b.field && expression_same a.value b.value
@@ -34,8 +35,10 @@ abbrev mutual
   statement_same (for_answer x a) (for_answer y b) = bytes_eq x y && body_same a b
   statement_same (with_object x c e a) (with_object y d f b) = bytes_eq x y && (nat_eq c d && (expression_same e f && body_same a b))
   statement_same (subtransaction a b) (subtransaction c d) = body_same a c && body_same b d
+  statement_same (let_value x e a) (let_value y f b) = bytes_eq x y && (aggregate_same e f && body_same a b)
   statement_same abort abort = true
   statement_same veto veto = true
+  statement_same (veto_with a) (veto_with b) = expression_same a b
   statement_same (on_rule o m) (on_rule p n) = operation_same o p && nat_eq m n
   statement_same (fire m) (fire n) = nat_eq m n
   statement_same s t = false
@@ -86,8 +89,12 @@ mutual
       (λ g h i. with_object (g i) (h.0 i) (h.1.0 i) (h.1.1 i)) (λ g. (cc, (cc, (cc, cc))))
   statement_decides (subtransaction a b) (subtransaction c d) =
       both_decide _ _ (body_decides a c) (body_decides b d) (λ e f i. subtransaction (e i) (f i)) (λ e. (cc, cc))
+  statement_decides (let_value x e a) (let_value y f b) =
+      both_decide _ _ (bytes_decides x y) (pair_decide _ _ (aggregate_decides e f) (body_decides a b))
+      (λ g h i. let_value (g i) (h.0 i) (h.1 i)) (λ g. (cc, (cc, cc)))
   statement_decides abort abort = (λ e. refl, λ e. refl)
   statement_decides veto veto = (λ e. refl, λ e. refl)
+  statement_decides (veto_with a) (veto_with b) = (λ e. ap veto_with ((expression_decides a b).0 e), λ e. (expression_decides a b).1 (cc))
   statement_decides (on_rule o m) (on_rule p n) =
       both_decide _ _ (operation_decides o p) (unsigned_Decides m n) (λ e f i. on_rule (e i) (f i)) (λ e. (cc, cc))
   statement_decides (fire m) (fire n) = (λ e. ap fire ((unsigned_Decides m n).0 e), λ e. (unsigned_Decides m n).1 (cc))

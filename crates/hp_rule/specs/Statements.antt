@@ -1,14 +1,14 @@
 -- What statements and rules stand for in the model.
-use Rattle.std.specs.Prelude.{ℕ, List, [], ◌∷◌, map, string_bytes}
+use Rattle.std.specs.Prelude.{ℕ, List, [], ◌∷◌, map, None, Some, string_bytes}
 use Rattle.hp_model.specs.Rules as R
 use Rattle.hp_value.specs.Mapped.{class_def, expression, coupling}
 pub use Rattle.hp_value.specs.Mapped.{rule_operation}
 use Rattle.hp_value.specs.declared.row.ClassDef.{ClassDef}
-use Rattle.hp_query.specs.Mapped.{query}
+use Rattle.hp_query.specs.Mapped.{aggregate, entry}
 use Rattle.hp_detect.specs.Mapped.{event}
 use Rattle.hp_rule.specs.declared.stmt.Assignment.{Assignment}
 use Rattle.hp_rule.specs.declared.stmt.Stmt.{Stmt, Row_of-Stmt, end_of-Stmt, more_of-Stmt}
-use Rattle.hp_rule.specs.declared.stmt.Stmt.TheVariants.{Create, Update, Delete, Signal, Emit, If', Each', For', With', Sub', Abort, Veto, OnRule, Fire}
+use Rattle.hp_rule.specs.declared.stmt.Stmt.TheVariants.{Create, Update, Delete, Signal, Emit, If', Each', For', With', Sub', Let', Abort, Veto, OnRule, Fire}
 use Rattle.hp_rule.specs.declared.rule.Rule.{Rule}
 
 abbrev pub assignment : Assignment → R.Assignment
@@ -26,8 +26,10 @@ abbrev mutual
   statement (For' x shape body) = R.for_answer (string_bytes x) (row_body body)
   statement (With' x class key shape body) = R.with_object (string_bytes x) class (expression key.value) (row_body body)
   statement (Sub' shape body shape' otherwise) = R.subtransaction (row_body body) (row_body otherwise)
+  statement (Let' x a shape body) = R.let_value (string_bytes x) (aggregate a) (row_body body)
   statement Abort = R.abort
-  statement Veto = R.veto
+  statement (Veto None) = R.veto
+  statement (Veto (Some e)) = R.veto_with (expression e.value)
   statement (OnRule op n) = R.on_rule (rule_operation op) n
   statement (Fire n) = R.fire n
 
@@ -47,9 +49,10 @@ rule r =
       name = string_bytes r.name;
       event = event r.event.value;
       event_coupling = coupling r.ec;
-      condition = map query r.condition.items;
+      condition = map entry r.condition.items;
       action_coupling = coupling r.ca;
       action = body_in r.action.items;
+      closed = r.closed;
     }
 
 -- the library of these classes and rules

@@ -1,12 +1,12 @@
-//! The fields that the queries of rules ask for.
+//! The fields that the queries and the aggregates of rules ask for.
 
 use crate::rule::Rule;
 use crate::stmt::Stmt;
-use hp_query::{Query, asked_field};
+use hp_query::{Aggregate, Entry, Query, asked_field};
 use hp_value::ClassNo;
 use std::alloc::{AllocError, Global};
 
-/// A field of a class by which a query finds rows.
+/// A field of a class by which a query or an aggregate finds rows.
 #[derive(Debug, PartialEq, Eq, Drop)]
 pub struct AskedField {
     /// The class.
@@ -25,18 +25,42 @@ pub(crate) fn asked_fields(alloc: Global, rules: &[Rule]) -> Result<Vec<AskedFie
     Ok(asked)
 }
 
-// Adds the fields that the queries of a condition ask for.
+// Adds the fields that the entries of a condition ask for.
 fn note_condition(
     alloc: Global,
-    queries: &[Query],
+    entries: &[Entry],
     asked: &mut Vec<AskedField>,
 ) -> Result<(), AllocError> {
-    for query in queries {
-        if let Some(field) = query.asked_field() {
-            note(alloc, query.class, field, asked)?;
+    for entry in entries {
+        match entry {
+            Entry::Query(query) | Entry::No(query) => note_query(alloc, query, asked)?,
+            Entry::Let { aggregate, .. } => note_aggregate(alloc, aggregate, asked)?,
         }
     }
     Ok(())
+}
+
+// Adds the field that an aggregate over rows asks for.
+fn note_aggregate(
+    alloc: Global,
+    aggregate: &Aggregate,
+    asked: &mut Vec<AskedField>,
+) -> Result<(), AllocError> {
+    match aggregate {
+        Aggregate::Count(rows)
+        | Aggregate::Sum { rows, .. }
+        | Aggregate::Least { rows, .. }
+        | Aggregate::Greatest { rows, .. } => note_query(alloc, rows, asked),
+        Aggregate::Next(_) | Aggregate::Single(_) => Ok(()),
+    }
+}
+
+// Adds the field that a query asks for.
+fn note_query(alloc: Global, query: &Query, asked: &mut Vec<AskedField>) -> Result<(), AllocError> {
+    match query.asked_field() {
+        Some(field) => note(alloc, query.class, field, asked),
+        None => Ok(()),
+    }
 }
 
 // Adds the fields that the statements of a body ask for.
@@ -68,6 +92,14 @@ fn note_statement(
             note_body(alloc, body, asked)
         }
         Stmt::For { body, .. } | Stmt::With { body, .. } => note_body(alloc, body, asked),
+        Stmt::Let {
+            aggregate,
+            body,
+            ..
+        } => {
+            note_aggregate(alloc, aggregate, asked)?;
+            note_body(alloc, body, asked)
+        }
         Stmt::If {
             then_body: first,
             else_body: second,

@@ -9,9 +9,9 @@ use crate::check::scope::Scope;
 use crate::check::statement::check_whole_body;
 use crate::context::Context;
 use crate::fault::CheckError;
+use crate::known_names::KnownNames;
 use crate::library::Library;
 use crate::place::Place;
-use crate::row_names::RowNames;
 use crate::stmt::Stmt;
 use std::alloc::{AllocError, Global};
 use std::sync::Arc;
@@ -50,13 +50,13 @@ impl Library {
             classes: shared.classes(),
             rules: shared.rules().len(),
             in_action: false,
-            queries: &[],
+            condition: &[],
         };
         let context = Context {
             alloc,
             place: Place::Root,
             scope,
-            names: RowNames::Queries(&[]),
+            names: KnownNames::Entries(&[]),
         };
         check_whole_body(&context, &statements)?;
         Ok(Body::of_checked(shared, statements)?)

@@ -1,25 +1,26 @@
 //! The context of a statement.
 
-ghost use Rattle.std.specs.Prelude.{◌≡◌, ◌∷◌};
+ghost use Rattle.std.specs.Prelude.{◌≡◌};
 ghost use Rattle.hp_model.specs.Refusals.{item_at};
+ghost use Rattle.hp_model.specs.Scopes.{knowing_row, knowing_value};
 ghost use Rattle.hp_rule.specs.Named.{names_in};
 ghost use Rattle.hp_rule.specs.Places.{steps};
 
+use crate::known_names::KnownNames;
 use crate::place::Place;
-use crate::row_names::RowNames;
 use std::alloc::Global;
 
-/// Where a statement or a body stands, and what it may name. The scope is all that it may name besides rows.
+/// Where a statement or a body stands, and what it may name. The scope is all that it may name besides rows and values.
 #[derive(Clone, Copy)]
 pub struct Context<'a, S> {
     /// The allocator of paths and of what is read.
     pub alloc: Global,
     /// The place.
     pub place: Place<'a>,
-    /// What may be named besides rows.
+    /// What may be named besides rows and values.
     pub scope: S,
-    /// The names of rows in scope.
-    pub names: RowNames<'a>,
+    /// The names of rows and values in scope.
+    pub names: KnownNames<'a>,
 }
 
 impl<S: Copy> Context<'_, S> {
@@ -35,14 +36,26 @@ impl<S: Copy> Context<'_, S> {
         }
     }
 
-    /// The context inside a statement that binds a name to a row.
-    pub fn bound<'b>(&'b self, newest: &'b str) -> Context<'b, S>
+    /// The context inside a statement whose name means a row.
+    pub fn with_row<'b>(&'b self, newest: &'b str) -> Context<'b, S>
         ensures place { result.place ≡ self.entry.now.place }
         ensures scope { result.scope ≡ self.entry.now.scope }
-        ensures names { names_in result.names ≡ newest.entry.now ∷ names_in self.entry.now.names }
+        ensures names { names_in result.names ≡ knowing_row newest.entry.now (names_in self.entry.now.names) }
     {
         Context {
-            names: self.names.bound(newest),
+            names: self.names.with_row(newest),
+            ..*self
+        }
+    }
+
+    /// The context inside a statement whose name means a value.
+    pub fn with_value<'b>(&'b self, newest: &'b str) -> Context<'b, S>
+        ensures place { result.place ≡ self.entry.now.place }
+        ensures scope { result.scope ≡ self.entry.now.scope }
+        ensures names { names_in result.names ≡ knowing_value newest.entry.now (names_in self.entry.now.names) }
+    {
+        Context {
+            names: self.names.with_value(newest),
             ..*self
         }
     }

@@ -2,7 +2,7 @@
 
 use crate::stmt::Stmt;
 use hp_detect::EventExpr;
-use hp_query::Query;
+use hp_query::Entry;
 use hp_value::Coupling;
 use std::sync::Arc;
 
@@ -17,10 +17,12 @@ pub struct Rule {
     pub event: Arc<EventExpr>,
     /// The coupling mode of the condition, relative to the event.
     pub ec: Coupling,
-    /// The condition: it is satisfied if each query has a non-empty answer.
-    pub condition: Vec<Query>,
+    /// The condition: it is satisfied if each entry is.
+    pub condition: Vec<Entry>,
     /// The coupling mode of the action, relative to the condition.
     pub ca: Coupling,
     /// The action's statements, in order.
     pub action: Vec<Stmt>,
+    /// Whether it vetoes where its condition faults or its action doesn't commit (this project's own choice).
+    pub closed: bool,
 }

@@ -1,5 +1,6 @@
 //! Statements.
 
+use hp_query::Aggregate;
 use hp_value::{ClassNo, Expr, RuleNo, RuleOperation};
 
 /// A field and the expression that it is set to.
@@ -95,10 +96,20 @@ pub enum Stmt {
         /// The statements that run in the parent if the subtransaction aborts.
         otherwise: Vec<Stmt>,
     },
+    /// Runs a body with a name for a value, which is found first.
+    Let {
+        /// The name of the value in the body.
+        name: String,
+        /// What computes the value. It must have one: the least and the greatest of no row have none.
+        aggregate: Aggregate,
+        /// The statements that run.
+        body: Vec<Stmt>,
+    },
     /// Aborts the innermost transaction around it.
     Abort,
-    /// Aborts the action and the transaction that triggered its rule. It is allowed in actions only.
-    Veto,
+    /// Aborts the action and the transaction that triggered its rule, with the value of an expression as its reason, if
+    /// there is one. It is allowed in actions only.
+    Veto(Option<Box<Expr>>),
     /// Installs, enables, disables or removes a rule. It signals no event.
     OnRule {
         /// The operation.
@@ -213,7 +224,20 @@ impl PartialEq for Stmt {
                     otherwise: d,
                 },
             ) => a == c && b == d,
-            (Stmt::Abort, Stmt::Abort) | (Stmt::Veto, Stmt::Veto) => true,
+            (
+                Stmt::Let {
+                    name: x,
+                    aggregate: e,
+                    body: a,
+                },
+                Stmt::Let {
+                    name: y,
+                    aggregate: f,
+                    body: b,
+                },
+            ) => x == y && e == f && a == b,
+            (Stmt::Abort, Stmt::Abort) | (Stmt::Veto(None), Stmt::Veto(None)) => true,
+            (Stmt::Veto(Some(a)), Stmt::Veto(Some(b))) => **a == **b,
             (
                 Stmt::OnRule {
                     operation: o,

@@ -1,11 +1,13 @@
 //! Tasks.
 
 ghost use Rattle.std.specs.Prelude.{◌≡◌};
-ghost use lib.Pointwise.{pointwise};
 ghost use Rattle.hp_value.specs.Mapped as mapped;
-ghost use Rattle.hp_value.specs.Same.{answer_same, occurrence_same};
+ghost use Rattle.hp_value.specs.Same.{occurrence_same};
+ghost use Rattle.hp_query.specs.Mapped.{findings};
+ghost use Rattle.hp_query.specs.Same.{findings_same};
 
-use hp_value::{Answer, Coupling, Occurrence, RuleNo};
+use hp_query::Findings;
+use hp_value::{Coupling, Occurrence, RuleNo};
 use std::alloc::AllocError;
 use std::sync::Arc;
 
@@ -14,11 +16,11 @@ use std::sync::Arc;
 pub enum Step {
     /// The condition.
     Condition,
-    /// The action, with the kept answers of the condition's queries, in their order.
-    Action(Arc<Vec<Answer>>),
+    /// The action, with what the condition found.
+    Action(Arc<Findings>),
 }
 
-/// A condition or an action of a rule that is to run. A clone shares the occurrence and the answers.
+/// A condition or an action of a rule that is to run. A clone shares the occurrence and the findings.
 #[derive(Debug, Drop)]
 pub struct Task {
     /// The rule.
@@ -30,6 +32,8 @@ pub struct Task {
     /// The number of firings from the body of a script or a moment down to the task, each triggered by the one above
     /// it. It is at most the library's depth limit.
     pub depth: u8,
+    /// The clock's moment while its unit runs.
+    pub time: u64,
     /// The occurrence of the rule's event. A condition and its later action share it.
     pub occurrence: Arc<Occurrence>,
 }
@@ -56,20 +60,19 @@ impl PartialEq for Step {
     fn eq(&self, other: &Step) -> bool {
         match (self, other) {
             (Step::Condition, Step::Condition) => true,
-            (Step::Action(answers), Step::Action(others)) => are_same(answers, others),
+            (Step::Action(found), Step::Action(others)) => are_same(found, others),
             _ => false,
         }
     }
 }
 
-/// Whether kept answers are equal.
-fn are_same(answers: &Arc<Vec<Answer>>, others: &Arc<Vec<Answer>>) -> bool
-    ensures { result
-        ≡ pointwise answer_same (mapped.answers answers.now.value.items) (mapped.answers others.now.value.items) }
+/// Whether findings are equal.
+fn are_same(found: &Arc<Findings>, others: &Arc<Findings>) -> bool
+    ensures { result ≡ findings_same (findings found.now.value) (findings others.now.value) }
 {
-    let answers: &Vec<Answer> = answers;
-    let others: &Vec<Answer> = others;
-    answers == others
+    let found: &Findings = found;
+    let others: &Findings = others;
+    found == others
 }
 
 impl PartialEq for Task {
@@ -88,6 +91,7 @@ impl PartialEq for Task {
             && self.step == other.step
             && self.place == other.place
             && self.depth == other.depth
+            && self.time == other.time
             && is_same(&self.occurrence, &other.occurrence)
     }
 }
@@ -107,19 +111,20 @@ impl Clone for Task {
 
     ghost is_clone = { λ t u. task u ≡ task t };
 
-    /// A clone, which shares the occurrence and the answers.
+    /// A clone, which shares the occurrence and the findings.
     ///
     /// An error means that an `Arc` could not be cloned.
     fn clone(&self) -> Result<Task, AllocError> {
         let step = match &self.step {
             Step::Condition => Step::Condition,
-            Step::Action(answers) => Step::Action(Arc::try_clone(answers)?),
+            Step::Action(found) => Step::Action(Arc::try_clone(found)?),
         };
         Ok(Task {
             rule: self.rule,
             step,
             place: self.place,
             depth: self.depth,
+            time: self.time,
             occurrence: Arc::try_clone(&self.occurrence)?,
         })
     }

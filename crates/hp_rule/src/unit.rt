@@ -6,7 +6,12 @@ use crate::body::Body;
 #[derive(Debug, Drop)]
 pub enum Unit {
     /// A body of the script.
-    Transaction(Body),
-    /// A moment that the logical clock reaches.
+    Transaction {
+        /// The clock's moment while it and its cascade run.
+        time: u64,
+        /// The body.
+        body: Body,
+    },
+    /// A moment that the logical clock reaches. It is the clock's moment while it and its cascade run.
     Moment(u64),
 }

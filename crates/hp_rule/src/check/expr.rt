@@ -9,8 +9,8 @@ ghost use Rattle.hp_rule.specs.Places.{steps};
 
 use crate::check::name::{check_limit, check_name, check_unless};
 use crate::fault::{CheckError, Limit, over_limit};
+use crate::known_names::KnownNames;
 use crate::place::Place;
-use crate::row_names::RowNames;
 use hp_value::{Expr, Value};
 use std::alloc::Global;
 
@@ -31,19 +31,31 @@ fn check_constant(constant: &Value) -> Result<(), CheckError>
 fn check_row(
     alloc: Global,
     place: &Place<'_>,
-    names: &RowNames<'_>,
+    names: &KnownNames<'_>,
     variable: &str,
 ) -> Result<(), CheckError>
-    ensures { Passes result (known_name_check (names_in names.now) (steps place.now) variable.now) }
+    ensures { Passes result (known_name_check (names_in names.now).rows (steps place.now) variable.now) }
 {
-    check_unless(alloc, place, variable, !names.knows(variable))
+    check_unless(alloc, place, variable, !names.knows_row(variable))
+}
+
+/// Checks that the name of a value is in scope.
+fn check_value(
+    alloc: Global,
+    place: &Place<'_>,
+    names: &KnownNames<'_>,
+    name: &str,
+) -> Result<(), CheckError>
+    ensures { Passes result (known_name_check (names_in names.now).values (steps place.now) name.now) }
+{
+    check_unless(alloc, place, name, !names.knows_value(name))
 }
 
 #[tactic(auto, unfolding(hp_model::specs::Checked::field_check))]
 fn check_field(
     alloc: Global,
     place: &Place<'_>,
-    names: &RowNames<'_>,
+    names: &KnownNames<'_>,
     variable: &str,
     field: &str,
 ) -> Result<(), CheckError>
@@ -59,7 +71,7 @@ fn check_field(
 fn check_levels(
     alloc: Global,
     place: &Place<'_>,
-    names: &RowNames<'_>,
+    names: &KnownNames<'_>,
     levels: usize,
     expr: &Expr,
 ) -> Result<(), CheckError>
@@ -87,7 +99,12 @@ fn check_levels(
             &place.item(2),
             field.as_str(),
         ),
-        Expr::KeyIn { .. } | Expr::Argument { .. } | Expr::TimeOf { .. } | Expr::Count => Ok(()),
+        Expr::ValueOf { name } => check_value(alloc, &place.item(1), names, name.as_str()),
+        Expr::KeyIn { .. }
+        | Expr::Argument { .. }
+        | Expr::TimeOf { .. }
+        | Expr::Count
+        | Expr::Now => Ok(()),
     }
 }
 
@@ -96,7 +113,7 @@ fn check_levels(
 fn check_operands(
     alloc: Global,
     place: &Place<'_>,
-    names: &RowNames<'_>,
+    names: &KnownNames<'_>,
     levels: usize,
     left: &Expr,
     right: &Expr,
@@ -113,7 +130,7 @@ fn check_operands(
 pub(crate) fn check_expr(
     alloc: Global,
     place: &Place<'_>,
-    names: &RowNames<'_>,
+    names: &KnownNames<'_>,
     expr: &Expr,
 ) -> Result<(), CheckError>
     ensures { Passes result (whole_expression_check (names_in names.now) (steps place.now) (expression expr.now)) }

@@ -13,8 +13,8 @@ use crate::check::classes::has_field;
 use crate::check::expr::check_expr;
 use crate::check::name::check_unless;
 use crate::fault::{CheckError, bad_name};
+use crate::known_names::KnownNames;
 use crate::place::Place;
-use crate::row_names::RowNames;
 use crate::stmt::Assignment;
 use hp_value::Field;
 use std::alloc::Global;
@@ -51,7 +51,7 @@ fn check_pair(
     alloc: Global,
     place: &Place<'_>,
     fields: &[Field],
-    names: &RowNames<'_>,
+    names: &KnownNames<'_>,
     before: &[Assignment],
     pair: &Assignment,
 ) -> Result<(), CheckError>
@@ -68,7 +68,7 @@ pub(crate) fn check_pairs(
     alloc: Global,
     place: &Place<'_>,
     fields: &[Field],
-    names: &RowNames<'_>,
+    names: &KnownNames<'_>,
     pairs: &[Assignment],
 ) -> Result<(), CheckError>
     ensures { Passes result

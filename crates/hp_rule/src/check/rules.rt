@@ -2,25 +2,23 @@
 
 ghost use Rattle.std.specs.Prelude.{◌≡◌, length, map};
 ghost use Rattle.hp_value.specs.Mapped.{class_def};
-ghost use Rattle.hp_query.specs.Mapped.{query};
 ghost use Rattle.hp_rule.specs.Statements.{rule, library_of};
-ghost use Rattle.hp_model.specs.Checked.{is_known, rule_names, query_names, head_check, heads_check, query_check};
-ghost use Rattle.hp_model.specs.Checked.{queries_check, rule_check, rules_check, depth_check, library_check};
+ghost use Rattle.hp_model.specs.Checked.{is_known, rule_names, head_check, heads_check};
+ghost use Rattle.hp_model.specs.Checked.{rule_check, rules_check, depth_check, library_check};
 ghost use Rattle.hp_rule.specs.Faults.{Passes};
 ghost use Rattle.hp_rule.specs.Places.{steps};
 
 use crate::check::classes::check_classes;
+use crate::check::condition::check_condition;
 use crate::check::event::check_event;
-use crate::check::expr::check_expr;
-use crate::check::name::{check_limit, check_number, check_unless};
+use crate::check::name::{check_limit, check_unless};
 use crate::check::scope::Scope;
 use crate::check::statement::check_whole_body;
 use crate::context::Context;
 use crate::fault::{CheckError, Limit, over_limit};
+use crate::known_names::KnownNames;
 use crate::place::{Member, Place};
-use crate::row_names::{RowNames, is_query};
 use crate::rule::Rule;
-use hp_query::Query;
 use hp_value::ClassDef;
 use std::alloc::Global;
 
@@ -62,42 +60,6 @@ fn check_heads(alloc: Global, place: &Place<'_>, rules: &[Rule]) -> Result<(), C
     Ok(())
 }
 
-#[tactic(auto, unfolding(hp_model::specs::Checked::query_check))]
-fn check_query(
-    alloc: Global,
-    place: &Place<'_>,
-    classes: usize,
-    before: &[Query],
-    asked: &Query,
-) -> Result<(), CheckError>
-    ensures { Passes result (query_check classes (map query before.now) (steps place.now) (query asked.now)) }
-{
-    let name = asked.name.as_str();
-    check_unless(alloc, &place.item(0), name, is_query(before, name))?;
-    check_number(alloc, &place.item(1), classes, asked.class)?;
-    let earlier = RowNames::Queries(before);
-    check_expr(
-        alloc,
-        &place.item(2),
-        &earlier.bound(name),
-        &asked.predicate,
-    )
-}
-
-fn check_queries(
-    alloc: Global,
-    place: &Place<'_>,
-    classes: usize,
-    queries: &[Query],
-) -> Result<(), CheckError>
-    ensures { Passes result (queries_check classes (steps place.now) (map query queries.now)) }
-{
-    for (i, query) in queries.iter().enumerate() {
-        check_query(alloc, &place.item(i), classes, &queries[..i], query)?;
-    }
-    Ok(())
-}
-
 /// Checks the other parts of a rule, in a library of this number of rules.
 #[tactic(auto, unfolding(hp_model::specs::Checked::rule_check))]
 fn check_rule(
@@ -116,18 +78,18 @@ fn check_rule(
         MAX_EVENT_LEVELS,
         &whole.event,
     )?;
-    check_queries(alloc, &place.item(3), classes.len(), &whole.condition)?;
+    check_condition(alloc, &place.item(3), classes.len(), &whole.condition)?;
     let scope = Scope {
         classes,
         rules,
         in_action: true,
-        queries: &whole.condition,
+        condition: &whole.condition,
     };
     let context = Context {
         alloc,
         place: place.item(5),
         scope,
-        names: RowNames::Queries(&whole.condition),
+        names: KnownNames::Entries(&whole.condition),
     };
     check_whole_body(&context, &whole.action)
 }

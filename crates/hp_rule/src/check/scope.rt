@@ -1,13 +1,13 @@
-//! What a body may name besides rows.
+//! What a body may name besides rows and values.
 
 ghost use Rattle.std.specs.Prelude.{◌≡◌, map};
 ghost use Rattle.hp_value.specs.Mapped.{field};
 ghost use Rattle.hp_model.specs.Checked.{fields_of};
 
-use hp_query::Query;
+use hp_query::Entry;
 use hp_value::{ClassDef, ClassNo, Field};
 
-/// What a body may name besides rows, and whether it is an action.
+/// What a body may name besides rows and values, and whether it is an action.
 #[derive(Clone, Copy)]
 pub(crate) struct Scope<'a> {
     pub classes: &'a [ClassDef],
@@ -15,8 +15,8 @@ pub(crate) struct Scope<'a> {
     pub rules: usize,
     /// Whether the body is a rule's action.
     pub in_action: bool,
-    /// The queries of the rule.
-    pub queries: &'a [Query],
+    /// The rule's condition, whose queries the action may use.
+    pub condition: &'a [Entry],
 }
 
 impl<'a> Scope<'a> {

@@ -2,13 +2,15 @@
 
 ghost use Rattle.std.specs.Prelude.{◌≡◌, map};
 ghost use Rattle.hp_value.specs.Mapped.{expression, field};
+ghost use Rattle.hp_query.specs.Mapped.{aggregate};
 ghost use Rattle.hp_rule.specs.Statements.{assignment, statement, body_in};
 ghost use Rattle.hp_model.specs.Refusals.{item_at};
+ghost use Rattle.hp_model.specs.Scopes.{taken};
 ghost use Rattle.hp_model.specs.Checked.{number_check, class_check, new_name_check, whole_expression_check};
 ghost use Rattle.hp_model.specs.Checked.{assignments_check};
 ghost use Rattle.hp_model.specs.Checked.{create_check, update_check, delete_check, arguments_check, signal_check};
 ghost use Rattle.hp_model.specs.Checked.{when_check, each_row_check, for_answer_check, with_object_check};
-ghost use Rattle.hp_model.specs.Checked.{subtransaction_check};
+ghost use Rattle.hp_model.specs.Checked.{subtransaction_check, let_value_check};
 ghost use Rattle.hp_model.specs.Checked.{is_veto, veto_check, statement_parts_check, statement_check, body_check};
 ghost use Rattle.hp_model.specs.Checked.{whole_body_check};
 ghost use Rattle.hp_rule.specs.Faults.{Passes};
@@ -16,14 +18,16 @@ ghost use Rattle.hp_rule.specs.Named.{names_in};
 ghost use Rattle.hp_rule.specs.Places.{steps};
 ghost use Rattle.hp_rule.specs.Scopes.{scope_of};
 
+use crate::check::aggregate::check_aggregate;
 use crate::check::expr::check_expr;
 use crate::check::name::{check_limit, check_name, check_number, check_unless};
 use crate::check::pairs::check_pairs;
 use crate::check::scope::Scope;
 use crate::context::Context;
 use crate::fault::{CheckError, Limit, bad_name, over_limit, wrong_shape};
-use crate::row_names::is_query;
+use crate::known_names::is_query;
 use crate::stmt::{Assignment, Stmt};
+use hp_query::Aggregate;
 use hp_value::{ClassNo, Expr, Field, RuleNo};
 
 const MAX_ARGUMENTS: usize = 32;
@@ -73,10 +77,10 @@ fn check_value(
 /// Checks that a name isn't in scope yet. It is the statement's first part.
 fn check_variable(context: &Context<'_, Scope<'_>>, variable: &str) -> Result<(), CheckError>
     ensures { Passes result
-        (new_name_check (names_in context.now.names) (item_at (steps context.now.place) 1) variable.now) }
+        (new_name_check (taken (names_in context.now.names)) (item_at (steps context.now.place) 1) variable.now) }
 {
-    let is_known = context.names.knows(variable);
-    check_unless(context.alloc, &context.place.item(1), variable, is_known)
+    let is_taken = context.names.is_taken(variable);
+    check_unless(context.alloc, &context.place.item(1), variable, is_taken)
 }
 
 /// Checks the assignments, which are the statement's third part.
@@ -179,7 +183,7 @@ fn is_veto(s: &Stmt) -> bool
     ensures { result ≡ is_veto (statement s.now) }
 {
     match s {
-        Stmt::Veto => true,
+        Stmt::Veto(_) => true,
         _ => false,
     }
 }
@@ -229,7 +233,7 @@ fn check_each(
 {
     check_variable(context, variable)?;
     check_class(context, 2, class)?;
-    let inner = (&*context).bound(variable);
+    let inner = (&*context).with_row(variable);
     check_value(&inner, 3, predicate)?;
     check_body(&inner.item(4), levels, body)
 }
@@ -246,7 +250,7 @@ fn check_for(
         (for_answer_check (scope_of context.now.scope) (statement_check (scope_of context.now.scope) levels)
         (names_in context.now.names) (steps context.now.place) query.now (body_in body.now)) }
 {
-    let is_unknown = !is_query(context.scope.queries, query);
+    let is_unknown = !is_query(context.scope.condition, query);
     check_unless(context.alloc, &context.place.item(1), query, is_unknown)?;
     check_body(&context.item(2), levels, body)
 }
@@ -269,7 +273,7 @@ fn check_with(
     check_variable(context, variable)?;
     check_class(context, 2, class)?;
     check_value(context, 3, key)?;
-    let inner = (&*context).bound(variable);
+    let inner = (&*context).with_row(variable);
     check_body(&inner.item(4), levels, body)
 }
 
@@ -287,6 +291,27 @@ fn check_sub(
 {
     check_body(&context.item(1), levels, body)?;
     check_body(&context.item(2), levels, otherwise)
+}
+
+#[cycle(statement)]
+#[tactic(auto, unfolding(hp_model::specs::Checked::let_value_check))]
+fn check_let(
+    context: &Context<'_, Scope<'_>>,
+    levels: usize,
+    name: &str,
+    computed: &Aggregate,
+    body: &[Stmt],
+) -> Result<(), CheckError>
+    ensures { Passes result
+        (let_value_check (scope_of context.now.scope) (statement_check (scope_of context.now.scope) levels)
+        (names_in context.now.names) (steps context.now.place) name.now (aggregate computed.now) (body_in body.now)) }
+{
+    check_variable(context, name)?;
+    let classes = context.scope.classes.len();
+    let place = context.place.item(2);
+    check_aggregate(context.alloc, &place, classes, &context.names, computed)?;
+    let inner = (&*context).with_value(name);
+    check_body(&inner.item(3), levels, body)
 }
 
 /// Checks the parts of a statement. The statements in it have at most `levels` levels.
@@ -321,7 +346,13 @@ fn check_parts(context: &Context<'_, Scope<'_>>, levels: usize, s: &Stmt) -> Res
             body,
         } => check_with(context, levels, variable.as_str(), *class, key, body),
         Stmt::Sub { body, otherwise } => check_sub(context, levels, body, otherwise),
-        Stmt::Abort | Stmt::Veto => Ok(()),
+        Stmt::Let {
+            name,
+            aggregate: computed,
+            body,
+        } => check_let(context, levels, name.as_str(), computed, body),
+        Stmt::Abort | Stmt::Veto(None) => Ok(()),
+        Stmt::Veto(Some(message)) => check_value(context, 1, message),
         Stmt::OnRule { rule, .. } | Stmt::Fire(rule) => check_rule(context, *rule),
     }
 }

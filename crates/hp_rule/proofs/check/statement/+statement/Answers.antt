@@ -1,5 +1,6 @@
 use Rattle.std.proofs.Common.{rules, ◌≡◌, subst}
 use Rattle.hp_value.specs.Mapped.{expression}
+use Rattle.hp_query.specs.Mapped.{aggregate}
 use Rattle.hp_model.specs.Rules as R
 use Rattle.hp_rule.specs.declared.stmt.Stmt.TheViews.{the_lemmas}
 use Rattle.hp_rule.specs.Statements.{statement, body_in}
@@ -35,3 +36,8 @@ pub check_parts-returns-in-Sub : goal.check_parts-returns-in-Sub
 check_parts-returns-in-Sub t c =
     let is : R.subtransaction (body_in c.deref-in-Sub.result.now) (body_in c.deref-in-Sub-2.result.now) ≡ statement c.args.s.now = search (rules, the_lemmas, row_body_lem) in
     subst (λ s. Passes c.check_sub.result (statement_parts_check (scope_of c.args.context.now.scope) (statement_check (scope_of c.args.context.now.scope) c.args.levels) (names_in c.args.context.now.names) (steps c.args.context.now.place) s)) is c.check_sub.ensures
+
+pub check_parts-returns-in-Let : goal.check_parts-returns-in-Let
+check_parts-returns-in-Let t c =
+    let is : R.let_value c.as_str-in-Let.result.now (aggregate c.in-Let.computed) (body_in c.deref-in-Let.result.now) ≡ statement c.args.s.now = search (rules, the_lemmas, row_body_lem) in
+    subst (λ s. Passes c.check_let.result (statement_parts_check (scope_of c.args.context.now.scope) (statement_check (scope_of c.args.context.now.scope) c.args.levels) (names_in c.args.context.now.names) (steps c.args.context.now.place) s)) is c.check_let.ensures

@@ -27,6 +27,9 @@ decreases-check_with l = 4 * l.levels + 2
 abbrev pub decreases-check_sub : goal.decreases-check_sub
 decreases-check_sub l = 4 * l.levels + 2
 
+abbrev pub decreases-check_let : goal.decreases-check_let
+decreases-check_let l = 4 * l.levels + 2
+
 abbrev pub decreases-check_parts : goal.decreases-check_parts
 decreases-check_parts l = 4 * l.levels + 3
 

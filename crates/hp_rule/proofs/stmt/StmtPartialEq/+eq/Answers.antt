@@ -25,5 +25,11 @@ returns-else-eq-5 t c = search (rules, the_lemmas, row_body_lem, bodies_same)
 pub returns-then-eq-8 : goal.returns-then-eq-8
 returns-then-eq-8 t c = search (rules, the_lemmas, row_body_lem, bodies_same)
 
-pub returns-then-eq-9 : goal.returns-then-eq-9
-returns-then-eq-9 t c = search (rules, assignments_same)
+pub returns-then-eq-7 : goal.returns-then-eq-7
+returns-then-eq-7 t c = search (rules, the_lemmas, row_body_lem, bodies_same)
+
+pub returns-then-eq-10 : goal.returns-then-eq-10
+returns-then-eq-10 t c = search (rules, the_lemmas, row_body_lem, bodies_same)
+
+pub returns-then-eq-11 : goal.returns-then-eq-11
+returns-then-eq-11 t c = search (rules, assignments_same)

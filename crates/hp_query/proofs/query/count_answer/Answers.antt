@@ -1,0 +1,18 @@
+use Rattle.std.proofs.Common.{ℕ, subst, ap, ◌∙◌}
+use Rattle.hp_model.specs.State.{rows_of}
+use Rattle.hp_model.specs.Conditions as model
+use Rattle.hp_value.specs.Mapped.{Meets, environment, expression}
+use Rattle.hp_query.specs.Candidates.{counted}
+use Rattle.hp_query.proofs.CandidateLemmas.{selected_of}
+use Rattle.hp_query.proofs.query.count_answer.Goals as goal
+
+pub returns-clause-count : goal.returns-clause-count
+returns-clause-count g c = λ world rise allowed.
+    let asked = c.new-asked.result in
+    let is = c.new-asked.ensures in
+    let env = environment asked.env.now in
+    let predicate = expression asked.predicate.now in
+    subst (λ o. Meets {A = ℕ} {B = ℕ} (λ n. n) c.count_selected.result (counted o))
+    (ap (model.selected env asked.name.now predicate) c.rows.ensures ∙ selected_of env asked.name.now predicate (c.in_ok-found.ensures.rows world rise allowed)
+    ∙ (λ i. model.selected (is.env i) (is.name i) (is.predicate i) (rows_of (is.class i) world)))
+    c.count_selected.ensures

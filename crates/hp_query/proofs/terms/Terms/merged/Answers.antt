@@ -1,0 +1,17 @@
+use Rattle.std.proofs.Common.{None, subst, ap, ◌∙◌, option_map}
+use Rattle.hp_model.specs.Conditions as model
+use Rattle.hp_value.specs.Mapped.{Meets, environment, expression, value}
+use Rattle.hp_query.specs.Mapped.{merge}
+use Rattle.hp_query.proofs.CandidateLemmas.{merged_of}
+use Rattle.hp_query.proofs.terms.Terms.merged.Goals as goal
+
+pub returns-clause-value : goal.returns-clause-value
+returns-clause-value g c = λ world rise allowed.
+    let asked = c.args.self.now.asked in
+    let env = environment asked.env.now in
+    let predicate = expression asked.predicate.now in
+    let term = expression c.args.self.now.term.now in
+    let how = merge c.args.self.now.merge in
+    subst (Meets (option_map value) c.merged_of.result)
+    (ap (model.merged how env asked.name.now predicate term None) c.rows.ensures ∙ merged_of env asked.name.now predicate how term None (c.in_ok-found.ensures.rows world rise allowed))
+    c.merged_of.ensures
