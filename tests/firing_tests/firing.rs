@@ -4,17 +4,20 @@ use super::fixtures::{
     account, alone, bank, both, emit_balance, enriching, go, going, idle, idles, is_above, library,
     make, number, on_go, on_rich, set, setting, task, text, vetoing,
 };
-use super::seen::{Balances, Seen, all_shown, first_node, look, shown};
+use super::seen::{Balances, How, Said, Seen, all_shown, first_node, look, said, shown};
 use hp_attempt::{Settled, settle};
 use hp_fire::{End, Engine, Past, detached_after, end_transaction, ending, run_task};
 use hp_rule::{CheckError, Detached, Library, Rule, Stmt, Task};
 use hp_store::CellValue;
 use hp_tree::{ConditionEnd, Ending, What};
-use hp_value::{Cause, Cell, Coupling, Key, Prim, RuleNo};
+use hp_value::{Cause, Cell, Coupling, Key, Prim, RuleNo, Veto};
 use hp_view::View;
 use std::alloc::{AllocError, Global};
 use std::test::Fail;
 use std::thread::Threads;
+
+// The clock's moment in each test.
+const MOMENT: u64 = 7;
 
 fn run_on(
     rt: &(impl Threads + Sync),
@@ -26,7 +29,7 @@ fn run_on(
 ) -> Result<Seen, AllocError> {
     let body = body?;
     let past = Past::new(alloc, lib, 1);
-    let course = Engine::new(rt, alloc, lib, 1, &past).run_body(view, &body, depth)?;
+    let course = Engine::new(rt, alloc, lib, 1, &past).run_body(view, &body, depth, MOMENT)?;
     Ok(look(view, &course))
 }
 
@@ -48,7 +51,7 @@ fn a_predecessors_effect_is_seen_by_a_later_sibling(rt: HostRuntime) -> Result<(
     let alloc = rt.alloc();
     for (is_first, made) in [(true, Some(30)), (false, None)] {
         let seen = run(&rt, alloc, enriching(alloc, is_first), going(alloc), 0)?;
-        assert_eq!(rt; seen.end, End::Done);
+        assert_eq!(rt; seen.end, How::Done);
         assert_eq!(rt; seen.balances, (Some(10), Some(200), made, None, None));
     }
     Ok(())
@@ -65,7 +68,7 @@ fn signal_on(
         args: Vec::new(alloc),
     };
     let past = Past::new(alloc, lib, 1);
-    let course = Engine::new(rt, alloc, lib, 1, &past).run_signal(view, &signal, 0)?;
+    let course = Engine::new(rt, alloc, lib, 1, &past).run_signal(view, &signal, 0, MOMENT)?;
     Ok(look(view, &course))
 }
 
@@ -84,7 +87,7 @@ fn signalled(
 fn a_veto_stops_the_group(rt: HostRuntime) -> Result<(), Fail> {
     let alloc = rt.alloc();
     let seen = signalled(&rt, alloc, vetoing(alloc))?;
-    assert_eq!(rt; seen.end, End::Abort(Cause::Vetoed(0)));
+    assert_eq!(rt; seen.end, How::Vetoed((0, None)));
     assert_eq!(rt; seen.items, 1);
     assert_eq!(rt; seen.balances, (Some(10), Some(20), None, None, None));
     Ok(())
@@ -106,9 +109,9 @@ fn trying(alloc: Global) -> Result<Vec<Stmt>, AllocError> {
 fn a_veto_aborts_the_sub_round_it(rt: HostRuntime) -> Result<(), Fail> {
     let alloc = rt.alloc();
     let seen = run(&rt, alloc, vetoing(alloc), trying(alloc), 0)?;
-    assert_eq!(rt; seen.end, End::Done);
+    assert_eq!(rt; seen.end, How::Done);
     assert_eq!(rt; seen.balances, (Some(11), Some(20), None, None, None));
-    let ended = Ending::Aborted(Cause::Vetoed(0));
+    let ended = How::Vetoed((0, None));
     assert_eq!(rt; seen.node, Some((What::Sub, ended)));
     Ok(())
 }
@@ -118,7 +121,7 @@ fn a_sub_that_is_done_stays(rt: HostRuntime) -> Result<(), Fail> {
     let alloc = rt.alloc();
     let lib = idle(alloc, Coupling::Immediate, Coupling::Immediate);
     let seen = run(&rt, alloc, lib, trying(alloc), 0)?;
-    assert_eq!(rt; seen.end, End::Done);
+    assert_eq!(rt; seen.end, How::Done);
     assert_eq!(rt; seen.balances, (Some(10), Some(20), None, Some(40), None));
     Ok(())
 }
@@ -136,7 +139,7 @@ fn an_aborted_sub_leaves_no_write_and_its_separate_tasks(rt: HostRuntime) -> Res
     let alloc = rt.alloc();
     let lib = idle(alloc, Coupling::Dependent, Coupling::Separate);
     let seen = run(&rt, alloc, lib, aborting(alloc), 0)?;
-    assert_eq!(rt; seen.end, End::Done);
+    assert_eq!(rt; seen.end, How::Done);
     assert_eq!(rt; seen.balances, (Some(10), Some(20), None, None, None));
     assert_eq!(rt; seen.detached, Some((1, false)));
     Ok(())
@@ -157,7 +160,7 @@ fn deferred_and_detached_tasks_are_placed(rt: HostRuntime) -> Result<(), Fail> {
     let alloc = rt.alloc();
     let lib = idle(alloc, Coupling::Deferred, Coupling::Dependent);
     let seen = run(&rt, alloc, lib, going(alloc), 1)?;
-    assert_eq!(rt; seen.end, End::Done);
+    assert_eq!(rt; seen.end, How::Done);
     assert_eq!(rt; (seen.items, seen.queued), (0, 1));
     assert_eq!(rt; seen.first_queued, Some((0, 2, None)));
     assert_eq!(rt; seen.detached, Some((1, false)));
@@ -169,7 +172,7 @@ fn at_the_limit_a_signal_ends_by_depth(rt: HostRuntime) -> Result<(), Fail> {
     let alloc = rt.alloc();
     let lib = idle(alloc, Coupling::Deferred, Coupling::Immediate);
     let seen = run(&rt, alloc, lib, going(alloc), 2)?;
-    assert_eq!(rt; seen.end, End::Abort(Cause::Depth));
+    assert_eq!(rt; seen.end, How::Abort(Cause::Depth));
     assert_eq!(rt; (seen.items, seen.queued), (0, 0));
     Ok(())
 }
@@ -188,7 +191,7 @@ fn a_rule_that_triggers_itself_ends(rt: HostRuntime) -> Result<(), Fail> {
     let seen = run(&rt, alloc, lib, going(alloc), 0)?;
 
     // The inner firing finds account 3, which aborts it alone.
-    assert_eq!(rt; seen.end, End::Done);
+    assert_eq!(rt; seen.end, How::Done);
     assert_eq!(rt; seen.balances, (Some(10), Some(20), Some(30), None, None));
     assert_eq!(rt; seen.queued, 2);
     Ok(())
@@ -210,7 +213,7 @@ fn each_binds_the_rows_that_it_finds(rt: HostRuntime) -> Result<(), Fail> {
     let alloc = rt.alloc();
     let lib = idle(alloc, Coupling::Deferred, Coupling::Deferred);
     let seen = run(&rt, alloc, lib, each(alloc), 0)?;
-    assert_eq!(rt; seen.end, End::Done);
+    assert_eq!(rt; seen.end, How::Done);
     assert_eq!(rt; seen.emitted, (Some(20), Some(10), None));
     Ok(())
 }
@@ -230,8 +233,8 @@ fn with(alloc: Global, key: Key) -> Result<Vec<Stmt>, AllocError> {
 fn with_binds_a_row_that_is_there(rt: HostRuntime) -> Result<(), Fail> {
     let alloc = rt.alloc();
     for (key, end, first) in [
-        (2, End::Done, Some(20)),
-        (7, End::Abort(Cause::Missing), None),
+        (2, How::Done, Some(20)),
+        (7, How::Abort(Cause::Missing), None),
     ] {
         let lib = idle(alloc, Coupling::Deferred, Coupling::Deferred);
         let seen = run(&rt, alloc, lib, with(alloc, key), 0)?;
@@ -292,16 +295,20 @@ fn a_later_action_keeps_the_answers(rt: HostRuntime) -> Result<(), Fail> {
     Ok(())
 }
 
+// The veto of a firing, its node, and the balances after it.
+type Fired = (Option<Said>, Option<(What, How)>, Balances);
+
 fn fire_on(
     rt: &(impl Threads + Sync),
     alloc: Global,
     lib: &Library,
     view: &mut View,
-) -> Result<(Option<RuleNo>, Option<(What, Ending)>, Balances), AllocError> {
+) -> Result<Fired, AllocError> {
     let task = task(alloc, 0, Coupling::Deferred)?;
     let past = Past::new(alloc, lib, 1);
     let outcome = Engine::new(rt, alloc, lib, 1, &past).run_firing(view, &task)?;
-    Ok((outcome.end, first_node(&outcome.tree), all_shown(view)))
+    let veto = outcome.end.as_ref().map(said);
+    Ok((veto, first_node(&outcome.tree), all_shown(view)))
 }
 
 // Fires the first rule in the bank with these rules.
@@ -309,7 +316,7 @@ fn fire(
     rt: &(impl Threads + Sync),
     alloc: Global,
     lib: Result<Library, CheckError>,
-) -> Result<(Option<RuleNo>, Option<(What, Ending)>, Balances), Fail> {
+) -> Result<Fired, Fail> {
     let lib = lib?;
     let mut view = bank(alloc, &lib)?;
     Ok(fire_on(rt, alloc, &lib, &mut view)?)
@@ -326,7 +333,7 @@ fn an_unsatisfied_condition_has_no_action(rt: HostRuntime) -> Result<(), Fail> {
         place: Coupling::Deferred,
         condition: ConditionEnd::WithoutAction,
     };
-    assert_eq!(rt; node, Some((what, Ending::Committed)));
+    assert_eq!(rt; node, Some((what, How::Done)));
     Ok(())
 }
 
@@ -383,11 +390,19 @@ fn an_attempt_is_rejected_after_its_read_changed(rt: HostRuntime) -> Result<(), 
     Ok(())
 }
 
+// A veto without a message.
+fn silent(rule: RuleNo) -> Veto {
+    Veto {
+        rule,
+        message: None,
+    }
+}
+
 // The balance of account 1 after a transaction that set it to 7 and ended so.
 fn balance_after(alloc: Global, view: &mut View, how: End) -> Result<Option<i64>, AllocError> {
     let mark = view.enter();
     view.put(Cell::Object(0, 1), CellValue::Row(account(alloc, 7)?))?;
-    end_transaction(view, mark, how)?;
+    end_transaction(view, mark, &how)?;
     Ok(shown(view, 1))
 }
 
@@ -402,7 +417,8 @@ fn a_transaction_ends_as_its_course_does(rt: HostRuntime) -> Result<(), Fail> {
     for (how, balance) in [
         (End::Done, Some(7)),
         (End::Abort(Cause::Asked), Some(10)),
-        (End::Veto(3), Some(10)),
+        (End::Vetoed(silent(3)), Some(10)),
+        (End::Veto(silent(3)), Some(10)),
     ] {
         assert_eq!(rt; ended(rt.alloc(), how)?, balance);
     }
@@ -416,7 +432,8 @@ fn endings_have_their_cause(rt: HostRuntime) -> Result<(), Fail> {
         ending(End::Abort(Cause::Depth)),
         Ending::Aborted(Cause::Depth)
     );
-    assert_eq!(rt; ending(End::Veto(3)), Ending::Aborted(Cause::Vetoed(3)));
+    assert_eq!(rt; ending(End::Vetoed(silent(3))), Ending::Vetoed(silent(3)));
+    assert_eq!(rt; ending(End::Veto(silent(3))), Ending::Vetoed(silent(3)));
     Ok(())
 }
 
@@ -427,12 +444,12 @@ fn left(alloc: Global, how: End) -> Result<usize, AllocError> {
         task: task(alloc, 0, Coupling::Dependent)?,
         released: false,
     })?;
-    Ok(detached_after(alloc, how, tasks)?.len())
+    Ok(detached_after(alloc, &how, tasks)?.len())
 }
 
 #[test]
 fn dependent_tasks_stay_detached_where_all_is_done(rt: HostRuntime) -> Result<(), Fail> {
-    for (how, count) in [(End::Done, 1), (End::Veto(0), 0)] {
+    for (how, count) in [(End::Done, 1), (End::Veto(silent(0)), 0)] {
         assert_eq!(rt; left(rt.alloc(), how)?, count);
     }
     Ok(())

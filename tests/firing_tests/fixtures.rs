@@ -3,7 +3,7 @@
 use hp_event::Pattern;
 use hp_ops::{create, set_rule};
 use hp_rule::{
-    Assignment, CheckError, EventExpr, Library, Query, Rule, RuleOperation, Step, Stmt, Task,
+    Aggregate, Assignment, CheckError, Entry, EventExpr, Library, Query, Rule, RuleOperation, Step, Stmt, Task,
 };
 use hp_store::Snapshot;
 use hp_value::{
@@ -109,6 +109,29 @@ pub fn is_above(alloc: Global, variable: &str, n: i64) -> Result<Box<Expr>, Allo
     Ok(Box::new(alloc, above)?)
 }
 
+// The value of a `let`.
+pub fn value_of(alloc: Global, name: &str) -> Result<Box<Expr>, AllocError> {
+    let name = text(alloc, name)?;
+    Ok(Box::new(alloc, Expr::ValueOf { name })?)
+}
+
+// The accounts with more than a number, each under the name `row`.
+pub fn above(alloc: Global, n: i64) -> Result<Query, AllocError> {
+    Ok(Query {
+        name: text(alloc, "row")?,
+        class: 0,
+        predicate: is_above(alloc, "row", n)?,
+    })
+}
+
+// The sum of the balances that are above a number.
+pub fn sum_above(alloc: Global, n: i64) -> Result<Aggregate, AllocError> {
+    Ok(Aggregate::Sum {
+        rows: above(alloc, n)?,
+        term: balance_in(alloc, "row")?,
+    })
+}
+
 // Emits the balance of the row with a name.
 pub fn emit_balance(alloc: Global, variable: &str) -> Result<Vec<Stmt>, AllocError> {
     alone(alloc, Stmt::Emit(balance_in(alloc, variable)?))
@@ -130,6 +153,7 @@ pub fn on_signal(
         condition: Vec::new(alloc),
         ca: Coupling::Immediate,
         action,
+        closed: false,
     })
 }
 
@@ -146,11 +170,11 @@ pub fn on_go(
 // The same with the query `rich`, for the accounts with more than 20.
 pub fn on_rich(alloc: Global, name: &str, action: Vec<Stmt>) -> Result<Rule, AllocError> {
     let mut rule = on_go(alloc, name, Coupling::Immediate, action)?;
-    rule.condition.push(Query {
+    rule.condition.push(Entry::Query(Query {
         name: text(alloc, "rich")?,
         class: 0,
         predicate: is_above(alloc, "rich", 20)?,
-    })?;
+    }))?;
     Ok(rule)
 }
 
@@ -233,6 +257,7 @@ pub fn task(alloc: Global, rule: RuleNo, place: Coupling) -> Result<Task, AllocE
         step: Step::Condition,
         place,
         depth: 1,
+        time: 0,
         occurrence: Arc::new(alloc, occurrence)?,
     })
 }
@@ -279,7 +304,7 @@ pub fn enriching(alloc: Global, is_first: bool) -> Result<Library, CheckError> {
 
 // A rule that creates account 5 and then vetoes.
 fn vetoes(alloc: Global) -> Result<Rule, AllocError> {
-    let action = both(alloc, make(alloc, 5, 50)?, Stmt::Veto)?;
+    let action = both(alloc, make(alloc, 5, 50)?, Stmt::Veto(None))?;
     on_go(alloc, "vetoes", Coupling::Immediate, action)
 }
 

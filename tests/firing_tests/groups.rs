@@ -1,21 +1,20 @@
 //! Groups that their owner runs alone.
 
 use super::fixtures::{bank, enriching, tasks, vetoing};
-use super::seen::{Seen, look};
-use hp_fire::{End, Gate, NoGate, group_course, run_group};
+use super::seen::{How, Said, Seen, look, said};
+use hp_fire::{Gate, NoGate, group_course, run_group};
 use hp_rule::{CheckError, Library, Task};
-use hp_value::RuleNo;
 use hp_view::View;
 use std::alloc::{AllocError, Global};
 use std::test::Fail;
 use std::thread::Threads;
 
-// What a test observes of a group: how many tasks fired and whose veto stopped it; how many were accepted from an
+// What a test observes of a group: how many tasks fired and which veto stopped it; how many were accepted from an
 // attempt, how many were run by the owner, and the number of waves; and its course.
 #[derive(Clone, Copy)]
 pub struct Siblings {
     pub fired: usize,
-    pub end: Option<RuleNo>,
+    pub end: Option<Said>,
     pub counts: (usize, usize, usize),
     pub course: Seen,
 }
@@ -39,7 +38,7 @@ pub fn fire_all_on<G: Gate + Sync>(
     let Setup { stops, width, gate } = setup;
     let group = run_group(rt, alloc, lib, view, tasks, stops, width, gate)?;
     let fired = group.outcomes.len();
-    let end = group.end;
+    let end = group.end.as_ref().map(said);
     let counts = (group.accepted, group.reran, group.waves);
     let course = group_course(alloc, group)?;
     Ok(Siblings {
@@ -92,7 +91,7 @@ fn a_veto_stops_a_group_only_where_it_is_to(rt: HostRuntime) -> Result<(), Fail>
             group.course.balances,
             (Some(10), Some(20), after, None, None)
         );
-        assert_eq!(rt; group.course.end == End::Done, !stops);
+        assert_eq!(rt; group.course.end == How::Done, !stops);
         assert_eq!(rt; group.course.items, fired);
     }
     Ok(())

@@ -2,6 +2,7 @@
 
 mod firing;
 mod fixtures;
+mod fourth;
 mod fronts;
 mod groups;
 mod policy;

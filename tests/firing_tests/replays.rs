@@ -50,6 +50,7 @@ fn up(alloc: Global) -> Result<Rule, AllocError> {
         condition: Vec::new(alloc),
         ca: Coupling::Immediate,
         action: alone(alloc, raise(alloc)?)?,
+        closed: false,
     })
 }
 
@@ -83,7 +84,8 @@ fn run(
     store: &mut Store,
 ) -> Result<UnitReport, CheckError> {
     let lib = library(alloc)?;
-    let unit = Unit::Transaction(Library::body(&lib, alloc, body(alloc)?)?);
+    let body = Library::body(&lib, alloc, body(alloc)?)?;
+    let unit = Unit::Transaction { time: 0, body };
     Ok(run_unit(rt, alloc, &lib, store, &unit, 1)?)
 }
 

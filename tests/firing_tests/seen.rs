@@ -4,7 +4,7 @@ use hp_fire::{Course, End};
 use hp_rule::{Detached, Step, Task};
 use hp_store::CellValue;
 use hp_tree::{Ending, Item, What};
-use hp_value::{Cell, Key, RuleNo, Value};
+use hp_value::{Cause, Cell, Key, RuleNo, Value, Veto};
 use hp_view::View;
 
 // The balance of an account, if it exists in the view.
@@ -53,7 +53,7 @@ fn emitted(items: &[Item]) -> Last {
 }
 
 // The integers that the first firing emitted.
-fn emitted_inside(items: &[Item]) -> Last {
+pub fn emitted_inside(items: &[Item]) -> Last {
     for item in items {
         if let Item::Node(node) = item {
             return emitted(&node.items);
@@ -62,11 +62,49 @@ fn emitted_inside(items: &[Item]) -> Last {
     NONE
 }
 
+// A veto's rule, and its message if that is an integer.
+pub type Said = (RuleNo, Option<i64>);
+
+pub fn said(veto: &Veto) -> Said {
+    match &veto.message {
+        Some(Value::Int(n)) => (veto.rule, Some(*n)),
+        _ => (veto.rule, None),
+    }
+}
+
+// How a course or a node ended.
+#[derive(Clone, Copy, Debug, PartialEq, Eq)]
+pub enum How {
+    Done,
+    Abort(Cause),
+    // By the veto of a firing inside it; a node by any veto.
+    Vetoed(Said),
+    // By its own veto.
+    Veto(Said),
+}
+
+pub fn how_of(end: &End) -> How {
+    match end {
+        End::Done => How::Done,
+        End::Abort(cause) => How::Abort(*cause),
+        End::Vetoed(veto) => How::Vetoed(said(veto)),
+        End::Veto(veto) => How::Veto(said(veto)),
+    }
+}
+
+pub fn how_ended(end: &Ending) -> How {
+    match end {
+        Ending::Committed => How::Done,
+        Ending::Aborted(cause) => How::Abort(*cause),
+        Ending::Vetoed(veto) => How::Vetoed(said(veto)),
+    }
+}
+
 // The node of the first firing, and how it ended.
-pub fn first_node(items: &[Item]) -> Option<(What, Ending)> {
+pub fn first_node(items: &[Item]) -> Option<(What, How)> {
     for item in items {
         if let Item::Node(node) = item {
-            return Some((node.what, node.end));
+            return Some((node.what, how_ended(&node.end)));
         }
     }
     None
@@ -74,11 +112,11 @@ pub fn first_node(items: &[Item]) -> Option<(What, Ending)> {
 
 // The keys of the rows that an action keeps; `None` if the task is no action.
 fn kept(task: &Task) -> Option<Last> {
-    let Step::Action(answers) = &task.step else {
+    let Step::Action(found) = &task.step else {
         return None;
     };
     let mut keys = NONE;
-    for answer in answers.iter() {
+    for answer in &found.answers {
         for row in &answer.rows {
             keys = (Some(row.key), keys.0, keys.1);
         }
@@ -106,11 +144,11 @@ fn only_detached(tasks: &[Detached]) -> Option<(RuleNo, bool)> {
 // What a test observes of a course, and of the view after it.
 #[derive(Clone, Copy)]
 pub struct Seen {
-    pub end: End,
+    pub end: How,
     pub items: usize,
     pub emitted: Last,
     pub inside: Last,
-    pub node: Option<(What, Ending)>,
+    pub node: Option<(What, How)>,
     pub queued: usize,
     pub first_queued: Option<Queued>,
     pub detached: Option<(RuleNo, bool)>,
@@ -119,7 +157,7 @@ pub struct Seen {
 
 pub fn look(view: &View, course: &Course) -> Seen {
     Seen {
-        end: course.end,
+        end: how_of(&course.end),
         items: course.items.len(),
         emitted: emitted(&course.items),
         inside: emitted_inside(&course.items),

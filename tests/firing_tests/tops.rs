@@ -4,9 +4,9 @@
 use super::fixtures::{alone, checked, give, install, on_signal};
 use hp_rule::{CheckError, Library, Rule, RuleOperation, Stmt, Unit};
 use hp_store::{CellValue, Snapshot, Status};
-use hp_top::{opening, run_top, run_unit_on};
+use hp_top::{attempt_unit, opening, run_top};
 use hp_tree::{Ending, TopReport};
-use hp_value::{Arithmetic, Cause, Cell, Coupling, Expr, Halt, RuleNo, Value};
+use hp_value::{Arithmetic, Cause, Cell, Coupling, Expr, Halt, RuleNo, Value, Veto};
 use hp_view::View;
 use std::alloc::{AllocError, Global};
 use std::process::Abort;
@@ -26,7 +26,7 @@ fn rules(alloc: Global) -> Result<Vec<Rule>, AllocError> {
     ] {
         rules.push(on_signal(alloc, name, signal, mode, Vec::new(alloc))?)?;
     }
-    let veto = alone(alloc, Stmt::Veto)?;
+    let veto = alone(alloc, Stmt::Veto(None))?;
     rules.push(on_signal(alloc, "vetoes", "stop", Coupling::Immediate, veto)?)?;
     Ok(rules)
 }
@@ -93,28 +93,11 @@ fn is_enabled(view: &View) -> bool {
 }
 
 // What such a transaction leaves.
-#[derive(Clone, Copy)]
 struct Remains {
     end: Ending,
     items: usize,
     detached: usize,
     is_enabled: bool,
-}
-
-fn what_remains_in(
-    rt: &(impl Threads + Sync),
-    alloc: Global,
-    library: &Library,
-    view: &mut View,
-    unit: &Unit,
-) -> Result<Remains, AllocError> {
-    let top = run_top(rt, alloc, library, view, unit, 1)?;
-    Ok(Remains {
-        end: top.end,
-        items: top.tree.len(),
-        detached: top.detached.len(),
-        is_enabled: is_enabled(view),
-    })
 }
 
 fn what_remains(
@@ -123,8 +106,14 @@ fn what_remains(
     library: &Library,
     unit: &Unit,
 ) -> Result<Remains, Halt> {
-    let mut view = installed(alloc, library)?;
-    Ok(what_remains_in(rt, alloc, library, &mut view, unit)?)
+    let view = installed(alloc, library)?;
+    let (top, view) = run_top(rt, alloc, library, view, unit, 1)?;
+    Ok(Remains {
+        end: top.end,
+        items: top.tree.len(),
+        detached: top.detached.len(),
+        is_enabled: is_enabled(&view),
+    })
 }
 
 // The unit's own transaction is followed by those of the due tasks, each of another rule.
@@ -142,16 +131,16 @@ fn assert_due(
     unit: &Unit,
     wanted: &[RuleNo],
 ) -> Result<(), Halt> {
-    let mut view = installed(alloc, library)?;
-    let report = run_unit_on(rt, alloc, library, &mut view, unit, 1)?;
-    assert_rules(rt, &report.tops, wanted);
+    let snapshot = installed(alloc, library)?.freeze(alloc)?;
+    let tried = attempt_unit(rt, alloc, library, snapshot, unit, 1)?;
+    assert_rules(rt, &tried.report.tops, wanted);
     Ok(())
 }
 
 // The unit of a transaction with this end.
 fn unit(alloc: Global, library: &Arc<Library>, end: Wanted) -> Result<Unit, CheckError> {
     let body = Library::body(library, alloc, body(alloc, end)?)?;
-    Ok(Unit::Transaction(body))
+    Ok(Unit::Transaction { time: 0, body })
 }
 
 // Runs a transaction with this end, and then again with its cascade: tasks of the expected rules are due.
@@ -190,7 +179,11 @@ fn an_abort_keeps_the_separate_and_releases_the_exclusive(rt: HostRuntime) -> Re
 #[test]
 fn a_veto_aborts(rt: HostRuntime) -> Result<(), Fail> {
     let left = left(&rt, rt.alloc(), Wanted::Veto, &[1, 3, 4])?;
-    assert!(rt; left.end == Ending::Aborted(Cause::Vetoed(5)));
+    let veto = Veto {
+        rule: 5,
+        message: None,
+    };
+    assert!(rt; left.end == Ending::Vetoed(veto));
     assert!(rt; left.is_enabled);
     Ok(())
 }

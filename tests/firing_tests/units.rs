@@ -1,7 +1,7 @@
 //! Lists that a unit leaves in the store.
 
 use super::fixtures::{alone, bank, going, idles, library, on_go, set, text};
-use hp_rule::{CheckError, Library, Query, Rule, Stmt, Unit};
+use hp_rule::{CheckError, Entry, Library, Query, Rule, Stmt, Unit};
 use hp_store::Store;
 use hp_top::run_unit;
 use hp_value::{Coupling, Expr, Halt, Value};
@@ -13,11 +13,11 @@ use std::thread::Threads;
 // A rule whose condition asks for all accounts. No index serves it, so that it reads the class as a whole.
 fn on_all(alloc: Global) -> Result<Rule, AllocError> {
     let mut rule = on_go(alloc, "first", Coupling::Immediate, Vec::new(alloc))?;
-    rule.condition.push(Query {
+    rule.condition.push(Entry::Query(Query {
         name: text(alloc, "all")?,
         class: 0,
         predicate: Box::new(alloc, Expr::literal(Value::Bool(true)))?,
-    })?;
+    }))?;
     Ok(rule)
 }
 
@@ -44,7 +44,8 @@ fn are_listed_after(
     store: &mut Store,
     body: Result<Vec<Stmt>, AllocError>,
 ) -> Result<bool, CheckError> {
-    let unit = Unit::Transaction(Library::body(lib, alloc, body?)?);
+    let body = Library::body(lib, alloc, body?)?;
+    let unit = Unit::Transaction { time: 0, body };
     drop(run_unit(rt, alloc, lib, store, &unit, 1)?);
     Ok(store.snapshot()?.kept_objects(0).is_some())
 }

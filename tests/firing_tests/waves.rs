@@ -2,12 +2,13 @@
 
 use super::fixtures;
 use super::fixtures::{
-    alone, balance_in, checked, make, number, on_go, on_rich, stock, task, tasks, text,
+    alone, balance_in, checked, make, number, on_go, on_rich, stock, sum_above, task, tasks, text,
+    value_of,
 };
 use super::groups::{Setup, fire_all_on};
-use super::seen::Balances;
+use super::seen::{Balances, How};
 use hp_fire::{Gate, NoGate};
-use hp_rule::{Assignment, CheckError, Library, Query, Rule, Stmt, Task};
+use hp_rule::{Aggregate, Assignment, CheckError, Entry, Library, Query, Rule, Stmt, Task};
 use hp_store::{Snapshot, Store};
 use hp_top::keep_indexes;
 use hp_value::{Arithmetic, Comparison, Coupling, Expr, Halt, Key};
@@ -462,11 +463,11 @@ fn adds_to_found(alloc: Global, name: &str, predicate: Box<Expr>) -> Result<Rule
         body: alone(alloc, adds)?,
     };
     let mut rule = on_go(alloc, name, Coupling::Immediate, alone(alloc, each)?)?;
-    rule.condition.push(Query {
+    rule.condition.push(Entry::Query(Query {
         name: text(alloc, "row")?,
         class: 0,
         predicate,
-    })?;
+    }))?;
     Ok(rule)
 }
 
@@ -518,5 +519,110 @@ fn siblings_that_look_for_different_parts_are_accepted(rt: HostRuntime) -> Resul
     let both = ((2, 0, 1), (Some(11), Some(21), None, None, None));
     assert_eq!(rt; find_both(&rt, rt.alloc(), true)?, both);
     assert_eq!(rt; find_both(&rt, rt.alloc(), false)?, both);
+    Ok(())
+}
+
+// Sets an account's balance to the sum of the balances.
+fn sums_into(alloc: Global, account: Key) -> Result<Vec<Stmt>, AllocError> {
+    let mut pairs = Vec::new(alloc);
+    pairs.push(Assignment {
+        field: text(alloc, "bal")?,
+        value: value_of(alloc, "sum")?,
+    })?;
+    let update = Stmt::Update {
+        class: 0,
+        key: number(alloc, account)?,
+        pairs,
+    };
+    with_sum(alloc, update)
+}
+
+// A statement with the sum of the balances.
+fn with_sum(alloc: Global, statement: Stmt) -> Result<Vec<Stmt>, AllocError> {
+    let with_sum = Stmt::Let {
+        name: text(alloc, "sum")?,
+        aggregate: sum_above(alloc, 0)?,
+        body: alone(alloc, statement)?,
+    };
+    alone(alloc, with_sum)
+}
+
+// Rules that each write what the sums of all read.
+fn summing(alloc: Global) -> Result<Library, CheckError> {
+    let mut actions = Vec::new(alloc);
+    for account in 2..6 {
+        actions.push(sums_into(alloc, account)?)?;
+    }
+    library(alloc, actions)
+}
+
+#[test]
+fn sums_are_those_of_one_thread_at_any_width(rt: HostRuntime) -> Result<(), Fail> {
+    let alloc = rt.alloc();
+    let accounts = [(1, 1), (2, 0), (3, 0), (4, 0), (5, 0)];
+    for width in [1, 2, 3, 4, 64] {
+        let (lib, tasks) = (summing(alloc), tasks(alloc, 4));
+        let (_, balances) = fire(&rt, alloc, lib, &accounts, tasks, by(width, &NoGate))?;
+        assert_eq!(rt; balances, (Some(1), Some(1), Some(2), Some(4), Some(8)));
+    }
+    Ok(())
+}
+
+// A rule for each of these actions, which are the same: it creates an account with the class's next key.
+fn numbering(alloc: Global) -> Result<Library, CheckError> {
+    let mut actions = Vec::new(alloc);
+    for _ in 0..4 {
+        let mut pairs = Vec::new(alloc);
+        pairs.push(Assignment {
+            field: text(alloc, "bal")?,
+            value: value_of(alloc, "key")?,
+        })?;
+        let create = Stmt::Create {
+            class: 0,
+            key: value_of(alloc, "key")?,
+            pairs,
+        };
+        let with_next = Stmt::Let {
+            name: text(alloc, "key")?,
+            aggregate: Aggregate::Next(0),
+            body: alone(alloc, create)?,
+        };
+        actions.push(alone(alloc, with_next)?)?;
+    }
+    library(alloc, actions)
+}
+
+#[test]
+fn next_keys_are_those_of_one_thread_at_any_width(rt: HostRuntime) -> Result<(), Fail> {
+    let alloc = rt.alloc();
+    for width in [1, 2, 3, 4, 64] {
+        let (lib, tasks) = (numbering(alloc), tasks(alloc, 4));
+        let (_, balances) = fire(&rt, alloc, lib, &[(1, 0)], tasks, by(width, &NoGate))?;
+        assert_eq!(rt; balances, (Some(0), Some(2), Some(3), Some(4), Some(5)));
+    }
+    Ok(())
+}
+
+// The first rule adds 1 to account 1, the second vetoes with the sum of the balances.
+fn summing_veto(alloc: Global) -> Result<Library, CheckError> {
+    let mut actions = Vec::new(alloc);
+    actions.push(action(alloc, plus(1))?)?;
+    let veto = Stmt::Veto(Some(value_of(alloc, "sum")?));
+    actions.push(with_sum(alloc, veto)?)?;
+    library(alloc, actions)
+}
+
+// The second task has ended before the first starts. Its message is that of the rerun.
+#[test]
+fn a_rerun_has_its_own_message(rt: HostRuntime) -> Result<(), Fail> {
+    let alloc = rt.alloc();
+    let gate = Hold::of(0, Awaited::End(1));
+    let lib = summing_veto(alloc)?;
+    let mut view = bank(alloc, &[(1, 10), (2, 20)])?;
+    let tasks = tasks(alloc, 2)?;
+    let siblings = fire_all_on(&rt, alloc, &lib, &mut view, &tasks, by(2, &gate))?;
+    assert!(rt; !gate.was_late());
+    assert_eq!(rt; siblings.end, Some((1, Some(31))));
+    assert_eq!(rt; siblings.course.end, How::Vetoed((1, Some(31))));
     Ok(())
 }

@@ -112,11 +112,11 @@ pub fn balance(store: &Store, key: Key) -> i64 {
     -1
 }
 
-// How the body's own transaction ended.
-pub fn ending(report: &UnitReport) -> Option<Ending> {
+// Whether the body's own transaction ended so.
+pub fn has_ended(report: &UnitReport, end: &Ending) -> bool {
     match report.tops.first() {
-        Some(top) => Some(top.end),
-        None => None,
+        Some(top) => top.end == *end,
+        None => false,
     }
 }
 
@@ -144,6 +144,13 @@ impl<'a, R> Bank<'a, R> {
         let statements = vec![in self.alloc; plus(self.alloc, 1)?, Stmt::Abort]?;
         Library::body(self.library, self.alloc, statements)
     }
+
+    // The body that emits the clock's moment.
+    pub fn telling(&self) -> Result<Body, CheckError> {
+        let now = Box::new(self.alloc, Expr::Now)?;
+        let statements = vec![in self.alloc; Stmt::Emit(now)]?;
+        Library::body(self.library, self.alloc, statements)
+    }
 }
 
 impl<R: Threads + Sync> Bank<'_, R> {
@@ -151,7 +158,7 @@ impl<R: Threads + Sync> Bank<'_, R> {
     pub fn accounts(&self, n: u8) -> Result<Store, Fail> {
         let mut store = opening(self.alloc)?;
         let body = Library::body(self.library, self.alloc, making(self.alloc, n)?)?;
-        let unit = Item::Transaction(body);
+        let unit = Item::Transaction { time: 0, body };
         run_unit(self.rt, self.alloc, self.library, &mut store, &unit, 1)?;
         Ok(store)
     }

@@ -1,10 +1,10 @@
 //! One thread's calls on a book.
 
-use super::bank::{Bank, balance, ended, ending, library};
+use super::bank::{Bank, balance, ended, has_ended, library};
 use hp_rule::Body;
 use hp_sessions::laws::apart;
-use hp_sessions::{Blank, Book, BookName, History, NoGate, Receipt, Refusal, Session, Unit};
-use hp_tree::Ending;
+use hp_sessions::{Blank, Book, BookName, Entry, History, NoGate, Receipt, Refusal, Session, Unit};
+use hp_tree::{Ending, Item};
 use hp_value::{Cause, Cell, Key};
 use hp_view::Seen;
 use std::alloc::Global;
@@ -21,7 +21,7 @@ fn unit<K: BookName, R: Threads + Sync>(
     key: Key,
 ) -> Result<Unit, Fail> {
     let body = bank.adding(key)?;
-    Ok(Unit::make(bank.rt, bank.alloc, book.snapshot()?, body, 1)?)
+    Ok(Unit::make(bank.rt, bank.alloc, book.snapshot()?, 0, body, 1)?)
 }
 
 fn committed<K: BookName>(
@@ -36,15 +36,11 @@ fn committed<K: BookName>(
     }
 }
 
-// Why a unit is refused, and how its body ended.
-fn refused<K: BookName>(
-    alloc: Global,
-    book: &mut Book<K>,
-    unit: Unit,
-) -> Option<(Refusal, Option<Ending>)> {
+// Why a unit is refused, and whether its body committed.
+fn refused<K: BookName>(alloc: Global, book: &mut Book<K>, unit: Unit) -> Option<(Refusal, bool)> {
     match book.commit(alloc, 2, unit) {
         Ok(_) => None,
-        Err((refusal, unit)) => Some((refusal, ending(unit.reply()))),
+        Err((refusal, unit)) => Some((refusal, has_ended(unit.reply(), &Ending::Committed))),
     }
 }
 
@@ -58,12 +54,12 @@ fn second_and_first<K: BookName, R: Threads + Abort + Sync>(
     let number = committed(bank.alloc, book, 1, second)?.number();
     let refused = refused(bank.alloc, book, first);
     assert_eq!(bank.rt; number, 1);
-    let (refusal, end) = refused.ok_or("a stale unit")?;
+    let (refusal, has_committed) = refused.ok_or("a stale unit")?;
     let cell = Seen::Cell(Cell::Object(0, 1));
     assert!(bank.rt;
         matches!(&refusal, Refusal::Stale { entries: 1, cell: found } if *found == cell)
     );
-    assert_eq!(bank.rt; end, Some(Ending::Committed));
+    assert!(bank.rt; has_committed);
     Ok(())
 }
 
@@ -86,14 +82,15 @@ fn a_unit_is_stale(rt: HostRuntime) -> Result<(), Fail> {
     stale::<Brand, _>(&bank, bank.begun(1)?)
 }
 
-// The number of a body's receipt, and how the body ended.
+// The number of a body's receipt, and whether the body ended so.
 fn submitted<K: BookName, R: Threads + Wait + Sync>(
     bank: &Bank<'_, R>,
     session: &mut Session<K>,
     body: Body,
-) -> Result<(u64, Option<Ending>), Refusal> {
-    let receipt = session.submit(bank.rt, bank.alloc, body, &NoGate)?;
-    Ok((receipt.number(), ending(receipt.reply())))
+    end: &Ending,
+) -> Result<(u64, bool), Refusal> {
+    let receipt = session.submit(bank.rt, bank.alloc, 0, body, &NoGate)?;
+    Ok((receipt.number(), has_ended(receipt.reply(), end)))
 }
 
 // One body that aborts, one that commits, and one of another bank's library.
@@ -102,14 +99,12 @@ fn thrice<K: BookName, R: Threads + Wait + Abort + Sync>(
     other: &Bank<'_, R>,
     session: &mut Session<K>,
 ) -> Result<(), Fail> {
-    let one = submitted(bank, session, bank.aborting()?);
-    let (number, end) = one.ok().ok_or("a receipt")?;
-    assert_eq!(bank.rt; number, 1);
-    assert_eq!(bank.rt; end, Some(Ending::Aborted(Cause::Asked)));
-    let two = submitted(bank, session, bank.adding(1)?);
-    let (number, _) = two.ok().ok_or("a receipt")?;
-    assert_eq!(bank.rt; number, 2);
-    let none = submitted(bank, session, other.adding(1)?);
+    let asked = Ending::Aborted(Cause::Asked);
+    let one = submitted(bank, session, bank.aborting()?, &asked);
+    assert_eq!(bank.rt; one.ok(), Some((1, true)));
+    let two = submitted(bank, session, bank.adding(1)?, &Ending::Committed);
+    assert_eq!(bank.rt; two.ok(), Some((2, true)));
+    let none = submitted(bank, session, other.adding(1)?, &asked);
     assert!(bank.rt; matches!(none.err(), Some(Refusal::OtherLibrary)));
     Ok(())
 }
@@ -177,4 +172,39 @@ fn units_of_disjoint_objects_both_commit(rt: HostRuntime) -> Result<(), Fail> {
     let library = library(rt.alloc(), "acct")?;
     let bank = Bank::new(&rt, rt.alloc(), &library);
     disjoint::<Brand, _>(&bank, bank.begun(2)?)
+}
+
+// The number that the body of an entry emitted first.
+fn told(entry: &Entry) -> Option<i64> {
+    match entry.reply.tops.first()?.tree.first()? {
+        Item::Emit(value) => value.as_int().ok(),
+        _ => None,
+    }
+}
+
+// A session's body and one on the current store, at moments of their own.
+fn told_twice<K: BookName, R: Threads + Wait + Abort + Sync>(
+    bank: &Bank<'_, R>,
+    blank: Blank,
+) -> Result<(), Fail> {
+    let book = Mutex::new(blank.open::<K>(bank.alloc));
+    let mut session = Session::new(1, &book);
+    let first = session.submit(bank.rt, bank.alloc, 7, bank.telling()?, &NoGate);
+    assert!(bank.rt; first.is_ok());
+    let mut book = book.into_inner();
+    let second = book.run_now(bank.rt, bank.alloc, 2, 3, bank.telling()?);
+    assert!(bank.rt; second.is_ok());
+    let history = book.end();
+    for (entry, time) in history.entries().iter().zip([7, 3]) {
+        assert_eq!(bank.rt; entry.time, time);
+        assert_eq!(bank.rt; told(entry), Some(time as i64));
+    }
+    Ok(())
+}
+
+#[test]
+fn a_body_runs_at_the_moment_that_its_caller_gives(rt: HostRuntime) -> Result<(), Fail> {
+    let library = library(rt.alloc(), "acct")?;
+    let bank = Bank::new(&rt, rt.alloc(), &library);
+    told_twice::<Brand, _>(&bank, bank.begun(1)?)
 }

@@ -23,7 +23,7 @@ fn add_one<K: BookName, R: Threads + Wait + Sync>(
     key: Key,
 ) -> Option<()> {
     let body = bank.adding(key).ok()?;
-    let receipt = session.submit(bank.rt, bank.alloc, body, &NoGate).ok()?;
+    let receipt = session.submit(bank.rt, bank.alloc, 0, body, &NoGate).ok()?;
     receipts.push(receipt).ok()
 }
 
@@ -143,7 +143,7 @@ fn replay<R: Threads + Sync>(
     store: &mut Store,
     body: Body,
 ) -> Result<(), Fail> {
-    let unit = Item::Transaction(body);
+    let unit = Item::Transaction { time: 0, body };
     run_unit(bank.rt, bank.alloc, bank.library, store, &unit, 1)?;
     Ok(())
 }

@@ -54,7 +54,7 @@ fn first<K: BookName, R: Threads + Wait + Sync>(
 ) -> Answer<K> {
     let body = bank.adding(1).ok()?;
     let mut session = Session::new(1, lock);
-    session.submit(bank.rt, bank.alloc, body, turns).ok()
+    session.submit(bank.rt, bank.alloc, 0, body, turns).ok()
 }
 
 fn second<K: BookName, R: Threads + Wait + Sync>(
@@ -65,7 +65,7 @@ fn second<K: BookName, R: Threads + Wait + Sync>(
     turns.wait_for(&turns.begun);
     let body = bank.adding(1).ok()?;
     let mut session = Session::new(2, lock);
-    let answer = session.submit(bank.rt, bank.alloc, body, turns).ok();
+    let answer = session.submit(bank.rt, bank.alloc, 0, body, turns).ok();
     turns.answered.store(1, SeqCst);
     answer
 }

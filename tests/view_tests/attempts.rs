@@ -6,7 +6,7 @@
 use super::fixtures::{bank, set, shown};
 use hp_attempt::{Attempt, Outcome, Settled, first_failed, holds, settle, settle_front};
 use hp_rule::{Step, Task};
-use hp_value::{Cell, Coupling, Key, Occurrence, RuleNo};
+use hp_value::{Cell, Coupling, Key, Occurrence, RuleNo, Veto};
 use hp_view::{Reads, Seen, View};
 use std::alloc::{AllocError, Global};
 use std::collections::VecDeque;
@@ -24,6 +24,7 @@ fn task(alloc: Global, rule: RuleNo, depth: u8) -> Result<Task, AllocError> {
         step: Step::Condition,
         place: Coupling::Immediate,
         depth,
+        time: 0,
         occurrence: Arc::new(alloc, occurrence)?,
     })
 }
@@ -159,6 +160,45 @@ fn a_class_read_as_a_whole_holds_while_its_rows_are_the_same(rt: HostRuntime) ->
     change_a_row(&rt, rt.alloc(), &mut view, &reads)
 }
 
+// What a look at the greatest key of a class reads.
+fn reads_of_the_greatest(alloc: Global) -> Result<Reads, AllocError> {
+    let mut view = bank(alloc)?;
+    view.read_greatest_key(alloc, 0)?;
+    let (reads, _) = view.into_parts();
+    Ok(reads)
+}
+
+fn change_the_greatest(
+    rt: &impl Abort,
+    alloc: Global,
+    view: &mut View,
+    reads: &Reads,
+) -> Result<(), Fail> {
+    assert!(rt; holds(reads, view));
+
+    // Objects below it come and go.
+    set(alloc, view, 5, 1)?;
+    view.cut(Cell::Object(0, 2))?;
+    assert!(rt; holds(reads, view));
+
+    set(alloc, view, 11, 1)?;
+    let failed = first_failed(reads, view);
+    assert!(rt; matches!(failed, Some(Seen::Greatest(0))));
+    view.cut(Cell::Object(0, 11))?;
+    assert!(rt; holds(reads, view));
+
+    view.cut(Cell::Object(0, 10))?;
+    assert!(rt; !holds(reads, view));
+    Ok(())
+}
+
+#[test]
+fn the_greatest_key_holds_while_it_is_the_greatest(rt: HostRuntime) -> Result<(), Fail> {
+    let reads = reads_of_the_greatest(rt.alloc())?;
+    let mut view = bank(rt.alloc())?;
+    change_the_greatest(&rt, rt.alloc(), &mut view, &reads)
+}
+
 fn take_in(rt: &impl Abort, alloc: Global, view: &mut View) -> Result<(), Fail> {
     let tried = attempt(alloc, view, 7, 2, 10)?;
     assert_eq!(rt; settled(alloc, view, 7, 1, &tried)?, Settled::Accepted);
@@ -194,6 +234,9 @@ fn try_for_others(rt: &impl Abort, alloc: Global, view: &mut View) -> Result<(),
             Settled::Rejected
         );
     }
+    let mut later = task(alloc, 7, 1)?;
+    later.time = 9;
+    assert_eq!(rt; settle(alloc, view, &later, &tried)?, Settled::Rejected);
     assert_eq!(rt; shown(view, 10), Some(110));
     Ok(())
 }
@@ -286,7 +329,10 @@ fn tried(alloc: Global, start: &View, place: Place) -> Result<Option<Attempt>, A
         return Ok(None);
     };
     let mut tried = attempt(alloc, start, rule, read, i64::from(rule))?;
-    tried.outcome.end = end;
+    tried.outcome.end = end.map(|rule| Veto {
+        rule,
+        message: None,
+    });
     Ok(Some(tried))
 }
 

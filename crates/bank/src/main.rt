@@ -12,7 +12,7 @@ use hp_store::{CellValue, Store};
 use hp_top::opening;
 use hp_tree::Ending;
 use hp_value::{Cell, Value};
-use requests::{Fault, Request, body, library};
+use requests::{Fault, MOMENT, Request, body, library};
 use service::serve;
 use std::alloc::Global;
 use std::marker::Brand;
@@ -68,7 +68,7 @@ fn bank_of<K: BookName + Send + Sync, R: Threads + Wait + Sync>(
     ensures receipts { IfOk result (λ t. t.receipts ≡ 100) }
 {
     let mut book = blank.open::<K>(alloc);
-    let opened = book.run_now(rt, alloc, 0, body(alloc, Request::Open)?);
+    let opened = book.run_now(rt, alloc, 0, MOMENT, body(alloc, Request::Open)?);
     opened.map_err(Fault::Refused)?;
     let served = serve(rt, alloc, book)?;
     let entries = served.history.entries();

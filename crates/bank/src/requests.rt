@@ -22,6 +22,9 @@ const SCRIPT: &str = r#"{
   ]
 }"#;
 
+/// The clock's moment at which all requests run: the bank has no clock, and its rule asks for none.
+pub const MOMENT: u64 = 0;
+
 /// A request. Its number is the index of its body in the script.
 #[derive(Clone, Copy, Debug)]
 pub enum Request {
@@ -64,7 +67,7 @@ pub fn library(alloc: Global) -> Result<Arc<Library>, Fault> {
 pub fn body(alloc: Global, request: Request) -> Result<Body, Fault> {
     let place = request as usize;
     match script(alloc)?.items.into_iter().nth(place) {
-        Some(Unit::Transaction(body)) => Ok(body),
+        Some(Unit::Transaction { body, .. }) => Ok(body),
         _ => Err(Fault::Script),
     }
 }

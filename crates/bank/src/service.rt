@@ -3,7 +3,7 @@
 ghost use Rattle.std.specs.Prelude.{◌≡◌, ◌≤◌, ◌+◌, ◌*◌, All, IfOk, OnOk, Some, vec_len};
 ghost use Rattle.hp_sessions.specs.Books.{IsLegalBook, Stands, session_of};
 
-use crate::requests::{Fault, Request, body};
+use crate::requests::{Fault, MOMENT, Request, body};
 use hp_sessions::laws::{kept, legal};
 use hp_sessions::{Book, BookName, History, NoGate, Receipt, Session};
 use std::alloc::Global;
@@ -46,7 +46,7 @@ fn call<K: BookName, R: Threads + Wait + Sync>(
         } else {
             Request::Deposit
         };
-        let receipt = session.submit(rt, alloc, body(alloc, request)?, &NoGate);
+        let receipt = session.submit(rt, alloc, MOMENT, body(alloc, request)?, &NoGate);
         receipts.push(receipt.map_err(Fault::Refused)?)?;
     }
     Ok(receipts)

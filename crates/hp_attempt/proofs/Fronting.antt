@@ -2,6 +2,7 @@
 use Rattle.std.proofs.Common.{◌≡◌, refl, sym, ap, ◌∙◌, subst, ℕ, zero, suc, ◌+◌, Bool, true, false, List, [], ◌∷◌, ◌++◌, length, take, drop, map, Option, Some, None, append_assoc, append-nil, length-append, get_or, unwrap_or, ◌<◌, ◌↔◌, IfSome, IfNone, not, true≢false, arith}
 use Rattle.std.specs.Prelude.{Result, Ok, Err, OnErr}
 use Rattle.std.proofs.lemmas.List.{map-append}
+use Rattle.hp_model.specs.Values.{Veto}
 use Rattle.hp_model.specs.Rules.{Library}
 use Rattle.hp_model.specs.Tree.{Task}
 use Rattle.hp_model.specs.Cells.{Cells, Holds}
@@ -17,7 +18,7 @@ use Rattle.hp_attempt.specs.declared.settling.Settled.{Settled}
 use Rattle.hp_attempt.specs.declared.settling.Settled.TheVariants.{Accepted, Rejected}
 use Rattle.hp_attempt.specs.declared.outcome.Outcome.{Outcome}
 use Rattle.hp_attempt.specs.declared.outcome.Attempt.{Attempt}
-use Rattle.hp_attempt.specs.Mapped.{firing, attempt}
+use Rattle.hp_attempt.specs.Mapped.{veto_in, firing, attempt}
 use Rattle.hp_model.specs.States.{States, ordered_states, IsSoundFor, FaithfulFiringFor, FaithfulSiblingsFor}
 use Rattle.hp_model.proofs.ForStates.{sound_as, faithful_of}
 use Rattle.hp_attempt.proofs.Siblings.{Completes, completes_more, completes_end, completes_vetoed}
@@ -49,15 +50,15 @@ all_sound_as library [] sound = tt
 all_sound_as library (None ∷ attempts) sound = all_sound_as library attempts sound
 all_sound_as library (Some a ∷ attempts) sound = (sound_as sound.0, all_sound_as library attempts sound.1)
 
-last-push : (v : Option ℕ) (outcomes : List Outcome) (o : Outcome) → last_end v (outcomes ++ o ∷ []) ≡ o.end
+last-push : (v : Option Veto) (outcomes : List Outcome) (o : Outcome) → last_end v (outcomes ++ o ∷ []) ≡ veto_in o
 last-push v [] o = refl
-last-push v (p ∷ outcomes) o = last-push p.end outcomes o
+last-push v (p ∷ outcomes) o = last-push (veto_in p) outcomes o
 
-going : (stops : Bool) (v : Option ℕ) (outcomes : List Outcome) (o : Outcome) → goes_on stops o.end ≡ true → stopped_by stops (outcomes ++ o ∷ []) ≡ None
+going : (stops : Bool) (v : Option Veto) (outcomes : List Outcome) (o : Outcome) → goes_on stops (veto_in o) ≡ true → stopped_by stops (outcomes ++ o ∷ []) ≡ None
 going false v outcomes o on = refl
-going true v outcomes o on = last-push None outcomes o ∙ none o.end on
+going true v outcomes o on = last-push None outcomes o ∙ none (veto_in o) on
   where
-    none : (v : Option ℕ) → goes_on true v ≡ true → v ≡ None
+    none : (v : Option Veto) → goes_on true v ≡ true → v ≡ None
     none None on = refl
     none (Some r) on = cc
 
@@ -159,7 +160,7 @@ module _ (stops : Bool) (tasks : List Task) (attempts : List (Option Attempt)) (
   fires states library sound =
       subst (λ (x : Outcome). FaithfulFiringFor states library (λ S. fire_task library S t) new.reads (written old) (written new) (firing x)) takes.gives (takes.stands.faithful states library sound)
 
-  pub one_more : goes_on stops o.end ≡ true → SoFar stops tasks attempts (outcomes ++ o ∷ []) first new
+  pub one_more : goes_on stops (veto_in o) ≡ true → SoFar stops tasks attempts (outcomes ++ o ∷ []) first new
   one_more goes = record {
     goes = going stops None outcomes o goes;
     by = λ states library sound rest.
@@ -222,14 +223,14 @@ takes_first t {old} {new} before after a b d is at stands takes = record {
 -- ---- why the front ends
 
 -- the first attempt that is left can't be accepted
-longest_stays : (v : Option ℕ) (now : Cells) (tasks ts : List Task) (t : Task) (left : List (Option Attempt)) → tasks ≡ t ∷ ts → Stays now t left → IsLongest v now tasks left
+longest_stays : (v : Option Veto) (now : Cells) (tasks ts : List Task) (t : Task) (left : List (Option Attempt)) → tasks ≡ t ∷ ts → Stays now t left → IsLongest v now tasks left
 longest_stays (Some r) now tasks ts t left next stays = tt
 longest_stays None now tasks ts t left next stays = subst (λ l. StopsAt now l left) (sym next) stays
 
 -- a veto
 module _ (tasks : List Task) (attempts : List (Option Attempt)) (outcomes : List Outcome) (o : Outcome) (t : Task) (ts : List Task) (left : List (Option Attempt)) {first old new : Seeing}
     (next : drop (length outcomes) tasks ≡ t ∷ ts) (takes : TakesFirst t old new (drop (length outcomes) attempts) left o) (on : GoesOn old new) where
-  vetoed_at : (r : ℕ) → o.end ≡ Some r → SoFar true tasks attempts outcomes first old → FrontIsFor true tasks attempts (outcomes ++ o ∷ []) first new
+  vetoed_at : (r : Veto) → veto_in o ≡ Some r → SoFar true tasks attempts outcomes first old → FrontIsFor true tasks attempts (outcomes ++ o ∷ []) first new
   vetoed_at r vetoes so_far = record {
     faithful = λ states library sound.
         let parts = sound_parts true tasks attempts outcomes o t ts left so_far next takes on states library sound in
@@ -242,18 +243,18 @@ module _ (tasks : List Task) (attempts : List (Option Attempt)) (outcomes : List
         (subst (λ (a : SiblingsAnswer). FaithfulSiblingsFor states library (siblings (fire_task library) true (take (length outcomes) tasks ++ t ∷ [])) new.reads (written first) (written new) a) (λ i. record { firings = sym firings_are i; vetoed_by = sym veto_is i }) fired);
   }
 
-  pub front_vetoed : (stops : Bool) → goes_on stops o.end ≡ false → SoFar stops tasks attempts outcomes first old → FrontIsFor stops tasks attempts (outcomes ++ o ∷ []) first new
-  front_vetoed stops halts so_far = by stops o.end refl halts so_far
+  pub front_vetoed : (stops : Bool) → goes_on stops (veto_in o) ≡ false → SoFar stops tasks attempts outcomes first old → FrontIsFor stops tasks attempts (outcomes ++ o ∷ []) first new
+  front_vetoed stops halts so_far = by stops (veto_in o) refl halts so_far
     where
-      by : (stops : Bool) (v : Option ℕ) → o.end ≡ v → goes_on stops v ≡ false → SoFar stops tasks attempts outcomes first old → FrontIsFor stops tasks attempts (outcomes ++ o ∷ []) first new
+      by : (stops : Bool) (v : Option Veto) → veto_in o ≡ v → goes_on stops v ≡ false → SoFar stops tasks attempts outcomes first old → FrontIsFor stops tasks attempts (outcomes ++ o ∷ []) first new
       by true None is halts so_far = cc
       by true (Some r) is halts so_far = vetoed_at r is so_far
       by false v is halts so_far = cc
 
-pub longest_vetoed : (stops : Bool) (outcomes : List Outcome) (o : Outcome) (now : Cells) (tasks : List Task) (left : List (Option Attempt)) → goes_on stops o.end ≡ false → IsLongest (stopped_by stops (outcomes ++ o ∷ [])) now tasks left
-longest_vetoed stops outcomes o now tasks left halts = by stops o.end refl halts
+pub longest_vetoed : (stops : Bool) (outcomes : List Outcome) (o : Outcome) (now : Cells) (tasks : List Task) (left : List (Option Attempt)) → goes_on stops (veto_in o) ≡ false → IsLongest (stopped_by stops (outcomes ++ o ∷ [])) now tasks left
+longest_vetoed stops outcomes o now tasks left halts = by stops (veto_in o) refl halts
   where
-    by : (stops : Bool) (v : Option ℕ) → o.end ≡ v → goes_on stops v ≡ false → IsLongest (stopped_by stops (outcomes ++ o ∷ [])) now tasks left
+    by : (stops : Bool) (v : Option Veto) → veto_in o ≡ v → goes_on stops v ≡ false → IsLongest (stopped_by stops (outcomes ++ o ∷ [])) now tasks left
     by true None is halts = cc
     by true (Some r) is halts = subst (λ v. IsLongest v now tasks left) (sym (last-push None outcomes o ∙ is)) tt
     by false v is halts = cc
@@ -272,9 +273,9 @@ tasks_left f (x ∷ xs) (suc i) a within is =
 
 pub record Stepped (stops : Bool) (tasks : List Task) (attempts : List (Option Attempt)) (outcomes : List Outcome) (o : Outcome) (rest : List (Option Attempt)) (first new : Seeing) : Type 0 where
   pub left : rest ≡ drop (length outcomes) attempts
-  pub more : goes_on stops o.end ≡ true → SoFar stops tasks attempts outcomes first new
-  pub last : goes_on stops o.end ≡ false → FrontIsFor stops tasks attempts outcomes first new
-  pub longest : goes_on stops o.end ≡ false → (now : Cells) (ts : List Task) → IsLongest (stopped_by stops outcomes) now ts rest
+  pub more : goes_on stops (veto_in o) ≡ true → SoFar stops tasks attempts outcomes first new
+  pub last : goes_on stops (veto_in o) ≡ false → FrontIsFor stops tasks attempts outcomes first new
+  pub longest : goes_on stops (veto_in o) ≡ false → (now : Cells) (ts : List Task) → IsLongest (stopped_by stops outcomes) now ts rest
   pub taken : TakesSome (length outcomes) attempts first new
   pub are : AreOutcomes outcomes attempts
 

@@ -1,6 +1,7 @@
 -- A front and the siblings after it, for the layers above.
-use Rattle.std.proofs.Common.{◌≡◌, refl, sym, ap, ◌∙◌, subst, ℕ, Bool, true, false, List, [], ◌∷◌, ◌++◌, append_assoc, length, take, drop, map, Option, Some, None}
+use Rattle.std.proofs.Common.{◌≡◌, refl, sym, ap, ◌∙◌, subst, Bool, true, false, List, [], ◌∷◌, ◌++◌, append_assoc, length, take, drop, map, Option, Some, None}
 use Rattle.std.proofs.lemmas.List.{map-append, take-append-drop}
+use Rattle.hp_model.specs.Values.{Veto}
 use Rattle.hp_model.specs.Rules.{Library}
 use Rattle.hp_model.specs.State.{State}
 use Rattle.hp_model.specs.Tree.{Task}
@@ -19,7 +20,7 @@ use Rattle.hp_attempt.specs.Fronts.{AreSound, stopped_by, FrontIs}
 -- ---- siblings in two parts
 
 -- siblings after others: none where these were stopped
-abbrev pub and_then : Option ℕ → Siblings → (State → Siblings) → Siblings
+abbrev pub and_then : Option Veto → Siblings → (State → Siblings) → Siblings
 and_then (Some r) g rest = g
 and_then None g rest = let more = rest g.state in record { firings = g.firings ++ more.firings; state = more.state; vetoed_by = more.vetoed_by }
 
@@ -27,7 +28,7 @@ and_then None g rest = let more = rest g.state in record { firings = g.firings +
 front_of : Firing → Siblings → Siblings
 front_of f g = record { firings = f ∷ g.firings; state = g.state; vetoed_by = g.vetoed_by }
 
-and_then-front : (f : Firing) (v : Option ℕ) (g : Siblings) (rest : State → Siblings) → front_of f (and_then v g rest) ≡ and_then v (front_of f g) rest
+and_then-front : (f : Firing) (v : Option Veto) (g : Siblings) (rest : State → Siblings) → front_of f (and_then v g rest) ≡ and_then v (front_of f g) rest
 unfolding front_of
 and_then-front f (Some r) g rest = refl
 and_then-front f None g rest = refl
@@ -38,7 +39,7 @@ unfolding front_of
 siblings-append fire stops [] ys S = refl
 siblings-append fire stops (t ∷ xs) ys S = by stops (fire S t).vetoed_by (siblings-append fire stops xs ys (fire S t).state)
   where
-    by : (b : Bool) (v : Option ℕ)
+    by : (b : Bool) (v : Option Veto)
         → siblings fire stops (xs ++ ys) (fire S t).state ≡ and_then (siblings fire stops xs (fire S t).state).vetoed_by (siblings fire stops xs (fire S t).state) (siblings fire stops ys)
         → after_firing b v (fire S t) (siblings fire stops (xs ++ ys))
         ≡ and_then (after_firing b v (fire S t) (siblings fire stops xs)).vetoed_by (after_firing b v (fire S t) (siblings fire stops xs)) (siblings fire stops ys)
@@ -69,7 +70,7 @@ siblings_then library fire stops xs ys {reads} {more} {w0} {w1} {w2} {g} {h} on 
 }
 
 -- the first part was stopped, and the second never starts
-pub siblings_stopped : (library : Library) (fire : Fire) (stops : Bool) (xs ys : List Task) {reads : List Read} {w0 w1 : Changes} {g : SiblingsAnswer} (r : ℕ) → g.vetoed_by ≡ Some r
+pub siblings_stopped : (library : Library) (fire : Fire) (stops : Bool) (xs ys : List Task) {reads : List Read} {w0 w1 : Changes} {g : SiblingsAnswer} (r : Veto) → g.vetoed_by ≡ Some r
     → FaithfulSiblings library (siblings fire stops xs) reads w0 w1 g → FaithfulSiblings library (siblings fire stops (xs ++ ys)) reads w0 w1 g
 siblings_stopped library fire stops xs ys {reads} {w0} {w1} {g} r stopped p = record {
   from = λ base held S ordered is.
@@ -101,7 +102,7 @@ module _ (library : Library) (stops : Bool) (whole left : List Task) (w0 : Chang
   }
 
   -- a front that was stopped ends the group
-  pub front_stops : (r : ℕ) → stopped_by stops outcomes ≡ Some r
+  pub front_stops : (r : Veto) → stopped_by stops outcomes ≡ Some r
       → FaithfulSiblings library (siblings (fire_task library) stops whole) new.reads w0 (written new) (record { firings = so_far ++ map firing outcomes; vetoed_by = Some r })
   front_stops r stopped =
       c.by new.reads (written new) (record { firings = map firing outcomes; vetoed_by = Some r }) grows

@@ -1,5 +1,6 @@
 -- How firings for which sound attempts stand follow one another, for a class of states.
-use Rattle.std.proofs.Common.{◌≡◌, refl, ap, ap₂, sym, ◌∙◌, subst, ℕ, Bool, true, List, [], ◌∷◌, ◌++◌, append-nil, append_assoc, Some, None}
+use Rattle.std.proofs.Common.{◌≡◌, refl, ap, ap₂, sym, ◌∙◌, subst, Bool, true, List, [], ◌∷◌, ◌++◌, append-nil, append_assoc, Some, None}
+use Rattle.hp_model.specs.Values.{Veto}
 use Rattle.hp_model.specs.Rules.{Library}
 use Rattle.hp_model.specs.Tree.{Task}
 use Rattle.hp_model.specs.Firing.{Fire, Siblings, after_firing, siblings}
@@ -34,7 +35,7 @@ module _ (states : States) (library : Library) (fire : Fire) where
   }
 
   -- a veto stops them
-  sibling_vetoes : (t : Task) (ts : List Task) {reads : List Read} {before after : Changes} {f : FiringAnswer} (r : ℕ)
+  sibling_vetoes : (t : Task) (ts : List Task) {reads : List Read} {before after : Changes} {f : FiringAnswer} (r : Veto)
       → f.vetoed_by ≡ Some r → FaithfulFiringFor states library (λ S. fire S t) reads before after f
       → FaithfulSiblingsFor states library (siblings fire true (t ∷ ts)) reads before after (record { firings = f ∷ []; vetoed_by = Some r })
   sibling_vetoes t ts {reads} {before} {after} {f} r vetoes p = record {
@@ -66,7 +67,7 @@ module _ (states : States) (library : Library) (fire : Fire) where
       subst (λ fs. FaithfulSiblingsFor states library (siblings fire stops whole) reads w0 w1 (record { firings = fs; vetoed_by = None })) (append-nil so_far)
       (c.by reads w1 (record { firings = []; vetoed_by = None }) (Grows-same reads) (no_siblings stops))
 
-  pub completes_vetoed : (whole : List Task) (w0 : Changes) {t : Task} {ts : List Task} {reads more : List Read} {w1 w2 : Changes} {so_far : List FiringAnswer} {f : FiringAnswer} (r : ℕ)
+  pub completes_vetoed : (whole : List Task) (w0 : Changes) {t : Task} {ts : List Task} {reads more : List Read} {w1 w2 : Changes} {so_far : List FiringAnswer} {f : FiringAnswer} (r : Veto)
       → f.vetoed_by ≡ Some r → Grows reads more → Completes true whole w0 (t ∷ ts) reads w1 so_far → FaithfulFiringFor states library (λ S. fire S t) more w1 w2 f
       → FaithfulSiblingsFor states library (siblings fire true whole) more w0 w2 (record { firings = so_far ++ f ∷ []; vetoed_by = Some r })
   completes_vetoed whole w0 {t} {ts} {reads} {more} {w1} {w2} {so_far} {f} r vetoes grows c p =

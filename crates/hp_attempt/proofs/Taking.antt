@@ -1,17 +1,17 @@
 -- Attempts that are accepted.
-use Rattle.std.proofs.Common.{◌≡◌, refl, sym, ap, ◌∙◌, subst, ℕ, ℤ, List, [], ◌∷◌, ◌++◌, append-nil, length, take, drop, slice_index_or, inl, inr, arith}
+use Rattle.std.proofs.Common.{◌≡◌, refl, sym, ap, ◌∙◌, subst, ℕ, ℤ, Option, List, [], ◌∷◌, ◌++◌, append-nil, length, take, drop, slice_index_or, inl, inr, ⊎_elim, arith}
 use Rattle.std.specs.Prelude.{Result, Ok, Err, OnOk, OnErr}
 use Rattle.hp_model.specs.Rules.{Library}
 use Rattle.hp_model.specs.Tree.{Task}
 use Rattle.hp_model.specs.Values.{KeyedRow}
 use Rattle.hp_model.specs.ClassParts.{ClassPart}
-use Rattle.hp_model.specs.Cells.{Cells, cells, Changes, object_cell, belongs_in, over, Read, cell_read, keys_read, objects_read, part_read, ReadHolds, ReadsHold, Holds, AreKeys, AreObjects, ArePart}
+use Rattle.hp_model.specs.Cells.{Cells, cells, Changes, object_cell, belongs_in, over, Read, cell_read, keys_read, greatest_read, objects_read, part_read, ReadHolds, ReadsHold, Holds, AreKeys, IsGreatestKey, AreObjects, ArePart}
 use Rattle.hp_model.specs.Firing.{fire_task}
 use Rattle.hp_model.specs.Soundness.{firing_answer, Attempt}
 use Rattle.hp_model.proofs.BridgesCells.{stacked, over-over, Holds-front}
 use Rattle.hp_store.specs.Changes.{Entries, changes}
 use Rattle.hp_store.specs.Stack.{cells_in}
-use Rattle.hp_view.specs.Seeing.{Seeing, written, now_in, Shows, ShowsKeys, ShowsObjects, ShowsPart, ReadsPart, IsSame, TakesIn, OnlyReads, ReadsMore, GoesOn, Restores, undone}
+use Rattle.hp_view.specs.Seeing.{Seeing, written, now_in, Shows, ShowsKeys, ShowsGreatest, ShowsObjects, ShowsPart, ReadsKeys, ReadsGreatestAlone, DeletesGreatest, ReadsGreatest, ReadsPart, IsSame, TakesIn, OnlyReads, ReadsMore, GoesOn, Restores, undone}
 use Rattle.hp_view.specs.Looks.{only_reads_then}
 use Rattle.hp_view.proofs.Views.{GoesOn-then}
 use Rattle.hp_value.specs.declared.cell.Cell.{Cell as RustCell}
@@ -20,7 +20,7 @@ use Rattle.hp_view.specs.declared.reads.Found.{Found}
 use Rattle.hp_view.specs.declared.reads.Seen.TheVariants.{Cell as OfCell}
 use Rattle.hp_view.specs.Mapped.{read}
 use Rattle.hp_view.specs.Adding.{AddsReads, IsOfClass, adds_then}
-use Rattle.hp_view.proofs.Adding.{adds_noted, adds_more}
+use Rattle.hp_view.proofs.Adding.{adds_noted, adds_more, adds_keys}
 use Rattle.hp_model.specs.States.{States, LeadsToOne, IsSoundFor, FaithfulFiringFor}
 use Rattle.hp_attempt.specs.Holding.{IsReadAgain, IsFor, IsForAny, IsAccepted, Covers}
 
@@ -42,6 +42,9 @@ again_cell old new q found shows = λ told base held. shows.everywhere base held
 
 pub again_keys : (old new : Seeing) (n : ℕ) (keys : List ℤ) → ((ks : List ℤ) → AreKeys (now_in old) n ks → ShowsKeys new n ks) → IsReadAgain old new (keys_read n keys)
 again_keys old new n keys shows = λ told base held. (shows keys told).everywhere base held
+
+pub again_greatest : (old new : Seeing) (n : ℕ) (greatest : Option ℤ) → ((g : Option ℤ) → IsGreatestKey (now_in old) n g → ShowsGreatest new n g) → IsReadAgain old new (greatest_read n greatest)
+again_greatest old new n greatest shows = λ told base held. (shows greatest told).everywhere base held
 
 pub again_objects : (old new : Seeing) (n : ℕ) (objects : List KeyedRow) → ((os : List KeyedRow) → AreObjects (now_in old) n os → ShowsObjects new n os) → IsReadAgain old new (objects_read n objects)
 again_objects old new n objects shows = λ told base held. (shows objects told).everywhere base held
@@ -115,10 +118,21 @@ pub adds_part : (P : Read → Type 0) {old new : Seeing} {n : ℕ} {p : ClassPar
 adds_part P {old} {new} {n} {p} fits reads =
     subst (AddsReads P old.reads) (sym (ap (λ (v : Seeing). v.reads) reads.part_is.2)) (adds_noted P old.reads (part_read n p reads.part_is.0) (fits reads.part_is.0))
 
+-- a greatest key that is read adds its read, or the keys
+pub adds_greatest : (P : Read → Type 0) {old new : Seeing} {n : ℕ} → ((greatest : Option ℤ) → P (greatest_read n greatest)) → (DeletesGreatest old n → (keys : List ℤ) → P (keys_read n keys))
+    → ReadsGreatest old new n → AddsReads P old.reads new.reads
+adds_greatest P {old} {new} {n} alone instead reads =
+    ⊎_elim
+    (λ (r : ReadsGreatestAlone old new n).
+    subst (AddsReads P old.reads) (sym (ap (λ (v : Seeing). v.reads) r.greatest.2)) (adds_noted P old.reads (greatest_read n r.greatest.0) (alone r.greatest.0)))
+    (λ (r : DeletesGreatest old n × ReadsKeys old new n). adds_keys P (instead r.0) r.1)
+    reads.either
+
 -- a read of the class may be added for a part of it
 pub class_for_part : (layer : Changes) (n : ℕ) (p : ClassPart) (objects : List KeyedRow) (r : Read) → IsOfClass layer n r → IsFor layer (part_read n p objects) r
 class_for_part layer n p objects (cell_read q value) fits = fits
 class_for_part layer n p objects (keys_read m keys) fits = fits
+class_for_part layer n p objects (greatest_read m found) fits = fits
 class_for_part layer n p objects (objects_read m found) fits = fits
 class_for_part layer n p objects (part_read m q found) fits = absurd fits
 

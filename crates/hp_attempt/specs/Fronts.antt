@@ -1,5 +1,6 @@
 -- What settling the front of a row of attempts does.
 use Rattle.std.specs.Prelude.{◌≡◌, ℕ, zero, suc, Bool, true, false, List, [], ◌∷◌, Option, Some, None, map, take, drop, length}
+use Rattle.hp_model.specs.Values.{Veto}
 use Rattle.hp_model.specs.Rules.{Library}
 use Rattle.hp_model.specs.Tree.{Task}
 use Rattle.hp_model.specs.Cells.{Cells, Holds}
@@ -13,7 +14,7 @@ use Rattle.hp_view.specs.Adding.{AddsReads}
 use Rattle.hp_view.specs.Seeing.{Seeing, written, now_in, IsSame}
 use Rattle.hp_attempt.specs.Holding.{IsForAny}
 use Rattle.hp_model.specs.States.{States, IsSoundFor, FaithfulFiringFor, FaithfulSiblingsFor}
-use Rattle.hp_attempt.specs.Mapped.{firing, attempt}
+use Rattle.hp_attempt.specs.Mapped.{veto_in, firing, attempt}
 use Rattle.hp_attempt.specs.declared.outcome.Outcome.{Outcome}
 use Rattle.hp_attempt.specs.declared.outcome.Attempt.{Attempt}
 
@@ -29,13 +30,13 @@ AreSoundFor states library [] = Unit {0}
 AreSoundFor states library (None ∷ attempts) = AreSoundFor states library attempts
 AreSoundFor states library (Some a ∷ attempts) = IsSoundFor states library (attempt a) × AreSoundFor states library attempts
 
--- the end of the last outcome; before the first it is the given one
-abbrev pub last_end : Option ℕ → List Outcome → Option ℕ
-last_end end [] = end
-last_end end (o ∷ outcomes) = last_end o.end outcomes
+-- the veto of the last outcome, if it has one; before the first it is the given one
+abbrev pub last_end : Option Veto → List Outcome → Option Veto
+last_end v [] = v
+last_end v (o ∷ outcomes) = last_end (veto_in o) outcomes
 
 -- the veto at which the firings stopped, where they stop at one
-abbrev pub stopped_by : (stops : Bool) → List Outcome → Option ℕ
+abbrev pub stopped_by : (stops : Bool) → List Outcome → Option Veto
 stopped_by false outcomes = None
 stopped_by true outcomes = last_end None outcomes
 
@@ -50,7 +51,7 @@ StopsAt now [] attempts = Unit {0}
 StopsAt now (t ∷ tasks) attempts = Stays now t attempts
 
 -- it is the longest front: it stopped at a veto, or no task is left, or the first attempt that is left can't be accepted
-abbrev pub IsLongest : (stopped_by : Option ℕ) → Cells → (tasks : List Task) → (left : List (Option Attempt)) → Type 0
+abbrev pub IsLongest : (stopped_by : Option Veto) → Cells → (tasks : List Task) → (left : List (Option Attempt)) → Type 0
 IsLongest (Some r) now tasks left = Unit {0}
 IsLongest None now tasks left = StopsAt now tasks left
 

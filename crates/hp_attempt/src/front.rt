@@ -4,6 +4,7 @@ ghost use Rattle.std.specs.Prelude.{◌≡◌, ℕ, not, IfOk, IfSome, IfNone, O
 ghost use Rattle.hp_model.proofs.FaithfulFirings.{goes_on};
 ghost use Rattle.hp_rule.specs.Mapped.{task as task_of};
 ghost use Rattle.hp_view.specs.Seeing.{now_in, GoesOn, IsSame};
+ghost use Rattle.hp_attempt.specs.Mapped.{veto_in};
 ghost use Rattle.hp_attempt.specs.Fronts.{stopped_by, IsLongest, FrontIs, FrontIsFor};
 ghost use Rattle.hp_attempt.specs.Fronts.{TakesSome, AreOutcomes, TakesFirst, LeavesFirst};
 
@@ -58,7 +59,7 @@ pub fn settle_front(
 
 // Whether no sibling follows this outcome.
 fn stops_at(outcome: &Outcome, stop_at_veto: bool) -> bool
-    ensures { result ≡ not (goes_on stop_at_veto outcome.now.end) }
+    ensures { result ≡ not (goes_on stop_at_veto (veto_in outcome.now)) }
 {
     stop_at_veto && outcome.end.is_some()
 }

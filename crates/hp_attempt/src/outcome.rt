@@ -3,15 +3,15 @@
 use hp_rule::{Detached, Task};
 use hp_store::Layer;
 use hp_tree::Item;
-use hp_value::RuleNo;
+use hp_value::Veto;
 use hp_view::Reads;
 use std::sync::Arc;
 
 /// What the firing of a task gives, beside what it writes.
 #[derive(Debug, Drop)]
 pub struct Outcome {
-    /// The rule whose veto ended the firing; none where it was not vetoed.
-    pub end: Option<RuleNo>,
+    /// The veto with which the firing ended, if it did.
+    pub end: Option<Veto>,
     /// The tasks that it queued for the deferred rounds, in order.
     pub queued: Vec<Task>,
     /// The tasks that it detached, in order.

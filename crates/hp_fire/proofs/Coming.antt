@@ -2,6 +2,8 @@
 use Rattle.std.proofs.Common.{arith, ◌⊎◌, inl, inr, ◌≡◌, refl, sym, ap, ◌∙◌, subst, ℕ, ◌+◌, ◌<◌, ◌≤◌, Bool, true, List, length, None}
 use Rattle.std.proofs.lemmas.Bool.{cases_lt}
 use Rattle.std.specs.List.{slice_index_or}
+use Rattle.std.specs.Prelude.{option_map}
+use Rattle.hp_value.specs.Mapped.{veto}
 use Rattle.hp_model.specs.Rules.{Library}
 use Rattle.hp_model.specs.Tree.{Task}
 use Rattle.hp_view.specs.Seeing.{Seeing}
@@ -86,7 +88,7 @@ module _ {library : Library} {stops : Bool} {tasks : List Task} where
   comes_put v p q e sound = record {
     ahead = ahead_put p q e;
     sound = sound;
-    so_far = λ first s. subst (λ (x : Progress). IsSoFar library stops tasks first v x.settled.outcomes.items x.settled.end) (sym e) s;
+    so_far = λ first s. subst (λ (x : Progress). IsSoFar library stops tasks first v x.settled.outcomes.items (option_map veto x.settled.end)) (sym e) s;
   }
 
   -- nothing changes
@@ -105,8 +107,8 @@ module _ {library : Library} {stops : Bool} {tasks : List Task} where
         owes = (omega (arith, long, accepted, counted.0), omega (arith, long, accepted, waves, counted.1));
         sound = sound;
         so_far = λ first s.
-            subst (λ (x : Seeing). IsSoFar library stops tasks first x q.settled.outcomes.items q.settled.end) (sym same)
-            (subst (λ (x : Progress). IsSoFar library stops tasks first v x.settled.outcomes.items x.settled.end) (sym e) s);
+            subst (λ (x : Seeing). IsSoFar library stops tasks first x q.settled.outcomes.items (option_map veto q.settled.end)) (sym same)
+            (subst (λ (x : Progress). IsSoFar library stops tasks first v x.settled.outcomes.items (option_map veto x.settled.end)) (sym e) s);
       }
 
   -- a wave has run
@@ -119,8 +121,8 @@ module _ {library : Library} {stops : Bool} {tasks : List Task} where
     owes = (within, omega (arith, counted.1, long, counts.0, counts.1, came.ahead.waves, came.ahead.accepted));
     sound = came.sound;
     so_far = λ first s. came.so_far first
-        (subst (λ (x : Seeing). IsSoFar library stops tasks first x b.settled.outcomes.items b.settled.end) (sym same)
-        (subst (λ (x : Settled). IsSoFar library stops tasks first v x.outcomes.items x.end) (sym settled) s));
+        (subst (λ (x : Seeing). IsSoFar library stops tasks first x b.settled.outcomes.items (option_map veto b.settled.end)) (sym same)
+        (subst (λ (x : Settled). IsSoFar library stops tasks first v x.outcomes.items (option_map veto x.end)) (sym settled) s));
   }
     where
       long : length b.settled.outcomes.items ≡ length p.settled.outcomes.items

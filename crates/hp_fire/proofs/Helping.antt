@@ -1,9 +1,11 @@
 -- Groups with workers.
 use Rattle.std.proofs.Common.{arith, ◌⊎◌, inl, inr, ◌≡◌, refl, sym, ap, ◌∙◌, subst, ℕ, zero, suc, ◌-◌, ◌<◌, ◌≤◌, Bool, true, false, List, [], ◌∷◌, ◌++◌, length, take, drop, map, Option, Some, None, IfSome, slice_set, slice_get, length-append}
+use Rattle.std.specs.Prelude.{option_map}
 use Rattle.std.proofs.lemmas.Bool.{cases_lt}
 use Rattle.std.proofs.lemmas.List.Elements.{All-append, All-cons, All-nil}
 use Rattle.std.proofs.Math.ListN.{drop_of_length-le}
 use Rattle.std.proofs.lemmas.List.{map-append, drop-drop}
+use Rattle.hp_model.specs.Values.{Veto}
 use Rattle.hp_model.specs.Rules.{Library}
 use Rattle.hp_model.specs.Tree.{Task}
 use Rattle.hp_model.specs.Firing.{siblings, fire_task}
@@ -15,12 +17,17 @@ use Rattle.hp_view.proofs.Views.{GoesOn-same, GoesOn-then}
 use Rattle.hp_attempt.specs.declared.outcome.Outcome.{Outcome}
 use Rattle.hp_attempt.specs.declared.outcome.Attempt.{Attempt}
 use Rattle.hp_attempt.specs.Fronts.{AreSound, last_end, stopped_by, FrontIs}
-use Rattle.hp_attempt.specs.Mapped.{firing, attempt}
+use Rattle.hp_attempt.specs.Mapped.{veto_in, firing, attempt}
 use Rattle.hp_attempt.proofs.Joining.{front_completes, front_stops}
 use Rattle.hp_fire.specs.Runs.{RunsFiring, RunsGroup}
 use Rattle.hp_fire.specs.declared.speculate.pending.Tried.{Tried}
 use Rattle.hp_fire.specs.Groups.{IsSoFar, AreSoundTries}
 use Rattle.hp_fire.proofs.Steps.{grows}
+
+-- what stands for none is none
+pub unmapped_none : {A B : Type 0} (f : A → B) (o : Option A) → option_map f o ≡ None → o ≡ None
+unmapped_none f None e = refl
+unmapped_none f (Some x) e = cc
 
 pub false_true : false ≡ true → ⊥
 false_true e = cc
@@ -69,18 +76,18 @@ tries_more library xs t all is = let P = λ (u : Tried). IsSound library (attemp
 -- ---- the progress of the group
 
 -- the last end is that of the last outcome
-last_at : (v : Option ℕ) (xs : List Outcome) (n : ℕ) (o : Outcome) → length xs ≡ suc n → slice_get xs n ≡ Some o → last_end v xs ≡ o.end
+last_at : (v : Option Veto) (xs : List Outcome) (n : ℕ) (o : Outcome) → length xs ≡ suc n → slice_get xs n ≡ Some o → last_end v xs ≡ veto_in o
 last_at v [] n o e h = cc
 last_at v (x ∷ []) zero o e h = ap (λ (u : Option Outcome). end_or v u) h
   where
-    end_or : Option ℕ → Option Outcome → Option ℕ
+    end_or : Option Veto → Option Outcome → Option Veto
     end_or v None = v
-    end_or v (Some u) = u.end
+    end_or v (Some u) = veto_in u
 last_at v (x ∷ []) (suc n) o e h = cc
 last_at v (x ∷ y ∷ ys) zero o e h = cc
-last_at v (x ∷ y ∷ ys) (suc n) o e h = last_at x.end (y ∷ ys) n o (omega (arith, e)) h
+last_at v (x ∷ y ∷ ys) (suc n) o e h = last_at (veto_in x) (y ∷ ys) n o (omega (arith, e)) h
 
-pub last_is : (v : Option ℕ) (xs : List Outcome) (o : Outcome) → slice_get xs (length xs - 1) ≡ Some o → last_end v xs ≡ o.end
+last_is : (v : Option Veto) (xs : List Outcome) (o : Outcome) → slice_get xs (length xs - 1) ≡ Some o → last_end v xs ≡ veto_in o
 last_is v [] o h = cc
 last_is v (x ∷ xs) o h =
     let n : length (x ∷ xs) - 1 ≡ length xs = omega arith in
@@ -93,14 +100,19 @@ stopped_by_none false [] e = refl
 stopped_by_none stops (x ∷ xs) e = cc
 
 -- the veto at which a firing with this end stops the group, if it does
-stopped_by_one : Bool → Option ℕ → Option ℕ
+stopped_by_one : Bool → Option Veto → Option Veto
 stopped_by_one true v = v
 stopped_by_one false v = None
 
-stopped_one : (stops : Bool) (o : Outcome) → stopped_by stops (o ∷ []) ≡ stopped_by_one stops o.end
+stopped_one : (stops : Bool) (o : Outcome) → stopped_by stops (o ∷ []) ≡ stopped_by_one stops (veto_in o)
 unfolding stopped_by_one
 stopped_one true o = refl
 stopped_one false o = refl
+
+-- the last firing stops a group, or none does
+pub last_stops : (stops : Bool) (xs : List Outcome) (o : Outcome) → slice_get xs (length xs - 1) ≡ Some o → stopped_by stops xs ≡ stopped_by stops (o ∷ [])
+last_stops true xs o h = last_is None xs o h
+last_stops false xs o h = refl
 
 -- the tasks that are left after some more
 left_after : (tasks : List Task) (outcomes front : List Outcome) → drop (length (outcomes ++ front)) tasks ≡ drop (length front) (drop (length outcomes) tasks)
@@ -110,7 +122,7 @@ module _ {library : Library} {stops : Bool} {tasks : List Task} {first : Seeing}
   pub so_far_begins : IsSoFar library stops tasks first first [] None
   so_far_begins = record { goes_on = GoesOn-same first; goes = λ _. record { by = λ more after g more_reads p. p }; stopped = λ r e. cc }
 
-  pub so_far_starts : (outcomes : List Outcome) (end : Option ℕ) → outcomes ≡ [] → end ≡ None → IsSoFar library stops tasks first first outcomes end
+  pub so_far_starts : (outcomes : List Outcome) (end : Option Veto) → outcomes ≡ [] → end ≡ None → IsSoFar library stops tasks first first outcomes end
   so_far_starts outcomes end no_outcomes none = subst (λ os. IsSoFar library stops tasks first first os end) (sym no_outcomes) (subst (IsSoFar library stops tasks first first []) (sym none) so_far_begins)
 
   pub so_far_front : {now then : Seeing} (outcomes front : List Outcome) (attempts : List (Option Attempt)) → IsSoFar library stops tasks first now outcomes None → GoesOn now then
@@ -127,7 +139,7 @@ module _ {library : Library} {stops : Bool} {tasks : List Task} {first : Seeing}
   }
 
   -- the same at an index of the tasks
-  pub so_far_settled : {now then : Seeing} (outcomes front all : List Outcome) (end after : Option ℕ) (left : List Task) (attempts : List (Option Attempt)) → end ≡ None → left ≡ drop (length outcomes) tasks
+  pub so_far_settled : {now then : Seeing} (outcomes front all : List Outcome) (end after : Option Veto) (left : List Task) (attempts : List (Option Attempt)) → end ≡ None → left ≡ drop (length outcomes) tasks
       → all ≡ outcomes ++ front → after ≡ stopped_by stops front → IsSoFar library stops tasks first now outcomes end → GoesOn now then → FrontIs stops left attempts front now then → AreSound library attempts
       → IsSoFar library stops tasks first then all after
   so_far_settled {now} {then} outcomes front all end after left attempts none left_is all_is after_is s on front_is sound =
@@ -145,7 +157,7 @@ module _ {library : Library} {stops : Bool} {tasks : List Task} {first : Seeing}
     goes = λ e.
         subst (λ fs. GroupCompletes library (fire_task library) stops tasks (written first) (drop (length (outcomes ++ o ∷ [])) tasks) then.reads (written then) fs) (sym (map-append firing outcomes (o ∷ [])))
         (subst (λ us. GroupCompletes library (fire_task library) stops tasks (written first) us then.reads (written then) (map firing outcomes ++ firing o ∷ [])) (sym (left_after tasks outcomes (o ∷ []) ∙ ap (drop 1) here))
-        (group_more library (fire_task library) stops tasks (written first) (on stops o.end (sym (stopped_one stops o) ∙ e)) (grows r.goes_on) at_first r.faithful));
+        (group_more library (fire_task library) stops tasks (written first) (on stops (veto_in o) (sym (stopped_one stops o) ∙ e)) (grows r.goes_on) at_first r.faithful));
     stopped = λ n e.
         subst (λ fs. FaithfulSiblings library (siblings (fire_task library) stops tasks) then.reads (written first) (written then) (record { firings = fs; vetoed_by = Some n })) (sym (map-append firing outcomes (o ∷ [])))
         (halts stops n e at_first);
@@ -154,24 +166,24 @@ module _ {library : Library} {stops : Bool} {tasks : List Task} {first : Seeing}
       at_first : GroupCompletes library (fire_task library) stops tasks (written first) (t ∷ ts) now.reads (written now) (map firing outcomes)
       at_first = subst (λ us. GroupCompletes library (fire_task library) stops tasks (written first) us now.reads (written now) (map firing outcomes)) here (s.goes refl)
 
-      on : (b : Bool) (v : Option ℕ) → stopped_by_one b v ≡ None → goes_on b v ≡ true
+      on : (b : Bool) (v : Option Veto) → stopped_by_one b v ≡ None → goes_on b v ≡ true
       on true None e = refl
       on true (Some r) e = cc
       on false v e = refl
 
-      halts : (b : Bool) (n : ℕ) → stopped_by b (o ∷ []) ≡ Some n → GroupCompletes library (fire_task library) b tasks (written first) (t ∷ ts) now.reads (written now) (map firing outcomes)
+      halts : (b : Bool) (n : Veto) → stopped_by b (o ∷ []) ≡ Some n → GroupCompletes library (fire_task library) b tasks (written first) (t ∷ ts) now.reads (written now) (map firing outcomes)
           → FaithfulSiblings library (siblings (fire_task library) b tasks) then.reads (written first) (written then) (record { firings = map firing outcomes ++ firing o ∷ []; vetoed_by = Some n })
       halts true n e c = group_vetoed library (fire_task library) tasks (written first) n e (grows r.goes_on) c r.faithful
       halts false n e c = cc
 
   -- the same at an index of the tasks
-  pub so_far_ran : {now then : Seeing} (outcomes all : List Outcome) (end after : Option ℕ) (t : Task) (ts : List Task) (o : Outcome) → end ≡ None → drop (length outcomes) tasks ≡ t ∷ ts → all ≡ outcomes ++ o ∷ []
+  pub so_far_ran : {now then : Seeing} (outcomes all : List Outcome) (end after : Option Veto) (t : Task) (ts : List Task) (o : Outcome) → end ≡ None → drop (length outcomes) tasks ≡ t ∷ ts → all ≡ outcomes ++ o ∷ []
       → after ≡ stopped_by stops (o ∷ []) → IsSoFar library stops tasks first now outcomes end → RunsFiring library (λ S. fire_task library S t) now then (firing o) → IsSoFar library stops tasks first then all after
   so_far_ran {now} {then} outcomes all end after t ts o none here all_is after_is s r =
       subst (λ os. IsSoFar library stops tasks first then os after) (sym all_is)
       (subst (IsSoFar library stops tasks first then (outcomes ++ o ∷ [])) (sym after_is) (so_far_run outcomes t ts o here (subst (IsSoFar library stops tasks first now outcomes) none s) r))
 
-  pub so_far_ends : {now : Seeing} (outcomes : List Outcome) (end : Option ℕ) → IsSoFar library stops tasks first now outcomes end → (end ≡ None → length tasks ≤ length outcomes)
+  pub so_far_ends : {now : Seeing} (outcomes : List Outcome) (end : Option Veto) → IsSoFar library stops tasks first now outcomes end → (end ≡ None → length tasks ≤ length outcomes)
       → RunsGroup library (siblings (fire_task library) stops tasks) first now (record { firings = map firing outcomes; vetoed_by = end })
   so_far_ends outcomes (Some r) s all = record { goes_on = s.goes_on; faithful = s.stopped r refl }
   so_far_ends {now} outcomes None s all = record {

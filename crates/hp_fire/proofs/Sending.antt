@@ -54,7 +54,6 @@ use Rattle.hp_fire.specs.contracts.speculate.channel.Sent as Sent
 use Rattle.hp_board.proofs.counter.Seat.TheSendSync as seat
 use Rattle.rtrb.proofs.producer.Producer.TheSendSync as sender
 use Rattle.hp_fire.specs.contracts.speculate.wave.Job as Job
-use Rattle.hp_value.proofs.env.Answer.TheSendSync as answer
 use Rattle.hp_rule.specs.contracts.task.Task as Task
 use Rattle.std.specs.contracts.alloc.Global as Heap
 use Rattle.std.specs.contracts.impls.GlobalAllocator.TheImpl.{ghosts}
@@ -67,6 +66,10 @@ use Rattle.hp_event.proofs.pattern.Pattern.TheSendSync as pattern
 use Rattle.hp_rule.specs.contracts.stmt.Stmt as Stmt
 use Rattle.hp_rule.proofs.stmt.Stmt.TheLaws.TheKnot as stmt
 use Rattle.hp_query.specs.contracts.query.Query as Query
+use Rattle.hp_query.specs.contracts.aggregate.Aggregate as Aggregate
+use Rattle.hp_query.specs.contracts.entry.Entry as Entry
+use Rattle.hp_query.proofs.entry.Findings.TheSendSync as findings
+use Rattle.hp_value.proofs.halt.Veto.TheSendSync as veto
 use Rattle.hp_rule.specs.contracts.rule.Rule as Rule
 use Rattle.hp_rule.specs.contracts.library.Library as Library
 use Rattle.hp_rule.proofs.index.Index.TheSendSync as index
@@ -176,7 +179,7 @@ found_send = search (cell_value_send, objects.the_send, objects.the_sync, found_
 pub reads_send : IsSend Reads.the_field.row
 reads_send = search (found_send, seen.the_send, heap.crosses, sendable) depth 20
 
-ruleset item_parts = (row.the_send, row.the_sync, value.the_send, value.the_sync, maps.crosses, heap.crosses, sendable)
+ruleset item_parts = (row.the_send, row.the_sync, value.the_send, value.the_sync, veto.the_send, veto.the_sync, maps.crosses, heap.crosses, sendable)
 
 pub item_send : IsSend Item.the_field.row
 item_send = item.send-Item (search item_parts depth 30 fits 20000) (search item_parts depth 30 fits 20000) (search item_parts depth 30 fits 20000) (search item_parts depth 30 fits 20000) heap.Vec-send
@@ -184,13 +187,13 @@ item_send = item.send-Item (search item_parts depth 30 fits 20000) (search item_
 pub item_sync : IsSync Item.the_field.row
 item_sync = item.sync-Item (search item_parts depth 30 fits 20000) (search item_parts depth 30 fits 20000) (search item_parts depth 30 fits 20000) (search item_parts depth 30 fits 20000) heap.Vec-sync
 
-ruleset task_parts = (occurrence.the_send, occurrence.the_sync, answer.the_send, answer.the_sync, heap.crosses, sendable)
+ruleset task_parts = (occurrence.the_send, occurrence.the_sync, findings.the_send, findings.the_sync, heap.crosses, sendable)
 
 pub task_send : IsSend Task.the_field.row
 task_send = search task_parts depth 30 fits 20000
 
 pub outcome_send : IsSend Outcome.the_field.row
-outcome_send = search (item_send, task.the_send, detached.the_send, heap.crosses, sendable) depth 12
+outcome_send = search (item_send, veto.the_send, task.the_send, detached.the_send, heap.crosses, sendable) depth 12
 
 pub attempt_send : IsSend Attempt.the_field.row
 attempt_send = search (outcome_send, task_send, reads_send, layer_send, layer_sync, heap.crosses, sendable) depth 12
@@ -209,16 +212,22 @@ event_sync = event.sync-EventExpr (search expression_parts depth 12) heap.Box-sy
 assignment_sync : IsSync Assignment.the_field.row
 assignment_sync = search (expr_sync, expression_parts) depth 12
 
-ruleset statement_parts = (expr_sync, assignment_sync, expression_parts)
-
-pub stmt_sync : IsSync Stmt.the_field.row
-stmt_sync = stmt.sync-Stmt (search statement_parts depth 12) (search statement_parts depth 12) (search statement_parts depth 12) (search statement_parts depth 12) (search statement_parts depth 12) heap.Vec-sync (search statement_parts depth 12)
-
 query_sync : IsSync Query.the_field.row
 query_sync = search (expr_sync, expression_parts) depth 12
 
+aggregate_sync : IsSync Aggregate.the_field.row
+aggregate_sync = search (query_sync, expr_sync, expression_parts) depth 12
+
+entry_sync : IsSync Entry.the_field.row
+entry_sync = search (query_sync, aggregate_sync, expression_parts) depth 12
+
+ruleset statement_parts = (expr_sync, assignment_sync, aggregate_sync, expression_parts)
+
+pub stmt_sync : IsSync Stmt.the_field.row
+stmt_sync = stmt.sync-Stmt (search statement_parts depth 12) (search statement_parts depth 12) (search statement_parts depth 12) (search statement_parts depth 12) (search statement_parts depth 12) heap.Vec-sync (search statement_parts depth 12) (search statement_parts depth 12) (search statement_parts depth 12)
+
 rule_sync : IsSync Rule.the_field.row
-rule_sync = search (event_send, event_sync, query_sync, stmt_sync, expression_parts) depth 30 fits 20000
+rule_sync = search (event_send, event_sync, entry_sync, stmt_sync, expression_parts) depth 30 fits 20000
 
 pub library_sync : IsSync Library.the_field.row
 library_sync = search (rule_sync, expression_parts) depth 30 fits 20000

@@ -4,6 +4,7 @@ use Rattle.std.proofs.lemmas.List.Elements.{All-cons, All-nil}
 use Rattle.std.specs.Prelude.{All, ◌++◌, Option, Some, None, is_some, filter, if◌then◌else◌, Result, Ok, Err, IfOk}
 use Rattle.std.specs.Global.{Vec}
 use Rattle.std.proofs.Common.{mul-le-mul_right, suc-mul}
+use Rattle.hp_model.specs.Values.{Veto}
 use Rattle.hp_model.specs.Occurrences.{Primitive}
 use Rattle.hp_model.specs.Rules.{Library, is_immediate}
 use Rattle.hp_model.specs.Tree.{Task}
@@ -21,41 +22,41 @@ use Rattle.hp_ops.specs.Triggers.{IsTriggered, Triggers}
 use Rattle.hp_view.specs.Seeing.{Seeing, GoesOn}
 use Rattle.hp_view.proofs.Views.{GoesOn-same, GoesOn-then}
 use Rattle.hp_fire.specs.Runs.{Runs, RunsFiring, RunsGroup, AreReady, Starts}
-use Rattle.hp_fire.specs.Statements.{TasksStart}
+use Rattle.hp_fire.specs.Statements.{below_at, TasksStart}
 use Rattle.hp_fire.specs.Weights.{deepest, levels, left}
 use Rattle.hp_fire.proofs.Immediate.{AllImmediate, all_fire, none_is_deferred, none_is_detached}
 use Rattle.hp_fire.proofs.Steps.{GroupLoop, grows, runs_answer, goes_unvetoed, group_starts, group_goes, group_stops, group_ends}
 
-signal_runs : {library : Library} {depth : ℕ} {p : Primitive} {tasks : List Task} {v w z : Seeing} {a : Answer} → IsTriggered library depth p v w tasks → GoesOn v w
-    → Runs library (start (level_at library depth).below tasks) w z a → Runs library (signal_in (level_at library depth) p) v z a
-signal_runs {library} {depth} {p} triggered on r = record { goes_on = GoesOn-then on r.goes_on; faithful = faithful_signal (level_at library depth) p (grows r.goes_on) triggered.heard r.faithful }
+signal_runs : {library : Library} {now depth : ℕ} {p : Primitive} {tasks : List Task} {v w z : Seeing} {a : Answer} → IsTriggered library now depth p v w tasks → GoesOn v w
+    → Runs library (start (level_at library 0 depth).below tasks) w z a → Runs library (signal_in (level_at library now depth) p) v z a
+signal_runs {library} {now} {depth} {p} triggered on r = record { goes_on = GoesOn-then on r.goes_on; faithful = faithful_signal (level_at library now depth) p (grows r.goes_on) triggered.heard r.faithful }
 
 -- ---- what is left of a work is to start tasks
 
-pub signal_starts : (lib : RustLibrary) (depth : ℕ) (p : Primitive) (v w : Seeing) (result : Result (Vec RustTask) Halt) → Triggers (library lib) depth p v w result → GoesOn v w
-    → TasksStart lib depth (signal_in (level_at (library lib) depth) p) v w result
-signal_starts lib depth p v w (Ok tasks) triggered on = record { then_runs = λ {last} {a} r. signal_runs triggered on r }
-signal_starts lib depth p v w (Err (ByCause c)) faithful on = record { goes_on = on; faithful = faithful }
-signal_starts lib depth p v w (Err Memory) steps on = tt
+pub signal_starts : (lib : RustLibrary) (now depth : ℕ) (p : Primitive) (v w : Seeing) (result : Result (Vec RustTask) Halt) → Triggers (library lib) now depth p v w result → GoesOn v w
+    → TasksStart lib depth (signal_in (level_at (library lib) now depth) p) v w result
+signal_starts lib now depth p v w (Ok tasks) triggered on = record { then_runs = λ {last} {a} r. signal_runs triggered on r }
+signal_starts lib now depth p v w (Err (ByCause c)) faithful on = record { goes_on = on; faithful = faithful }
+signal_starts lib now depth p v w (Err Memory) steps on = tt
 
-pub signal_ready : (lib : RustLibrary) (depth : ℕ) (p : Primitive) (v w : Seeing) (result : Result (Vec RustTask) Halt) → Triggers (library lib) depth p v w result
+pub signal_ready : (lib : RustLibrary) (now depth : ℕ) (p : Primitive) (v w : Seeing) (result : Result (Vec RustTask) Halt) → Triggers (library lib) now depth p v w result
     → IfOk result (λ ts. AreReady (library lib) depth (map task ts.items))
-signal_ready lib depth p v w (Ok tasks) triggered = record { at = triggered.at; within = triggered.within }
-signal_ready lib depth p v w (Err h) none = tt
+signal_ready lib now depth p v w (Ok tasks) triggered = record { at = triggered.at; within = triggered.within }
+signal_ready lib now depth p v w (Err h) none = tt
 
 -- there are tasks
 pub then_starts : (lib : RustLibrary) (depth : ℕ) (work : Work) (before old : Seeing) (result : Result (Vec RustTask) Halt) (tasks : Vec RustTask) → result ≡ Ok tasks → TasksStart lib depth work before old result
-    → Starts (library lib) (start (level_at (library lib) depth).below (map task tasks.items)) work before old
+    → Starts (library lib) (start (below_at lib depth) (map task tasks.items)) work before old
 then_starts lib depth work before old result tasks is given = subst (λ (r : Result (Vec RustTask) Halt). TasksStart lib depth work before old r) is given
 
 pub are_ready : (lib : RustLibrary) (depth : ℕ) (result : Result (Vec RustTask) Halt) (tasks : Vec RustTask) → result ≡ Ok tasks → IfOk result (λ ts. AreReady (library lib) depth (map task ts.items))
     → AreReady (library lib) depth (map task tasks.items)
 are_ready lib depth result tasks is ready = subst (λ (r : Result (Vec RustTask) Halt). IfOk r (λ ts. AreReady (library lib) depth (map task ts.items))) is ready
 
-pub start_none : (library : Library) (depth : ℕ) {tasks : List Task} → tasks ≡ [] → (v : Seeing) (a : Answer) → a ≡ ended done → Runs library (start (level_at library depth).below tasks) v v a
+pub start_none : (library : Library) (depth : ℕ) {tasks : List Task} → tasks ≡ [] → (v : Seeing) (a : Answer) → a ≡ ended done → Runs library (start (level_at library 0 depth).below tasks) v v a
 start_none library depth {tasks} none v a is =
-    subst (λ ts. Runs library (start (level_at library depth).below ts) v v a) (sym none)
-    (runs_answer is (record { goes_on = GoesOn-same v; faithful = faithful_start_none (level_at library depth).below }))
+    subst (λ ts. Runs library (start (level_at library 0 depth).below ts) v v a) (sym none)
+    (runs_answer is (record { goes_on = GoesOn-same v; faithful = faithful_start_none (level_at library 0 depth).below }))
 
 -- ---- tasks of a depth
 
@@ -69,11 +70,11 @@ at_filter d f (t ∷ ts) at = by (f t) at.0 (at_filter d f ts at.1)
 
 pub start_runs : {library : Library} {depth : ℕ} {v w : Seeing} {g : SiblingsAnswer} (tasks : List Task) → AreReady library depth tasks → (tasks ≡ [] → ⊥)
     → RunsGroup library (siblings (fire_task library) true (filter (λ (u : Task). is_immediate u.place) tasks)) v w g
-    → Runs library (start (level_at library depth).below tasks) v w (followed (placing tasks) (group_answer g))
+    → Runs library (start (level_at library 0 depth).below tasks) v w (followed (placing tasks) (group_answer g))
 start_runs [] ready some r = absurd (some refl)
 start_runs {library} {depth} (t ∷ ts) ready some r = record {
   goes_on = r.goes_on;
-  faithful = faithful_start depth t ts (ready.within t ts refl) (at_filter (suc depth) (λ (u : Task). is_immediate u.place) (t ∷ ts) ready.at) r.faithful;
+  faithful = faithful_start 0 depth t ts (ready.within t ts refl) (at_filter (suc depth) (λ (u : Task). is_immediate u.place) (t ∷ ts) ready.at) r.faithful;
 }
 
 -- a single task is a group of one
@@ -84,7 +85,7 @@ single_group {library} {v} {w} {f} t r = by f.vetoed_by refl
     whole : GroupLoop library true (t ∷ []) (t ∷ []) v v []
     whole = group_starts v [] refl
 
-    by : (o : Option ℕ) → f.vetoed_by ≡ o → RunsGroup library (siblings (fire_task library) true (t ∷ [])) v w (record { firings = f ∷ []; vetoed_by = f.vetoed_by })
+    by : (o : Option Veto) → f.vetoed_by ≡ o → RunsGroup library (siblings (fire_task library) true (t ∷ [])) v w (record { firings = f ∷ []; vetoed_by = f.vetoed_by })
     by (Some n) e = group_stops {ts = []} t (f ∷ []) refl refl refl (ap is_some e) whole r
     by None e =
         let over : GroupLoop library true (t ∷ []) [] v w (f ∷ []) = group_goes {ts = []} t (f ∷ []) refl refl (goes_unvetoed true f.vetoed_by (ap is_some e)) whole r in
@@ -93,9 +94,9 @@ single_group {library} {v} {w} {f} t r = by f.vetoed_by refl
 -- it is the only one that starts
 pub start_single : {library : Library} {depth : ℕ} {v w : Seeing} {f : FiringAnswer} (tasks : List Task) (t : Task) → AreReady library depth tasks → tasks ≡ t ∷ [] → AllImmediate tasks
     → RunsFiring library (λ S. fire_task library S t) v w f
-    → Runs library (start (level_at library depth).below tasks) v w (group_answer (record { firings = f ∷ []; vetoed_by = f.vetoed_by }))
+    → Runs library (start (level_at library 0 depth).below tasks) v w (group_answer (record { firings = f ∷ []; vetoed_by = f.vetoed_by }))
 start_single {library} {depth} {v} {w} {f} tasks t ready is at_once r =
-    subst (λ ts. Runs library (start (level_at library depth).below ts) v w (group_answer group)) (sym is)
+    subst (λ ts. Runs library (start (level_at library 0 depth).below ts) v w (group_answer group)) (sym is)
     (runs_answer (λ i. record { end = (group_answer group).end; queued = ap (λ ts. ts ++ queued_in group.firings) (sym (none_is_deferred (t ∷ []) now)) i; detached = ap (λ ts. map unreleased ts ++ detached_in group.firings) (sym (none_is_detached (t ∷ []) now)) i; items = items_in group.firings })
     (start_runs (t ∷ []) (subst (AreReady library depth) is ready) (λ none. cc)
     (subst (λ ts. RunsGroup library (siblings (fire_task library) true ts) v w group) (sym (all_fire (t ∷ []) now)) (single_group t r))))

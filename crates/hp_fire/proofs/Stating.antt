@@ -1,16 +1,18 @@
 -- Statements by their parts.
 use Rattle.std.proofs.Common.{◌≡◌, refl, sym, ap, ◌∙◌, subst, ℕ, List, [], ◌∷◌}
-use Rattle.std.specs.Prelude.{Result, Ok, Err, String, string_bytes}
+use Rattle.std.specs.Prelude.{Option, Some, None, Result, Ok, Err, String, string_bytes}
 use Rattle.std.specs.Global.{Global, Vec, Box}
 use Rattle.std.proofs.Common.{rules}
-use Rattle.hp_model.specs.Values.{Name, Value, Outcome}
+use Rattle.hp_model.specs.Values.{Name, NamedValues, Value, Outcome}
 use Rattle.hp_model.specs.Occurrences.{Primitive, signalled}
+use Rattle.hp_model.specs.Expressions.{Environment, bound, holding}
+use Rattle.hp_model.specs.Conditions.{Answers, Findings, with_answers, with_values, with_findings}
 use Rattle.hp_model.specs.Rules as R
-use Rattle.hp_model.specs.Rules.{Library, Statement, fire}
+use Rattle.hp_model.specs.Rules.{Library, Statement, Body, fire}
 use Rattle.hp_model.specs.State.{State, Status, absent, enabled, disabled}
 use Rattle.hp_model.specs.Tree.{Task, without_detachments}
 use Rattle.hp_model.specs.Transactions.{Work, with_value, abort_by}
-use Rattle.hp_model.specs.Firing.{Level, level_at, Context, run_statement, signal_in, start, start_fired, fired_task}
+use Rattle.hp_model.specs.Firing.{Level, level_at, Context, run_statement, run_body, signal_in, start, start_fired, fired_task}
 use Rattle.hp_model.specs.Cells.{Read, Changes}
 use Rattle.hp_model.specs.Soundness.{Answer}
 use Rattle.hp_model.specs.Answers.{FaithfulWork, ended, tells, followed}
@@ -25,7 +27,7 @@ use Rattle.hp_value.specs.declared.expr.Expr.{Expr}
 use Rattle.hp_value.specs.Mapped.{expression}
 use Rattle.hp_rule.specs.declared.library.Library.{Library as RustLibrary}
 use Rattle.hp_rule.specs.declared.stmt.Stmt.{Stmt}
-use Rattle.hp_rule.specs.declared.stmt.Stmt.TheVariants.{With}
+use Rattle.hp_rule.specs.declared.stmt.Stmt.TheVariants.{With, Veto}
 use Rattle.hp_rule.specs.declared.stmt.Stmt.TheViews.{the_lemmas}
 use Rattle.hp_rule.specs.Mapped.{library, statement, body_in}
 use Rattle.hp_rule.proofs.Bodies.{row_body_lem}
@@ -34,7 +36,7 @@ use Rattle.hp_view.proofs.Views.{GoesOn-same, GoesOn-then}
 use Rattle.hp_view.proofs.Reading.{GoesOn-only}
 use Rattle.hp_fire.specs.declared.course.Course.{Course}
 use Rattle.hp_fire.specs.Runs.{Runs, Steps, Finding, Looks, Makes}
-use Rattle.hp_fire.specs.Statements.{TasksStart}
+use Rattle.hp_fire.specs.Statements.{veto_statement, TasksStart}
 use Rattle.hp_fire.specs.Signals.{signal_of}
 use Rattle.hp_fire.proofs.Making.{steps_halt}
 use Rattle.hp_fire.proofs.Steps.{runs_as, found_cause, found_value, grows, only_written}
@@ -98,30 +100,58 @@ found_halt f next of Memory library v w found = tt
 
 -- ---- the statement that fires a rule
 
-pub fire_halt : (lib : RustLibrary) (context : Context) (depth n : ℕ) (h : Halt) (v w : Seeing) → OnlyReads v w → Fires (library lib) depth n w (Err h)
-    → TasksStart lib depth (run_statement (fire n) (level_at (library lib) depth) context) v w (Err h)
-fire_halt lib context depth n (ByCause c) v w only fires = record {
+pub fire_halt : (lib : RustLibrary) (context : Context) (now depth n : ℕ) (h : Halt) (v w : Seeing) → OnlyReads v w → Fires (library lib) now depth n w (Err h)
+    → TasksStart lib depth (run_statement (fire n) (level_at (library lib) now depth) context) v w (Err h)
+fire_halt lib context now depth n (ByCause c) v w only fires = record {
   goes_on = GoesOn-only only;
-  faithful = subst (λ b. FaithfulWork (library lib) (run_statement (fire n) (level_at (library lib) depth) context) w.reads b (written w) (ended (abort_by (cause c)))) (only_written only) fires;
+  faithful = subst (λ b. FaithfulWork (library lib) (run_statement (fire n) (level_at (library lib) now depth) context) w.reads b (written w) (ended (abort_by (cause c)))) (only_written only) fires;
 }
-fire_halt lib context depth n Memory v w only fires = tt
+fire_halt lib context now depth n Memory v w only fires = tt
 
-starts : (library : Library) (depth n : ℕ) (s : Status) → (s ≡ absent → ⊥) → (S : State) → start_fired s (level_at library depth) n S ≡ start (level_at library depth).below (fired_task (level_at library depth) n ∷ []) S
-starts library depth n absent there S = absurd (there refl)
-starts library depth n enabled there S = refl
-starts library depth n disabled there S = refl
+starts : (library : Library) (now depth n : ℕ) (s : Status) → (s ≡ absent → ⊥) → (S : State) → start_fired s (level_at library now depth) n S ≡ start (level_at library 0 depth).below (fired_task (level_at library now depth) n ∷ []) S
+starts library now depth n absent there S = absurd (there refl)
+starts library now depth n enabled there S = refl
+starts library now depth n disabled there S = refl
 
-pub fire_runs : {library : Library} (context : Context) {depth n : ℕ} {v w z : Seeing} {t : Task} {a : Answer} → OnlyReads v w → IsFired library depth n w t → Runs library (start (level_at library depth).below (t ∷ [])) w z a
-    → Runs library (run_statement (fire n) (level_at library depth) context) v z a
-fire_runs {library} context {depth} {n} {v} {w} {z} {t} {a} only fired r =
-    let fires : Runs library (start_fired fired.status (level_at library depth) n) w z a =
-    runs_as (start (level_at library depth).below (t ∷ [])) (start_fired fired.status (level_at library depth) n)
-    (λ S. starts library depth n fired.status fired.there S ∙ ap (λ (u : Task). start (level_at library depth).below (u ∷ []) S) (sym fired.is)) r in
+pub fire_runs : {library : Library} (context : Context) {now depth n : ℕ} {v w z : Seeing} {t : Task} {a : Answer} → OnlyReads v w → IsFired library now depth n w t → Runs library (start (level_at library 0 depth).below (t ∷ [])) w z a
+    → Runs library (run_statement (fire n) (level_at library now depth) context) v z a
+fire_runs {library} context {now} {depth} {n} {v} {w} {z} {t} {a} only fired r =
+    let fires : Runs library (start_fired fired.status (level_at library now depth) n) w z a =
+    runs_as (start (level_at library 0 depth).below (t ∷ [])) (start_fired fired.status (level_at library now depth) n)
+    (λ S. starts library now depth n fired.status fired.there S ∙ ap (λ (u : Task). start (level_at library 0 depth).below (u ∷ []) S) (sym fired.is)) r in
     record {
       goes_on = GoesOn-then (GoesOn-only only) r.goes_on;
-      faithful = subst (λ b. FaithfulWork library (run_statement (fire n) (level_at library depth) context) z.reads b (written z) a) (only_written only)
-          (faithful_fire (level_at library depth) n (finds_more (grows r.goes_on) fired.finds) fires.faithful);
+      faithful = subst (λ b. FaithfulWork library (run_statement (fire n) (level_at library now depth) context) z.reads b (written z) a) (only_written only)
+          (faithful_fire (level_at library now depth) n (finds_more (grows r.goes_on) fired.finds) fires.faithful);
     }
+
+-- ---- bodies
+
+answers_now : (env : Environment) (found : Answers) → (with_answers env found).now ≡ env.now
+answers_now env [] = refl
+answers_now env ((x, []) ∷ found) = answers_now env found
+answers_now env ((x, r ∷ rs) ∷ found) = answers_now (bound x r env) found
+
+values_now : (env : Environment) (found : NamedValues) → (with_values env found).now ≡ env.now
+values_now env [] = refl
+values_now env (v ∷ found) = values_now (holding v.0 v.1 env) found
+
+-- an action runs at its task's moment
+pub findings_now : (env : Environment) (found : Findings) → (with_findings env found).now ≡ env.now
+findings_now env found = values_now (with_answers env found.answers) found.values ∙ answers_now env found.answers
+
+-- a body in the same context
+pub body_under : {library : Library} (b : Body) {x y : Context} {d e : ℕ} {v w : Seeing} {a : Answer} → x ≡ y → d ≡ e → Runs library (run_body b (level_at library x.environment.now d) x) v w a
+    → Runs library (run_body b (level_at library y.environment.now e) y) v w a
+body_under {library} b {x} {y} {d} {e} {v} {w} {a} same deep r =
+    subst (λ (z : Context). Runs library (run_body b (level_at library z.environment.now e) z) v w a) same
+    (subst (λ n. Runs library (run_body b (level_at library x.environment.now n) x) v w a) deep r)
+
+-- ---- a statement `veto`
+
+pub veto_is : (s : Stmt) (message : Option (Box Expr)) → s ≡ Veto message → veto_statement message ≡ statement s
+veto_is s None is = search (rules, the_lemmas)
+veto_is s (Some e) is = search (rules, the_lemmas)
 
 -- ---- a statement with a body, by its parts
 

@@ -2,11 +2,11 @@
 use Rattle.std.proofs.Common.{arith, ◌≡◌, refl, sym, ap, ◌∙◌, subst, ℕ, ◌≤◌, length, drop, List, [], ◌∷◌, ◌++◌, Bool, true, false, Option, Some, None}
 use Rattle.std.proofs.Math.Seq.{drop-length}
 use Rattle.std.specs.Prelude.{Ok, Err, is_some}
-use Rattle.hp_model.specs.Values.{Cause, Outcome}
+use Rattle.hp_model.specs.Values.{Veto, Cause, Outcome}
 use Rattle.hp_model.specs.Occurrences.{Primitive}
-use Rattle.hp_model.specs.Rules.{Library}
+use Rattle.hp_model.specs.Rules.{Library, rule_at}
 use Rattle.hp_model.specs.State.{State}
-use Rattle.hp_model.specs.Conditions.{Answers}
+use Rattle.hp_model.specs.Conditions.{Findings}
 use Rattle.hp_model.specs.Tree.{Task, Node, sub_node, without_detachments}
 use Rattle.hp_model.specs.Transactions.{End, done, abort_by, veto_by, Work, for_each, then_do, with_value, aborts, ends}
 use Rattle.hp_model.specs.Firing.{Level, Context, signal_in, sub_in, run_statement, run_body, action_course, run_action, siblings, fire_task}
@@ -21,7 +21,7 @@ use Rattle.hp_rule.specs.Mapped.{statement, body_in}
 use Rattle.hp_store.specs.Changes.{changes}
 use Rattle.hp_view.specs.Seeing.{Seeing, written, undone, GoesOn, GoesBack, OnlyReads}
 use Rattle.hp_view.proofs.Views.{GoesOn-same, GoesOn-then}
-use Rattle.hp_fire.specs.Runs.{Runs, RunsFiring, RunsGroup, Finding, Made, SubOver, SubAborted, Closes}
+use Rattle.hp_fire.specs.Runs.{Runs, RunsFiring, RunsGroup, Finding, Made, SubOver, SubAborted, SubEnds, SubRuns, Closes}
 
 -- ---- views that continue others
 
@@ -138,14 +138,16 @@ closes_back {first} {now} {new} {e} n halts is on goes goes_on = record {
 }
 
 -- an action has ended
-pub closes_action : {library : Library} (what : Node) (level : Level) (t : Task) (answers : Answers) {v w z : Seeing} {a : Answer} → Runs library (action_course level t answers) v w a → Closes v w z a.end
-    → RunsFiring library (run_action what level t answers) v z (closing_action what a)
-closes_action {library} what level t answers {v} {w} {z} {a} r closes = record {
-  goes_on = closes.goes_on;
-  faithful = subst (λ rs. FaithfulFiring library (run_action what level t answers) rs (written v) (written z) (closing_action what a)) (sym closes.reads)
-      (subst (λ c. FaithfulFiring library (run_action what level t answers) w.reads (written v) c (closing_action what a)) (sym closes.writes)
-      (faithful_action what level t answers r.faithful));
-}
+pub closes_action : {library : Library} (what : Node) (level : Level) (t : Task) (found : Findings) {v w z : Seeing} {a : Answer} → Runs library (action_course level t found) v w a → Closes v w z a.end
+    → RunsFiring library (run_action what level t found) v z (closing_action what (rule_at level.library t.rule).closed t.rule a)
+closes_action {library} what level t found {v} {w} {z} {a} r closes =
+    let answer = closing_action what (rule_at level.library t.rule).closed t.rule a in
+    record {
+      goes_on = closes.goes_on;
+      faithful = subst (λ rs. FaithfulFiring library (run_action what level t found) rs (written v) (written z) answer) (sym closes.reads)
+          (subst (λ c. FaithfulFiring library (run_action what level t found) w.reads (written v) c answer) (sym closes.writes)
+          (faithful_action what level t found r.faithful));
+    }
 
 -- the body of a statement `sub` has ended
 sub_at : {library : Library} (f otherwise : Work) {v w z : Seeing} {e : End} {b : Answer} → Closes v w z e → FaithfulWork library (λ S. sub_in f otherwise S) w.reads (written v) (kept e (written v) (written w)) b
@@ -154,21 +156,21 @@ sub_at {library} f otherwise {v} {w} {z} {e} {b} closes p =
     subst (λ rs. FaithfulWork library (λ S. sub_in f otherwise S) rs (written v) (written z) b) (sym closes.reads)
     (subst (λ c. FaithfulWork library (λ S. sub_in f otherwise S) w.reads (written v) c b) (sym closes.writes) p)
 
-pub sub_done : {library : Library} {f : Work} {v w z : Seeing} {a : Answer} → a.end ≡ done → Runs library f v w a → Closes v w z a.end → SubOver library f v z (closing sub_node a done)
+sub_done : {library : Library} {f : Work} {v w z : Seeing} {a : Answer} → a.end ≡ done → Runs library f v w a → Closes v w z a.end → SubOver library f v z (closing sub_node a done)
 sub_done {library} {f} {v} {w} {z} {a} is r closes = record {
   goes_on = closes.goes_on;
   over = λ otherwise. sub_at f otherwise closes
       (subst (λ e. FaithfulWork library (λ S. sub_in f otherwise S) w.reads (written v) (kept e (written v) (written w)) (closing sub_node a done)) (sym is) (faithful_sub_done f otherwise is r.faithful));
 }
 
-pub sub_veto : {library : Library} {f : Work} {v w z : Seeing} {a : Answer} (n : ℕ) → a.end ≡ veto_by n → Runs library f v w a → Closes v w z a.end → SubOver library f v z (closing sub_node a (veto_by n))
+sub_veto : {library : Library} {f : Work} {v w z : Seeing} {a : Answer} (n : Veto) → a.end ≡ veto_by n → Runs library f v w a → Closes v w z a.end → SubOver library f v z (closing sub_node a (veto_by n))
 sub_veto {library} {f} {v} {w} {z} {a} n is r closes = record {
   goes_on = closes.goes_on;
   over = λ otherwise. sub_at f otherwise closes
       (subst (λ e. FaithfulWork library (λ S. sub_in f otherwise S) w.reads (written v) (kept e (written v) (written w)) (closing sub_node a (veto_by n))) (sym is) (faithful_sub_veto f otherwise n is r.faithful));
 }
 
-pub sub_abort : {library : Library} {f : Work} {v w z : Seeing} {a : Answer} (x : Cause) → a.end ≡ abort_by x → Runs library f v w a → Closes v w z a.end → SubAborted library f v z (closing sub_node a done)
+sub_abort : {library : Library} {f : Work} {v w z : Seeing} {a : Answer} (x : Cause) → a.end ≡ abort_by x → Runs library f v w a → Closes v w z a.end → SubAborted library f v z (closing sub_node a done)
 sub_abort {library} {f} {v} {w} {z} {a} x is r closes = record {
   goes_on = closes.goes_on;
   then_other = λ otherwise {more} {after} {b} more_reads p.
@@ -176,6 +178,21 @@ sub_abort {library} {f} {v} {w} {z} {a} x is r closes = record {
       faithful_sub_abort f otherwise x is (subst (λ rs. Grows rs more) closes.reads more_reads) r.faithful
       (subst (λ c. FaithfulWork library otherwise more c after b) again p);
 }
+
+-- the body has ended so, and the answer of the statement so far is this
+pub sub_closes : {library : Library} {f : Work} {v w z : Seeing} {a b : Answer} (after : End) (aborted : Bool) → SubEnds a.end after aborted → b ≡ closing sub_node a after → Runs library f v w a → Closes v w z a.end
+    → SubRuns library f v z b aborted
+sub_closes {library} {f} {v} {w} {z} {a} {b} after aborted ends is r closes = by a.end refl ends
+  where
+    at : (e : End) (c : Bool) → after ≡ e → aborted ≡ c → SubRuns library f v z (closing sub_node a e) c → SubRuns library f v z b aborted
+    at e c same which p =
+        subst (λ x. SubRuns library f v z b x) (sym which)
+        (subst (λ x. SubRuns library f v z x c) (ap (closing sub_node a) (sym same) ∙ sym is) p)
+
+    by : (e : End) → a.end ≡ e → SubEnds e after aborted → SubRuns library f v z b aborted
+    by done e h = at done false h.0 h.1 (sub_done e r closes)
+    by (abort_by x) e h = at done true h.0 h.1 (sub_abort x e r closes)
+    by (veto_by n) e h = at (veto_by n) false h.0 h.1 (sub_veto n e r closes)
 
 -- the other body follows
 pub sub_then : {library : Library} {f otherwise : Work} {v w z : Seeing} {a b : Answer} → SubAborted library f v w a → Runs library otherwise w z b → Runs library (λ S. sub_in f otherwise S) v z (followed a b)
@@ -208,7 +225,7 @@ module _ (library : Library) (stops : Bool) (whole : List Task) where
   pub group_over : {v w : Seeing} {so_far : List FiringAnswer} → GroupLoop [] v w so_far → RunsGroup library (siblings (fire_task library) stops whole) v w (record { firings = so_far; vetoed_by = None })
   group_over l = record { goes_on = l.goes_on; faithful = group_end library (fire_task library) stops whole _ l.completes }
 
-pub group_stop : (library : Library) (whole : List Task) {t : Task} {ts : List Task} {v w z : Seeing} {so_far : List FiringAnswer} {f : FiringAnswer} (r : ℕ) → f.vetoed_by ≡ Some r
+pub group_stop : (library : Library) (whole : List Task) {t : Task} {ts : List Task} {v w z : Seeing} {so_far : List FiringAnswer} {f : FiringAnswer} (r : Veto) → f.vetoed_by ≡ Some r
     → GroupLoop library true whole (t ∷ ts) v w so_far → RunsFiring library (λ S. fire_task library S t) w z f
     → RunsGroup library (siblings (fire_task library) true whole) v z (record { firings = so_far ++ f ∷ []; vetoed_by = Some r })
 group_stop library whole r vetoes l p = record { goes_on = GoesOn-then l.goes_on p.goes_on; faithful = group_vetoed library (fire_task library) whole _ r vetoes (grows p.goes_on) l.completes p.faithful }
@@ -234,11 +251,11 @@ module _ {A : Type 0} {library : Library} {work : A → Work} {whole : Work} whe
   pub loop_ends : {left : List A} {v w : Seeing} {so_far : Answer} → left ≡ [] → Loop library work whole left v w so_far → Runs library whole v w so_far
   loop_ends {left} {v} {w} {so_far} none l = loop_end library work whole (subst (λ xs. Loop library work whole xs v w so_far) none l)
 
-some_of : (o : Option ℕ) → is_some o ≡ true → (r : ℕ) × (o ≡ Some r)
+some_of : (o : Option Veto) → is_some o ≡ true → (r : Veto) × (o ≡ Some r)
 some_of None h = cc
 some_of (Some r) h = (r, refl)
 
-pub goes_unvetoed : (stops : Bool) (o : Option ℕ) → is_some o ≡ false → goes_on stops o ≡ true
+pub goes_unvetoed : (stops : Bool) (o : Option Veto) → is_some o ≡ false → goes_on stops o ≡ true
 goes_unvetoed true None h = refl
 goes_unvetoed true (Some r) h = cc
 goes_unvetoed false o h = refl

@@ -2,7 +2,7 @@
 use Rattle.std.specs.Prelude.{List}
 use Rattle.hp_model.specs.Rules.{Library}
 use Rattle.hp_model.specs.State.{State}
-use Rattle.hp_model.specs.Conditions.{Answers, Verdict, verdict}
+use Rattle.hp_model.specs.Conditions.{Findings, Verdict, verdict}
 use Rattle.hp_model.specs.Tree.{Task, Node}
 use Rattle.hp_model.specs.Firing.{Firing, level_at, task_environment, decide, run_action, fire_task}
 use Rattle.hp_model.specs.Cells.{Read, Changes}
@@ -10,8 +10,8 @@ use Rattle.hp_model.specs.Soundness.{FiringAnswer}
 use Rattle.hp_model.specs.Answers.{FaithfulFiring, Finds}
 use Rattle.hp_model.specs.Rules.{rule_at}
 use Rattle.hp_model.proofs.Faithful.{Grows}
-use Rattle.hp_value.specs.declared.env.Answer.{Answer}
-use Rattle.hp_value.specs.Mapped.{answers}
+use Rattle.hp_query.specs.declared.entry.Findings.{Findings as RustFindings}
+use Rattle.hp_query.specs.Mapped.{findings}
 use Rattle.hp_tree.specs.Mapped.{what}
 use Rattle.hp_attempt.specs.Mapped.{firing}
 use Rattle.hp_view.specs.Seeing.{Seeing, written, GoesOn, OnlyReads}
@@ -22,20 +22,20 @@ use Rattle.hp_fire.specs.declared.deciding.Found.TheVariants.{Own, Shared}
 use Rattle.hp_fire.specs.Runs.{RunsFiring}
 
 -- the firing is the action's result, once that has run
-pub record ThenActs (library : Library) (fire : State → Firing) (t : Task) (old new : Seeing) (node : Node) (found : Answers) : Type 0 where
+pub record ThenActs (library : Library) (fire : State → Firing) (t : Task) (old new : Seeing) (node : Node) (found : Findings) : Type 0 where
   pub goes_on : GoesOn old new
-  pub then_action : {more : List Read} {after : Changes} {f : FiringAnswer} → Grows new.reads more → FaithfulFiring library (run_action node (level_at library t.depth) t found) more (written new) after f
+  pub then_action : {more : List Read} {after : Changes} {f : FiringAnswer} → Grows new.reads more → FaithfulFiring library (run_action node (level_at library t.now t.depth) t found) more (written new) after f
       → FaithfulFiring library fire more (written old) after f
 
--- the kept answers
-abbrev pub found_in : Found → List Answer
-found_in (Own as') = as'.items
-found_in (Shared as') = as'.value.items
+-- what the condition found
+abbrev pub found_in : Found → RustFindings
+found_in (Own f) = f
+found_in (Shared f) = f.value
 
 -- the firing is over, or its action remains to run
 abbrev pub DecidesFor : Library → (State → Firing) → Task → Seeing → Seeing → Decision → Type 0
 DecidesFor library fire t old new (Over o) = RunsFiring library fire old new (firing o)
-DecidesFor library fire t old new (Acts node found) = ThenActs library fire t old new (what node) (answers (found_in found))
+DecidesFor library fire t old new (Acts node found) = ThenActs library fire t old new (what node) (findings (found_in found))
 
 -- the same for a task's own firing
 abbrev pub Decides : Library → Task → Seeing → Seeing → Decision → Type 0
@@ -43,7 +43,7 @@ Decides library t old new d = DecidesFor library (λ S. fire_task library S t) t
 
 -- the same for a verdict on the condition, on each view
 abbrev pub Follows : Library → Task → Verdict → Decision → Type 0
-Follows library t v d = (view : Seeing) → DecidesFor library (decide v (level_at library t.depth) t) t view view d
+Follows library t v d = (view : Seeing) → DecidesFor library (decide v (level_at library t.now t.depth) t) t view view d
 
 -- the verdict was found by reads alone: it holds in each state that agrees with them
 pub record FindsVerdict (library : Library) (t : Task) (old new : Seeing) (v : Verdict) : Type 0 where

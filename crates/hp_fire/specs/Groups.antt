@@ -1,12 +1,14 @@
 -- How far a group of firings with workers has come.
-use Rattle.std.specs.Prelude.{◌≡◌, ℕ, ◌+◌, ◌<◌, ◌≤◌, Bool, true, List, Option, Some, None, All, IfSome, map, drop, length}
+use Rattle.std.specs.Prelude.{◌≡◌, ℕ, ◌+◌, ◌<◌, ◌≤◌, Bool, true, List, Option, Some, None, All, IfSome, map, option_map, drop, length}
 use Rattle.std.specs.List.{slice_index_or}
+use Rattle.hp_model.specs.Values.{Veto}
 use Rattle.hp_model.specs.Rules.{Library}
 use Rattle.hp_model.specs.Tree.{Task}
 use Rattle.hp_model.specs.Firing.{siblings, fire_task}
 use Rattle.hp_model.specs.Soundness.{IsSound}
 use Rattle.hp_model.specs.Answers.{FaithfulSiblings}
 use Rattle.hp_model.proofs.FaithfulFirings.{GroupCompletes}
+use Rattle.hp_value.specs.Mapped.{veto}
 use Rattle.hp_rule.specs.Mapped.{task}
 use Rattle.hp_view.specs.Seeing.{Seeing, GoesOn, written}
 use Rattle.hp_attempt.specs.declared.outcome.Outcome.{Outcome}
@@ -30,16 +32,16 @@ use Rattle.std.specs.Global.{Global}
 
 -- From one view to another the group has come this far: these outcomes and the firings of the tasks that are left make
 -- the whole group's outcomes. Or these are all outcomes, since a veto stopped the group.
-pub record IsSoFar (library : Library) (stops : Bool) (tasks : List Task) (first now : Seeing) (outcomes : List Outcome) (end : Option ℕ) : Type 0 where
+pub record IsSoFar (library : Library) (stops : Bool) (tasks : List Task) (first now : Seeing) (outcomes : List Outcome) (end : Option Veto) : Type 0 where
   pub goes_on : GoesOn first now
   pub goes : end ≡ None
       → GroupCompletes library (fire_task library) stops tasks (written first) (drop (length outcomes) tasks) now.reads (written now) (map firing outcomes)
-  pub stopped : (r : ℕ) → end ≡ Some r
-      → FaithfulSiblings library (siblings (fire_task library) stops tasks) now.reads (written first) (written now) (record { firings = map firing outcomes; vetoed_by = Some r })
+  pub stopped : (v : Veto) → end ≡ Some v
+      → FaithfulSiblings library (siblings (fire_task library) stops tasks) now.reads (written first) (written now) (record { firings = map firing outcomes; vetoed_by = Some v })
 
 -- the group and its view have come further, from whatever view the group began at
 abbrev pub ComesFurther : Library → (stops : Bool) → List Task → Seeing → Settled → Seeing → Settled → Type 0
-ComesFurther library stops tasks view s view' s' = (first : Seeing) → IsSoFar library stops tasks first view s.outcomes.items s.end → IsSoFar library stops tasks first view' s'.outcomes.items s'.end
+ComesFurther library stops tasks view s view' s' = (first : Seeing) → IsSoFar library stops tasks first view s.outcomes.items (option_map veto s.end) → IsSoFar library stops tasks first view' s'.outcomes.items (option_map veto s'.end)
 
 -- no veto has stopped the group, and of this number of tasks one is left
 abbrev pub GoesOnBelow : Settled → ℕ → Type 0

@@ -1,12 +1,13 @@
 -- What calls on a view promise: they go from one view to another as the definitions say.
-use Rattle.std.specs.Prelude.{◌≡◌, ⊤, ℕ, suc, ◌<◌, Bool, true, false, List, ◌∷◌, Result, Ok, Err}
+use Rattle.std.specs.Prelude.{◌≡◌, ⊤, ℕ, suc, ◌<◌, Bool, true, false, List, ◌∷◌, length, Result, Ok, Err}
 use Rattle.hp_model.specs.Values.{Outcome}
+use Rattle.hp_model.specs.Conditions.{Findings}
 use Rattle.hp_model.specs.Occurrences.{Primitive}
 use Rattle.hp_model.specs.Rules.{Library}
 use Rattle.hp_model.specs.State.{State}
-use Rattle.hp_model.specs.Tree.{Task, without_detachments}
-use Rattle.hp_model.specs.Transactions.{End, Work, abort_by}
-use Rattle.hp_model.specs.Firing.{Level, Firing, Siblings, signal_in, sub_in}
+use Rattle.hp_model.specs.Tree.{Task, Node, without_detachments}
+use Rattle.hp_model.specs.Transactions.{End, Work, done, abort_by, veto_by}
+use Rattle.hp_model.specs.Firing.{Level, level_at, Firing, Siblings, signal_in, sub_in, action_course, run_action}
 use Rattle.hp_model.specs.Cells.{Read, Changes}
 use Rattle.hp_model.specs.Soundness.{Answer, FiringAnswer}
 use Rattle.hp_model.specs.Answers.{FaithfulWork, FaithfulFiring, SiblingsAnswer, FaithfulSiblings, Finds, ended, tells, followed, kept}
@@ -17,6 +18,8 @@ use Rattle.hp_value.specs.declared.halt.Halt.{Halt}
 use Rattle.hp_value.specs.declared.halt.Halt.TheVariants.{Cause as ByCause, Memory}
 use Rattle.hp_value.specs.Mapped.{cause}
 use Rattle.hp_view.specs.Seeing.{Seeing, written, GoesOn, OnlyReads}
+use Rattle.hp_attempt.specs.declared.outcome.Outcome.{Outcome as FiredOutcome}
+use Rattle.hp_attempt.specs.Mapped.{firing}
 use Rattle.hp_fire.specs.declared.course.Course.{Course}
 use Rattle.hp_fire.specs.Mapped.{course}
 
@@ -70,6 +73,18 @@ Makes f library level work old new (Err Memory) = ⊤
 -- what is left of the work is the rest
 pub record Starts (library : Library) (rest work : Work) (old new : Seeing) : Type 0 where
   pub then_runs : {last : Seeing} {a : Answer} → Runs library rest new last a → Runs library work old last a
+
+-- the action of a task, which began at a mark and took this course up to the first view, has ended
+abbrev pub ActionEnds : Library → Task → (mark : ℕ) → Node → Seeing → Seeing → Answer → FiredOutcome → Type 0
+ActionEnds library t mark node now new a o =
+    (found : Findings) (first : Seeing) → Runs library (action_course (level_at library t.now t.depth) t found) first now a → length first.undo ≡ mark
+    → RunsFiring library (run_action node (level_at library t.now t.depth) t found) first new (firing o)
+
+-- the end of a statement `sub` whose body ended so, and whether its other body follows
+abbrev pub SubEnds : (body : End) → (statement : End) → (aborted : Bool) → Type 0
+SubEnds done e b = (e ≡ done) × (b ≡ false)
+SubEnds (abort_by x) e b = (e ≡ done) × (b ≡ true)
+SubEnds (veto_by v) e b = (e ≡ veto_by v) × (b ≡ false)
 
 -- the body of a statement `sub` has ended with this course, and nothing follows it
 pub record SubOver (library : Library) (f : Work) (old new : Seeing) (a : Answer) : Type 0 where

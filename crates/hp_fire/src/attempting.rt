@@ -16,12 +16,12 @@ use hp_rule::Task;
 use hp_view::View;
 use std::alloc::AllocError;
 
-/// The attempt at a task, from the view on which the task fired.
+/// The attempt at a task, from the view on which the task fired. Its reads held in the cells beneath the view.
 pub(crate) fn attempt_on(view: View, task: &Task, outcome: Outcome) -> Result<Attempt, AllocError>
     ensures sound { IfOk result (λ a. (library : Library) (first : Seeing) → first.writes ≡ []
         → RunsFiring library (λ S. fire_task library S (task_of task.now)) first view (firing_of outcome)
         → IsSound library (attempt_of a)) }
-    ensures so_it_was { IfOk result (λ a. Holds (cells_in view.base) a.reads) }
+    ensures reads_held { IfOk result (λ a. Holds (cells_in view.base) a.reads) }
 {
     let copy = task.clone()?;
     let (reads, layer) = view.into_parts();

@@ -31,28 +31,41 @@ use std::alloc::{AllocError, Global};
 use std::thread::Threads;
 
 impl<R: Threads + Sync> Engine<'_, R> {
-    /// Runs the body of a script in a transaction of depth `depth`: its statements in order, up to the first that isn't
-    /// done.
+    /// Runs the body of a script in a transaction of depth `depth`, at the moment `time` of the clock: its statements in
+    /// order, up to the first that isn't done.
     ///
     /// While a group of firings inside has workers, this thread sleeps.
-    pub fn run_body(&self, view: &mut View, body: &[Stmt], depth: u8) -> Result<Course, AllocError>
-        ensures { IfOk result (λ c. Runs (library self.now.lib.now)
-            (model.run_body (body_in body.now) (level_at (library self.now.lib.now) depth) no_context)
-            view.old view.new (course c)) }
+    pub fn run_body(
+        &self,
+        view: &mut View,
+        body: &[Stmt],
+        depth: u8,
+        time: u64,
+    ) -> Result<Course, AllocError>
+        ensures { let level = level_at (library self.now.lib.now) time depth in
+            IfOk result (λ c. Runs (library self.now.lib.now)
+            (model.run_body (body_in body.now) level (no_context time)) view.old view.new (course c)) }
     {
-        let context = Context::of_script(depth);
+        let context = Context::of_script(depth, time);
         self.statements(view, body, &context)
     }
 
-    /// Signals an occurrence in a transaction of depth `depth`: the rules that it triggers are placed, and the
-    /// immediate ones fire as siblings.
+    /// Signals an occurrence in a transaction of depth `depth`, at the moment `time` of the clock: the rules that it
+    /// triggers are placed, and the immediate ones fire as siblings.
     ///
     /// While a group of firings has workers, this thread sleeps.
-    pub fn run_signal(&self, view: &mut View, prim: &Prim, depth: u8) -> Result<Course, AllocError>
-        ensures { IfOk result (λ c. Runs (library self.now.lib.now)
-            (signal_in (level_at (library self.now.lib.now) depth) (primitive prim.now)) view.old view.new (course c)) }
+    pub fn run_signal(
+        &self,
+        view: &mut View,
+        prim: &Prim,
+        depth: u8,
+        time: u64,
+    ) -> Result<Course, AllocError>
+        ensures { let level = level_at (library self.now.lib.now) time depth in
+            IfOk result (λ c. Runs (library self.now.lib.now)
+            (signal_in level (primitive prim.now)) view.old view.new (course c)) }
     {
-        let tasks = trigger(self.alloc, view, self.lib, prim, depth);
+        let tasks = trigger(self.alloc, view, self.lib, prim, depth, time);
         let result = self.start(view, tasks, depth);
         settled(self.alloc, result)
     }
@@ -165,7 +178,7 @@ pub fn run_task<R: Threads + Sync>(
     width: usize,
 ) -> Result<Attempt, AllocError>
     ensures sound { IfOk result (λ a. IsSound (library lib.now) (attempt_of a)) }
-    ensures so_it_was { IfOk result (λ a. Holds (cells_in snapshot) a.reads) }
+    ensures reads_held { IfOk result (λ a. Holds (cells_in snapshot) a.reads) }
 {
     let past = Past::new(alloc, lib, width);
     let engine = Engine::new(rt, alloc, lib, width, &past);

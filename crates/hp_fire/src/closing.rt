@@ -1,65 +1,64 @@
 //! The ends of nested transactions.
 
-ghost use Rattle.std.specs.Prelude.{◌≡◌, ◌≤◌, IfOk, OnOk, map, length, option_map};
-ghost use Rattle.hp_model.specs.Conditions.{Answers};
-ghost use Rattle.hp_model.specs.Rules.{Library};
-ghost use Rattle.hp_model.specs.Tree.{Task as ModelTask};
+ghost use Rattle.std.specs.Prelude.{◌≡◌, ◌≤◌, IfOk, OnOk, OnErr, map, length, option_map};
+ghost use Rattle.hp_model.specs.Rules.{Library as ModelLibrary};
 ghost use Rattle.hp_model.specs.Transactions as model;
 ghost use Rattle.hp_model.specs.Transactions.{Work};
-ghost use Rattle.hp_model.specs.Firing.{Level, veto_of, action_course, run_action};
 ghost use Rattle.hp_model.specs.Answers.{queued_at, detached_at, closing};
-ghost use Rattle.hp_rule.specs.Mapped.{task, detached as detached_of};
+ghost use Rattle.hp_rule.specs.Mapped.{library, task as task_of, detached as detached_of};
 ghost use Rattle.hp_tree.specs.Mapped.{what as what_of, ending as ending_of};
 ghost use Rattle.hp_model.specs.Answers as answers;
 ghost use Rattle.hp_view.specs.Seeing.{Seeing, GoesOn};
-ghost use Rattle.hp_attempt.specs.Mapped.{firing};
 ghost use Rattle.hp_fire.specs.Mapped as mapped;
 ghost use Rattle.hp_fire.specs.Mapped.{course as course_in};
-ghost use Rattle.hp_fire.specs.Runs.{Runs, RunsFiring, Closes, SubRuns};
+ghost use Rattle.hp_fire.specs.Runs.{Runs, Closes, ActionEnds, SubEnds, SubRuns};
 
 use crate::course::{Course, End};
+use crate::engine::Engine;
+use crate::vetoes::action_veto;
 use hp_attempt::Outcome;
 use hp_rule::{Detached, Task};
 use hp_tree::{Ending, Item, Node, What};
-use hp_value::{Cause, Coupling, RuleNo};
+use hp_value::Coupling;
 use hp_view::{Mark, View};
 use std::alloc::{AllocError, Global};
 
 /// Ends the transaction that began at a mark: if it is done, its writes stay; otherwise they are undone (Moss).
 ///
 /// After an error the view is as before.
-pub fn end_transaction(view: &mut View, mark: Mark, how: End) -> Result<(), AllocError>
+pub fn end_transaction(view: &mut View, mark: Mark, how: &End) -> Result<(), AllocError>
     requires { mark ≤ length view.old.undo }
-    ensures { OnOk result ((first : Seeing) → GoesOn first view.old → length first.undo ≡ mark
-        → Closes first view.old view.new (mapped.end how)) }
+    ensures closes { OnOk result ((first : Seeing) → GoesOn first view.old → length first.undo ≡ mark
+        → Closes first view.old view.new (mapped.end how.now)) }
+    ensures err { OnErr result (view.new ≡ view.old) }
 {
     match how {
         End::Done => {
             view.commit(mark);
             Ok(())
         }
-        End::Abort(_) | End::Veto(_) => view.abort(mark),
+        End::Abort(_) | End::Vetoed(_) | End::Veto(_) => view.abort(mark),
     }
 }
 
-/// The ending of a transaction whose course ends so. The cause of a veto names the rule.
+/// The ending of a transaction whose course ends so. That of a veto names its rule, and has its message.
 pub fn ending(how: End) -> Ending
     ensures { ending_of result ≡ answers.ending_of (mapped.end how) }
 {
     match how {
         End::Done => Ending::Committed,
         End::Abort(cause) => Ending::Aborted(cause),
-        End::Veto(rule) => Ending::Aborted(Cause::Vetoed(rule)),
+        End::Vetoed(veto) | End::Veto(veto) => Ending::Vetoed(veto),
     }
 }
 
 /// The tasks that a transaction leaves queued: none if it aborts.
-fn queued_after(alloc: Global, how: End, queued: Vec<Task>) -> Vec<Task>
-    ensures { map task result.items ≡ queued_at (mapped.end how) (map task queued.items) }
+fn queued_after(alloc: Global, how: &End, queued: Vec<Task>) -> Vec<Task>
+    ensures { map task_of result.items ≡ queued_at (mapped.end how.now) (map task_of queued.items) }
 {
     match how {
         End::Done => queued,
-        End::Abort(_) | End::Veto(_) => Vec::new(alloc),
+        End::Abort(_) | End::Vetoed(_) | End::Veto(_) => Vec::new(alloc),
     }
 }
 
@@ -67,15 +66,15 @@ fn queued_after(alloc: Global, how: End, queued: Vec<Task>) -> Vec<Task>
 /// abort releases.
 pub fn detached_after(
     alloc: Global,
-    how: End,
+    how: &End,
     detached: Vec<Detached>,
 ) -> Result<Vec<Detached>, AllocError>
     ensures { IfOk result (λ ds. map detached_of ds.items
-        ≡ detached_at (mapped.end how) (map detached_of detached.items)) }
+        ≡ detached_at (mapped.end how.now) (map detached_of detached.items)) }
 {
     match how {
         End::Done => Ok(detached),
-        End::Abort(_) | End::Veto(_) => left_after_abort(alloc, detached),
+        End::Abort(_) | End::Vetoed(_) | End::Veto(_) => left_after_abort(alloc, detached),
     }
 }
 
@@ -117,6 +116,8 @@ fn as_part(alloc: Global, what: What, course: Course, after: End) -> Result<Cour
         detached,
         items,
     } = course;
+    let queued = queued_after(alloc, &end, queued);
+    let detached = detached_after(alloc, &end, detached)?;
     let mut around = Vec::with_capacity(alloc, 1)?;
     around.push_reserved(Item::Node(Node {
         what,
@@ -125,49 +126,41 @@ fn as_part(alloc: Global, what: What, course: Course, after: End) -> Result<Cour
     }));
     Ok(Course {
         end: after,
-        queued: queued_after(alloc, end, queued),
-        detached: detached_after(alloc, end, detached)?,
+        queued,
+        detached,
         items: around,
     })
 }
 
-/// The rule whose veto ended a course; `None` if no veto did.
-pub fn vetoed_by(how: End) -> Option<RuleNo>
-    ensures { result ≡ veto_of (mapped.end how) }
-{
-    match how {
-        End::Done | End::Abort(_) => None,
-        End::Veto(rule) => Some(rule),
+impl<R> Engine<'_, R> {
+    /// Ends the action of a task, which began at a mark and took this course.
+    pub(crate) fn close_action(
+        &self,
+        view: &mut View,
+        mark: Mark,
+        task: &Task,
+        what: What,
+        course: Course,
+    ) -> Result<Outcome, AllocError>
+        requires { mark ≤ length view.old.undo }
+        ensures { let t = task_of task.now in
+            IfOk result (ActionEnds (library self.now.lib.now) t mark (what_of what) view.old view.new (course_in course)) }
+    {
+        end_transaction(view, mark, &course.end)?;
+        let end = action_veto(self.lib, task.rule, &course.end)?;
+        let Course {
+            end: _,
+            queued,
+            detached,
+            items,
+        } = as_part(self.alloc, what, course, End::Done)?;
+        Ok(Outcome {
+            end,
+            queued,
+            detached,
+            tree: items,
+        })
     }
-}
-
-/// Ends an action, which began at a mark and took this course.
-pub(crate) fn close_action(
-    alloc: Global,
-    view: &mut View,
-    mark: Mark,
-    what: What,
-    course: Course,
-) -> Result<Outcome, AllocError>
-    requires { mark ≤ length view.old.undo }
-    ensures { IfOk result (λ o. (library : Library) (level : Level) (t : ModelTask) (found : Answers) (first : Seeing)
-        → Runs library (action_course level t found) first view.old (course_in course) → length first.undo ≡ mark
-        → RunsFiring library (run_action (what_of what) level t found) first view.new (firing o)) }
-{
-    end_transaction(view, mark, course.end)?;
-    let end = vetoed_by(course.end);
-    let Course {
-        end: _,
-        queued,
-        detached,
-        items,
-    } = as_part(alloc, what, course, End::Done)?;
-    Ok(Outcome {
-        end,
-        queued,
-        detached,
-        tree: items,
-    })
 }
 
 /// Ends the body of a statement `sub`, which began at a mark and took this course. The answer also says whether it
@@ -179,24 +172,23 @@ pub(crate) fn close_sub(
     course: Course,
 ) -> Result<(Course, bool), AllocError>
     requires { mark ≤ length view.old.undo }
-    ensures { IfOk result (λ r. (library : Library) (f : Work) (first : Seeing)
+    ensures { IfOk result (λ r. (library : ModelLibrary) (f : Work) (first : Seeing)
         → Runs library f first view.old (course_in course)
         → length first.undo ≡ mark → SubRuns library f first view.new (course_in r.0) r.1) }
 {
-    let how = course.end;
-    end_transaction(view, mark, how)?;
+    end_transaction(view, mark, &course.end)?;
+    let (after, aborted) = after_sub(&course.end)?;
+    let part = as_part(alloc, What::Sub, course, after)?;
+    Ok((part, aborted))
+}
+
+/// The end of a statement `sub` whose body ended so, and whether the body aborted, so that the other body follows.
+fn after_sub(how: &End) -> Result<(End, bool), AllocError>
+    ensures { IfOk result (λ r. SubEnds (mapped.end how.now) (mapped.end r.0) r.1) }
+{
     match how {
-        End::Done => {
-            let part = as_part(alloc, What::Sub, course, End::Done)?;
-            Ok((part, false))
-        }
-        End::Abort(_) => {
-            let part = as_part(alloc, What::Sub, course, End::Done)?;
-            Ok((part, true))
-        }
-        End::Veto(rule) => {
-            let part = as_part(alloc, What::Sub, course, End::Veto(rule))?;
-            Ok((part, false))
-        }
+        End::Done => Ok((End::Done, false)),
+        End::Abort(_) | End::Vetoed(_) => Ok((End::Done, true)),
+        End::Veto(veto) => Ok((End::Veto(veto.clone()?), false)),
     }
 }

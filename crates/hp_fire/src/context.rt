@@ -1,19 +1,21 @@
 //! The context of a statement.
 
 ghost use Rattle.std.specs.Prelude.{◌≡◌, map, [], None};
-ghost use Rattle.hp_model.specs.Firing.{with_row, action_context, answer_named};
+ghost use Rattle.hp_model.specs.Firing.{with_row, with_let, action_context, answer_named};
 ghost use Rattle.hp_model.specs.Cascade.{no_context};
-ghost use Rattle.hp_value.specs.Mapped.{keyed_row, answers};
+ghost use Rattle.hp_value.specs.Mapped.{keyed_row, value as value_of};
+ghost use Rattle.hp_query.specs.Mapped.{findings};
 ghost use Rattle.hp_rule.specs.Mapped.{task as task_of};
 ghost use Rattle.hp_fire.specs.Mapped as mapped;
 
+use hp_query::Findings;
 use hp_rule::Task;
-use hp_value::{Answer, Env, Key, KeyedRow, Row, RuleNo};
+use hp_value::{Answer, Env, Key, KeyedRow, Row, RuleNo, Value};
 
 /// The context of a statement, besides the view.
 #[derive(Clone, Copy)]
 pub(crate) struct Context<'a> {
-    /// The environment of its expressions.
+    /// The environment of its expressions, with the clock's moment.
     pub(crate) env: Env<'a>,
     /// The kept answers of the rule's condition; none in the body of a script.
     pub(crate) answers: &'a [Answer],
@@ -24,27 +26,32 @@ pub(crate) struct Context<'a> {
 }
 
 impl<'a> Context<'a> {
-    /// The context of the body of a script.
-    pub(crate) fn of_script(depth: u8) -> Context<'a>
-        ensures context { mapped.context result ≡ no_context }
+    /// The context of the body of a script, which runs at this moment of the clock.
+    pub(crate) fn of_script(depth: u8, time: u64) -> Context<'a>
+        ensures context { mapped.context result ≡ no_context time }
         ensures depth { result.depth ≡ depth }
     {
         Context {
-            env: Env::new(None, &[]),
+            env: Env::new(None, &[], &[], time),
             answers: &[],
             rule: None,
             depth,
         }
     }
 
-    /// The context of a task's action, with the answers of the condition's queries.
-    pub(crate) fn of_action(task: &'a Task, found: &'a [Answer]) -> Context<'a>
-        ensures context { mapped.context result ≡ action_context (task_of task.entry.now) (answers found.entry.now) }
+    /// The context of a task's action, with what the condition found.
+    pub(crate) fn of_action(task: &'a Task, found: &'a Findings) -> Context<'a>
+        ensures context { mapped.context result ≡ action_context (task_of task.entry.now) (findings found.entry.now) }
         ensures depth { result.depth ≡ task.entry.now.depth }
     {
         Context {
-            env: Env::new(Some(&task.occurrence), found),
-            answers: found,
+            env: Env::new(
+                Some(&task.occurrence),
+                &found.answers,
+                &found.values,
+                task.time,
+            ),
+            answers: &found.answers,
             rule: Some(task.rule),
             depth: task.depth,
         }
@@ -58,6 +65,20 @@ impl<'a> Context<'a> {
     {
         Context {
             env: self.env.bound(name, key, row),
+            answers: self.answers,
+            rule: self.rule,
+            depth: self.depth,
+        }
+    }
+
+    /// The same context with a name for a value.
+    pub(crate) fn holding<'b>(&'b self, name: &'b str, value: &'b Value) -> Context<'b>
+        ensures context { mapped.context result
+            ≡ with_let name.entry.now (value_of value.entry.now) (mapped.context self.entry.now) }
+        ensures depth { result.depth ≡ self.entry.now.depth }
+    {
+        Context {
+            env: self.env.holding(name, value),
             answers: self.answers,
             rule: self.rule,
             depth: self.depth,

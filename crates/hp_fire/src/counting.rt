@@ -3,7 +3,7 @@
 ghost use Rattle.std.specs.Prelude.{◌≡◌};
 
 use crate::speculate::{Effort, ROW};
-use hp_query::{Look, Query};
+use hp_query::{Aggregate, Entry, Look};
 use hp_value::{ClassNo, ClassPart, Expr, Key, KeyedRow, ObjectList, Row};
 use hp_view::View;
 use std::alloc::{AllocError, Global};
@@ -26,18 +26,27 @@ impl<'a> Counting<'a> {
         Counting { view, rows: 0 }
     }
 
-    /// Adds the cost of the rows for these queries, by the operators of their predicates.
-    pub(crate) fn add_queries(&self, queries: &[Query], effort: &Effort) {
+    /// Adds the cost of the rows for the entries of a condition, by the operators of the longest entry.
+    pub(crate) fn add_condition(&self, entries: &[Entry], effort: &Effort) {
         let mut longest = 0u64;
-        for query in queries {
-            longest = longest.max(operators(&query.predicate));
+        for entry in entries {
+            longest = longest.max(operators_of_entry(entry));
         }
-        effort.add(self.rows.saturating_mul(longest.saturating_add(ROW)));
+        self.add_rows(longest, effort);
     }
 
     /// Adds the cost of the rows for one predicate.
     pub(crate) fn add_predicate(&self, predicate: &Expr, effort: &Effort) {
-        let operators = operators(predicate);
+        self.add_rows(operators(predicate), effort);
+    }
+
+    /// Adds the cost of the rows for an aggregate.
+    pub(crate) fn add_aggregate(&self, aggregate: &Aggregate, effort: &Effort) {
+        self.add_rows(operators_of_aggregate(aggregate), effort);
+    }
+
+    // Adds the cost of the rows, for each of which this number of operators runs.
+    fn add_rows(&self, operators: u64, effort: &Effort) {
         effort.add(self.rows.saturating_mul(operators.saturating_add(ROW)));
     }
 
@@ -46,6 +55,27 @@ impl<'a> Counting<'a> {
         ensures now { self.new.view.now ≡ self.old.view.now }
     {
         self.rows = self.rows.saturating_add(rows as u64);
+    }
+}
+
+// The number of operators that run for a row of an entry.
+fn operators_of_entry(entry: &Entry) -> u64 {
+    match entry {
+        Entry::Query(query) | Entry::No(query) => operators(&query.predicate),
+        Entry::Let { name: _, aggregate } => operators_of_aggregate(aggregate),
+    }
+}
+
+// The number of operators that run for a row of an aggregate.
+fn operators_of_aggregate(aggregate: &Aggregate) -> u64 {
+    match aggregate {
+        Aggregate::Count(rows) => operators(&rows.predicate),
+        Aggregate::Sum { rows, term }
+        | Aggregate::Least { rows, term }
+        | Aggregate::Greatest { rows, term } => {
+            operators(&rows.predicate).saturating_add(operators(term))
+        }
+        Aggregate::Next(_) | Aggregate::Single(_) => 0,
     }
 }
 
@@ -113,5 +143,10 @@ impl Look for Counting<'_> {
             self.count(objects.len());
         }
         Ok(objects)
+    }
+
+    fn greatest_key(&mut self, alloc: Global, class: ClassNo) -> Result<Option<Key>, AllocError> {
+        self.count(1);
+        Look::greatest_key(self.view, alloc, class)
     }
 }

@@ -10,18 +10,20 @@ ghost use Rattle.hp_fire.specs.Mapped as mapped;
 use hp_attempt::Outcome;
 use hp_rule::{Detached, Task};
 use hp_tree::Item;
-use hp_value::{Cause, RuleNo};
+use hp_value::{Cause, Veto};
 use std::alloc::{AllocError, Global};
 
 /// How a statement or a body ends. A body ends with its first statement that isn't done.
-#[derive(Clone, Copy, Debug, PartialEq, Eq)]
+#[derive(Debug, Drop, PartialEq, Eq)]
 pub enum End {
     /// It is done.
     Done,
     /// It aborts the innermost transaction around it, for this cause.
     Abort(Cause),
-    /// The action of this rule vetoed. The veto passes outward.
-    Veto(RuleNo),
+    /// It aborts the innermost transaction around it, since a firing in it vetoed.
+    Vetoed(Veto),
+    /// The action that it belongs to vetoes. The veto passes outward.
+    Veto(Veto),
 }
 
 /// The result of a statement, a body or a signal, besides its writes.
@@ -42,8 +44,8 @@ pub struct Course {
 pub struct GroupOutcome {
     /// The result of each firing, in the order of the tasks, up to the one whose veto stopped the group.
     pub outcomes: Vec<Outcome>,
-    /// The rule whose veto stopped the group; `None` if no veto did.
-    pub end: Option<RuleNo>,
+    /// The veto that stopped the group; `None` if none did.
+    pub end: Option<Veto>,
     /// The number of firings that were accepted from attempts of the first wave.
     pub accepted: usize,
     /// The number of firings that the group's owner ran, or that were tried again.
@@ -54,7 +56,7 @@ pub struct GroupOutcome {
 
 impl GroupOutcome {
     /// The result of a group whose owner ran each firing.
-    pub(crate) fn of_owner(outcomes: Vec<Outcome>, end: Option<RuleNo>) -> GroupOutcome
+    pub(crate) fn of_owner(outcomes: Vec<Outcome>, end: Option<Veto>) -> GroupOutcome
         ensures { let reran = length outcomes.items in
             result ≡ record { outcomes = outcomes; end = end; accepted = 0; reran = reran; waves = 0 } }
     {
@@ -103,7 +105,7 @@ impl Course {
     {
         match self.end {
             End::Done => true,
-            End::Abort(_) | End::Veto(_) => false,
+            End::Abort(_) | End::Vetoed(_) | End::Veto(_) => false,
         }
     }
 

@@ -1,14 +1,13 @@
 //! The part of a firing before its action runs.
 
-ghost use Rattle.std.specs.Prelude.{◌≡◌, ◌≤◌, IfOk, map, [], ◌∷◌};
+ghost use Rattle.std.specs.Prelude.{◌≡◌, ◌≤◌, IfOk, map, option_map, [], ◌∷◌};
 ghost use Rattle.hp_model.specs.Rules.{rule_at};
 ghost use Rattle.hp_model.specs.Conditions.{satisfied};
 ghost use Rattle.hp_model.specs.Tree.{condition_step, fire_node, with_later_action};
 ghost use Rattle.hp_model.specs.Firing.{action_task};
-ghost use Rattle.hp_model.specs.Answers.{handing_on};
-ghost use Rattle.hp_value.specs.Mapped as mapped;
-ghost use Rattle.hp_value.specs.Mapped.{coupling};
-ghost use Rattle.hp_query.specs.Mapped.{query, verdict as verdict_of};
+ghost use Rattle.hp_model.specs.Answers.{standing, handing_on};
+ghost use Rattle.hp_value.specs.Mapped.{coupling, veto as veto_in};
+ghost use Rattle.hp_query.specs.Mapped.{entry, findings as findings_in, verdict as verdict_of};
 ghost use Rattle.hp_rule.specs.declared.stmt.Stmt.{size-Stmt};
 ghost use Rattle.hp_rule.specs.Mapped.{body_in, library, task as task_of};
 ghost use Rattle.hp_tree.specs.Mapped.{what as what_of, condition as condition_end};
@@ -20,11 +19,12 @@ ghost use denote.Param.Weighed.{most};
 use crate::counting::Counting;
 use crate::engine::Engine;
 use crate::placing::{one_task, place_tasks};
+use crate::vetoes::fault_veto;
 use hp_attempt::Outcome;
-use hp_query::{Query, Verdict, evaluate_condition};
+use hp_query::{Entry, Findings, Verdict, evaluate_condition};
 use hp_rule::{Library, Step, Stmt, Task};
 use hp_tree::{ConditionEnd, Ending, Item, Node, What};
-use hp_value::{Answer, Coupling, RuleNo};
+use hp_value::{Coupling, RuleNo, Veto};
 use hp_view::View;
 use std::alloc::{AllocError, Global};
 use std::sync::Arc;
@@ -34,27 +34,27 @@ use std::sync::Arc;
 pub(crate) enum Decision {
     /// Nothing: the firing is over.
     Over(Outcome),
-    /// The action runs, as this node, with these answers of the condition's queries.
+    /// The action runs, as this node, with what the condition found.
     Acts(What, Found),
 }
 
-/// The kept answers of a satisfied condition.
+/// What a satisfied condition found.
 #[derive(Drop)]
 pub(crate) enum Found {
-    /// They belong to the firing alone.
-    Own(Vec<Answer>),
-    /// The task of a later action shares them.
-    Shared(Arc<Vec<Answer>>),
+    /// It belongs to the firing alone.
+    Own(Findings),
+    /// The task of a later action shares it.
+    Shared(Arc<Findings>),
 }
 
 impl Found {
-    /// The answers.
-    pub(crate) fn answers(&self) -> &[Answer]
+    /// The findings.
+    pub(crate) fn findings(&self) -> &Findings
         ensures { result.now ≡ found_in self.now }
     {
         match self {
-            Found::Own(answers) => answers,
-            Found::Shared(answers) => answers,
+            Found::Own(findings) => findings,
+            Found::Shared(findings) => findings,
         }
     }
 }
@@ -67,13 +67,13 @@ impl<R> Engine<'_, R> {
     {
         match &task.step {
             Step::Condition => self.decide_condition(view, task),
-            Step::Action(answers) => {
+            Step::Action(findings) => {
                 let what = What::Act {
                     rule: task.rule,
                     place: task.place,
                 };
-                let answers = Arc::try_clone(answers)?;
-                Ok(Decision::Acts(what, Found::Shared(answers)))
+                let findings = Arc::try_clone(findings)?;
+                Ok(Decision::Acts(what, Found::Shared(findings)))
             }
         }
     }
@@ -92,10 +92,16 @@ impl<R> Engine<'_, R> {
         ensures { let t = task_of task.now in
             IfOk result (λ v. FindsVerdict (library self.now.lib.now) t view.old view.new (verdict_of v)) }
     {
-        let queries = condition_of(self.lib, task.rule);
+        let entries = condition_of(self.lib, task.rule);
         let mut look = Counting::new(view);
-        let verdict = evaluate_condition(self.alloc, queries, &task.occurrence, &mut look)?;
-        look.add_queries(queries, self.effort);
+        let verdict = evaluate_condition(
+            self.alloc,
+            entries,
+            &task.occurrence,
+            task.time,
+            &mut look,
+        )?;
+        look.add_condition(entries, self.effort);
         Ok(verdict)
     }
 
@@ -104,32 +110,33 @@ impl<R> Engine<'_, R> {
         ensures { IfOk result (Follows (library self.now.lib.now) (task_of task.now) (verdict_of verdict)) }
     {
         match verdict {
-            Verdict::Satisfied(answers) => self.follow_satisfied(task, answers),
+            Verdict::Satisfied(found) => self.follow_satisfied(task, found),
             Verdict::Unsatisfied => {
                 let what = fired(task, ConditionEnd::WithoutAction);
-                let outcome = without_effects(self.alloc, what)?;
+                let outcome = without_effects(self.alloc, what, None)?;
                 Ok(Decision::Over(outcome))
             }
             Verdict::Faulty(cause) => {
                 let what = fired(task, ConditionEnd::WithFault(cause));
-                let outcome = without_effects(self.alloc, what)?;
+                let veto = fault_veto(self.lib, task.rule);
+                let outcome = without_effects(self.alloc, what, veto)?;
                 Ok(Decision::Over(outcome))
             }
         }
     }
 
     /// What follows from a satisfied condition: its action at once, or a task for its action.
-    fn follow_satisfied(&self, task: &Task, answers: Vec<Answer>) -> Result<Decision, AllocError>
-        ensures { let found = mapped.answers answers.items in
-            IfOk result (Follows (library self.now.lib.now) (task_of task.now) (satisfied found)) }
+    fn follow_satisfied(&self, task: &Task, found: Findings) -> Result<Decision, AllocError>
+        ensures { let satisfied = satisfied (findings_in found) in
+            IfOk result (Follows (library self.now.lib.now) (task_of task.now) satisfied) }
     {
         match action_coupling(self.lib, task.rule) {
             Coupling::Immediate => {
                 let what = fired(task, ConditionEnd::WithAction);
-                Ok(Decision::Acts(what, Found::Own(answers)))
+                Ok(Decision::Acts(what, Found::Own(found)))
             }
             place => {
-                let outcome = later(self.alloc, task, place, answers)?;
+                let outcome = later(self.alloc, task, place, found)?;
                 Ok(Decision::Over(outcome))
             }
         }
@@ -147,9 +154,10 @@ fn fired(task: &Task, condition: ConditionEnd) -> What
     }
 }
 
-/// A firing without effects, which has only its node.
-fn without_effects(alloc: Global, what: What) -> Result<Outcome, AllocError>
-    ensures { IfOk result (λ o. firing o ≡ handing_on (what_of what) []) }
+/// A firing without effects, which has only its node and perhaps a veto.
+fn without_effects(alloc: Global, what: What, veto: Option<Veto>) -> Result<Outcome, AllocError>
+    ensures { let veto = option_map veto_in veto in
+        IfOk result (λ o. firing o ≡ standing (what_of what) veto) }
 {
     let mut tree = Vec::with_capacity(alloc, 1)?;
     tree.push_reserved(Item::Node(Node {
@@ -158,7 +166,7 @@ fn without_effects(alloc: Global, what: What) -> Result<Outcome, AllocError>
         items: Vec::new(alloc),
     }));
     Ok(Outcome {
-        end: None,
+        end: veto,
         queued: Vec::new(alloc),
         detached: Vec::new(alloc),
         tree,
@@ -170,31 +178,32 @@ fn later(
     alloc: Global,
     task: &Task,
     place: Coupling,
-    answers: Vec<Answer>,
+    found: Findings,
 ) -> Result<Outcome, AllocError>
     ensures { let node = fire_node task.now.rule (coupling task.now.place) with_later_action in
-        let action = action_task (coupling place) (task_of task.now) (mapped.answers answers.items) in
+        let action = action_task (coupling place) (task_of task.now) (findings_in found) in
         IfOk result (λ o. firing o ≡ handing_on node (action ∷ [])) }
 {
-    let answers = Arc::new(alloc, answers)?;
+    let findings = Arc::new(alloc, found)?;
     let occurrence = Arc::try_clone(&task.occurrence)?;
     let action = Task {
         rule: task.rule,
-        step: Step::Action(answers),
+        step: Step::Action(findings),
         place,
         depth: task.depth,
+        time: task.time,
         occurrence,
     };
     let placed = place_tasks(alloc, one_task(alloc, action)?)?;
-    let mut outcome = without_effects(alloc, fired(task, ConditionEnd::WithLaterAction))?;
+    let mut outcome = without_effects(alloc, fired(task, ConditionEnd::WithLaterAction), None)?;
     outcome.queued = placed.queued;
     outcome.detached = placed.detached;
     Ok(outcome)
 }
 
-/// The queries of a rule. A rule that the library lacks has none.
-fn condition_of(lib: &Library, rule: RuleNo) -> &[Query]
-    ensures { map query result.now ≡ (rule_at (library lib.now) rule).condition }
+/// The entries of a rule's condition. A rule that the library lacks has none.
+fn condition_of(lib: &Library, rule: RuleNo) -> &[Entry]
+    ensures { map entry result.now ≡ (rule_at (library lib.now) rule).condition }
 {
     match lib.rule(rule) {
         Some(rule) => &rule.condition,

@@ -21,6 +21,7 @@ mod running;
 mod settling;
 mod speculate;
 mod statement;
+mod vetoes;
 
 pub use calls::{run_group, run_task};
 pub use closing::{detached_after, end_transaction, ending};

@@ -10,7 +10,8 @@ ghost use Rattle.hp_model.specs.Conditions as conditions;
 ghost use Rattle.hp_model.specs.Answers.{tells};
 ghost use Rattle.hp_model.specs.Operations.{operation_items};
 ghost use Rattle.hp_value.specs.Mapped.{Meets, environment, expression, keyed_row, primitive, rule_operation};
-ghost use Rattle.hp_query.specs.Mapped.{keyed_rows};
+ghost use Rattle.hp_value.specs.Mapped.{value as value_of};
+ghost use Rattle.hp_query.specs.Mapped.{aggregate as aggregate_of, keyed_rows};
 ghost use Rattle.hp_rule.specs.Mapped.{assignment, library, task as task_of};
 ghost use Rattle.hp_view.specs.Seeing.{Seeing};
 ghost use Rattle.hp_fire.specs.Mapped.{context as context_in, course as course_in};
@@ -25,10 +26,10 @@ use crate::engine::Engine;
 use crate::placing::one_task;
 use crate::settling::settled;
 use hp_ops::{create, delete, find_object, fire, given_values, new_object, set_rule, update};
-use hp_query::selected_rows;
+use hp_query::{Aggregate, let_value, selected_rows};
 use hp_rule::{Assignment, RuleOperation, Task};
 use hp_tree::{Item, Operation};
-use hp_value::{Cause, ClassNo, Env, Expr, Halt, KeyedRow, Prim, RuleNo};
+use hp_value::{Cause, ClassNo, Env, Expr, Halt, KeyedRow, Prim, RuleNo, Value};
 use hp_view::View;
 use std::alloc::{AllocError, Global};
 
@@ -118,13 +119,19 @@ impl<R> Engine<'_, R> {
     }
 
     /// The task of a statement `fire`, as a list.
-    pub(crate) fn fired(&self, view: &mut View, rule: RuleNo, depth: u8) -> Result<Vec<Task>, Halt>
+    pub(crate) fn fired(
+        &self,
+        view: &mut View,
+        rule: RuleNo,
+        depth: u8,
+        time: u64,
+    ) -> Result<Vec<Task>, Halt>
         ensures ready { IfOk result (λ ts. AreReady (library self.now.lib.now) depth (map task_of ts.items)) }
-        ensures starts { (context : model.Context)
-            → let work = model.run_statement (rules.fire rule) (level_at (library self.now.lib.now) depth) context in
+        ensures starts { (context : model.Context) → let level = level_at (library self.now.lib.now) time depth in
+            let work = model.run_statement (rules.fire rule) level context in
             TasksStart self.now.lib.now depth work view.old view.new result }
     {
-        let task = fire(self.alloc, view, self.lib, rule, depth)?;
+        let task = fire(self.alloc, view, self.lib, rule, depth, time)?;
         let tasks = one_task(self.alloc, task)?;
         Ok(tasks)
     }
@@ -154,6 +161,25 @@ impl<R> Engine<'_, R> {
         );
         look.add_predicate(predicate, self.effort);
         rows
+    }
+
+    /// The value of a statement `let`, as the view then is. `Missing` means that there is none: the least or the
+    /// greatest of no row.
+    pub(crate) fn let_value(
+        &self,
+        view: &mut View,
+        context: &Context<'_>,
+        aggregate: &Aggregate,
+    ) -> Result<Value, Halt>
+        ensures { let aggregate = aggregate_of aggregate.now in
+            let environment = (context_in context.now).environment in
+            Looks value_of (library self.now.lib.now)
+            (λ S. conditions.let_of S.objects environment aggregate) view.old view.new result }
+    {
+        let mut look = Counting::new(view);
+        let value = let_value(self.alloc, aggregate, &context.env, &mut look);
+        look.add_aggregate(aggregate, self.effort);
+        value
     }
 
     /// The current row of the object of a statement `with`, and its key. `Missing` means that there is no such object.

@@ -1,13 +1,14 @@
 //! Places new tasks.
 
 ghost use Rattle.std.specs.List.{list_all};
-ghost use Rattle.std.specs.Prelude.{◌≡◌, IfOk, IfErr, OnOk, [], ◌∷◌, map, filter, true};
+ghost use Rattle.std.specs.Prelude.{◌≡◌, IfOk, IfErr, OnOk, [], ◌∷◌, map, option_map, filter, true};
 ghost use Rattle.hp_model.specs.Rules.{is_immediate};
 ghost use Rattle.hp_model.specs.Tree.{Task as ModelTask, no_items};
 ghost use Rattle.hp_model.specs.Soundness.{Answer};
 ghost use Rattle.hp_model.specs.Answers.{followed, group_answer};
 ghost use Rattle.hp_model.specs.Transactions.{deferred_of, detached_of as detached_tasks, done, unreleased};
 ghost use Rattle.hp_model.specs.Firing.{end_of};
+ghost use Rattle.hp_value.specs.Mapped.{veto as veto_in};
 ghost use Rattle.hp_rule.specs.Mapped.{task as task_of, detached as detached_of};
 ghost use Rattle.hp_fire.specs.Mapped.{course as course_in, group as group_in};
 ghost use Rattle.hp_fire.specs.Mapped as mapped;
@@ -17,7 +18,7 @@ ghost use Rattle.hp_fire.specs.Joined.{with_firings};
 use crate::course::{Course, End, GroupOutcome, append};
 use hp_attempt::Outcome;
 use hp_rule::{Detached, Task};
-use hp_value::{Cause, Coupling, RuleNo};
+use hp_value::{Coupling, Veto};
 use std::alloc::{AllocError, Global};
 
 /// New tasks by where they run.
@@ -156,7 +157,8 @@ pub(crate) fn placed_course(
 
 /// A firing without siblings as a part of the transaction around it. Its veto aborts the transaction.
 pub(crate) fn firing_course(outcome: Outcome) -> Course
-    ensures { course_in result ≡ group_answer (record { firings = firing outcome ∷ []; vetoed_by = outcome.end }) }
+    ensures { let veto = option_map veto_in outcome.end in
+        course_in result ≡ group_answer (record { firings = firing outcome ∷ []; vetoed_by = veto }) }
 {
     let Outcome {
         end,
@@ -188,12 +190,12 @@ fn add_firing(course: &mut Course, outcome: Outcome) -> Result<(), AllocError>
     Ok(())
 }
 
-/// The end of the transaction around a group that this rule's veto stopped; `Done` if no veto did.
-fn stopped_by(veto: Option<RuleNo>) -> End
-    ensures { mapped.end result ≡ end_of veto }
+/// The end of the transaction around a group that this veto stopped; `Done` if none did.
+fn stopped_by(veto: Option<Veto>) -> End
+    ensures { mapped.end result ≡ end_of (option_map veto_in veto) }
 {
     match veto {
         None => End::Done,
-        Some(rule) => End::Abort(Cause::Vetoed(rule)),
+        Some(veto) => End::Vetoed(veto),
     }
 }

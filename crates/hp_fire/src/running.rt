@@ -8,7 +8,6 @@ ghost use Rattle.hp_view.specs.Seeing.{Seeing};
 ghost use Rattle.hp_fire.specs.Runs.{AreReady, Steps};
 ghost use Rattle.hp_fire.specs.Statements.{TasksStart, SiblingsFire, TaskFires};
 
-use crate::closing::close_action;
 use crate::context::Context;
 use crate::course::{Course, End, GroupOutcome};
 use crate::deciding::{Decision, action_of};
@@ -96,9 +95,9 @@ impl<R: Threads + Sync> Engine<'_, R> {
             Decision::Over(outcome) => Ok(outcome),
             Decision::Acts(what, found) => {
                 let mark = view.enter();
-                let context = Context::of_action(task, found.answers());
+                let context = Context::of_action(task, found.findings());
                 let course = self.statements(view, action_of(self.lib, task.rule), &context)?;
-                close_action(self.alloc, view, mark, what, course)
+                self.close_action(view, mark, task, what, course)
             }
         }
     }

@@ -3,13 +3,12 @@
 ghost use Rattle.std.specs.Prelude.{IfOk};
 ghost use Rattle.hp_model.specs.Rules.{Library};
 ghost use Rattle.hp_model.specs.Transactions.{Work};
-ghost use Rattle.hp_model.specs.Firing.{vetoes};
 ghost use Rattle.hp_view.specs.Seeing.{Seeing};
 ghost use Rattle.hp_fire.specs.Mapped.{course as course_in};
 ghost use Rattle.hp_fire.specs.Runs.{Runs, Steps};
 
 use crate::course::{Course, End};
-use hp_value::{Halt, RuleNo};
+use hp_value::Halt;
 use std::alloc::{AllocError, Global};
 
 /// A course, or the course that a cause ended before it did anything.
@@ -21,15 +20,5 @@ pub(crate) fn settled(alloc: Global, given: Result<Course, Halt>) -> Result<Cour
         Ok(course) => Ok(course),
         Err(Halt::Cause(cause)) => Ok(Course::ended(alloc, End::Abort(cause))),
         Err(Halt::Memory) => Err(AllocError),
-    }
-}
-
-/// The course of a veto. In the body of a script a veto does nothing; a checked body has none.
-pub(crate) fn vetoed(alloc: Global, rule: Option<RuleNo>) -> Course
-    ensures { (library : Library) (view : Seeing) → Runs library (vetoes rule) view view (course_in result) }
-{
-    match rule {
-        Some(rule) => Course::ended(alloc, End::Veto(rule)),
-        None => Course::ended(alloc, End::Done),
     }
 }

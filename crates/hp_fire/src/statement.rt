@@ -3,21 +3,23 @@
 ghost use Rattle.std.specs.Prelude.{IfOk};
 ghost use Rattle.hp_model.specs.Rules as rules;
 ghost use Rattle.hp_model.specs.Transactions.{Work};
-ghost use Rattle.hp_model.specs.Firing.{level_at};
 ghost use Rattle.hp_value.specs.Mapped.{expression, primitive};
+ghost use Rattle.hp_query.specs.Mapped.{aggregate as aggregate_of};
 ghost use Rattle.hp_rule.specs.Mapped.{body_in, library, statement as statement_of};
 ghost use Rattle.hp_view.specs.Seeing.{Seeing};
 ghost use Rattle.hp_fire.specs.Runs.{Steps, Makes};
-ghost use Rattle.hp_fire.specs.Statements.{StatementRuns, BodyRuns, body_for_each};
+ghost use Rattle.hp_fire.specs.Statements.{StatementRuns, BodyRuns, body_for_each, level_in};
 
 use crate::closing::close_sub;
 use crate::context::Context;
 use crate::course::{Course, End};
 use crate::engine::Engine;
 use crate::operations::{Binding, Selection, emitted, is_true, operated_course, signalled};
-use crate::settling::{settled, vetoed};
+use crate::settling::settled;
 use crate::speculate::STATEMENT;
+use crate::vetoes::run_veto;
 use hp_ops::trigger;
+use hp_query::Aggregate;
 use hp_rule::Stmt;
 use hp_value::{Cause, Expr, Halt, KeyedRow, Prim};
 use hp_view::View;
@@ -56,19 +58,19 @@ impl<R: Threads + Sync> Engine<'_, R> {
         match stmt {
             Stmt::Create { class, key, pairs } => {
                 let made = self.created(view, context, *class, key, pairs);
-                self.operated(view, made, context.depth)
+                self.operated(view, made, context)
             }
             Stmt::Update { class, key, pairs } => {
                 let made = self.updated(view, context, *class, key, pairs);
-                self.operated(view, made, context.depth)
+                self.operated(view, made, context)
             }
             Stmt::Delete { class, key } => {
                 let made = self.deleted(view, context, *class, key);
-                self.operated(view, made, context.depth)
+                self.operated(view, made, context)
             }
             Stmt::Signal { name, arguments } => {
                 let made = signalled(self.alloc, &context.env, name, arguments);
-                self.operated(view, made, context.depth)
+                self.operated(view, made, context)
             }
             Stmt::Emit(value) => emitted(self.alloc, context, value),
             Stmt::If {
@@ -108,11 +110,16 @@ impl<R: Threads + Sync> Engine<'_, R> {
                 self.with_object(view, binding, body, context)
             }
             Stmt::Sub { body, otherwise } => self.sub_or_otherwise(view, body, otherwise, context),
+            Stmt::Let {
+                name,
+                aggregate,
+                body,
+            } => self.with_let(view, name, aggregate, body, context),
             Stmt::Abort => Ok(Course::ended(self.alloc, End::Abort(Cause::Asked))),
-            Stmt::Veto => Ok(vetoed(self.alloc, context.rule)),
+            Stmt::Veto(message) => run_veto(self.alloc, context, message),
             Stmt::OnRule { operation, rule } => self.rule_changed(view, *operation, *rule),
             Stmt::Fire(rule) => {
-                let tasks = self.fired(view, *rule, context.depth);
+                let tasks = self.fired(view, *rule, context.depth, context.env.time);
                 self.start(view, tasks, context.depth)
             }
         }
@@ -192,6 +199,25 @@ impl<R: Threads + Sync> Engine<'_, R> {
         Ok(course)
     }
 
+    /// Runs a statement `let`. Its value is found on the view as it then is, before the body runs.
+    #[cycle(fire)]
+    fn with_let(
+        &self,
+        view: &mut View,
+        name: &str,
+        aggregate: &Aggregate,
+        body: &[Stmt],
+        context: &Context<'_>,
+    ) -> Result<Course, Halt>
+        ensures { let statement = rules.let_value name.now (aggregate_of aggregate.now) (body_in body.now) in
+            StatementRuns self.now.lib.now context.now statement view.old view.new result }
+    {
+        let value = self.let_value(view, context, aggregate)?;
+        let inner = (&*context).holding(name, &value);
+        let course = self.statements(view, body, &inner)?;
+        Ok(course)
+    }
+
     /// Runs a statement `sub`.
     #[cycle(fire)]
     fn sub_or_otherwise(
@@ -243,15 +269,26 @@ impl<R: Threads + Sync> Engine<'_, R> {
     /// Signals what a statement has made: the event of an operation, or the signal of a statement `signal`. A cause for
     /// which it was not made ends the statement.
     #[cycle(fire)]
-    fn operated(&self, view: &mut View, made: Result<Prim, Halt>, depth: u8) -> Result<Course, Halt>
-        ensures { (work : Work) (before : Seeing)
-            → Makes primitive (library self.now.lib.now) (level_at (library self.now.lib.now) depth)
-            work before view.old made
+    fn operated(
+        &self,
+        view: &mut View,
+        made: Result<Prim, Halt>,
+        context: &Context<'_>,
+    ) -> Result<Course, Halt>
+        ensures { (work : Work) (before : Seeing) → let level = level_in self.now.lib.now context.now in
+            Makes primitive (library self.now.lib.now) level work before view.old made
             → Steps (library self.now.lib.now) work before view.new result }
     {
         let prim = made?;
-        let tasks = trigger(self.alloc, view, self.lib, &prim, depth);
-        let result = self.start(view, tasks, depth);
+        let tasks = trigger(
+            self.alloc,
+            view,
+            self.lib,
+            &prim,
+            context.depth,
+            context.env.time,
+        );
+        let result = self.start(view, tasks, context.depth);
         operated_course(self.alloc, &prim, result)
     }
 }

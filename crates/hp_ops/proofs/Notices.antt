@@ -90,16 +90,16 @@ detector_stepped found next only shows is steps = record {
 module _ (library : Library) (p : Primitive) (n : ℕ) (rule : Rule) (at : rule_at library n ≡ rule) where
   pub hears_pure : (v : Seeing) (o : Option Occurrence) → is_pure rule.event ≡ true → ((past : History) → o ≡ occurrence_of rule.event (p ∷ past)) → NotifiedEnabled library p n v v o None
   hears_pure v o pure occurs = record {
-    extends = λ depth ns reads before steps tasks apart out grows shows so_far.
-        heard_pure (level_at library depth) p n o (ap (λ (r : Rule). is_pure r.event) at ∙ pure) (λ past. occurs past ∙ ap (λ (r : Rule). occurrence_of r.event (p ∷ past)) (sym at)) grows so_far
+    extends = λ now depth ns reads before steps tasks apart out grows shows so_far.
+        heard_pure (level_at library now depth) p n o (ap (λ (r : Rule). is_pure r.event) at ∙ pure) (λ past. occurs past ∙ ap (λ (r : Rule). occurrence_of r.event (p ∷ past)) (sym at)) grows so_far
         (λ base held. ap status_at (beside base (written v) steps (rule_cell n) out.status) ∙ shows base held);
   }
 
   pub hears_stepped : (v z : Seeing) (o : Option Occurrence) (next : Knowledge) → is_pure rule.event ≡ false → OnlyReads v z → StepsOn rule.event p n z o next → NotifiedEnabled library p n v z o (Some next)
   hears_stepped v z o next impure only stepped = record {
-    extends = λ depth ns reads before steps tasks apart out grows shows so_far.
+    extends = λ now depth ns reads before steps tasks apart out grows shows so_far.
         let s : StepsOn (rule_at library n).event p n z o next = subst (λ (r : Rule). StepsOn r.event p n z o next) (sym at) stepped in
-        heard_stepped (level_at library depth) p n {detector = s.found} o (knowledge_at s.found) next (ap (λ (r : Rule). is_pure r.event) at ∙ impure) apart refl s.steps
+        heard_stepped (level_at library now depth) p n {detector = s.found} o (knowledge_at s.found) next (ap (λ (r : Rule). is_pure r.event) at ∙ impure) apart refl s.steps
         (Grows-then grows (grows_only only)) so_far
         (λ base held. ap status_at (beside base (written v) steps (rule_cell n) out.status) ∙ shows base (held_before (grows_only only) base held))
         (λ base held. beside base (written v) steps (detector_cell n) out.detector ∙ ap (λ es. over base (changes es) (detector_cell n)) (sym only.writes) ∙ s.shows base held)
@@ -113,50 +113,50 @@ module _ (library : Library) (p : Primitive) (n : ℕ) (rule : Rule) (at : rule_
 abbrev pub ShowsStatus : Seeing → ℕ → Status → Type 0
 ShowsStatus w n s = (base : Cells) → Holds base w.reads → status_at (over base (written w) (rule_cell n)) ≡ s
 
-module _ (library : Library) (p : Primitive) (n : ℕ) (v w : Seeing) (s : Status) (only : OnlyReads v w) (shows : ShowsStatus w n s) where
+module _ (library : Library) (now : ℕ) (p : Primitive) (n : ℕ) (v w : Seeing) (s : Status) (only : OnlyReads v w) (shows : ShowsStatus w n s) where
   -- with the writes before the read of the status
-  before_read : {depth : ℕ} {ns : List ℕ} {before : Changes} (steps : Changes) {tasks : List Task} → Heard (level_at library depth) p ns v.reads before (stacked (written v) steps) tasks
-      → Heard (level_at library depth) p ns v.reads before (stacked (written w) steps) tasks
-  before_read {depth} {ns} {before} steps {tasks} so_far = subst (λ es. Heard (level_at library depth) p ns v.reads before (stacked (changes es) steps) tasks) (sym only.writes) so_far
+  before_read : {depth : ℕ} {ns : List ℕ} {before : Changes} (steps : Changes) {tasks : List Task} → Heard (level_at library now depth) p ns v.reads before (stacked (written v) steps) tasks
+      → Heard (level_at library now depth) p ns v.reads before (stacked (written w) steps) tasks
+  before_read {depth} {ns} {before} steps {tasks} so_far = subst (λ es. Heard (level_at library now depth) p ns v.reads before (stacked (changes es) steps) tasks) (sym only.writes) so_far
 
   -- and with the steps over them
   shows_beside : (steps : Changes) → LeaveOut n steps → (base : Cells) → Holds base w.reads → status_at (over base (stacked (written w) steps) (rule_cell n)) ≡ s
   shows_beside steps out base held = ap status_at (beside base (written w) steps (rule_cell n) out.status) ∙ shows base held
 
-  pub tells_idle : (s ≡ enabled → ⊥) → Notified library p n v w None None
+  pub tells_idle : (s ≡ enabled → ⊥) → Notified library now p n v w None None
   tells_idle idle = record {
     extends = λ depth ns before steps tasks apart out so_far.
-        subst (Heard (level_at library depth) p (ns ++ n ∷ []) w.reads before (stacked (written w) steps)) (sym (append-nil tasks))
-        (heard_idle (level_at library depth) p n s idle (grows_only only) (before_read steps so_far) (shows_beside steps out));
+        subst (Heard (level_at library now depth) p (ns ++ n ∷ []) w.reads before (stacked (written w) steps)) (sym (append-nil tasks))
+        (heard_idle (level_at library now depth) p n s idle (grows_only only) (before_read steps so_far) (shows_beside steps out));
   }
 
-  pub tells_nowhere : s ≡ enabled → slice_get library.rules n ≡ None → Notified library p n v w None None
+  pub tells_nowhere : s ≡ enabled → slice_get library.rules n ≡ None → Notified library now p n v w None None
   tells_nowhere is none = record {
     extends = λ depth ns before steps tasks apart out so_far.
-        heard_nowhere (level_at library depth) p n (past_end library.rules n none) (grows_only only) (before_read steps so_far) (λ base held. shows_beside steps out base held ∙ is);
+        heard_nowhere (level_at library now depth) p n (past_end library.rules n none) (grows_only only) (before_read steps so_far) (λ base held. shows_beside steps out base held ∙ is);
   }
 
-  task_then : (rule : Rule) (d depth : ℕ) (o : Option Occurrence) (task : Option Task) → task ≡ option_map (condition_task n rule.event_coupling d) o
-      → option_map (at_depth (suc depth)) task ≡ option_map (triggered_by (level_at library depth) n rule) o
+  task_then : (rule : Rule) (d depth : ℕ) (o : Option Occurrence) (task : Option Task) → task ≡ option_map (condition_task n rule.event_coupling now d) o
+      → option_map (at_depth (suc depth)) task ≡ option_map (triggered_by (level_at library now depth) n rule) o
   task_then rule d depth o task is = ap (option_map (at_depth (suc depth))) is ∙ by o
     where
-      by : (o : Option Occurrence) → option_map (at_depth (suc depth)) (option_map (condition_task n rule.event_coupling d) o) ≡ option_map (triggered_by (level_at library depth) n rule) o
+      by : (o : Option Occurrence) → option_map (at_depth (suc depth)) (option_map (condition_task n rule.event_coupling now d) o) ≡ option_map (triggered_by (level_at library now depth) n rule) o
       by None = refl
       by (Some x) = refl
 
-  pub tells_enabled : (z : Seeing) (d : ℕ) (o : Option Occurrence) (task : Option Task) (next : Option Knowledge) → s ≡ enabled → task ≡ option_map (condition_task n (rule_at library n).event_coupling d) o
-      → NotifiedEnabled library p n w z o next → Notified library p n v z task next
+  pub tells_enabled : (z : Seeing) (d : ℕ) (o : Option Occurrence) (task : Option Task) (next : Option Knowledge) → s ≡ enabled → task ≡ option_map (condition_task n (rule_at library n).event_coupling now d) o
+      → NotifiedEnabled library p n w z o next → Notified library now p n v z task next
   tells_enabled z d o task next is made notified = record {
     extends = λ depth ns before steps tasks apart out so_far.
-        subst (λ t. Heard (level_at library depth) p (ns ++ n ∷ []) z.reads before (stacked (written z) (with_step steps n next)) (tasks ++ option_to_list t)) (sym (task_then (rule_at library n) d depth o task made))
-        (notified.extends depth ns v.reads before steps tasks apart out (grows_only only) (λ base held. shows base held ∙ is) (before_read steps so_far));
+        subst (λ t. Heard (level_at library now depth) p (ns ++ n ∷ []) z.reads before (stacked (written z) (with_step steps n next)) (tasks ++ option_to_list t)) (sym (task_then (rule_at library n) d depth o task made))
+        (notified.extends now depth ns v.reads before steps tasks apart out (grows_only only) (λ base held. shows base held ∙ is) (before_read steps so_far));
   }
 
 -- ---- all rules
 
 -- the rules of a list have been notified, and these are the steps of their detectors
-pub record HaveHeard (library : Library) (p : Primitive) (ns : List ℕ) (old new : Seeing) (steps : Changes) (tasks : List Task) : Type 0 where
-  pub heard : (depth : ℕ) → Heard (level_at library depth) p ns new.reads (written old) (stacked (written new) steps) (map (at_depth (suc depth)) tasks)
+pub record HaveHeard (library : Library) (now : ℕ) (p : Primitive) (ns : List ℕ) (old new : Seeing) (steps : Changes) (tasks : List Task) : Type 0 where
+  pub heard : (depth : ℕ) → Heard (level_at library now depth) p ns new.reads (written old) (stacked (written new) steps) (map (at_depth (suc depth)) tasks)
   pub are_steps : AreSteps steps
   pub others : (m : ℕ) → is_in m ns ≡ false → steps (detector_cell m) ≡ None
 
@@ -166,9 +166,9 @@ out_of_more m n ns out =
     or_parts (is_in m ns) (n == m) (sym (list_any-append (λ k. k == m) ns (n ∷ []) ∙ ap (λ b. is_in m ns || b) (or-false (n == m))) ∙ out)
 
 module _ (library : Library) (p : Primitive) where
-  pub none_heard : (v : Seeing) → HaveHeard library p [] v v no_changes []
-  none_heard v = record {
-    heard = λ depth. heard_none (level_at library depth) p v.reads (written v);
+  pub none_heard : (now : ℕ) (v : Seeing) → HaveHeard library now p [] v v no_changes []
+  none_heard now v = record {
+    heard = λ depth. heard_none (level_at library now depth) p v.reads (written v);
     are_steps = record { objects = λ class key. refl; rules = λ n. refl };
     others = λ m out. refl;
   }
@@ -177,11 +177,11 @@ module _ (library : Library) (p : Primitive) where
   map_option f None = refl
   map_option f (Some t) = refl
 
-  more_heard : (ns : List ℕ) (n : ℕ) {v w z : Seeing} {steps : Changes} {tasks : List Task} {task : Option Task} {next : Option Knowledge} → is_in n ns ≡ false
-      → HaveHeard library p ns v w steps tasks → Notified library p n w z task next → HaveHeard library p (ns ++ n ∷ []) v z (with_step steps n next) (tasks ++ option_to_list task)
-  more_heard ns n {v} {w} {z} {steps} {tasks} {task} {next} apart so_far notified = record {
+  more_heard : (now : ℕ) (ns : List ℕ) (n : ℕ) {v w z : Seeing} {steps : Changes} {tasks : List Task} {task : Option Task} {next : Option Knowledge} → is_in n ns ≡ false
+      → HaveHeard library now p ns v w steps tasks → Notified library now p n w z task next → HaveHeard library now p (ns ++ n ∷ []) v z (with_step steps n next) (tasks ++ option_to_list task)
+  more_heard now ns n {v} {w} {z} {steps} {tasks} {task} {next} apart so_far notified = record {
     heard = λ depth.
-        subst (Heard (level_at library depth) p (ns ++ n ∷ []) z.reads (written v) (stacked (written z) (with_step steps n next))) (made depth)
+        subst (Heard (level_at library now depth) p (ns ++ n ∷ []) z.reads (written v) (stacked (written z) (with_step steps n next))) (made depth)
         (notified.extends depth ns (written v) steps (map (at_depth (suc depth)) tasks) apart (record { status = so_far.are_steps.rules n; detector = so_far.others n apart }) (so_far.heard depth));
     are_steps = step_more n next so_far.are_steps;
     others = λ m out. let both = out_of_more m n ns out in still m next both.1 (so_far.others m both.0);
@@ -210,12 +210,12 @@ module _ (library : Library) (p : Primitive) (ns : List ℕ) where
   abbrev pub mentioned_among : ℕ → List ℕ
   mentioned_among i = filter (is_mentioned library.rules p) (take i ns)
 
-  module _ (all : filter (is_mentioned library.rules p) ns ≡ mentioning library p) where
+  module _ (now : ℕ) (all : filter (is_mentioned library.rules p) ns ≡ mentioning library p) where
     pub told_listed : (i n : ℕ) {v w z : Seeing} {steps : Changes} {tasks : List Task} {task : Option Task} {next : Option Knowledge} → i < length ns → n ≡ get_or ns i 0 → is_mentioned library.rules p n ≡ true
-        → HaveHeard library p (mentioned_among i) v w steps tasks → Notified library p n w z task next → HaveHeard library p (mentioned_among (i + 1)) v z (with_step steps n next) (tasks ++ option_to_list task)
+        → HaveHeard library now p (mentioned_among i) v w steps tasks → Notified library now p n w z task next → HaveHeard library now p (mentioned_among (i + 1)) v z (with_step steps n next) (tasks ++ option_to_list task)
     told_listed i n {v} {w} {z} {steps} {tasks} {task} {next} below is mentioned so_far notified =
-        subst (λ ms. HaveHeard library p ms v z (with_step steps n next) (tasks ++ option_to_list task)) (sym one_more)
-        (more_heard library p (mentioned_among i) n (apart_before library p (mentioned_among i) n rest (sym split ∙ all)) so_far notified)
+        subst (λ ms. HaveHeard library now p ms v z (with_step steps n next) (tasks ++ option_to_list task)) (sym one_more)
+        (more_heard library p now (mentioned_among i) n (apart_before library p (mentioned_among i) n rest (sym split ∙ all)) so_far notified)
       where
         rest : List ℕ
         rest = filter (is_mentioned library.rules p) (drop (i + 1) ns)
@@ -234,12 +234,12 @@ module _ (library : Library) (p : Primitive) (ns : List ℕ) where
             ∙ append_assoc (mentioned_among i) (n ∷ []) rest
 
     -- the steps of all of them are written
-    pub all_listed : (i : ℕ) {v w z : Seeing} {steps : Entries} {tasks : List Task} → length ns ≤ i → HaveHeard library p (mentioned_among i) v w (changes steps) tasks → TakesIn w z steps → AllNotified library p v z tasks
+    pub all_listed : (i : ℕ) {v w z : Seeing} {steps : Entries} {tasks : List Task} → length ns ≤ i → HaveHeard library now p (mentioned_among i) v w (changes steps) tasks → TakesIn w z steps → AllNotified library now p v z tasks
     all_listed i {v} {w} {z} {steps} {tasks} past so_far takes = record {
       heard = λ depth.
-          subst (λ reads. Faithful library (λ S. triggered (level_at library depth) (extended p S)) (extended p) reads (written v) (written z) (map (at_depth (suc depth)) tasks)) (sym takes.reads)
-          (subst (λ now. Faithful library (λ S. triggered (level_at library depth) (extended p S)) (extended p) w.reads (written v) now (map (at_depth (suc depth)) tasks)) (sym takes.changes)
-          (faithful_heard (level_at library depth) p (ap (filter (is_mentioned library.rules p)) (take_all i ns past) ∙ all) (so_far.heard depth)));
+          subst (λ reads. Faithful library (λ S. triggered (level_at library now depth) (extended p S)) (extended p) reads (written v) (written z) (map (at_depth (suc depth)) tasks)) (sym takes.reads)
+          (subst (λ to. Faithful library (λ S. triggered (level_at library now depth) (extended p S)) (extended p) w.reads (written v) to (map (at_depth (suc depth)) tasks)) (sym takes.changes)
+          (faithful_heard (level_at library now depth) p (ap (filter (is_mentioned library.rules p)) (take_all i ns past) ∙ all) (so_far.heard depth)));
     }
 
 -- ---- depths
@@ -258,4 +258,4 @@ tasks_more (u ∷ ts) t = ap (λ us. task_of u ∷ us) (tasks_more ts t)
 -- tasks that stand at a depth already
 pub same_depth : (d : ℕ) (ts : List Task) → AreAt d ts → map (at_depth d) ts ≡ ts
 same_depth d [] at = refl
-same_depth d (t ∷ ts) at = ap (λ (k : ℕ). record { rule = t.rule; step = t.step; place = t.place; depth = k; occurrence = t.occurrence } ∷ map (at_depth d) ts) (sym at.0) ∙ ap (λ us. t ∷ us) (same_depth d ts at.1)
+same_depth d (t ∷ ts) at = ap (λ (k : ℕ). record { rule = t.rule; step = t.step; place = t.place; depth = k; now = t.now; occurrence = t.occurrence } ∷ map (at_depth d) ts) (sym at.0) ∙ ap (λ us. t ∷ us) (same_depth d ts at.1)

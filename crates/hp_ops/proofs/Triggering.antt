@@ -43,10 +43,10 @@ some_seen f (x ∷ xs) some e = cc
 
 -- ---- a signal
 
-module _ (library : Library) (depth : ℕ) (p : Primitive) (v w : Seeing) (tasks : List Task) (all : AllNotified library p v w tasks) where
-  pub triggers_none : tasks ≡ [] → IsTriggered library depth p v w tasks
+module _ (library : Library) (now depth : ℕ) (p : Primitive) (v w : Seeing) (tasks : List Task) (all : AllNotified library now p v w tasks) where
+  pub triggers_none : tasks ≡ [] → IsTriggered library now depth p v w tasks
   triggers_none none = record {
-    heard = subst (Faithful library (λ S. triggered (level_at library depth) (extended p S)) (extended p) w.reads (written v) (written w)) (ap (map (at_depth (suc depth))) none ∙ sym none) (all.heard depth);
+    heard = subst (Faithful library (λ S. triggered (level_at library now depth) (extended p S)) (extended p) w.reads (written v) (written w)) (ap (map (at_depth (suc depth))) none ∙ sym none) (all.heard depth);
     at = subst (AreAt (suc depth)) (sym none) tt;
     within = λ t ts is. absurd (apart t ts (sym none ∙ is));
   }
@@ -54,50 +54,50 @@ module _ (library : Library) (depth : ℕ) (p : Primitive) (v w : Seeing) (tasks
       apart : (t : Task) (ts : List Task) → [] ≡ t ∷ ts → ⊥
       apart t ts e = cc
 
-  pub triggers_some : AreAt (suc depth) tasks → depth < library.depth_limit → IsTriggered library depth p v w tasks
+  pub triggers_some : AreAt (suc depth) tasks → depth < library.depth_limit → IsTriggered library now depth p v w tasks
   triggers_some at within = record {
-    heard = subst (Faithful library (λ S. triggered (level_at library depth) (extended p S)) (extended p) w.reads (written v) (written w)) (same_depth (suc depth) tasks at) (all.heard depth);
+    heard = subst (Faithful library (λ S. triggered (level_at library now depth) (extended p S)) (extended p) w.reads (written v) (written w)) (same_depth (suc depth) tasks at) (all.heard depth);
     at = at;
     within = λ t ts is. within;
   }
 
   pub triggers_deep : (tasks ≡ [] → ⊥) → library.depth_limit ≤ depth
-      → FaithfulWork library (signal_in (level_at library depth) p) w.reads (written v) (written w) (ended (abort_by depth_exceeded))
+      → FaithfulWork library (signal_in (level_at library now depth) p) w.reads (written v) (written w) (ended (abort_by depth_exceeded))
   triggers_deep some deep = by tasks some (all.heard depth)
     where
       by : (ts : List Task) → (ts ≡ [] → ⊥)
-          → Faithful library (λ S. triggered (level_at library depth) (extended p S)) (extended p) w.reads (written v) (written w) (map (at_depth (suc depth)) ts)
-          → FaithfulWork library (signal_in (level_at library depth) p) w.reads (written v) (written w) (ended (abort_by depth_exceeded))
+          → Faithful library (λ S. triggered (level_at library now depth) (extended p S)) (extended p) w.reads (written v) (written w) (map (at_depth (suc depth)) ts)
+          → FaithfulWork library (signal_in (level_at library now depth) p) w.reads (written v) (written w) (ended (abort_by depth_exceeded))
       by [] some heard = absurd (some refl)
       by (t ∷ ts) some heard =
-          faithful_signal (level_at library depth) p (Grows-same w.reads) heard (faithful_start_deep depth (at_depth (suc depth) t) (map (at_depth (suc depth)) ts) deep)
+          faithful_signal (level_at library now depth) p (Grows-same w.reads) heard (faithful_start_deep now depth (at_depth (suc depth) t) (map (at_depth (suc depth)) ts) deep)
 
 -- ---- the statement `fire`
 
-module _ (library : Library) (depth n : ℕ) (w : Seeing) where
+module _ (library : Library) (now depth n : ℕ) (w : Seeing) where
   pub fires_unknown : slice_get library.rules n ≡ None
-      → FaithfulWork library (λ S. start_fired (rule_state S n).status (level_at library depth) n S) w.reads (written w) (written w) (ended (abort_by missing))
-  fires_unknown none = faithful_fire_missing (level_at library depth) n (finds_unknown n (past_end library.rules n none))
+      → FaithfulWork library (λ S. start_fired (rule_state S n).status (level_at library now depth) n S) w.reads (written w) (written w) (ended (abort_by missing))
+  fires_unknown none = faithful_fire_missing (level_at library now depth) n (finds_unknown n (past_end library.rules n none))
 
   pub fires_absent : (s : Status) → StatusFound library n w s → s ≡ absent
-      → FaithfulWork library (λ S. start_fired (rule_state S n).status (level_at library depth) n S) w.reads (written w) (written w) (ended (abort_by missing))
-  fires_absent s finds is = faithful_fire_missing (level_at library depth) n (subst (StatusFound library n w) is finds)
+      → FaithfulWork library (λ S. start_fired (rule_state S n).status (level_at library now depth) n S) w.reads (written w) (written w) (ended (abort_by missing))
+  fires_absent s finds is = faithful_fire_missing (level_at library now depth) n (subst (StatusFound library n w) is finds)
 
   pub fires_deep : (s : Status) → StatusFound library n w s → (s ≡ absent → ⊥) → library.depth_limit ≤ depth
-      → FaithfulWork library (λ S. start_fired (rule_state S n).status (level_at library depth) n S) w.reads (written w) (written w) (ended (abort_by depth_exceeded))
-  fires_deep s finds there deep = faithful_fire (level_at library depth) n finds (by s there)
+      → FaithfulWork library (λ S. start_fired (rule_state S n).status (level_at library now depth) n S) w.reads (written w) (written w) (ended (abort_by depth_exceeded))
+  fires_deep s finds there deep = faithful_fire (level_at library now depth) n finds (by s there)
     where
-      by : (s : Status) → (s ≡ absent → ⊥) → FaithfulWork library (start_fired s (level_at library depth) n) w.reads (written w) (written w) (ended (abort_by depth_exceeded))
+      by : (s : Status) → (s ≡ absent → ⊥) → FaithfulWork library (start_fired s (level_at library now depth) n) w.reads (written w) (written w) (ended (abort_by depth_exceeded))
       by absent there = absurd (there refl)
-      by enabled there = faithful_start_deep depth (fired_task (level_at library depth) n) [] deep
-      by disabled there = faithful_start_deep depth (fired_task (level_at library depth) n) [] deep
+      by enabled there = faithful_start_deep now depth (fired_task (level_at library now depth) n) [] deep
+      by disabled there = faithful_start_deep now depth (fired_task (level_at library now depth) n) [] deep
 
   pub fires_task : (s : Status) (rule : Rule) (t : Task) → slice_get library.rules n ≡ Some rule → StatusFound library n w s → (s ≡ absent → ⊥) → depth < library.depth_limit
-      → t ≡ condition_task n rule.event_coupling (suc depth) no_occurrence → IsFired library depth n w t
+      → t ≡ condition_task n rule.event_coupling now (suc depth) no_occurrence → IsFired library now depth n w t
   fires_task s rule t at finds there within is = record {
     status = s;
     finds = finds;
     there = there;
-    is = is ∙ ap (λ (r : Rule). condition_task n r.event_coupling (suc depth) no_occurrence) (sym (found_at library.rules n rule no_rule at).1);
+    is = is ∙ ap (λ (r : Rule). condition_task n r.event_coupling now (suc depth) no_occurrence) (sym (found_at library.rules n rule no_rule at).1);
     within = within;
   }

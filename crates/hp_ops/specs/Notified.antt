@@ -15,13 +15,13 @@ use Rattle.hp_model.proofs.Faithful.{Grows}
 use Rattle.hp_model.proofs.Hearing.{is_in, Heard}
 use Rattle.hp_view.specs.Seeing.{Seeing, written}
 
--- the task of a rule's condition, for an occurrence of its event
-abbrev pub condition_task : ℕ → Coupling → ℕ → Occurrence → Task
-condition_task n place depth o = record { rule = n; step = condition_step; place = place; depth = depth; occurrence = o }
+-- the task of a rule's condition, at a moment of the clock, for an occurrence of its event
+abbrev pub condition_task : ℕ → Coupling → (now depth : ℕ) → Occurrence → Task
+condition_task n place now depth o = record { rule = n; step = condition_step; place = place; depth = depth; now = now; occurrence = o }
 
 -- a task, at another depth
 abbrev pub at_depth : ℕ → Task → Task
-at_depth depth t = record { rule = t.rule; step = t.step; place = t.place; depth = depth; occurrence = t.occurrence }
+at_depth depth t = record { rule = t.rule; step = t.step; place = t.place; depth = depth; now = t.now; occurrence = t.occurrence }
 
 -- one step of what a cell knows of a past
 abbrev pub GoesOnePlace : Event → Primitive → Option CellValue → Option Occurrence → Knowledge → Type 0
@@ -54,17 +54,17 @@ Shares p shared = IfSome shared (λ o. o ≡ primitive_occurrence p)
 
 -- this enabled rule has been notified, after any others, whose steps aren't written, and its event occurs so
 pub record NotifiedEnabled (library : Library) (p : Primitive) (n : ℕ) (old new : Seeing) (o : Option Occurrence) (next : Option Knowledge) : Type 0 where
-  pub extends : (depth : ℕ) (ns : List ℕ) (reads : List Read) (before steps : Changes) (tasks : List Task) → is_in n ns ≡ false → LeaveOut n steps → Grows reads old.reads
+  pub extends : (now depth : ℕ) (ns : List ℕ) (reads : List Read) (before steps : Changes) (tasks : List Task) → is_in n ns ≡ false → LeaveOut n steps → Grows reads old.reads
       → ((base : Cells) → Holds base old.reads → status_at (over base (written old) (rule_cell n)) ≡ enabled)
-      → Heard (level_at library depth) p ns reads before (stacked (written old) steps) tasks
-      → Heard (level_at library depth) p (ns ++ n ∷ []) new.reads before (stacked (written new) (with_step steps n next)) (tasks ++ option_to_list (option_map (triggered_by (level_at library depth) n (rule_at library n)) o))
+      → Heard (level_at library now depth) p ns reads before (stacked (written old) steps) tasks
+      → Heard (level_at library now depth) p (ns ++ n ∷ []) new.reads before (stacked (written new) (with_step steps n next)) (tasks ++ option_to_list (option_map (triggered_by (level_at library now depth) n (rule_at library n)) o))
 
 -- this rule has been notified, after any others, and these are its task, in a transaction of any depth, and its step
-pub record Notified (library : Library) (p : Primitive) (n : ℕ) (old new : Seeing) (task : Option Task) (next : Option Knowledge) : Type 0 where
+pub record Notified (library : Library) (now : ℕ) (p : Primitive) (n : ℕ) (old new : Seeing) (task : Option Task) (next : Option Knowledge) : Type 0 where
   pub extends : (depth : ℕ) (ns : List ℕ) (before steps : Changes) (tasks : List Task) → is_in n ns ≡ false → LeaveOut n steps
-      → Heard (level_at library depth) p ns old.reads before (stacked (written old) steps) tasks
-      → Heard (level_at library depth) p (ns ++ n ∷ []) new.reads before (stacked (written new) (with_step steps n next)) (tasks ++ option_to_list (option_map (at_depth (suc depth)) task))
+      → Heard (level_at library now depth) p ns old.reads before (stacked (written old) steps) tasks
+      → Heard (level_at library now depth) p (ns ++ n ∷ []) new.reads before (stacked (written new) (with_step steps n next)) (tasks ++ option_to_list (option_map (at_depth (suc depth)) task))
 
 -- all rules that the occurrence concerns have been notified, and these are the tasks, in a transaction of any depth
-pub record AllNotified (library : Library) (p : Primitive) (old new : Seeing) (tasks : List Task) : Type 0 where
-  pub heard : (depth : ℕ) → Faithful library (λ S. triggered (level_at library depth) (extended p S)) (extended p) new.reads (written old) (written new) (map (at_depth (suc depth)) tasks)
+pub record AllNotified (library : Library) (now : ℕ) (p : Primitive) (old new : Seeing) (tasks : List Task) : Type 0 where
+  pub heard : (depth : ℕ) → Faithful library (λ S. triggered (level_at library now depth) (extended p S)) (extended p) new.reads (written old) (written new) (map (at_depth (suc depth)) tasks)

@@ -27,11 +27,12 @@ use hp_view::View;
 use std::alloc::{AllocError, Global};
 use std::sync::Arc;
 
-/// What rules are notified of: an occurrence, and the depth of the firings that it causes.
+/// What rules are notified of: an occurrence, and the depth and the moment of the firings that it causes.
 #[derive(Clone, Copy)]
 struct Notice<'a> {
     prim: &'a Prim,
     depth: u8,
+    time: u64,
 }
 
 /// What a rule makes of an occurrence: its task, if it is enabled and its event occurs, and what its detector knows
@@ -41,8 +42,8 @@ struct Heard {
     next: Option<Knowledge>,
 }
 
-/// Notifies all rules that an occurrence concerns. The answer is the tasks, of depth `depth`, of the enabled rules
-/// whose event occurs, in rule order.
+/// Notifies all rules that an occurrence concerns, at the moment `time` of the clock. The answer is the tasks, of depth
+/// `depth`, of the enabled rules whose event occurs, in rule order.
 ///
 /// Nothing is written but detectors. They are written last and all at once, so that after an error nothing is written.
 pub(crate) fn notify_all(
@@ -51,15 +52,16 @@ pub(crate) fn notify_all(
     lib: &Library,
     prim: &Prim,
     depth: u8,
+    time: u64,
 ) -> Result<Vec<Task>, AllocError>
     ensures heard { IfOk result (λ tasks.
-        AllNotified (library lib.now) (primitive prim.now) view.old view.new (map task_of tasks.items)) }
+        AllNotified (library lib.now) time (primitive prim.now) view.old view.new (map task_of tasks.items)) }
     ensures depth { IfOk result (λ tasks. AreAt depth (map task_of tasks.items)) }
     ensures writes { OnlySteps view.old view.new }
     ensures err { OnErr result (ReadsMore view.old view.new) }
     ensures goes_on { GoesOn view.old view.new }
 {
-    let notice = Notice { prim, depth };
+    let notice = Notice { prim, depth, time };
     let mut tasks = Vec::new(alloc);
     let mut steps = DetectorSteps::Nothing;
     let mut shared = None;
@@ -104,7 +106,7 @@ fn notify(
     requires shared { Shares (primitive notice.now.prim.now) (option_map (λ o. occurrence_of o.value) shared.old) }
     ensures shared { Shares (primitive notice.now.prim.now) (option_map (λ o. occurrence_of o.value) shared.new) }
     ensures notified { IfOk result (λ heard.
-        Notified (library lib.now) (primitive notice.now.prim.now) number view.old view.new
+        Notified (library lib.now) notice.now.time (primitive notice.now.prim.now) number view.old view.new
         (option_map task_of heard.task) heard.next) }
     ensures depth { IfOk result (λ heard. (t : AnyTask) → heard.task ≡ Some t → t.depth ≡ notice.now.depth) }
     ensures only { OnlyReads view.old view.new }
@@ -127,7 +129,7 @@ fn notify(
     let Some(occurrence) = made else {
         return Ok(Heard { task: None, next });
     };
-    let task = new_task(number, rule.ec, notice.depth, occurrence);
+    let task = new_task(number, rule.ec, notice.depth, notice.time, occurrence);
     Ok(Heard {
         task: Some(task),
         next,
@@ -262,15 +264,17 @@ pub(crate) fn new_task(
     rule: RuleNo,
     place: Coupling,
     depth: u8,
+    time: u64,
     occurrence: Arc<Occurrence>,
 ) -> Task
-    ensures { task_of result ≡ condition_task rule (coupling_of place) depth (occurrence_of occurrence.value) }
+    ensures { task_of result ≡ condition_task rule (coupling_of place) time depth (occurrence_of occurrence.value) }
 {
     Task {
         rule,
         step: Step::Condition,
         place,
         depth,
+        time,
         occurrence,
     }
 }

@@ -18,8 +18,8 @@ use hp_view::View;
 use std::alloc::{AllocError, Global};
 use std::sync::Arc;
 
-/// Signals an occurrence in a transaction of depth `depth`: steps the detectors of the enabled rules that it concerns.
-/// The answer is the tasks of those whose event occurs, in rule order.
+/// Signals an occurrence in a transaction of depth `depth`, at the moment `time` of the clock: steps the detectors of
+/// the enabled rules that it concerns. The answer is the tasks of those whose event occurs, in rule order.
 ///
 /// `Depth` means that a rule is triggered whose firing would exceed the depth limit. `Memory` means that memory ran
 /// out: nothing is then written, and no detector is stepped.
@@ -29,11 +29,12 @@ pub fn trigger(
     lib: &Library,
     prim: &Prim,
     depth: u8,
+    time: u64,
 ) -> Result<Vec<Task>, Halt>
-    ensures triggers { Triggers (library lib.now) depth (primitive prim.now) view.old view.new result }
+    ensures triggers { Triggers (library lib.now) time depth (primitive prim.now) view.old view.new result }
     ensures goes_on { GoesOn view.old view.new }
 {
-    let tasks = notify_all(alloc, view, lib, prim, depth.saturating_add(1))?;
+    let tasks = notify_all(alloc, view, lib, prim, depth.saturating_add(1), time)?;
     if tasks.is_empty() {
         return Ok(tasks);
     }
@@ -43,7 +44,8 @@ pub fn trigger(
     Ok(tasks)
 }
 
-/// The task of a rule that the statement `fire` names, in a transaction of depth `depth`. No event has occurred.
+/// The task of a rule that the statement `fire` names, in a transaction of depth `depth`, at the moment `time` of the
+/// clock. No event has occurred.
 ///
 /// `Missing` means that the rule is absent, `Depth` that its firing would exceed the depth limit; `Missing` comes
 /// first. Nothing is written, and only the rule's status is read.
@@ -53,8 +55,9 @@ pub fn fire(
     lib: &Library,
     rule: RuleNo,
     depth: u8,
+    time: u64,
 ) -> Result<Task, Halt>
-    ensures fires { Fires (library lib.now) depth rule view.new result }
+    ensures fires { Fires (library lib.now) time depth rule view.new result }
     ensures reads { AddsReads (IsReadOf (rule_cell rule)) view.old.reads view.new.reads }
     ensures only { OnlyReads view.old view.new }
     ensures goes_on { GoesOn view.old view.new }
@@ -70,7 +73,7 @@ pub fn fire(
         return Err(Halt::Cause(Cause::Depth));
     }
     let occurrence = nothing(alloc)?;
-    Ok(new_task(rule, known.ec, depth + 1, occurrence))
+    Ok(new_task(rule, known.ec, depth + 1, time, occurrence))
 }
 
 /// The occurrence without parts, of a rule that the statement `fire` names.

@@ -28,23 +28,23 @@ pub begins : (library : Library) (opening : Cells) → HasFitState library openi
 begins library opening fit = record { opened = fit; leads = λ S ordered is. (is, ordered) }
 
 leads_on : (library : Library) (S : State) (now : Cells) (es : List Entry) (e : Entry) (reads : List Read) (layer : Changes)
-    → LeadsInOrder library S es now → IsSoundUnit library (transaction e.body) reads layer e.reply → Holds now reads
+    → LeadsInOrder library S es now → IsSoundUnit library (transaction e.now e.body) reads layer e.reply → Holds now reads
     → LeadsInOrder library S (es ++ e ∷ []) (over now layer)
 leads_on library S now [] e reads layer h sound held =
     let t = sound.from S h.1 (subst (λ c. Holds c reads) (sym h.0) held) in (t.answers, (t.reaches ∙ ap (λ c. over c layer) h.0, t.ordered))
 leads_on library S now (x ∷ es) e reads layer h sound held =
-    (h.0, leads_on library (run_unit library (transaction x.body) S).state now es e reads layer h.1 sound held)
+    (h.0, leads_on library (run_unit library (transaction x.now x.body) S).state now es e reads layer h.1 sound held)
 
 -- one more unit, whose reads hold
 pub commits : (library : Library) (opening now : Cells) (es : List Entry) (e : Entry) (reads : List Read) (layer : Changes)
-    → IsKept library opening now es → IsSoundUnit library (transaction e.body) reads layer e.reply → Holds now reads
+    → IsKept library opening now es → IsSoundUnit library (transaction e.now e.body) reads layer e.reply → Holds now reads
     → IsKept library opening (over now layer) (es ++ e ∷ [])
 commits library opening now es e reads layer kept sound held =
     record { opened = kept.opened; leads = λ S ordered is. leads_on library S now es e reads layer (kept.leads S ordered is) sound held }
 
 serial : (library : Library) (S : State) (now : Cells) (es : List Entry) → LeadsInOrder library S es now → IsSerialRun library S es now
 serial library S now [] h = h.0
-serial library S now (e ∷ es) h = (h.0, serial library (run_unit library (transaction e.body) S).state now es h.1)
+serial library S now (e ∷ es) h = (h.0, serial library (run_unit library (transaction e.now e.body) S).state now es h.1)
 
 -- what a book keeps is legal
 pub legal : (library : Library) (opening now : Cells) (es : List Entry) → IsKept library opening now es → IsLegal library opening now es
@@ -67,15 +67,16 @@ pub keeps : (b : Ledger) (session : ℕ) (u : Made) (store : Stack) (history : L
 keeps b session u store history kept sound might changed added =
     let library = rules.library b.library in
     let e = entry_of session u in
-    let stands = subst (λ l. IsSoundUnit l (transaction (rules.body u.body)) u.reads (changes u.layer) (unit_report u.reply.value)) might.0.0 sound in
+    let stands = subst (λ l. IsSoundUnit l (transaction u.time (rules.body u.body)) u.reads (changes u.layer) (unit_report u.reply.value)) might.0.0 sound in
     let goes = commits library (cells_in b.opening) (cells_in b.store) (mapped.history b.history) (mapped.entry e) u.reads (changes u.layer) kept stands might.1 in
     let more : mapped.history history ≡ mapped.history b.history ++ mapped.entry e ∷ [] = ap mapped.history added ∙ map_push mapped.entry b.history e in
     subst (λ (p : Cells × List Entry). IsKept library (cells_in b.opening) p.0 p.1) (λ i. (sym changed i, sym more i)) goes
 
 -- a unit that was committed ran on the store at that time
-pub ran : (session : ℕ) (u : Made) (before now : Ledger) (r : Receipt) (body : Body) → u.body ≡ body → IsCommitted session u before now r → IsRun session body before now r
-ran session u before now r body same c =
-    subst (λ b. IsRun session b before now r) same
+pub ran : (session : ℕ) (u : Made) (before now : Ledger) (r : Receipt) (time : ℕ) (body : Body) → u.time ≡ time → u.body ≡ body → IsCommitted session u before now r
+    → IsRun session time body before now r
+ran session u before now r time body moment same c =
+    subst (λ (p : ℕ × Body). IsRun session p.0 p.1 before now r) (λ i. (moment i, same i))
     (record {
       might = c.might.0;
       library = c.library;

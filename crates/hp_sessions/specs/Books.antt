@@ -72,7 +72,7 @@ MayBeCommitted b u = MayCome b u.body × Holds (cells_in b.store) u.reads
 
 -- the entry of a unit
 abbrev pub entry_of : ℕ → Made → Entry
-entry_of session u = record { session = session; body = u.body; reply = u.reply }
+entry_of session u = record { session = session; body = u.body; time = u.time; reply = u.reply }
 
 -- the unit stands for its body and was committed: its entry was added to the history and its changes to the store, and
 -- the receipt is the entry's
@@ -115,26 +115,26 @@ IsSeen table last (Some t) = (t.table_id ≡ table) × (t.me.1 ≡ []) × (last 
 abbrev pub IsMemory : TableId → Memory → Type 0
 IsMemory table m = IsSeen table m.last m.token
 
--- the body ran as a unit on the current store, and was committed: its entry was added to the history, and the receipt
--- is the entry's
-pub record IsRun (session : ℕ) (body : Body) (before now : Ledger) (r : ReceiptView) : Type 0 where
+-- the body ran as a unit of this moment on the current store, and was committed: its entry was added to the history, and
+-- the receipt is the entry's
+pub record IsRun (session time : ℕ) (body : Body) (before now : Ledger) (r : ReceiptView) : Type 0 where
   pub might : MayCome before body
   pub library : now.library ≡ before.library
   pub opening : now.opening ≡ before.opening
   pub reply : Arc UnitReport Global
-  pub ran : RanUnit (rules.library body.library.value) (transaction (rules.body body)) (cells_in before.store) (cells_in now.store) (unit_report reply.value)
-  pub history : now.history ≡ before.history ++ record { session = session; body = body; reply = reply } ∷ []
-  pub receipt : r ≡ record { number = length before.history + 1; entry = Some (record { session = session; body = body; reply = reply }) }
+  pub ran : RanUnit (rules.library body.library.value) (transaction time (rules.body body)) (cells_in before.store) (cells_in now.store) (unit_report reply.value)
+  pub history : now.history ≡ before.history ++ record { session = session; body = body; time = time; reply = reply } ∷ []
+  pub receipt : r ≡ record { number = length before.history + 1; entry = Some (record { session = session; body = body; time = time; reply = reply }) }
 
 -- this is the report of the entry
 abbrev pub IsReply : Arc UnitReport Global → Option Entry → Type 0
 IsReply reply None = ⊥
 IsReply reply (Some e) = reply.value ≡ e.reply.value
 
--- a receipt of this session and this body
-abbrev pub IsOf : ℕ → Body → Option Entry → Type 0
-IsOf session body None = ⊥
-IsOf session body (Some e) = (e.session ≡ session) × (e.body ≡ body)
+-- a receipt of this session, this moment and this body
+abbrev pub IsOf : (session time : ℕ) → Body → Option Entry → Type 0
+IsOf session time body None = ⊥
+IsOf session time body (Some e) = (e.session ≡ session) × (e.time ≡ time) × (e.body ≡ body)
 
 -- the session of a receipt
 abbrev pub session_of : ReceiptView → Option ℕ

@@ -10,8 +10,8 @@ use Rattle.hp_model.specs.Sessions.{Entry, HasFitState}
 abbrev pub LeadsInOrder : Library → State → List Entry → Cells → Type 0
 LeadsInOrder library S [] now = (cells library S ≡ now) × IsOrdered library S
 LeadsInOrder library S (e ∷ es) now =
-    (unit_report (transaction e.body) (run_unit library (transaction e.body) S) ≡ e.reply)
-    × LeadsInOrder library (run_unit library (transaction e.body) S).state es now
+    (unit_report (transaction e.now e.body) (run_unit library (transaction e.now e.body) S) ≡ e.reply)
+    × LeadsInOrder library (run_unit library (transaction e.now e.body) S).state es now
 
 -- the history is legal, and each state that it leads to is ordered
 pub record IsKept (library : Library) (opening now : Cells) (history : List Entry) : Type 0 where

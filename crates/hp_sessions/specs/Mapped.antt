@@ -6,7 +6,7 @@ use Rattle.hp_tree.specs.Mapped.{unit_report}
 use Rattle.hp_sessions.specs.declared.entry.Entry.{Entry}
 
 abbrev pub entry : Entry → S.Entry
-entry e = record { session = e.session; body = body e.body; reply = unit_report e.reply.value }
+entry e = record { session = e.session; body = body e.body; now = e.time; reply = unit_report e.reply.value }
 
 abbrev pub history : List Entry → List S.Entry
 history es = map entry es

@@ -218,10 +218,12 @@ impl<K: BookName> Book<K> {
         let Ok(reply) = make_ready(alloc, &mut self.history, &mut self.store, &unit) else {
             return Err((Refusal::NoMemory, unit));
         };
+        let time = unit.time();
         let (body, own) = unit.into_parts();
         let entry = Entry {
             session,
             body,
+            time,
             reply: own,
         };
         append(&self.words, &mut self.token, &entry);
@@ -255,7 +257,8 @@ impl<K: BookName> Book<K> {
         self.append(alloc, session, unit)
     }
 
-    /// Runs a body on the current store, with width 1, and commits it. It is never stale.
+    /// Runs a body on the current store, with width 1, and commits it. It is never stale. `time` is the clock's moment
+    /// for all that the body does; without a clock it is 0.
     ///
     /// Otherwise the book stays as it was, and the body is dropped. The checks, in this order: `OtherLibrary` if the
     /// body's library isn't equal to the book's, `HistoryFull` if the history has 100,000 units, `NoMemory` if memory
@@ -265,15 +268,16 @@ impl<K: BookName> Book<K> {
         rt: &R,
         alloc: Global,
         session: u8,
+        time: u64,
         body: Body,
     ) -> Result<Receipt<K>, Refusal>
-        ensures ok { IfOk result (λ r. IsRun session body self.old self.new r) }
+        ensures ok { IfOk result (λ r. IsRun session time body self.old self.new r) }
         ensures err { IfErr result (λ e. (self.new ≡ self.old) × IsUnable self.old body e) }
     {
         if let Some(refusal) = self.barred(&body) {
             return Err(refusal);
         }
-        let Ok(unit) = self.made(rt, alloc, body) else {
+        let Ok(unit) = self.made(rt, alloc, time, body) else {
             return Err(Refusal::NoMemory);
         };
         match self.append(alloc, session, unit) {
@@ -282,14 +286,21 @@ impl<K: BookName> Book<K> {
         }
     }
 
-    // The unit of a body on the current store.
-    fn made<R: Threads + Sync>(&self, rt: &R, alloc: Global, body: Body) -> Result<Unit, AllocError>
+    // The unit of a body on the current store, at a moment of the clock.
+    fn made<R: Threads + Sync>(
+        &self,
+        rt: &R,
+        alloc: Global,
+        time: u64,
+        body: Body,
+    ) -> Result<Unit, AllocError>
         ensures body { IfOk result (λ u. u.body ≡ body) }
+        ensures time { IfOk result (λ u. u.time ≡ time) }
         ensures sound { IfOk result (λ u. IsSound u) }
         ensures reads { IfOk result (λ u. Holds (cells_in self.now.store) u.reads) }
     {
         let here = self.snapshot()?;
-        Unit::make(rt, alloc, here, body, 1)
+        Unit::make(rt, alloc, here, time, body, 1)
     }
 
     // Commits the unit, or runs its body again if it is stale.
@@ -300,14 +311,15 @@ impl<K: BookName> Book<K> {
         session: u8,
         unit: Unit,
     ) -> Result<Receipt<K>, Refusal>
-        ensures ok { IfOk result (λ r. IsRun session unit.body self.old self.new r) }
+        ensures ok { IfOk result (λ r. IsRun session unit.time unit.body self.old self.new r) }
         ensures err { IfErr result (λ e. (self.new ≡ self.old) × IsUnable self.old unit.body e) }
     {
         match self.commit(alloc, session, unit) {
             Ok(receipt) => Ok(receipt),
             Err((Refusal::Stale { .. }, unit)) => {
+                let time = unit.time();
                 let (body, _) = unit.into_parts();
-                self.run_now(rt, alloc, session, body)
+                self.run_now(rt, alloc, session, time, body)
             }
             Err((refusal, _)) => Err(refusal),
         }
@@ -335,7 +347,7 @@ impl<K: BookName> Book<K> {
     ) -> Result<Receipt<K>, Refusal>
         requires { IsMemory K.table memory.old }
         ensures ok { IfOk result (λ r.
-            IsRun session unit.body self.old self.new r × (memory.old.last < r.number)
+            IsRun session unit.time unit.body self.old self.new r × (memory.old.last < r.number)
             × (memory.new.last ≡ r.number) × IsMemory K.table memory.new) }
         ensures err { IfErr result (λ e.
             (self.new ≡ self.old) × IsUnable self.old unit.body e

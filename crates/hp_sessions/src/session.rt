@@ -52,7 +52,8 @@ impl<'a, K: BookName> Session<'a, K> {
     }
 
     /// Runs a body on the book, and returns a receipt for it. It may wait for the book's lock, which it holds only to
-    /// take a snapshot and to commit.
+    /// take a snapshot and to commit. `time` is the clock's moment for all that the body does, as the expression `now`
+    /// gives it; a service without a clock passes 0.
     ///
     /// The unit is made outside the lock, with width 1; the gate is notified before and after that. If the unit is
     /// stale at the commit, the body is run again under the lock, so no refusal is `Stale`. Any other refusal leaves
@@ -62,17 +63,18 @@ impl<'a, K: BookName> Session<'a, K> {
         &mut self,
         rt: &R,
         alloc: Global,
+        time: u64,
         body: Body,
         gate: &G,
     ) -> Result<Receipt<K>, Refusal>
         ensures ok { IfOk result (λ r.
-            IsOf self.old.number body r.entry × (self.old.last < r.number)
+            IsOf self.old.number time body r.entry × (self.old.last < r.number)
             × (self.new ≡ record { number = self.old.number; last = r.number })) }
         ensures err { IfErr result (λ e. (self.new ≡ self.old) × IsNotStale e) }
     {
         let snapshot = self.book.lock(rt).snapshot()?;
         gate.started(self.number as usize);
-        let made = Unit::make(rt, alloc, snapshot, body, 1);
+        let made = Unit::make(rt, alloc, snapshot, time, body, 1);
         gate.ended(self.number as usize);
         let unit = made?;
         self.book

@@ -17,12 +17,13 @@ use std::marker::Model;
 use std::sync::Arc;
 use std::thread::Threads;
 
-/// A body that ran on a snapshot: what it read, what it writes, and its report.
+/// A body that ran on a snapshot, at a moment of the clock: what it read, what it writes, and its report.
 ///
-/// It stands for the body on each state in which its reads hold, so a book commits it if they do.
+/// It stands for the body, at that moment, on each state in which its reads hold, so a book commits it if they do.
 #[derive(Debug, Drop)]
 pub struct Unit {
     body: Body,
+    time: u64,
     reads: Reads,
     layer: Arc<Layer>,
     reply: Arc<UnitReport>,
@@ -41,36 +42,40 @@ impl Model for Unit {
     ghost coded = { Prim.hlevel
         (codes, of_body.the_row.coded, of_report.the_row.coded, read_code, cell_code, value_code) };
 
-    ghost view = { λ u. record { body = u.body; reads = u.reads; layer = u.layer.value; reply = u.reply } };
+    ghost view = { λ u. record { body = u.body; time = u.time; reads = u.reads; layer = u.layer.value; reply = u.reply } };
 
     // On each state in which the reads hold, the body has this report, and leaves the state overwritten by the layer.
-    ghost invariant = { λ u. StandsFor u.body u.reads u.layer.value u.reply };
+    ghost invariant = { λ u. StandsFor u.body u.time u.reads u.layer.value u.reply };
 }
 
 impl Unit {
     /// Runs a body on a snapshot, as a transaction of its own with the cascade of what that detaches. It takes no lock.
+    /// `time` is the clock's moment for all of it; without a clock it is 0, where a clock begins.
     ///
     /// Groups of firings use at most `width` threads. After an error the body is dropped.
     pub fn make<R: Threads + Sync>(
         rt: &R,
         alloc: Global,
         snapshot: Snapshot,
+        time: u64,
         body: Body,
         width: usize,
     ) -> Result<Unit, AllocError>
         ensures body { IfOk result (λ u. u.body ≡ body) }
+        ensures time { IfOk result (λ u. u.time ≡ time) }
         ensures sound { IfOk result (λ u. IsSound u) }
         ensures reads { IfOk result (λ u. Holds (cells_in snapshot) u.reads) }
     {
         let library = Arc::try_clone(body.library())?;
-        let item = Item::Transaction(body);
+        let item = Item::Transaction { time, body };
         let attempt = attempt_unit(rt, alloc, &library, snapshot, &item, width)?;
         let reply = Arc::new(alloc, attempt.report)?;
-        let Item::Transaction(body) = item else {
+        let Item::Transaction { time, body } = item else {
             unreachable!()
         };
         Ok(Unit {
             body,
+            time,
             reads: attempt.reads,
             layer: attempt.layer,
             reply,
@@ -82,6 +87,13 @@ impl Unit {
         ensures { result.now ≡ self.now.body }
     {
         &self.body
+    }
+
+    /// The clock's moment when the body ran.
+    pub fn time(&self) -> u64
+        ensures { result ≡ self.now.time }
+    {
+        self.time
     }
 
     /// The report of the body.
@@ -121,6 +133,7 @@ impl Unit {
     {
         let Unit {
             body,
+            time: _,
             reads: _,
             layer: _,
             reply,

@@ -162,7 +162,7 @@ covers_table b class low high lo hi es range from to is between key within out =
     (ap (λ l. is_among (firsts l) key) (sym (between ∙ ap₂ (λ a b. entries_between int_cmp a b es) from to)) ∙ out))
 
 -- what a layer names fits
-named_fits : (es : Kept) (class : ℕ) (key : ℤ) → KeysFit (map entry es) → fits_64 key ≡ false → changes (map entry es) (object_cell class key) ≡ None
+pub named_fits : (es : Kept) (class : ℕ) (key : ℤ) → KeysFit (map entry es) → fits_64 key ≡ false → changes (map entry es) (object_cell class key) ≡ None
 named_fits [] class key fit past = refl
 named_fits ((Object of k, x) ∷ es) class key fit past = by (same_cell (object_cell of k) (object_cell class key)) refl ∙ named_fits es class key fit.1 past
   where

@@ -13,6 +13,7 @@ pub mod Overlaid
 pub mod Keeping
 pub mod Covered
 pub mod Agreed
+pub mod Topmost
 pub mod Picked
 pub mod Placed
 pub mod Indexed

@@ -1,5 +1,6 @@
 pub mod Changes
 pub mod Codes
+pub mod Greatest
 pub mod Indexed
 pub mod Kept
 pub mod Keys

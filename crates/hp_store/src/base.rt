@@ -1,9 +1,11 @@
 //! The cells beneath all layers.
 
-ghost use Rattle.std.specs.Prelude.{◌≡◌, ◌<◌, ℕ, IfOk, OnOk, OnErr, cond, length};
+ghost use Rattle.std.specs.Prelude.{◌≡◌, ◌<◌, ℕ, ℤ, true, None, IfOk, IfSome, OnOk, OnErr, cond, length};
 ghost use Rattle.std.specs.BTreeMap.{get, keys, is_at, IsUnchanged};
 ghost use Rattle.std.specs.List.Sorted.{IsStrictlySortedBy};
 ghost use Rattle.std.specs.Ordering.{int_cmp};
+ghost use Rattle.hp_model.specs.Cells.{is_above};
+ghost use Rattle.hp_store.specs.Greatest.{is_below, below_bound};
 ghost use Rattle.hp_store.specs.Tables.{table_at};
 
 use crate::candidates::{Candidates, are_crossed, included, key_bounds};
@@ -13,6 +15,7 @@ use crate::value::CellValue;
 use hp_value::{Attribute, Bounds, Cell, ClassNo, ClassPart, Key, RuleNo};
 use std::alloc::{AllocError, Global};
 use std::collections::BTreeMap;
+use std::ops::Bound;
 
 /// Cells with their values: the statuses of rules and their detectors by the rules, and for each class a table of its
 /// objects by their keys.
@@ -29,11 +32,12 @@ pub(crate) struct Base {
 
 impl Base {
     ghost use Rattle.std.specs.Prelude.{◌≡◌, ℤ, true, false, [], None, IfOk, OnOk, OnErr};
-    ghost use Rattle.std.specs.Prelude.{MatchOption, option_map, if◌then◌else◌};
+    ghost use Rattle.std.specs.Prelude.{IfSome, MatchOption, option_map, if◌then◌else◌};
     ghost use Rattle.hp_store.specs.Tables.{table_at};
-    ghost use Rattle.hp_model.specs.Cells.{Cell as ModelCell, object_cell, AreKeys, over, same_cell};
+    ghost use Rattle.hp_model.specs.Cells.{Cell as ModelCell, object_cell, AreKeys, over, same_cell, is_above};
     ghost use Rattle.hp_value.specs.Mapped as mapped;
     ghost use Rattle.hp_store.specs.Changes.{changes};
+    ghost use Rattle.hp_store.specs.Greatest.{is_below};
     ghost use Rattle.hp_store.specs.Indexed.{IsComplete, AreComplete};
     ghost use Rattle.hp_store.specs.Mapped as here;
     ghost use Rattle.hp_store.specs.Parts.{keys_left, is_among, lies_between, Covers};
@@ -141,6 +145,18 @@ impl Base {
         }
     }
 
+    /// The greatest key of a class's objects below a bound, or of all where there is none.
+    pub(crate) fn greatest_below(&self, class: ClassNo, bound: Option<Key>) -> Option<Key>
+        ensures below { IfSome result (λ key. is_below bound key ≡ true) }
+        ensures above { (key : ℤ) → is_below bound key ≡ true → is_above result key ≡ true →
+            base_cells self.now (object_cell class key) ≡ None }
+    {
+        match self.table(class) {
+            Some(table) => last_below(table, bound),
+            None => None,
+        }
+    }
+
     /// Gives a cell a new value, or empties it. The value is shared.
     ///
     /// An error means that memory ran out; the cells are then as before.
@@ -239,6 +255,28 @@ fn rising(alloc: Global, table: &BTreeMap<Key, CellValue>) -> Result<Vec<Key>, A
     ensures all { IfOk result (λ list. list.items ≡ keys table.now) }
 {
     table.keys().copied().collect(alloc)
+}
+
+// The greatest key of a table below a bound.
+fn last_below(table: &BTreeMap<Key, CellValue>, bound: Option<Key>) -> Option<Key>
+    ensures below { IfSome result (λ key. is_below bound key ≡ true) }
+    ensures above { (key : ℤ) → is_below bound key ≡ true → is_above result key ≡ true →
+        get int_cmp table.now key ≡ None }
+{
+    match table.range((Bound::Unbounded, below(bound))).next_back() {
+        Some((key, _)) => Some(*key),
+        None => None,
+    }
+}
+
+// A bound that is excluded, if there is one.
+fn below(bound: Option<Key>) -> Bound<Key>
+    ensures { result ≡ below_bound bound }
+{
+    match bound {
+        Some(key) => Bound::Excluded(key),
+        None => Bound::Unbounded,
+    }
 }
 
 // Tables up to a place; those that are added are empty.

@@ -6,6 +6,7 @@ ghost use Rattle.std.specs.Ordering.{int_cmp};
 ghost use Rattle.hp_model.specs.Cells.{Cells, changed, over};
 ghost use Rattle.hp_value.specs.Mapped as mapped;
 ghost use Rattle.hp_store.specs.Changes.{changes};
+ghost use Rattle.hp_store.specs.Greatest.{class_end};
 ghost use Rattle.hp_store.specs.Indexed.{IsComplete, AreComplete, with_value};
 ghost use Rattle.hp_store.specs.Kept.{HoldsOther, MakesObjects};
 ghost use Rattle.hp_store.specs.Keys.{below, above};
@@ -21,6 +22,7 @@ use std::alloc::{AllocError, Global};
 use std::collections::BTreeMap;
 use std::collections::btree_map::{Iter, Range};
 use std::marker::Model;
+use std::ops::Bound;
 
 /// Changes of cells: for each cell that it names a new value, or none where the cell is emptied.
 #[derive(Debug, Drop)]
@@ -222,11 +224,12 @@ impl Layer {
 }
 
 impl Layer {
-    ghost use Rattle.std.specs.Prelude.{◌≡◌, ◌↔◌, ℤ, ⊤, false, [], None, IfOk, IfSome, MatchOption, map};
+    ghost use Rattle.std.specs.Prelude.{◌≡◌, ◌↔◌, ℤ, ⊤, true, false, [], None, IfOk, IfSome, MatchOption, map};
     ghost use Rattle.std.specs.List.Sorted.{IsStrictlySortedBy};
     ghost use Rattle.std.specs.Ordering.{int_cmp};
     ghost use Rattle.hp_model.specs.Cells.{Cells, AreKeys, AreObjects, object_cell, over};
     ghost use Rattle.hp_store.specs.Changes.{changes, class_entries, KeysFit};
+    ghost use Rattle.hp_store.specs.Greatest.{is_below, NamesNone};
     ghost use Rattle.hp_value.specs.Mapped as mapped;
     ghost use Rattle.hp_store.specs.Kept.{HoldsOther};
     ghost use Rattle.hp_store.specs.Keys.{KeysRise};
@@ -265,6 +268,22 @@ impl Layer {
         let first = Cell::Object(class, least);
         let last = Cell::Object(class, greatest);
         Candidates::OfLayer(self.changes.range(first..=last))
+    }
+
+    /// The greatest key below a bound of a class's objects that the layer names, even if it removes them.
+    pub(crate) fn greatest_below(&self, class: ClassNo, bound: Option<Key>) -> Option<Key>
+        ensures below { IfSome result (λ key. is_below bound key ≡ true) }
+        ensures above { NamesNone (changes self.now) class bound result }
+    {
+        let first = Bound::Included(Cell::Object(class, Key::MIN));
+        match self
+            .changes
+            .range((first, end_of(class, bound)))
+            .next_back()
+        {
+            Some((Cell::Object(_, key), _)) => Some(*key),
+            _ => None,
+        }
     }
 
     /// Whether the layer names an object of a class.
@@ -339,6 +358,16 @@ impl Layer {
         }
         merged.extend_from_slice(rest)?;
         Ok(merged)
+    }
+}
+
+// Where a range ends that has the cells of a class's objects below a bound.
+fn end_of(class: ClassNo, bound: Option<Key>) -> Bound<Cell>
+    ensures { result ≡ class_end class bound }
+{
+    match bound {
+        Some(key) => Bound::Excluded(Cell::Object(class, key)),
+        None => Bound::Included(Cell::Object(class, Key::MAX)),
     }
 }
 

@@ -13,7 +13,7 @@ use crate::candidates::Candidates;
 use crate::index::Index;
 use crate::layer::Layer;
 use crate::value::CellValue;
-use hp_value::{Cell, ClassNo, ClassPart};
+use hp_value::{Cell, ClassNo, ClassPart, Key};
 use smallvec::SmallVec;
 use std::alloc::{AllocError, Global};
 use std::marker::Model;
@@ -71,6 +71,23 @@ impl SharedLayer {
         match self.layer() {
             Some(layer) => layer.candidates(class, part),
             None => Candidates::Nothing,
+        }
+    }
+}
+
+impl SharedLayer {
+    ghost use Rattle.std.specs.Prelude.{◌≡◌, true, IfSome};
+    ghost use Rattle.hp_store.specs.Changes.{changes};
+    ghost use Rattle.hp_store.specs.Greatest.{is_below, NamesNone};
+
+    /// The greatest key below a bound of a class's objects that the layer names, even if it removes them.
+    pub(crate) fn greatest_below(&self, class: ClassNo, bound: Option<Key>) -> Option<Key>
+        ensures below { IfSome result (λ key. is_below bound key ≡ true) }
+        ensures above { NamesNone (changes self.now) class bound result }
+    {
+        match self.layer() {
+            Some(layer) => layer.greatest_below(class, bound),
+            None => None,
         }
     }
 }

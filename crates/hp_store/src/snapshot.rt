@@ -305,7 +305,7 @@ impl Snapshot {
     ghost use Rattle.hp_store.specs.Tables.{entries_at};
 
     // Whether a cell has a value under the writes.
-    fn holds(&self, writes: &Layer, cell: Cell) -> bool
+    pub(crate) fn holds(&self, writes: &Layer, cell: Cell) -> bool
         ensures { result ≡ is_some (over (cells_in self.now) (changes writes.now) (mapped.cell cell)) }
     {
         match writes.get(cell) {

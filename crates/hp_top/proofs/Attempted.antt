@@ -4,7 +4,7 @@ use Rattle.std.proofs.lemmas.List.{map-append, take-map, take_more, length-map}
 use Rattle.hp_model.specs.Rules.{Library}
 use Rattle.hp_model.specs.State.{State, IsOrdered, initial_state}
 use Rattle.hp_model.specs.Cascade as model
-use Rattle.hp_model.specs.Cascade.{top, unit_work, due, time_of, run_unit, run_units, unit_report}
+use Rattle.hp_model.specs.Cascade.{now_in, top, unit_work, due, time_of, run_unit, run_units, unit_report}
 use Rattle.hp_model.specs.Cells.{Cells, Cell, cells, over, Changes, Read, Holds}
 use Rattle.hp_model.specs.Laws.{replay_transactions, replay_units}
 use Rattle.hp_model.specs.Soundness.{LeadsTo}
@@ -31,7 +31,7 @@ use Rattle.hp_top.proofs.Coursing.{grows}
 
 -- its own transaction, and the cascade of what that detached
 pub unit_runs : (u : model.Unit) {library : Library} {first second third : Seeing} (t : Top) (tasks : List Task) (later tops : List TopReport) (m : Option ℕ)
-    → RunsTop library (top library 0 (unit_work library u)) first second (top_of t) → map task tasks ≡ due (map detached t.detached.items)
+    → RunsTop library (top library (now_in u) 0 (unit_work library u)) first second (top_of t) → map task tasks ≡ due (map detached t.detached.items)
     → RunsCascade library (map task tasks) second third (map top_report later) → tops ≡ record { task = None; end = t.end; tree = t.tree } ∷ later → m ≡ time_of u
     → RunsUnit library u first third (record { time = m; transactions = map top_report tops })
 unit_runs u {library} {first} {second} {third} t tasks later tops m p are q all time =

@@ -28,7 +28,7 @@ pub record GenerationLeft (library : Library) (all left : List Task) (first now 
   pub completes : GenerationCompletes library all (written first) left now.reads (written now) so_far
 
 pub generation_next : {library : Library} {all : List Task} {t : Task} {ts : List Task} {first now new : Seeing} {so_far : GenerationAnswer} {a : TopAnswer}
-    → GenerationLeft library all (t ∷ ts) first now so_far → RunsTop library (top library t.depth (task_work library t)) now new a
+    → GenerationLeft library all (t ∷ ts) first now so_far → RunsTop library (top library t.now t.depth (task_work library t)) now new a
     → GenerationLeft library all ts first new (record { transactions = so_far.transactions ++ reported (Some t) a ∷ []; detached = so_far.detached ++ a.detached })
 generation_next {library} {all} {first = first} p q = record {
   goes_on = GoesOn-then p.goes_on q.goes_on;
@@ -39,7 +39,7 @@ generation_next {library} {all} {first = first} p q = record {
 pub generation_ran : {library : Library} {all : List Task} {first now new : Seeing} (t : RuleTask) (left rest : List RuleTask) (tops tops' : List TopReport) (ds ds' : List Detached) (one : Top)
     → left ≡ t ∷ rest → tops' ≡ tops ++ record { task = Some (t.rule, t.place); end = one.end; tree = one.tree } ∷ [] → ds' ≡ ds ++ one.detached.items
     → GenerationLeft library all (map task left) first now (record { transactions = map top_report tops; detached = map detached ds })
-    → RunsTop library (top library (task t).depth (task_work library (task t))) now new (top_of one)
+    → RunsTop library (top library (task t).now (task t).depth (task_work library (task t))) now new (top_of one)
     → GenerationLeft library all (map task rest) first new (record { transactions = map top_report tops'; detached = map detached ds' })
 generation_ran {library} {all} {first} {now} {new} t left rest tops tops' ds ds' one are pushed joined p q =
     let report : TopReport = record { task = Some (t.rule, t.place); end = one.end; tree = one.tree } in

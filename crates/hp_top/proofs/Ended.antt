@@ -13,15 +13,15 @@ use Rattle.hp_top.specs.Runs.{Continues, Closes, Finishes}
 pub closes_top : (mark : ℕ) {old new : Seeing} (a : Answer) (t : TopAnswer) → ((first : Seeing) → GoesOn first old → length first.undo ≡ mark → fire.Closes first old new a.end) → t ≡ closing_top a
     → Closes mark old new a t
 closes_top mark {old} {new} a t ends is = record {
-  runs = λ library depth entered work at so_far.
+  runs = λ library now depth entered work at so_far.
       let closed = ends entered so_far.goes_on at in
       record {
         goes_on = closed.goes_on;
         faithful =
-            subst (λ x. FaithfulTop library (top library depth work) new.reads (written entered) (written new) x) (sym is)
-            (subst (λ w. FaithfulTop library (top library depth work) new.reads (written entered) w (closing_top a)) (sym closed.writes)
-            (subst (λ rs. FaithfulTop library (top library depth work) rs (written entered) (kept a.end (written entered) (written old)) (closing_top a)) (sym closed.reads)
-            (faithful_top depth work so_far.faithful)));
+            subst (λ x. FaithfulTop library (top library now depth work) new.reads (written entered) (written new) x) (sym is)
+            (subst (λ w. FaithfulTop library (top library now depth work) new.reads (written entered) w (closing_top a)) (sym closed.writes)
+            (subst (λ rs. FaithfulTop library (top library now depth work) rs (written entered) (kept a.end (written entered) (written old)) (closing_top a)) (sym closed.reads)
+            (faithful_top now depth work so_far.faithful)));
       };
 }
 
@@ -29,6 +29,6 @@ closes_top mark {old} {new} a t ends is = record {
 pub mark_stays : {old new : Seeing} {mark : ℕ} → GoesOn old new → mark ≤ length old.undo → mark ≤ length new.undo
 mark_stays on low = omega (arith, on.undo)
 
-pub finished : {library : Library} {depth mark : ℕ} {first second third : Seeing} {a b : Answer} {t : TopAnswer}
-    → Continues library (top_course library depth) first second a b → Closes mark second third b t → Finishes library depth mark first third a t
-finished {library} {depth} p q = record { runs = λ entered work at so_far. q.runs library depth entered work at (p.runs entered work so_far) }
+pub finished : {library : Library} {now depth mark : ℕ} {first second third : Seeing} {a b : Answer} {t : TopAnswer}
+    → Continues library (top_course library now depth) first second a b → Closes mark second third b t → Finishes library now depth mark first third a t
+finished {library} {now} {depth} p q = record { runs = λ entered work at so_far. q.runs library now depth entered work at (p.runs entered work so_far) }

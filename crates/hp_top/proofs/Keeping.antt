@@ -1,22 +1,25 @@
 -- Units keep states fit.
-use Rattle.std.proofs.Common.{ℕ, zero, suc, List, [], ◌∷◌, map, take, length, IsTrue}
+use Rattle.std.proofs.Common.{ℕ, pos, zero, suc, List, [], ◌∷◌, map, take, length, IsTrue}
+use Rattle.std.proofs.lemmas.Bool.{and_from}
 use Rattle.std.specs.List.{AllByRecursion}
 use Rattle.hp_model.specs.Cascade as model
 use Rattle.hp_model.specs.Cascade.{run_unit, run_units}
 use Rattle.hp_model.specs.Cells.{Cells}
-use Rattle.hp_model.specs.Ranges.{unit_fits}
+use Rattle.hp_model.specs.Values.{fits_64}
+use Rattle.hp_model.specs.Ranges.{body_fits, unit_fits}
 use Rattle.hp_model.specs.Sessions.{HasFitState}
 use Rattle.hp_model.proofs.FitUnits.{unit_keeps_fit, units_keep_fit}
 use Rattle.hp_rule.specs.declared.library.Library.{Library}
 use Rattle.hp_rule.specs.declared.unit.Unit.{Unit}
 use Rattle.hp_rule.specs.declared.unit.Unit.TheVariants.{Transaction, Moment}
-use Rattle.hp_rule.specs.Mapped.{library, unit}
+use Rattle.hp_rule.specs.Mapped.{library, unit, body_in}
 use Rattle.hp_rule.proofs.Fitting.{script_body_fits, library_fits}
 use Rattle.hp_top.specs.Units.{IsUnitOf, RanUnit, RanUnits}
 
 -- a unit of the library fits it
 unit_within : (l : Library) (u : Unit) → IsUnitOf (library l) (unit u) → IsTrue (unit_fits (library l) (unit u))
-unit_within l (Transaction b) is = script_body_fits (library l) b.statements.items is
+unit_within l (Transaction t b) is =
+    and_from (fits_64 (pos t)) (body_fits (length (library l).classes) (body_in b.statements.items)) is.0 (script_body_fits (library l) b.statements.items is.1)
 unit_within l (Moment t) is = is
 
 units_within : (l : Library) (us : List Unit) → AllByRecursion (IsUnitOf (library l)) (map unit us) → AllByRecursion (λ u. IsTrue (unit_fits (library l) u)) (map unit us)

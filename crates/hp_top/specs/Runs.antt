@@ -48,9 +48,9 @@ pub record IsRound (library : Library) (old new : Seeing) (so_far answer : Answe
 
 -- any transaction that began at the mark and took the course so far has ended so
 pub record Closes (mark : ℕ) (old new : Seeing) (so_far : Answer) (answer : TopAnswer) : Type 0 where
-  pub runs : (library : Library) → (depth : ℕ) → (entered : Seeing) → (work : Work) → length entered.undo ≡ mark
-      → Runs library (top_course library depth work) entered old so_far → RunsTop library (top library depth work) entered new answer
+  pub runs : (library : Library) → (now depth : ℕ) → (entered : Seeing) → (work : Work) → length entered.undo ≡ mark
+      → Runs library (top_course library now depth work) entered old so_far → RunsTop library (top library now depth work) entered new answer
 
 -- the same for a transaction of which only the work is done
-pub record Finishes (library : Library) (depth : ℕ) (mark : ℕ) (old new : Seeing) (so_far : Answer) (answer : TopAnswer) : Type 0 where
-  pub runs : (entered : Seeing) → (work : Work) → length entered.undo ≡ mark → Runs library work entered old so_far → RunsTop library (top library depth work) entered new answer
+pub record Finishes (library : Library) (now depth : ℕ) (mark : ℕ) (old new : Seeing) (so_far : Answer) (answer : TopAnswer) : Type 0 where
+  pub runs : (entered : Seeing) → (work : Work) → length entered.undo ≡ mark → Runs library work entered old so_far → RunsTop library (top library now depth work) entered new answer

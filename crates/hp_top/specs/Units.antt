@@ -15,9 +15,9 @@ pub record IsSoundUnit (library : Library) (unit : Unit) (reads : List Read) (la
   pub from : (S : State) → IsOrdered library S → Holds (cells library S) reads
       → LeadsTo library (unit_report unit (run_unit library unit S)) (run_unit library unit S).state report (over (cells library S) layer)
 
--- a unit of the library: a body that is well formed with it, or a moment of 64 bits
+-- a unit of the library: a body that is well formed with it, or a moment; its moment is within 64 bits
 abbrev pub IsUnitOf : Library → Unit → Type 0
-IsUnitOf library (transaction body) = script_body_check library [] body ≡ Ok tt
+IsUnitOf library (transaction now body) = IsTrue (fits_64 (pos now)) × (script_body_check library [] body ≡ Ok tt)
 IsUnitOf library (moment t) = IsTrue (fits_64 (pos t))
 
 -- the unit ran: from each ordered state with the earlier cells its report is this one, and it leaves an ordered state

@@ -27,8 +27,8 @@ pub(crate) fn close(
         detached,
         items,
     } = course;
-    end_transaction(view, mark, how)?;
-    let detached = detached_after(alloc, how, detached)?;
+    end_transaction(view, mark, &how)?;
+    let detached = detached_after(alloc, &how, detached)?;
     Ok(Top {
         end: ending(how),
         tree: items,

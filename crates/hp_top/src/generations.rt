@@ -77,24 +77,28 @@ pub(crate) struct Generation {
     pub(crate) detached: Vec<Detached>,
 }
 
-/// Runs the cascade of detached tasks on the view. A generation runs each task as a top-level transaction, in order.
-/// The next one runs the tasks that these have detached and that are due. The answer is the report of each transaction.
+/// Runs the cascade of detached tasks on a view. A generation runs each task as a top-level transaction, in order. The
+/// next one runs the tasks that these have detached and that are due. The answer is the report of each transaction, and
+/// the view after the last.
 ///
-/// In HiPAC separate firings run in transactions of their own. Groups of firings use at most `width` threads.
+/// In HiPAC separate firings run in transactions of their own. Groups of firings use at most `width` threads. Programs
+/// call `run_unit`, of which this is the second part; the specification of the crates names this call, too.
+///
+/// An error means that memory ran out; the view, which may have a part of the effects by then, is dropped.
 pub fn cascade<R: Threads + Sync>(
     rt: &R,
     alloc: Global,
     lib: &Library,
-    view: &mut View,
+    mut view: View,
     tasks: Vec<Task>,
     width: usize,
-) -> Result<Vec<TopReport>, AllocError>
-    ensures { IfOk result (λ reports.
-        RunsCascade (library lib.now) (map task_of tasks.items) view.old view.new (map top_report reports.items)) }
+) -> Result<(Vec<TopReport>, View), AllocError>
+    ensures { IfOk result (λ r.
+        RunsCascade (library lib.now) (map task_of tasks.items) view r.1 (map top_report r.0.items)) }
 {
     let past = Past::new(alloc, lib, width);
-    let reports = Runner::new(rt, alloc, lib, width, &past).cascade(view, tasks)?;
-    Ok(reports)
+    let reports = Runner::new(rt, alloc, lib, width, &past).cascade(&mut view, tasks)?;
+    Ok((reports, view))
 }
 
 /// The detached tasks that are due, in order: an exclusive one only if it was released.

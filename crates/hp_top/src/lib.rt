@@ -3,8 +3,7 @@
 //! The types stand for those of `hp_model`: `specs/Mapped.antt` has a function for each. `specs/Runs.antt` says what a
 //! call on a view promises.
 //!
-//! `AllocError` means that memory ran out. A view that was passed to the call may then hold a part of the effects, and
-//! is only to be dropped.
+//! `AllocError` means that memory ran out.
 #![tactic(auto)]
 
 mod closing;
@@ -18,5 +17,5 @@ mod unit;
 pub use generations::cascade;
 pub use items::{Items, opening, run_items};
 pub use runner::Runner;
-pub use top::{Top, run_detached, run_top};
-pub use unit::{UnitAttempt, attempt_unit, keep_indexes, run_unit, run_unit_on};
+pub use top::{Top, run_top};
+pub use unit::{UnitAttempt, attempt_unit, keep_indexes, run_unit};

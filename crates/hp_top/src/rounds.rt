@@ -20,8 +20,8 @@ use std::alloc::AllocError;
 use std::thread::Threads;
 
 impl<R: Threads + Sync> Runner<'_, R> {
-    /// Completes the course of a top-level transaction after its work: the commit event at the transaction's depth, and
-    /// the rounds of deferred tasks.
+    /// Completes the course of a top-level transaction after its work: the commit event at the transaction's depth and
+    /// the clock's moment in its unit, and the rounds of deferred tasks.
     ///
     /// In HiPAC deferred tasks run after the last operation and before the commit.
     pub(crate) fn complete(
@@ -29,13 +29,14 @@ impl<R: Threads + Sync> Runner<'_, R> {
         view: &mut View,
         begun: Course,
         depth: u8,
+        time: u64,
     ) -> Result<Course, AllocError>
         ensures { IfOk result (λ c.
             Continues (library self.now.engine.lib.now)
-            (top_course (library self.now.engine.lib.now) depth) view.old view.new (course_of begun)
+            (top_course (library self.now.engine.lib.now) time depth) view.old view.new (course_of begun)
             (course_of c)) }
     {
-        let course = self.signal_commit(view, begun, depth)?;
+        let course = self.signal_commit(view, begun, depth, time)?;
         let all = self.run_rounds(view, course)?;
         Ok(all)
     }
@@ -46,19 +47,22 @@ impl<R: Threads + Sync> Runner<'_, R> {
         view: &mut View,
         mut begun: Course,
         depth: u8,
+        time: u64,
     ) -> Result<Course, AllocError>
         ensures { IfOk result (λ c.
             Continues (library self.now.engine.lib.now)
-            (λ work S. then_do (work S) (signal_in (level_at (library self.now.engine.lib.now) depth) commit_reached))
+            (λ work S. then_do (work S)
+            (signal_in (level_at (library self.now.engine.lib.now) time depth) commit_reached))
             view.old view.new (course_of begun) (course_of c)) }
     {
         match begun.end {
             End::Done => {
-                let commit = self.engine.run_signal(view, &Prim::Commit, depth)?;
+                let commit = self.engine.run_signal(view, &Prim::Commit, depth, time)?;
                 begun.join(commit)?;
                 Ok(begun)
             }
             End::Abort(_) => Ok(begun),
+            End::Vetoed(_) => Ok(begun),
             End::Veto(_) => Ok(begun),
         }
     }
@@ -110,6 +114,6 @@ fn is_settled(course: &Course) -> bool
 {
     match course.end {
         End::Done => course.queued.is_empty(),
-        End::Abort(_) | End::Veto(_) => true,
+        End::Abort(_) | End::Vetoed(_) | End::Veto(_) => true,
     }
 }

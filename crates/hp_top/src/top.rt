@@ -1,7 +1,7 @@
 //! Top-level transactions.
 
 ghost use Rattle.std.specs.Prelude.{◌≡◌, ◌≤◌, IfOk, length};
-ghost use Rattle.hp_model.specs.Cascade.{top, unit_work, task_work};
+ghost use Rattle.hp_model.specs.Cascade.{now_in, top, unit_work, task_work};
 ghost use Rattle.hp_model.proofs.FaithfulTops.{task_answer};
 ghost use Rattle.hp_rule.specs.Mapped.{library, task as task_of, unit as unit_of};
 ghost use Rattle.hp_attempt.specs.Mapped.{firing};
@@ -22,39 +22,40 @@ use std::thread::Threads;
 
 impl<R: Threads + Sync> Runner<'_, R> {
     /// Runs a unit's own transaction on the view: the script's body, or the signal of the moment, then the commit event
-    /// and the deferred rounds.
+    /// and the deferred rounds. All of it runs at the clock's moment in the unit.
     pub(crate) fn run_top(&self, view: &mut View, unit: &Unit) -> Result<Top, AllocError>
         ensures { IfOk result (λ t.
             RunsTop (library self.now.engine.lib.now)
-            (top (library self.now.engine.lib.now) 0
+            (top (library self.now.engine.lib.now) (now_in (unit_of unit.now)) 0
             (unit_work (library self.now.engine.lib.now) (unit_of unit.now))) view.old view.new (top_of t)) }
     {
         let mark = view.enter();
         match unit {
-            Unit::Transaction(body) => {
-                let course = self.engine.run_body(view, body.statements(), 0)?;
-                let top = self.finish(view, mark, course, 0)?;
+            Unit::Transaction { time, body } => {
+                let course = self.engine.run_body(view, body.statements(), 0, *time)?;
+                let top = self.finish(view, mark, course, 0, *time)?;
                 Ok(top)
             }
             Unit::Moment(time) => {
-                let course = self.engine.run_signal(view, &Prim::Time(*time), 0)?;
-                let top = self.finish(view, mark, course, 0)?;
+                let course = self.engine.run_signal(view, &Prim::Time(*time), 0, *time)?;
+                let top = self.finish(view, mark, course, 0, *time)?;
                 Ok(top)
             }
         }
     }
 
-    /// Runs a detached task on the view as a top-level transaction of its own. Its veto aborts the transaction.
+    /// Runs a detached task on the view as a top-level transaction of its own, at the task's depth and moment. Its veto
+    /// aborts the transaction.
     pub(crate) fn run_detached(&self, view: &mut View, task: &Task) -> Result<Top, AllocError>
         ensures { IfOk result (λ t.
             RunsTop (library self.now.engine.lib.now)
-            (top (library self.now.engine.lib.now) (task_of task.now).depth
+            (top (library self.now.engine.lib.now) (task_of task.now).now (task_of task.now).depth
             (task_work (library self.now.engine.lib.now) (task_of task.now))) view.old view.new (top_of t)) }
     {
         let mark = view.enter();
         let outcome = self.engine.run_firing(view, task)?;
         let course = task_course(outcome);
-        let top = self.finish(view, mark, course, task.depth)?;
+        let top = self.finish(view, mark, course, task.depth, task.time)?;
         Ok(top)
     }
 
@@ -65,12 +66,13 @@ impl<R: Threads + Sync> Runner<'_, R> {
         mark: Mark,
         course: Course,
         depth: u8,
+        time: u64,
     ) -> Result<Top, AllocError>
         requires { mark ≤ length view.old.undo }
         ensures { IfOk result (λ t.
-            Finishes (library self.now.engine.lib.now) depth mark view.old view.new (course_of course) (top_of t)) }
+            Finishes (library self.now.engine.lib.now) time depth mark view.old view.new (course_of course) (top_of t)) }
     {
-        let all = self.complete(view, course, depth)?;
+        let all = self.complete(view, course, depth, time)?;
         let top = close(self.alloc(), view, mark, all)?;
         Ok(top)
     }
@@ -87,46 +89,29 @@ pub struct Top {
     pub detached: Vec<Detached>,
 }
 
-/// Runs a unit's own transaction on the view: the script's body, or the signal of the moment, then the commit event and
-/// the deferred rounds.
+/// Runs a unit's own transaction on a view: the script's body, or the signal of the moment, then the commit event and
+/// the deferred rounds. The answer has the view after it.
 ///
-/// Groups of firings use at most `width` threads.
+/// Groups of firings use at most `width` threads. Programs call `run_unit`, which goes on with the cascade; the
+/// specification of the crates names this call, too, as the meaning of a top-level transaction.
+///
+/// An error means that memory ran out; the view, which may have a part of the effects by then, is dropped.
 pub fn run_top<R: Threads + Sync>(
     rt: &R,
     alloc: Global,
     lib: &Library,
-    view: &mut View,
+    mut view: View,
     unit: &Unit,
     width: usize,
-) -> Result<Top, AllocError>
-    ensures { IfOk result (λ t.
+) -> Result<(Top, View), AllocError>
+    ensures { IfOk result (λ r.
         RunsTop (library lib.now)
-        (top (library lib.now) 0 (unit_work (library lib.now) (unit_of unit.now))) view.old view.new (top_of t)) }
+        (top (library lib.now) (now_in (unit_of unit.now)) 0 (unit_work (library lib.now) (unit_of unit.now)))
+        view r.1 (top_of r.0)) }
 {
     let past = Past::new(alloc, lib, width);
-    let top = Runner::new(rt, alloc, lib, width, &past).run_top(view, unit)?;
-    Ok(top)
-}
-
-/// Runs a detached task on the view as a top-level transaction of its own. Its veto aborts the transaction.
-///
-/// Groups of firings use at most `width` threads.
-pub fn run_detached<R: Threads + Sync>(
-    rt: &R,
-    alloc: Global,
-    lib: &Library,
-    view: &mut View,
-    task: &Task,
-    width: usize,
-) -> Result<Top, AllocError>
-    ensures { IfOk result (λ t.
-        RunsTop (library lib.now)
-        (top (library lib.now) (task_of task.now).depth
-        (task_work (library lib.now) (task_of task.now))) view.old view.new (top_of t)) }
-{
-    let past = Past::new(alloc, lib, width);
-    let top = Runner::new(rt, alloc, lib, width, &past).run_detached(view, task)?;
-    Ok(top)
+    let top = Runner::new(rt, alloc, lib, width, &past).run_top(&mut view, unit)?;
+    Ok((top, view))
 }
 
 /// A firing as the whole work of a transaction. Its veto aborts the transaction.
@@ -134,7 +119,7 @@ fn task_course(outcome: Outcome) -> Course
     ensures { course_of result ≡ task_answer (firing outcome) }
 {
     let end = match outcome.end {
-        Some(rule) => End::Veto(rule),
+        Some(veto) => End::Veto(veto),
         None => End::Done,
     };
     Course {

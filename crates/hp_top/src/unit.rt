@@ -91,30 +91,12 @@ impl<R: Threads + Sync> Runner<'_, R> {
     }
 }
 
-/// Runs a unit on the view: its own transaction, and the cascade of what that detaches. The answer is its report.
-///
-/// Groups of firings use at most `width` threads.
-pub fn run_unit_on<R: Threads + Sync>(
-    rt: &R,
-    alloc: Global,
-    lib: &Library,
-    view: &mut View,
-    unit: &Unit,
-    width: usize,
-) -> Result<UnitReport, AllocError>
-    ensures { IfOk result (λ r. RunsUnit (library lib.now) (unit_of unit.now) view.old view.new (unit_report r)) }
-{
-    let past = Past::new(alloc, lib, width);
-    let report = Runner::new(rt, alloc, lib, width, &past).run_unit_on(view, unit)?;
-    Ok(report)
-}
-
 /// The moment of a unit, if it is one.
 fn moment_of(unit: &Unit) -> Option<u64>
     ensures { result ≡ time_of (unit_of unit.now) }
 {
     match unit {
-        Unit::Transaction(_) => None,
+        Unit::Transaction { .. } => None,
         Unit::Moment(time) => Some(*time),
     }
 }

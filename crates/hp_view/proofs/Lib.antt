@@ -2,6 +2,7 @@ pub mod SameClass
 pub mod Reading
 mod PartsApart
 mod Noting
+pub mod Greatest
 mod Undoing
 mod Looking
 mod Wholes

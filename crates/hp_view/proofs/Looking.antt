@@ -1,13 +1,15 @@
 -- What a view shows to a query.
-use Rattle.std.proofs.Common.{◌≡◌, refl, ap, ◌∙◌, ℕ, ℤ, List, slice_index_or, Option, Some, None, is_some, Ok}
+use Rattle.std.proofs.Common.{◌≡◌, refl, ap, sym, ◌∙◌, ℕ, ℤ, List, slice_index_or, Option, Some, None, is_some, Ok}
 use Rattle.std.specs.Prelude.{option_map}
+use Rattle.std.specs.List.{last_or}
 use Rattle.hp_model.specs.Values.{Row, KeyedRow}
 use Rattle.hp_model.specs.ClassParts.{ClassPart, picked}
 use Rattle.hp_model.specs.State.{Objects, find_object, rows_of}
 use Rattle.hp_model.specs.Cells.{row_value, over, AreKeys, AreObjects}
-use Rattle.hp_model.proofs.BridgesKeys.{ObjectsRise, class_keys, keys_are_class_keys, rows_found}
+use Rattle.hp_model.proofs.BridgesKeys.{ObjectsRise, class_keys, has_keys, rising_keys, keys_are_class_keys, rows_found}
 use Rattle.hp_value.specs.Mapped.{keys_of}
-use Rattle.hp_view.specs.Seeing.{Seeing, written, ShowsKeys, ShowsObjects, ShowsPart}
+use Rattle.hp_view.specs.Seeing.{Seeing, written, ShowsKeys, ShowsGreatest, ShowsObjects, ShowsPart}
+use Rattle.hp_view.proofs.Greatest.{one_greatest, keys_greatest}
 use Rattle.hp_view.proofs.Wholes.{same_rows}
 use Rattle.hp_view.specs.Looks.{Allows}
 use Rattle.hp_query.proofs.PartLemmas.{part_picked}
@@ -36,3 +38,10 @@ objects_shown {v} {class} {objects} shows world rise allowed =
 pub part_shown : {v : Seeing} {class : ℕ} {p : ClassPart} {objects : List KeyedRow} → ShowsPart v class p objects → (world : Objects) → ObjectsRise world → Allows v world → picked p (rows_of class world) ≡ Ok objects
 part_shown {v} {class} {p} {objects} shows world rise allowed =
     part_picked (over allowed.base (written v)) class p objects world rise (shows.everywhere allowed.base allowed.held) (allowed.objects class)
+
+-- a greatest key that was read is the last of the class's keys in each world
+pub greatest_shown : {v : Seeing} {class : ℕ} {greatest : Option ℤ} → ShowsGreatest v class greatest → (world : Objects) → ObjectsRise world → Allows v world → greatest ≡ last_or None (class_keys class world)
+greatest_shown {v} {class} {greatest} shows world rise allowed =
+    one_greatest (shows.everywhere allowed.base allowed.held)
+    (keys_greatest (over allowed.base (written v)) class (class_keys class world)
+    (record { rise = rising_keys class world rise; has = λ key. has_keys class key world ∙ sym (ap is_some (allowed.objects class key) ∙ some_row (find_object world class key)) }))

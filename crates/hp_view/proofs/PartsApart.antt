@@ -1,5 +1,5 @@
 -- Parts of a class told apart.
-use Rattle.std.proofs.Common.{◌≡◌, refl, ap, ◌∙◌, sym, subst, Bool, true, false, ◌||◌, Option, Some, None}
+use Rattle.std.proofs.Common.{◌≡◌, refl, ap, Bool, true, false, ◌||◌, Option, Some, None}
 use Rattle.std.specs.Bool.{Decides}
 use lib.Pointwise.{bytes_decides}
 use Rattle.hp_model.specs.Values.{Value}

@@ -17,7 +17,7 @@ all_at P (k ∷ ks) all key among = by (int_eq key k) refl among (all_at P ks (A
     by true is among rest = subst P (sym ((Decides-int_eq key k).0 is)) (All-head P k ks all)
     by false is among rest = rest among
 
-both_none : (x y : Option CellValue) → is_some x ≡ false → is_some y ≡ false → x ≡ y
+pub both_none : (x y : Option CellValue) → is_some x ≡ false → is_some y ≡ false → x ≡ y
 both_none None None p q = refl
 both_none None (Some y) p q = cc
 both_none (Some x) y p q = cc

@@ -1,9 +1,9 @@
 -- What a view is to a contract.
-use Rattle.std.specs.Prelude.{◌≡◌, ℕ, ℤ, ◌≤◌, ◌==◌, length, Bool, true, false, ◌&&◌, ◌||◌, List, [], ◌∷◌, ◌++◌, Option, Some, None, IsSome, drop, take, if◌then◌else◌}
+use Rattle.std.specs.Prelude.{◌≡◌, ℕ, ℤ, ◌≤◌, ◌==◌, length, Bool, true, false, ◌&&◌, ◌||◌, ◌⊎◌, List, [], ◌∷◌, ◌++◌, Option, Some, None, IsSome, drop, take, if◌then◌else◌}
 use Rattle.std.specs.List.{list_any}
 use Rattle.hp_model.specs.Values.{KeyedRow}
 use Rattle.hp_model.specs.ClassParts.{ClassPart}
-use Rattle.hp_model.specs.Cells.{Cell, object_cell, rule_cell, detector_cell, CellValue, Cells, Changes, over, same_cell, with_change, Read, cell_read, keys_read, objects_read, part_read, Holds, AreKeys, AreObjects, ArePart}
+use Rattle.hp_model.specs.Cells.{Cell, object_cell, rule_cell, detector_cell, CellValue, Cells, Changes, over, same_cell, with_change, Read, cell_read, keys_read, greatest_read, objects_read, part_read, Holds, AreKeys, IsGreatestKey, AreObjects, ArePart}
 use Rattle.hp_model.proofs.BridgesCells.{stacked}
 use Rattle.hp_store.specs.Changes.{Entries, changes}
 use Rattle.hp_store.specs.Stack.{Stack, cells_in}
@@ -55,22 +55,33 @@ pub record CanGoBack (before : Undo) (earlier : Changes) (after : Undo) (later :
 
 -- ---- reads
 
--- a read of this cell, one of this class's keys, alone or with the rows, and one of this part of the class
+-- a read of this cell, one of this class's keys, alone or with the rows, one of its greatest key, and one of this part
+-- of the class
 abbrev pub reads_cell : Cell → Read → Bool
 reads_cell cell (cell_read q value) = same_cell cell q
 reads_cell cell (keys_read class keys) = false
+reads_cell cell (greatest_read class greatest) = false
 reads_cell cell (objects_read class objects) = false
 reads_cell cell (part_read class part objects) = false
 
 abbrev pub reads_keys : ℕ → Read → Bool
 reads_keys class (cell_read q value) = false
 reads_keys class (keys_read n keys) = class == n
+reads_keys class (greatest_read n greatest) = false
 reads_keys class (objects_read n objects) = class == n
 reads_keys class (part_read n part objects) = false
+
+abbrev pub reads_greatest : ℕ → Read → Bool
+reads_greatest class (cell_read q value) = false
+reads_greatest class (keys_read n keys) = false
+reads_greatest class (greatest_read n greatest) = class == n
+reads_greatest class (objects_read n objects) = false
+reads_greatest class (part_read n part objects) = false
 
 abbrev pub reads_part : ℕ → ClassPart → Read → Bool
 reads_part class part (cell_read q value) = false
 reads_part class part (keys_read n keys) = false
+reads_part class part (greatest_read n greatest) = false
 reads_part class part (objects_read n objects) = false
 reads_part class part (part_read n q objects) = class == n && same_part part q
 
@@ -78,6 +89,7 @@ reads_part class part (part_read n q objects) = class == n && same_part part q
 abbrev pub reads_number : ℕ → (number : ℕ) → Read → Bool
 reads_number class number (cell_read q value) = false
 reads_number class number (keys_read n keys) = false
+reads_number class number (greatest_read n greatest) = false
 reads_number class number (objects_read n objects) = false
 reads_number class number (part_read n q objects) = class == n && number == number_of q
 
@@ -86,6 +98,7 @@ abbrev pub class_was_read : List Read → ℕ → Bool
 class_was_read [] class = false
 class_was_read (cell_read q value ∷ reads) class = class_was_read reads class
 class_was_read (keys_read n keys ∷ reads) class = if class == n then false else class_was_read reads class
+class_was_read (greatest_read n greatest ∷ reads) class = class_was_read reads class
 class_was_read (objects_read n objects ∷ reads) class = if class == n then true else class_was_read reads class
 class_was_read (part_read n part objects ∷ reads) class = class_was_read reads class
 
@@ -102,6 +115,10 @@ cell_was_read reads cell = list_any (reads_cell cell) reads || row_was_read read
 abbrev pub keys_were_read : List Read → ℕ → Bool
 keys_were_read reads class = list_any (reads_keys class) reads
 
+-- a greatest key by itself, or with the class's keys
+abbrev pub greatest_was_read : List Read → ℕ → Bool
+greatest_was_read reads class = list_any (reads_greatest class) reads || keys_were_read reads class
+
 abbrev pub part_was_read : List Read → ℕ → ClassPart → Bool
 part_was_read reads class part = list_any (reads_part class part) reads
 
@@ -111,6 +128,7 @@ number_was_read reads class number = list_any (reads_number class number) reads
 abbrev pub was_read : List Read → Read → Bool
 was_read reads (cell_read cell value) = cell_was_read reads cell
 was_read reads (keys_read class keys) = keys_were_read reads class
+was_read reads (greatest_read class greatest) = greatest_was_read reads class
 was_read reads (objects_read class objects) = keys_were_read reads class
 was_read reads (part_read class part objects) = part_was_read reads class part
 
@@ -142,6 +160,10 @@ pub record Shows (v : Seeing) (cell : Cell) (value : Option CellValue) : Type 0 
 -- in all cells where the reads hold, the view's writes over them have these keys in a class
 pub record ShowsKeys (v : Seeing) (class : ℕ) (keys : List ℤ) : Type 0 where
   pub everywhere : (base : Cells) → Holds base v.reads → AreKeys (over base (written v)) class keys
+
+-- the same of its greatest key
+pub record ShowsGreatest (v : Seeing) (class : ℕ) (greatest : Option ℤ) : Type 0 where
+  pub everywhere : (base : Cells) → Holds base v.reads → IsGreatestKey (over base (written v)) class greatest
 
 -- the same of a class's objects
 pub record ShowsObjects (v : Seeing) (class : ℕ) (objects : List KeyedRow) : Type 0 where
@@ -218,6 +240,18 @@ pub record ReadsCell (old new : Seeing) (cell : Cell) (done : Bool) : Type 0 whe
 -- only the keys of a class are read, as they stand beneath the writes
 pub record ReadsKeys (old new : Seeing) (class : ℕ) : Type 0 where
   pub keys : (keys : List ℤ) × (AreKeys (beneath old) class keys) × (new ≡ record old { reads = noted old.reads (keys_read class keys) })
+
+-- only the greatest key of a class is read, as it stands beneath the writes
+pub record ReadsGreatestAlone (old new : Seeing) (class : ℕ) : Type 0 where
+  pub greatest : (greatest : Option ℤ) × (IsGreatestKey (beneath old) class greatest) × (new ≡ record old { reads = noted old.reads (greatest_read class greatest) })
+
+-- the writes delete the object that has the greatest key of a class beneath
+pub record DeletesGreatest (v : Seeing) (class : ℕ) : Type 0 where
+  pub greatest : (key : ℤ) × (IsGreatestKey (beneath v) class (Some key)) × (written v (object_cell class key) ≡ Some None)
+
+-- only the greatest key of a class is read; where the writes delete its object, only the keys are
+pub record ReadsGreatest (old new : Seeing) (class : ℕ) : Type 0 where
+  pub either : ReadsGreatestAlone old new class ⊎ (DeletesGreatest old class × ReadsKeys old new class)
 
 -- only a part of a class is read, as it stands beneath the writes
 pub record ReadsPart (old new : Seeing) (class : ℕ) (part : ClassPart) : Type 0 where

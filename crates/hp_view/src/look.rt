@@ -42,6 +42,11 @@ impl Look for View {
         Ok(keys)
     }
 
+    fn greatest_key(&mut self, alloc: Global, class: ClassNo) -> Result<Option<Key>, AllocError> {
+        let greatest = View::greatest_key(self, alloc, class)?;
+        Ok(greatest)
+    }
+
     fn objects(
         &mut self,
         alloc: Global,

@@ -25,6 +25,8 @@ pub enum Seen {
     Cell(Cell),
     /// The keys of a class's objects, alone or with their rows.
     Keys(ClassNo),
+    /// The greatest key of a class's objects.
+    Greatest(ClassNo),
     /// A part of a class, by a number that is computed of it: `Found` has the part itself.
     Part(ClassNo, u64),
 }
@@ -36,6 +38,8 @@ pub enum Found {
     Value(Option<CellValue>),
     /// A class's keys, in rising order.
     Keys(Vec<Key>),
+    /// A class's greatest key. None if the class has no object.
+    Greatest(Option<Key>),
     /// All objects of a class with their rows, by rising keys. Others may share the list.
     Objects(Arc<ObjectList>),
     /// A part of a class with its objects. They stand elsewhere, so that what is found in a cell takes little room.
@@ -47,7 +51,8 @@ impl Found {
     ghost use Rattle.hp_store.specs.Mapped.{cell_value};
     ghost use Rattle.std.specs.Prelude.{map};
     ghost use Rattle.hp_value.specs.Mapped.{class_part, keyed_row};
-    ghost use Rattle.hp_view.specs.Mapped.{value_found, keys_found, part_found, objects_found, found_whole};
+    ghost use Rattle.hp_view.specs.Mapped.{value_found, keys_found, greatest_found};
+    ghost use Rattle.hp_view.specs.Mapped.{part_found, objects_found, found_whole};
 
     /// The value that was found in a cell. In a class none is found.
     pub fn value(&self) -> Option<&CellValue>
@@ -55,7 +60,7 @@ impl Found {
     {
         match self {
             Found::Value(value) => value.as_ref(),
-            Found::Keys(_) | Found::Objects(_) | Found::Part(_) => None,
+            Found::Keys(_) | Found::Greatest(_) | Found::Objects(_) | Found::Part(_) => None,
         }
     }
 
@@ -64,9 +69,19 @@ impl Found {
         ensures { result.now ≡ keys_found self.now }
     {
         match self {
-            Found::Value(_) | Found::Part(_) => &[],
+            Found::Value(_) | Found::Greatest(_) | Found::Part(_) => &[],
             Found::Keys(keys) => keys,
             Found::Objects(objects) => objects.keys(),
+        }
+    }
+
+    /// The greatest key that was found in a class. Elsewhere there is none.
+    pub fn greatest(&self) -> Option<Key>
+        ensures { result ≡ greatest_found self.now }
+    {
+        match self {
+            Found::Greatest(greatest) => *greatest,
+            Found::Value(_) | Found::Keys(_) | Found::Objects(_) | Found::Part(_) => None,
         }
     }
 
@@ -76,7 +91,7 @@ impl Found {
     {
         match self {
             Found::Part(found) => found.part(),
-            Found::Value(_) | Found::Keys(_) | Found::Objects(_) => ClassPart {
+            Found::Value(_) | Found::Keys(_) | Found::Greatest(_) | Found::Objects(_) => ClassPart {
                 attribute: Attribute::Key,
                 bounds: Bounds::Numbers(None, None),
             },
@@ -89,7 +104,7 @@ impl Found {
     {
         match self {
             Found::Objects(_) => true,
-            Found::Value(_) | Found::Keys(_) | Found::Part(_) => false,
+            Found::Value(_) | Found::Keys(_) | Found::Greatest(_) | Found::Part(_) => false,
         }
     }
 
@@ -99,7 +114,7 @@ impl Found {
     {
         match self {
             Found::Part(found) => found.objects(),
-            Found::Value(_) | Found::Keys(_) | Found::Objects(_) => &[],
+            Found::Value(_) | Found::Keys(_) | Found::Greatest(_) | Found::Objects(_) => &[],
         }
     }
 }
@@ -116,8 +131,8 @@ pub(crate) enum PartState {
 }
 
 /// What was read of a snapshot, in the order of the first reads: each cell with the value or the absence that was
-/// found, each class with its keys, or with all of its objects where it was read as a whole, each part of a class with
-/// its objects.
+/// found, each class with its keys, or with all of its objects where it was read as a whole, or with its greatest key,
+/// each part of a class with its objects.
 #[derive(Debug, Drop)]
 pub struct Reads {
     entries: IndexMap<Seen, Found>,
@@ -142,17 +157,18 @@ impl Model for Reads {
 }
 
 impl Reads {
-    ghost use Rattle.std.specs.Prelude.{◌≡◌, ◌↔◌, true, false, [], Some, IsTrue, IsSome, IfOk, IfSome};
+    ghost use Rattle.std.specs.Prelude.{◌≡◌, ◌↔◌, true, false, [], Some, IsTrue, IsSome, IsOk, IfOk, IfSome};
     ghost use Rattle.std.specs.Prelude.{OnOk, OnErr, is_some, map, option_map, length, take};
     ghost use Rattle.hp_model.specs.Cells.{Cells, AreKeys, AreObjects, Holds, cell_read};
-    ghost use Rattle.hp_model.specs.Cells.{keys_read, objects_read, part_read};
+    ghost use Rattle.hp_model.specs.Cells.{keys_read, greatest_read, objects_read, part_read};
     ghost use Rattle.hp_value.specs.Mapped as mapped;
     ghost use Rattle.hp_store.specs.Mapped.{cell_value};
     ghost use Rattle.hp_view.specs.Mapped.{read, value_found};
     ghost use Rattle.hp_view.specs.Numbered.{IsStateOf};
     ghost use Rattle.hp_view.specs.Parts.{number_of};
     ghost use Rattle.hp_view.specs.Seeing.{noted, class_was_read, row_was_read};
-    ghost use Rattle.hp_view.specs.Seeing.{cell_was_read, keys_were_read, number_was_read};
+    ghost use Rattle.hp_view.specs.Seeing.{cell_was_read, keys_were_read, greatest_was_read};
+    ghost use Rattle.hp_view.specs.Seeing.{number_was_read};
 
     /// No reads.
     pub fn new(alloc: Global) -> Reads
@@ -295,6 +311,26 @@ impl Reads {
         ensures err { OnErr result (self.new ≡ self.old) }
     {
         note(&mut self.entries, Seen::Keys(class), Found::Keys(keys))?;
+        Ok(())
+    }
+
+    /// Notes what greatest key was found in a class whose keys weren't read before, unless one is noted.
+    ///
+    /// An error means that memory ran out; the reads are then as before. Where one is noted, nothing is allocated.
+    pub(crate) fn note_greatest(
+        &mut self,
+        class: ClassNo,
+        greatest: Option<Key>,
+    ) -> Result<(), AllocError>
+        requires { keys_were_read self.old class ≡ false }
+        ensures ok { OnOk result (self.new ≡ noted self.old (greatest_read class greatest)) }
+        ensures err { OnErr result (self.new ≡ self.old) }
+        ensures again { IsTrue (greatest_was_read self.old class) → IsOk result }
+    {
+        let seen = Seen::Greatest(class);
+        if !self.entries.contains_key(&seen) {
+            note(&mut self.entries, seen, Found::Greatest(greatest))?;
+        }
         Ok(())
     }
 

@@ -1,10 +1,11 @@
 //! A view: a snapshot, what was read of it, and what is written over it.
 
-ghost use Rattle.std.specs.Prelude.{◌≡◌, ◌↔◌, ℕ, ℤ, List, All, ◌≤◌, [], true, false, length, take, map, None, Some};
-ghost use Rattle.std.specs.Prelude.{is_some, IsTrue, IsOk, IsSome, IfOk, IfSome, IfNone, OnOk, OnErr, option_map};
+ghost use Rattle.std.specs.Prelude.{◌≡◌, ◌↔◌, ℕ, ℤ, List, All, Option, ◌≤◌, [], true, false, length, take, map, None, Some};
+ghost use Rattle.std.specs.Prelude.{is_some, MatchOption, IsTrue, IsOk, IsSome, IfOk, IfSome, IfNone, OnOk, OnErr, option_map};
 ghost use Rattle.std.specs.List.{list_all};
 ghost use Rattle.hp_model.specs.Values as model;
-ghost use Rattle.hp_model.specs.Cells.{Cells, AreKeys, AreObjects, ArePart, Holds, object_cell, objects_read, over};
+ghost use Rattle.hp_model.specs.Cells.{Cells, AreKeys, IsGreatestKey, AreObjects, ArePart, Holds, object_cell};
+ghost use Rattle.hp_model.specs.Cells.{objects_read, over, is_above};
 ghost use Rattle.hp_value.specs.Mapped as mapped;
 ghost use Rattle.hp_store.specs.Mapped.{cell_value};
 ghost use Rattle.hp_store.specs.Stack.{cells_in};
@@ -13,7 +14,7 @@ ghost use Rattle.hp_view.specs.Keeping.{KeepsObject};
 ghost use Rattle.hp_view.specs.Seeing.{Seeing as Seen, beneath, written, now_in, noted, read_cell, row_was_read};
 ghost use Rattle.hp_view.specs.Seeing.{cell_was_read, keys_were_read, Writes, TakesIn, IsSame, GoesBack, GoesOn};
 ghost use Rattle.hp_view.specs.Seeing.{Restores, OnlyReads, Shows, ShowsKeys, ShowsObjects, ShowsPart, ReadsKeys};
-ghost use Rattle.hp_view.specs.Seeing.{ReadsPart};
+ghost use Rattle.hp_view.specs.Seeing.{ReadsPart, ReadsGreatest, ShowsGreatest};
 ghost use Rattle.hp_view.specs.Wholes.{is_row};
 
 use crate::reads::{PartState, Reads};
@@ -281,6 +282,77 @@ impl View {
         self.reads.reserve(keys.len())?;
         self.reads.note_keys(class, beneath)?;
         Ok(keys)
+    }
+}
+
+impl View {
+    /// Reads the greatest key of a class, which is then the one that `has_greatest_key` takes.
+    ///
+    /// It is recorded as it stands beneath the view's own writes, unless it or the class's keys were read before: then
+    /// it takes no memory. Where the writes delete the object with that key, the keys are read. An error means that
+    /// memory ran out; the view is then as before.
+    pub fn read_greatest_key(&mut self, alloc: Global, class: ClassNo) -> Result<(), AllocError>
+        ensures reads { OnOk result (ReadsGreatest self.old self.new class) }
+        ensures err { OnErr result (self.new ≡ self.old) }
+        ensures shows { OnOk result ((greatest : Option ℤ) → IsGreatestKey (now_in self.old) class greatest →
+            ShowsGreatest self.new class greatest) }
+        ensures only { OnlyReads self.old self.new }
+        ensures goes_on { GoesOn self.old self.new }
+    {
+        let greatest = self.base.greatest_key_over(&self.writes, class);
+        self.read_greatest(alloc, class, greatest)
+    }
+
+    /// The greatest key of a class's objects. None if the class has no object.
+    ///
+    /// It is read as `read_greatest_key` reads it. The time goes with the logarithm of the number of cells, for this
+    /// key and each one above it that the view's own writes or earlier layers removed. An error means that memory ran
+    /// out; the view is then as before.
+    pub fn greatest_key(&mut self, alloc: Global, class: ClassNo) -> Result<Option<Key>, AllocError>
+        ensures reads { OnOk result (ReadsGreatest self.old self.new class) }
+        ensures err { OnErr result (self.new ≡ self.old) }
+        ensures shows { IfOk result (λ greatest. ShowsGreatest self.new class greatest) }
+        ensures only { OnlyReads self.old self.new }
+        ensures goes_on { GoesOn self.old self.new }
+        ensures so_it_was { OnOk result (Holds (beneath self.new) self.new.reads) }
+    {
+        let greatest = self.base.greatest_key_over(&self.writes, class);
+        self.read_greatest(alloc, class, greatest)?;
+        Ok(greatest)
+    }
+
+    // The same where the greatest key is known.
+    fn read_greatest(
+        &mut self,
+        alloc: Global,
+        class: ClassNo,
+        greatest: Option<Key>,
+    ) -> Result<(), AllocError>
+        requires { IsGreatestKey (now_in self.old) class greatest }
+        ensures reads { OnOk result (ReadsGreatest self.old self.new class) }
+        ensures err { OnErr result (self.new ≡ self.old) }
+        ensures shows { OnOk result (ShowsGreatest self.new class greatest) }
+        ensures only { OnlyReads self.old self.new }
+        ensures goes_on { GoesOn self.old self.new }
+        ensures so_it_was { OnOk result (Holds (beneath self.new) self.new.reads) }
+    {
+        if self.reads.keys(class).is_some() {
+            return Ok(());
+        }
+        let beneath = self.base.greatest_key(class);
+        if !is_up_to(beneath, greatest) {
+            return self.read_keys(alloc, class);
+        }
+        self.reads.note_greatest(class, beneath)?;
+        Ok(())
+    }
+
+    /// Whether this is the greatest key of a class's objects, or none if the class has no object. Nothing is recorded
+    /// or allocated.
+    pub fn has_greatest_key(&self, class: ClassNo, greatest: Option<Key>) -> bool
+        ensures { IsTrue result ↔ IsGreatestKey (now_in self.now) class greatest }
+    {
+        self.base.greatest_key_over(&self.writes, class) == greatest
     }
 }
 
@@ -620,6 +692,18 @@ impl View {
             undo: _,
         } = self;
         (reads, writes)
+    }
+}
+
+// Whether a key, if there is one, is at most another.
+fn is_up_to(key: Option<Key>, other: Option<Key>) -> bool
+    ensures up_to { IsTrue result → (k : ℤ) → is_above other k ≡ true → is_above key k ≡ true }
+    ensures above { result ≡ false → MatchOption key ⊥ (λ k. is_above other k ≡ true) }
+{
+    match (key, other) {
+        (Some(key), Some(other)) => key <= other,
+        (Some(_), None) => false,
+        (None, _) => true,
     }
 }
 

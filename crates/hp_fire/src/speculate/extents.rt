@@ -2,7 +2,7 @@
 
 ghost use Rattle.std.specs.Prelude.{◌≡◌};
 
-use hp_query::Query;
+use hp_query::{Aggregate, Entry, Query};
 use hp_rule::{Library, Task};
 use hp_store::Snapshot;
 use hp_value::ClassNo;
@@ -62,14 +62,39 @@ fn asked_classes(alloc: Global, lib: &Library, tasks: &[Task]) -> Result<Vec<Cla
     Ok(classes)
 }
 
-// Adds the classes of a condition whose objects are all looked at, unless they are in the list. A query looks at all of
-// them if it asks neither for one key nor for values of a field.
-fn note_asked(condition: &[Query], classes: &mut Vec<ClassNo>) -> Result<(), AllocError> {
-    for query in condition {
-        let scans = !query.asks_key() && query.asked_field().is_none();
-        if scans && !classes.contains(&query.class) {
+// Adds the classes of a condition whose objects are all looked at, unless they are in the list.
+fn note_asked(condition: &[Entry], classes: &mut Vec<ClassNo>) -> Result<(), AllocError> {
+    for entry in condition {
+        let Some(query) = rows_of(entry) else {
+            continue;
+        };
+        if scans(query) && !classes.contains(&query.class) {
             classes.push(query.class)?;
         }
     }
     Ok(())
+}
+
+// Whether a query looks at all objects of its class: it asks neither for one key nor for values of a field.
+fn scans(query: &Query) -> bool {
+    !query.asks_key() && query.asked_field().is_none()
+}
+
+// The query whose rows an entry looks at, if there is one.
+fn rows_of(entry: &Entry) -> Option<&Query> {
+    match entry {
+        Entry::Query(query) | Entry::No(query) => Some(query),
+        Entry::Let { name: _, aggregate } => rows_in(aggregate),
+    }
+}
+
+// The query over whose rows an aggregate goes, if there is one.
+fn rows_in(aggregate: &Aggregate) -> Option<&Query> {
+    match aggregate {
+        Aggregate::Count(rows)
+        | Aggregate::Sum { rows, .. }
+        | Aggregate::Least { rows, .. }
+        | Aggregate::Greatest { rows, .. } => Some(rows),
+        Aggregate::Next(_) | Aggregate::Single(_) => None,
+    }
 }

@@ -1,6 +1,7 @@
 //! Groups of sibling firings.
 
-ghost use Rattle.std.specs.Prelude.{◌≡◌, ◌+◌, ◌<◌, ◌≤◌, None, false, IfOk, OnOk, All, map, length};
+ghost use Rattle.std.specs.Prelude.{◌≡◌, ◌+◌, ◌<◌, ◌≤◌, None, false, IfOk, OnOk, All, map, option_map, length};
+ghost use Rattle.hp_value.specs.Mapped.{veto as veto_in};
 ghost use Rattle.hp_rule.specs.Mapped.{library, task as task_of};
 ghost use Rattle.hp_board.specs.Deal.{IsSeatOf};
 ghost use Rattle.hp_attempt.specs.Fronts.{AreSound};
@@ -99,7 +100,8 @@ impl<
         requires fires { All (MayFire F.Fn self.now.fire.now) self.now.tasks.now }
         requires firings { Fires F.Fn self.now.fire.now (library self.now.lib.now) }
         ensures so_far { let stops = self.now.stop_at_veto in let tasks = map task_of self.now.tasks.now in
-            IfOk result (λ s. IsSoFar (library self.now.lib.now) stops tasks view.old view.new s.outcomes.items s.end) }
+            IfOk result (λ s. IsSoFar (library self.now.lib.now) stops tasks view.old view.new
+            s.outcomes.items (option_map veto_in s.end)) }
         ensures one_thread { self.now.width < 2 → IfOk result (λ s. s.end ≡ None
             → length self.now.tasks.now ≤ length s.outcomes.items) }
     {

@@ -1,6 +1,7 @@
 //! The progress of a group with workers.
 
-ghost use Rattle.std.specs.Prelude.{◌≡◌, ◌+◌, ◌-◌, ◌^◌, ◌<◌, [], ◌∷◌, ◌++◌, IfOk, OnOk, length, drop, map};
+ghost use Rattle.std.specs.Prelude.{◌≡◌, ◌+◌, ◌-◌, ◌^◌, ◌<◌, [], ◌∷◌, ◌++◌, IfOk, OnOk, length, drop, map, option_map};
+ghost use Rattle.hp_value.specs.Mapped.{veto as veto_in};
 ghost use Rattle.hp_model.specs.Rules.{Library as ModelLibrary};
 ghost use Rattle.hp_rule.specs.Mapped.{task as task_of};
 ghost use Rattle.hp_attempt.specs.Fronts.{AreSound, stopped_by};
@@ -101,7 +102,8 @@ impl Progress {
     pub(crate) fn add(&mut self, outcome: Outcome, stop_at_veto: bool) -> Result<(), AllocError>
         ensures outcomes { OnOk result (self.new.settled.outcomes.items
             ≡ self.old.settled.outcomes.items ++ outcome ∷ []) }
-        ensures end { OnOk result (self.new.settled.end ≡ stopped_by stop_at_veto (outcome ∷ [])) }
+        ensures end { OnOk result (option_map veto_in self.new.settled.end
+            ≡ stopped_by stop_at_veto (outcome ∷ [])) }
         ensures counts { self.new.counts ≡ self.old.counts }
         ensures sound { OnOk result ((library : ModelLibrary) → AreSound library self.old.pending.attempts.items
             → AreSound library self.new.pending.attempts.items) }

@@ -1,10 +1,11 @@
 //! The settled tasks of a group.
 
-ghost use Rattle.std.specs.Prelude.{◌≡◌, ◌<◌, ◌↔◌, [], ◌∷◌, ◌++◌, None, IsTrue, IfOk, OnOk, length};
+ghost use Rattle.std.specs.Prelude.{◌≡◌, ◌<◌, ◌↔◌, [], ◌∷◌, ◌++◌, None, IsTrue, IfOk, OnOk, length, option_map};
+ghost use Rattle.hp_value.specs.Mapped.{veto as veto_in};
 ghost use Rattle.hp_attempt.specs.Fronts.{stopped_by};
 
 use hp_attempt::Outcome;
-use hp_value::RuleNo;
+use hp_value::Veto;
 use std::alloc::{AllocError, Global};
 
 /// The results of a group's settled tasks, which are its first ones.
@@ -12,8 +13,8 @@ use std::alloc::{AllocError, Global};
 pub(crate) struct Settled {
     /// The result of each, in order.
     pub(crate) outcomes: Vec<Outcome>,
-    /// The rule whose veto stopped the group; `None` if no veto did.
-    pub(crate) end: Option<RuleNo>,
+    /// The veto that stopped the group; `None` if none did.
+    pub(crate) end: Option<Veto>,
 }
 
 impl Settled {
@@ -37,9 +38,9 @@ impl Settled {
     /// Adds the firing of the next task, which the owner ran.
     pub(crate) fn add(&mut self, outcome: Outcome, stop_at_veto: bool) -> Result<(), AllocError>
         ensures outcomes { OnOk result (self.new.outcomes.items ≡ self.old.outcomes.items ++ outcome ∷ []) }
-        ensures end { OnOk result (self.new.end ≡ stopped_by stop_at_veto (outcome ∷ [])) }
+        ensures end { OnOk result (option_map veto_in self.new.end ≡ stopped_by stop_at_veto (outcome ∷ [])) }
     {
-        self.end = if stop_at_veto { outcome.end } else { None };
+        self.end = stopping_veto(&outcome, stop_at_veto)?;
         self.outcomes.push(outcome)?;
         Ok(())
     }
@@ -51,19 +52,32 @@ impl Settled {
         stop_at_veto: bool,
     ) -> Result<(), AllocError>
         ensures outcomes { OnOk result (self.new.outcomes.items ≡ self.old.outcomes.items ++ front.items) }
-        ensures end { OnOk result (self.new.end ≡ stopped_by stop_at_veto front.items) }
+        ensures end { OnOk result (option_map veto_in self.new.end ≡ stopped_by stop_at_veto front.items) }
     {
-        self.end = veto_of(&front, stop_at_veto);
+        self.end = veto_of(&front, stop_at_veto)?;
         self.outcomes.append(&mut front)
     }
 }
 
 // The veto at which the firings stopped, if they stop at one.
-fn veto_of(front: &[Outcome], stop_at_veto: bool) -> Option<RuleNo>
-    ensures { result ≡ stopped_by stop_at_veto front.now }
+fn veto_of(front: &[Outcome], stop_at_veto: bool) -> Result<Option<Veto>, AllocError>
+    ensures { IfOk result (λ v. option_map veto_in v ≡ stopped_by stop_at_veto front.now) }
+{
+    match front.last() {
+        Some(last) => stopping_veto(last, stop_at_veto),
+        None => Ok(None),
+    }
+}
+
+// The veto of a firing, if it stops the firing's group.
+fn stopping_veto(outcome: &Outcome, stop_at_veto: bool) -> Result<Option<Veto>, AllocError>
+    ensures { IfOk result (λ v. option_map veto_in v ≡ stopped_by stop_at_veto (outcome.now ∷ [])) }
 {
     if !stop_at_veto {
-        return None;
+        return Ok(None);
     }
-    front.last()?.end
+    match &outcome.end {
+        Some(veto) => Ok(Some(veto.clone()?)),
+        None => Ok(None),
+    }
 }

@@ -2,8 +2,10 @@
 
 ghost use Rattle.std.specs.Prelude.{◌≡◌, ◌<◌, IfOk, OnOk, IfSome, IsSome, All, length};
 ghost use Rattle.std.specs.Thread.{IsSync};
+ghost use Rattle.hp_model.specs.Cells.{Holds};
 ghost use Rattle.hp_model.specs.Soundness.{IsSound};
 ghost use Rattle.hp_rule.specs.Mapped.{library};
+ghost use Rattle.hp_store.specs.Stack.{cells_in};
 ghost use Rattle.hp_board.specs.Deal.{IsSeatOf};
 ghost use Rattle.hp_attempt.specs.Fronts.{AreSound};
 ghost use Rattle.hp_attempt.specs.Mapped.{attempt as attempt_of};
@@ -161,7 +163,7 @@ impl<
             };
             progress.pending.put(tried);
             progress.accept_sent(self.alloc, wave, view, receivers, wave.polls(1))?;
-            worker.note_veto(progress.settled.end);
+            worker.note_veto(progress.settled.end.is_some());
         }
         progress.accept_sent(self.alloc, wave, view, receivers, wave.polls(POLLS))
     }
@@ -263,7 +265,7 @@ impl<
         })
     }
 
-    /// The attempt at a task: it fires on a view of its start.
+    /// The attempt at a task: it fires on a view of its start, in which the attempt's reads then held.
     fn attempted(
         &self,
         start: Snapshot,
@@ -272,7 +274,8 @@ impl<
     ) -> Result<Attempt, AllocError>
         requires fires { MayFire F.Fn self.now.fire.now task.now }
         requires firings { Fires F.Fn self.now.fire.now (library self.now.lib.now) }
-        ensures { IfOk result (λ a. IsSound (library self.now.lib.now) (attempt_of a)) }
+        ensures sound { IfOk result (λ a. IsSound (library self.now.lib.now) (attempt_of a)) }
+        ensures reads_held { IfOk result (λ a. Holds (cells_in start) a.reads) }
     {
         let mut view = View::new(self.alloc, start)?;
         let outcome = (self.fire)(&mut view, task, effort, self.width)?;

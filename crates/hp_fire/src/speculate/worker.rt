@@ -10,7 +10,6 @@ use crate::speculate::wave::{Wave, boxed};
 use hp_attempt::Attempt;
 use hp_board::{Pass, Seat};
 use hp_store::{Layer, Snapshot};
-use hp_value::RuleNo;
 use std::alloc::{AllocError, Global};
 use std::sync::Arc;
 
@@ -69,13 +68,13 @@ impl<'a> Worker<'a> {
         self.is_stopped || self.predecessors.conflicts >= CONFLICTS
     }
 
-    /// Notes the rule whose veto has stopped the group, if one has. No attempt is accepted after a veto.
-    pub(crate) fn note_veto(&mut self, veto: Option<RuleNo>)
+    /// Notes whether a veto has stopped the group. No attempt is accepted after a veto.
+    pub(crate) fn note_veto(&mut self, is_stopped: bool)
         requires { IsWorker self.old }
         ensures worker { IsWorker self.new }
         ensures wave { self.new.wave ≡ self.old.wave }
     {
-        self.is_stopped = veto.is_some();
+        self.is_stopped = is_stopped;
     }
 
     /// The start of a task: the wave's snapshot, under the layers that the task's predecessors have posted so far, in

@@ -2,6 +2,7 @@ use Rattle.std.proofs.Common.{sym, ap, ◌∙◌, ◌+◌, [], ◌∷◌, ◌++�
 use Rattle.hp_rule.specs.Mapped.{task}
 use Rattle.hp_model.proofs.FaithfulFirings.{goes_on}
 use Rattle.hp_view.proofs.Views.{GoesOn-same, GoesOn-then}
+use Rattle.hp_attempt.specs.Mapped.{veto_in}
 use Rattle.hp_attempt.proofs.Fronting.{none_yet, takes_none, no_outcomes, takes_same, takes_unpushed, on_err, front_end, front_ordered, ended, step, halting, not_halting, tasks_left}
 use Rattle.hp_attempt.proofs.front.settle_front.Goals as goal
 
@@ -46,7 +47,7 @@ returns-then-stops-clause-longest c =
     let s = step c.args.stop_at_veto (map task c.args.tasks.now) c.args.attempts.items c.loop-task.outcomes.items c.push.new.self.items c.in_ok-outcome.field-0 c.in-Some.outcome (task c.task-item.result)
     (drop (c.loop-task.task-index + 1) (map task c.args.tasks.now)) c.loop-task.attempts.items c.settle_first.new.attempts.items
     c.loop-task.invariant.so_far c.loop-task.invariant.taken c.loop-task.invariant.are next c.loop-task.invariant.left c.in_ok-outcome.ensures.taken c.in-Some.is c.settle_first.ensures.goes_on c.in_ok-push.ensures.items in
-    s.longest (halting (goes_on c.args.stop_at_veto c.in-Some.outcome.end) c.stops_at-stops.result c.stops_at-stops.ensures c.if-stops.true) _ _
+    s.longest (halting (goes_on c.args.stop_at_veto (veto_in c.in-Some.outcome)) c.stops_at-stops.result c.stops_at-stops.ensures c.if-stops.true) _ _
 
 pub returns-then-stops-clause-for_states : goal.returns-then-stops-clause-for_states
 returns-then-stops-clause-for_states c =
@@ -54,7 +55,7 @@ returns-then-stops-clause-for_states c =
     let s = step c.args.stop_at_veto (map task c.args.tasks.now) c.args.attempts.items c.loop-task.outcomes.items c.push.new.self.items c.in_ok-outcome.field-0 c.in-Some.outcome (task c.task-item.result)
     (drop (c.loop-task.task-index + 1) (map task c.args.tasks.now)) c.loop-task.attempts.items c.settle_first.new.attempts.items
     c.loop-task.invariant.so_far c.loop-task.invariant.taken c.loop-task.invariant.are next c.loop-task.invariant.left c.in_ok-outcome.ensures.taken c.in-Some.is c.settle_first.ensures.goes_on c.in_ok-push.ensures.items in
-    s.last (halting (goes_on c.args.stop_at_veto c.in-Some.outcome.end) c.stops_at-stops.result c.stops_at-stops.ensures c.if-stops.true)
+    s.last (halting (goes_on c.args.stop_at_veto (veto_in c.in-Some.outcome)) c.stops_at-stops.result c.stops_at-stops.ensures c.if-stops.true)
 
 pub returns-then-stops-clause-front : goal.returns-then-stops-clause-front
 returns-then-stops-clause-front c = front_ordered (returns-then-stops-clause-for_states c)
@@ -71,7 +72,7 @@ loop-task-preserved c =
       on = GoesOn-then c.loop-task.invariant.on c.settle_first.ensures.goes_on;
       taken = s.taken;
       are = s.are;
-      so_far = s.more (not_halting (goes_on c.args.stop_at_veto c.in-Some.outcome.end) c.stops_at-stops.result c.stops_at-stops.ensures c.if-stops.false);
+      so_far = s.more (not_halting (goes_on c.args.stop_at_veto (veto_in c.in-Some.outcome)) c.stops_at-stops.result c.stops_at-stops.ensures c.if-stops.false);
     }
 
 pub returns-clause-for_states : goal.returns-clause-for_states

@@ -1,12 +1,13 @@
 use Rattle.std.proofs.Common.{◌≡◌, refl, ap, subst, sym}
+use Rattle.hp_model.specs.Cells.{greatest_read}
 use Rattle.hp_value.specs.Mapped.{cell}
 use Rattle.hp_view.specs.declared.reads.Seen.TheVariants.{Cell as OfCell}
 use Rattle.hp_view.specs.Adding.{AddsReads, adds_none}
 use Rattle.hp_view.specs.Seeing.{Seeing, written}
 use Rattle.hp_view.proofs.Adding.{adds_cell}
-use Rattle.hp_view.specs.Mapped.{read}
+use Rattle.hp_view.specs.Mapped.{read, greatest_found}
 use Rattle.hp_attempt.specs.Holding.{IsReadAgain, IsFor}
-use Rattle.hp_attempt.proofs.Taking.{again_cell, where_ok, either_way}
+use Rattle.hp_attempt.proofs.Taking.{again_cell, again_greatest, adds_greatest, where_ok, either_way}
 use Rattle.hp_attempt.proofs.settling.read_again.Goals as goal
 
 pub returns-in-Cell-clause-again : goal.returns-in-Cell-clause-again
@@ -19,6 +20,14 @@ returns-in-Cell-clause-again c =
 pub returns-in-Keys-clause-again : goal.returns-in-Keys-clause-again
 returns-in-Keys-clause-again c =
     where_ok c.read_class_again.result (λ again. subst (λ s. IsReadAgain c.args.view.now c.read_class_again.new.view (read (s, c.args.found.now))) (sym c.in-Keys.is) again) c.read_class_again.ensures.again
+
+pub returns-in-Greatest-clause-again : goal.returns-in-Greatest-clause-again
+returns-in-Greatest-clause-again c =
+    let found = c.args.found.now in
+    where_ok c.read_greatest_key.result
+    (λ shows. subst (λ s. IsReadAgain c.args.view.now c.read_greatest_key.new.self (read (s, found))) (sym c.in-Greatest.is)
+    (again_greatest c.args.view.now c.read_greatest_key.new.self c.in-Greatest.class (greatest_found found) shows))
+    c.read_greatest_key.ensures.shows
 
 pub returns-in-Part-clause-again : goal.returns-in-Part-clause-again
 returns-in-Part-clause-again c =
@@ -35,6 +44,16 @@ returns-in-Cell-clause-reads c =
 pub returns-in-Keys-clause-reads : goal.returns-in-Keys-clause-reads
 returns-in-Keys-clause-reads c =
     subst (λ s. AddsReads (IsFor (written c.args.view.now) (read (s, c.args.found.now))) c.args.view.now.reads c.read_class_again.new.view.reads) (sym c.in-Keys.is) c.read_class_again.ensures.reads
+
+pub returns-in-Greatest-clause-reads : goal.returns-in-Greatest-clause-reads
+returns-in-Greatest-clause-reads c =
+    let w = written c.args.view.now in
+    let r = greatest_read c.in-Greatest.class (greatest_found c.args.found.now) in
+    subst (λ s. AddsReads (IsFor w (read (s, c.args.found.now))) c.args.view.now.reads c.read_greatest_key.new.self.reads) (sym c.in-Greatest.is)
+    (either_way c.read_greatest_key.result
+    (adds_greatest (IsFor w r) (λ greatest. refl) (λ deletes keys. (refl, deletes.greatest.0, deletes.greatest.2)))
+    (λ (same : c.read_greatest_key.new.self ≡ c.args.view.now). adds_none (IsFor w r) (ap (λ (v : Seeing). v.reads) same))
+    c.read_greatest_key.ensures.reads c.read_greatest_key.ensures.err)
 
 pub returns-in-Part-clause-reads : goal.returns-in-Part-clause-reads
 returns-in-Part-clause-reads c =

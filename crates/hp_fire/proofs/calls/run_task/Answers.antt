@@ -13,6 +13,6 @@ returns-clause-sound g c =
     subst (λ l. IsSound (library l) (attempt a)) (ap (λ r. r.now) c.new-engine.ensures.lib) (sound (library c.new-engine.result.lib.now) c.in_ok-view.view c.in_ok-view.ensures.writes c.in_ok-outcome.ensures))
     c.attempt_on.ensures.sound
 
-pub returns-clause-so_it_was : goal.returns-clause-so_it_was
-returns-clause-so_it_was g c =
-    subst (λ (s : Stack). IfOk c.attempt_on.result (λ a. Holds (cells_in s) a.reads)) (c.in_ok-outcome.ensures.goes_on.base ∙ c.in_ok-view.ensures.base) c.attempt_on.ensures.so_it_was
+pub returns-clause-reads_held : goal.returns-clause-reads_held
+returns-clause-reads_held g c =
+    subst (λ (s : Stack). IfOk c.attempt_on.result (λ a. Holds (cells_in s) a.reads)) (c.in_ok-outcome.ensures.goes_on.base ∙ c.in_ok-view.ensures.base) c.attempt_on.ensures.reads_held

@@ -10,4 +10,4 @@ use Rattle.hp_fire.proofs.closing.as_part.Goals as goal
 pub returns : goal.returns
 returns c =
     let items : items_in c.push_reserved.new.self.items ≡ T.node (what c.args.what) (ending_of (end c.args.course.end)) (course c.args.course).items T.no_items = search (rules, the_lemmas, row_items_lem) in
-    λ i. record { end = end c.args.after; queued = c.queued_after.ensures i; detached = c.in_ok-detached_after.ensures i; items = items i }
+    λ i. record { end = end c.args.after; queued = c.queued_after-queued.ensures i; detached = c.in_ok-detached.ensures i; items = items i }

@@ -4,30 +4,30 @@ use Rattle.std.proofs.lemmas.Int.{to_z-of_z}
 use Rattle.std.proofs.lemmas.Result.{err_from_is_err_and, IfOk-weaker}
 use Rattle.std.proofs.Math.ListN.{drop_of_length-le}
 use Rattle.hp_model.specs.Values.{KeyedRow, requested}
-use Rattle.hp_model.specs.Conditions.{answer}
+use Rattle.hp_model.specs.Conditions.{answer, let_of}
 use Rattle.std.specs.Prelude.{filter}
 use Rattle.hp_model.specs.Tree.{Task, no_items}
 use Rattle.hp_model.specs.Transactions.{abort_by, deferred_of, detached_of, done, for_each, unreleased}
 use Rattle.hp_model.specs.Answers.{is_done, followed, group_answer}
 use Rattle.hp_model.specs.Rules as R
 use Rattle.hp_model.specs.Rules.{Body, is_immediate, rule_at}
-use Rattle.hp_model.specs.Firing.{Context, level_at, run_statement, run_body, with_row, action_course, signal_in, values_of, boolean_value, choose, named_object, siblings, fire_task}
-use Rattle.hp_value.specs.Mapped.{keyed_row, answers, expression, primitive, rule_operation}
-use Rattle.hp_query.specs.Mapped.{keyed_rows}
+use Rattle.hp_model.specs.Firing.{Context, level_at, run_statement, run_body, with_row, with_let, task_environment, action_context, action_course, signal_in, values_of, boolean_value, choose, named_object, siblings, fire_task}
+use Rattle.hp_value.specs.Mapped.{keyed_row, value, expression, primitive, rule_operation}
+use Rattle.hp_query.specs.Mapped.{aggregate, findings, keyed_rows}
 use Rattle.hp_rule.specs.declared.stmt.Stmt.TheViews.{the_lemmas}
 use Rattle.hp_rule.specs.Mapped.{library, statement, body_in, task, assignment}
 use Rattle.hp_rule.proofs.Bodies.{row_body_lem}
 use Rattle.hp_ops.proofs.Worlds.{split_at}
 use Rattle.hp_fire.specs.Mapped.{context, course, group}
 use Rattle.hp_tree.specs.Mapped.{what}
-use Rattle.hp_value.specs.declared.env.Answer.{Answer as KeptAnswer}
+use Rattle.hp_query.specs.declared.entry.Findings.{Findings as RustFindings}
 use Rattle.hp_fire.specs.declared.deciding.Decision.{Decision}
 use Rattle.hp_fire.specs.declared.deciding.Decision.TheVariants.{Acts}
 use Rattle.hp_fire.specs.Decides.{ThenActs, Decides}
 use Rattle.hp_fire.specs.Runs.{Runs, RunsGroup, Steps, Made, Makes, SubRuns}
 use Rattle.hp_fire.proofs.Decisions.{acts_runs}
 use Rattle.hp_fire.proofs.Making.{steps_halt}
-use Rattle.hp_fire.proofs.Stating.{with_is, steps_at, runs_at, signal_makes, found_halt, found_steps}
+use Rattle.hp_fire.proofs.Stating.{with_is, veto_is, findings_now, body_under, steps_at, runs_at, signal_makes, found_halt, found_steps}
 use Rattle.hp_fire.proofs.Steps.{runs_answer, runs_ends, runs_value, found_value, sub_over, sub_then, body_each, loop_starts, loop_next, loop_stops, loop_ends}
 use Rattle.hp_fire.proofs.Starting.{signal_starts, signal_ready, then_starts, are_ready, start_none, start_single, single_measure, start_runs, group_measure, none_long, map_none, tasks_at}
 use denote.Param.{param}
@@ -69,10 +69,7 @@ Engine::each_row-loop-row-preserved g t c =
     let back : to_z w64 (of_z w64 c.row-item.result.key) ≡ c.row-item.result.key = to_z-of_z w64 c.row-item.result.key fits in
     let goes : is_done (course c.join.new.self).end ≡ true = search rules in
     loop_next (keyed_row c.row-item.result) _ (ap (map keyed_row) (split_at c.args.rows.now c.loop-row.row-index c.row-item.result c.loop-row-test.true c.row-item.is)) c.in_ok-join.ensures goes c.loop-row.invariant
-    (subst (λ (x : Context). Runs (library c.args.self.now.lib.now) (run_body (body_in c.args.body.now) (level_at (library c.args.self.now.lib.now) c.args.context.now.depth) x) c.loop-row.view c.statements.new.view (course c.in_ok-more.more))
-    (c.bound-inner.ensures.context ∙ ap (λ k. with_row c.args.variable.now (record { key = k; row = c.row-item.result.row }) (context c.args.context.now)) back)
-    (subst (λ d. Runs (library c.args.self.now.lib.now) (run_body (body_in c.args.body.now) (level_at (library c.args.self.now.lib.now) d) (context c.bound-inner.result)) c.loop-row.view c.statements.new.view (course c.in_ok-more.more)) c.bound-inner.ensures.depth
-    c.in_ok-more.ensures))
+    (body_under (body_in c.args.body.now) (c.bound-inner.ensures.context ∙ ap (λ k. with_row c.args.variable.now (record { key = k; row = c.row-item.result.row }) (context c.args.context.now)) back) c.bound-inner.ensures.depth c.in_ok-more.ensures)
 
 pub Engine::each_row-returns-then-not-is_done : goal.Engine::each_row-returns-then-not-is_done
 Engine::each_row-returns-then-not-is_done g t c =
@@ -80,10 +77,7 @@ Engine::each_row-returns-then-not-is_done g t c =
     let back : to_z w64 (of_z w64 c.row-item.result.key) ≡ c.row-item.result.key = to_z-of_z w64 c.row-item.result.key fits in
     let stops : is_done (course c.join.new.self).end ≡ false = search rules in
     loop_stops (keyed_row c.row-item.result) _ (ap (map keyed_row) (split_at c.args.rows.now c.loop-row.row-index c.row-item.result c.loop-row-test.true c.row-item.is)) c.in_ok-join.ensures stops c.loop-row.invariant
-    (subst (λ (x : Context). Runs (library c.args.self.now.lib.now) (run_body (body_in c.args.body.now) (level_at (library c.args.self.now.lib.now) c.args.context.now.depth) x) c.loop-row.view c.statements.new.view (course c.in_ok-more.more))
-    (c.bound-inner.ensures.context ∙ ap (λ k. with_row c.args.variable.now (record { key = k; row = c.row-item.result.row }) (context c.args.context.now)) back)
-    (subst (λ d. Runs (library c.args.self.now.lib.now) (run_body (body_in c.args.body.now) (level_at (library c.args.self.now.lib.now) d) (context c.bound-inner.result)) c.loop-row.view c.statements.new.view (course c.in_ok-more.more)) c.bound-inner.ensures.depth
-    c.in_ok-more.ensures))
+    (body_under (body_in c.args.body.now) (c.bound-inner.ensures.context ∙ ap (λ k. with_row c.args.variable.now (record { key = k; row = c.row-item.result.row }) (context c.args.context.now)) back) c.bound-inner.ensures.depth c.in_ok-more.ensures)
 
 pub Engine::each_row-returns : goal.Engine::each_row-returns
 Engine::each_row-returns g t c = loop_ends (ap (map keyed_row) (drop_of_length-le c.args.rows.now c.loop-row-test.false)) c.loop-row.invariant
@@ -94,30 +88,32 @@ pub Engine::operated-returns : goal.Engine::operated-returns
 Engine::operated-returns g t c = λ work before made.
     let lib = library c.args.self.now.lib.now in
     let is : c.args.made ≡ Ok c.in_ok-prim.prim = search rules in
-    let is_made : Made lib (level_at lib c.args.depth) work before c.args.view.now (primitive c.in_ok-prim.prim) = subst (Makes primitive lib (level_at lib c.args.depth) work before c.args.view.now) is made in
-    let started = c.start-result.ensures (signal_in (level_at lib c.args.depth) (primitive c.in_ok-prim.prim)) c.args.view.now
-    (signal_starts c.args.self.now.lib.now c.args.depth (primitive c.in_ok-prim.prim) c.args.view.now c.trigger-tasks.new.view c.trigger-tasks.result c.trigger-tasks.ensures.triggers c.trigger-tasks.ensures.goes_on) in
-    c.operated_course.ensures lib (level_at lib c.args.depth) work before c.args.view.now c.start-result.new.view is_made started
+    let is_made : Made lib (level_at lib c.args.context.now.env.time c.args.context.now.depth) work before c.args.view.now (primitive c.in_ok-prim.prim) = subst (Makes primitive lib (level_at lib c.args.context.now.env.time c.args.context.now.depth) work before c.args.view.now) is made in
+    let started = c.start-result.ensures (signal_in (level_at lib c.args.context.now.env.time c.args.context.now.depth) (primitive c.in_ok-prim.prim)) c.args.view.now
+    (signal_starts c.args.self.now.lib.now c.args.context.now.env.time c.args.context.now.depth (primitive c.in_ok-prim.prim) c.args.view.now c.trigger-tasks.new.view c.trigger-tasks.result c.trigger-tasks.ensures.triggers c.trigger-tasks.ensures.goes_on) in
+    c.operated_course.ensures lib (level_at lib c.args.context.now.env.time c.args.context.now.depth) work before c.args.view.now c.start-result.new.view is_made started
 
 pub Engine::operated-start-result-requires : goal.Engine::operated-start-result-requires
 Engine::operated-start-result-requires g t c = λ κs lives.
-    (omega (arith, c.decreases), (lives, (search rules, signal_ready c.args.self.now.lib.now c.args.depth (primitive c.in_ok-prim.prim) c.args.view.now c.trigger-tasks.new.view c.trigger-tasks.result c.trigger-tasks.ensures.triggers)))
+    (omega (arith, c.decreases), (lives, (search rules, signal_ready c.args.self.now.lib.now c.args.context.now.env.time c.args.context.now.depth (primitive c.in_ok-prim.prim) c.args.view.now c.trigger-tasks.new.view c.trigger-tasks.result c.trigger-tasks.ensures.triggers)))
 
 pub Engine::firing-returns-in_ok-course-in-Acts : goal.Engine::firing-returns-in_ok-course-in-Acts
 Engine::firing-returns-in_ok-course-in-Acts g t c =
     let lib = library c.args.self.now.lib.now in
-    let fired = c.args.task.now in
-    let found = c.answers.result.now in
-    let decided : Decides (library c.args.self.now.lib.now) (task c.args.task.now) c.args.view.now c.decide.new.view (Acts c.in-Acts.what c.in-Acts.found) =
-    subst (λ (d : Decision). Decides (library c.args.self.now.lib.now) (task c.args.task.now) c.args.view.now c.decide.new.view d) c.in-Acts.is c.in_ok-outcome.ensures in
-    let acts : ThenActs (library c.args.self.now.lib.now) (λ S. fire_task (library c.args.self.now.lib.now) S (task c.args.task.now)) (task c.args.task.now) c.args.view.now c.decide.new.view (what c.in-Acts.what) (answers c.answers.result.now) =
-    subst (λ (found : List KeptAnswer). ThenActs (library c.args.self.now.lib.now) (λ S. fire_task (library c.args.self.now.lib.now) S (task c.args.task.now)) (task c.args.task.now) c.args.view.now c.decide.new.view (what c.in-Acts.what) (answers found)) (sym c.answers.ensures) decided in
-    let here : Runs (library c.args.self.now.lib.now) (action_course (level_at (library c.args.self.now.lib.now) c.args.task.now.depth) (task c.args.task.now) (answers c.answers.result.now)) c.decide.new.view c.statements.new.view (course c.in_ok-course-in-Acts.course) =
-    subst (λ (x : Context). Runs (library c.args.self.now.lib.now) (run_body (rule_at (library c.args.self.now.lib.now) c.args.task.now.rule).action (level_at (library c.args.self.now.lib.now) c.args.task.now.depth) x) c.decide.new.view c.statements.new.view (course c.in_ok-course-in-Acts.course)) c.of_action-context.ensures.context
-    (subst (λ d. Runs (library c.args.self.now.lib.now) (run_body (rule_at (library c.args.self.now.lib.now) c.args.task.now.rule).action (level_at (library c.args.self.now.lib.now) d) (context c.of_action-context.result)) c.decide.new.view c.statements.new.view (course c.in_ok-course-in-Acts.course)) c.of_action-context.ensures.depth
-    (subst (λ (b : Body). Runs (library c.args.self.now.lib.now) (run_body b (level_at (library c.args.self.now.lib.now) c.of_action-context.result.depth) (context c.of_action-context.result)) c.decide.new.view c.statements.new.view (course c.in_ok-course-in-Acts.course)) c.action_of.ensures.action
-    c.in_ok-course-in-Acts.ensures)) in
-    IfOk-weaker c.close_action.result _ _ (λ o closes. acts_runs acts (closes lib (level_at lib fired.depth) (task fired) (answers found) c.decide.new.view here (sym c.enter-mark.ensures))) c.close_action.ensures
+    let fired = task c.args.task.now in
+    let found = findings c.findings.result.now in
+    let decided : Decides lib fired c.args.view.now c.decide.new.view (Acts c.in-Acts.what c.in-Acts.found) =
+    subst (λ (d : Decision). Decides lib fired c.args.view.now c.decide.new.view d) c.in-Acts.is c.in_ok-outcome.ensures in
+    let acts : ThenActs lib (λ S. fire_task lib S fired) fired c.args.view.now c.decide.new.view (what c.in-Acts.what) found =
+    subst (λ (f : RustFindings). ThenActs lib (λ S. fire_task lib S fired) fired c.args.view.now c.decide.new.view (what c.in-Acts.what) (findings f)) (sym c.findings.ensures) decided in
+    let action = (rule_at lib fired.rule).action in
+    let ran : Runs lib (run_body action (level_at lib c.of_action-context.result.env.time c.of_action-context.result.depth) (context c.of_action-context.result)) c.decide.new.view c.statements.new.view (course c.in_ok-course-in-Acts.course) =
+    subst (λ (b : Body). Runs lib (run_body b (level_at lib c.of_action-context.result.env.time c.of_action-context.result.depth) (context c.of_action-context.result)) c.decide.new.view c.statements.new.view (course c.in_ok-course-in-Acts.course)) c.action_of.ensures.action
+    c.in_ok-course-in-Acts.ensures in
+    let here : Runs lib (action_course (level_at lib fired.now fired.depth) fired found) c.decide.new.view c.statements.new.view (course c.in_ok-course-in-Acts.course) =
+    subst (λ n. Runs lib (run_body action (level_at lib n fired.depth) (action_context fired found)) c.decide.new.view c.statements.new.view (course c.in_ok-course-in-Acts.course)) (findings_now (task_environment fired) found)
+    (body_under action c.of_action-context.ensures.context c.of_action-context.ensures.depth ran) in
+    IfOk-weaker c.close_action.result _ _ (λ o closes. acts_runs acts (closes found c.decide.new.view here (sym c.enter-mark.ensures))) c.close_action.ensures
 
 -- ---- the tasks of signals
 
@@ -181,22 +177,22 @@ Engine::group-run-requires-sync-F g t c = λ κs lives.
 pub Engine::statement-returns-in-Create : goal.Engine::statement-returns-in-Create
 Engine::statement-returns-in-Create g t c =
     let is : R.create c.in-Create.class (expression c.deref.result.now) (map assignment c.deref-in-Create.result.now) ≡ statement c.args.stmt.now = search (rules, the_lemmas) in
-    steps_at (library c.args.self.now.lib.now) (level_at (library c.args.self.now.lib.now) c.args.context.now.depth) (context c.args.context.now) c.args.view.now c.operated.new.view c.operated.result is (c.operated.ensures _ c.args.view.now c.created-made.ensures)
+    steps_at (library c.args.self.now.lib.now) (level_at (library c.args.self.now.lib.now) c.args.context.now.env.time c.args.context.now.depth) (context c.args.context.now) c.args.view.now c.operated.new.view c.operated.result is (c.operated.ensures _ c.args.view.now c.created-made.ensures)
 
 pub Engine::statement-returns-in-Update : goal.Engine::statement-returns-in-Update
 Engine::statement-returns-in-Update g t c =
     let is : R.update c.in-Update.class (expression c.deref-in-Update.result.now) (map assignment c.deref-in-Update-2.result.now) ≡ statement c.args.stmt.now = search (rules, the_lemmas) in
-    steps_at (library c.args.self.now.lib.now) (level_at (library c.args.self.now.lib.now) c.args.context.now.depth) (context c.args.context.now) c.args.view.now c.operated-in-Update.new.view c.operated-in-Update.result is (c.operated-in-Update.ensures _ c.args.view.now c.updated-made.ensures)
+    steps_at (library c.args.self.now.lib.now) (level_at (library c.args.self.now.lib.now) c.args.context.now.env.time c.args.context.now.depth) (context c.args.context.now) c.args.view.now c.operated-in-Update.new.view c.operated-in-Update.result is (c.operated-in-Update.ensures _ c.args.view.now c.updated-made.ensures)
 
 pub Engine::statement-returns-in-Delete : goal.Engine::statement-returns-in-Delete
 Engine::statement-returns-in-Delete g t c =
     let is : R.delete c.in-Delete.class (expression c.deref-in-Delete.result.now) ≡ statement c.args.stmt.now = search (rules, the_lemmas) in
-    steps_at (library c.args.self.now.lib.now) (level_at (library c.args.self.now.lib.now) c.args.context.now.depth) (context c.args.context.now) c.args.view.now c.operated-in-Delete.new.view c.operated-in-Delete.result is (c.operated-in-Delete.ensures _ c.args.view.now c.deleted-made.ensures)
+    steps_at (library c.args.self.now.lib.now) (level_at (library c.args.self.now.lib.now) c.args.context.now.env.time c.args.context.now.depth) (context c.args.context.now) c.args.view.now c.operated-in-Delete.new.view c.operated-in-Delete.result is (c.operated-in-Delete.ensures _ c.args.view.now c.deleted-made.ensures)
 
 pub Engine::statement-returns-in-Signal : goal.Engine::statement-returns-in-Signal
 Engine::statement-returns-in-Signal g t c =
     let is : R.signal c.deref-in-Signal.result.now (map expression c.deref-in-Signal-2.result.now) ≡ statement c.args.stmt.now = search (rules, the_lemmas) in
-    let level = level_at (library c.args.self.now.lib.now) c.args.context.now.depth in
+    let level = level_at (library c.args.self.now.lib.now) c.args.context.now.env.time c.args.context.now.depth in
     let values = values_of (context c.args.context.now).environment (map expression c.deref-in-Signal-2.result.now) in
     steps_at (library c.args.self.now.lib.now) level (context c.args.context.now) c.args.view.now c.operated-in-Signal.new.view c.operated-in-Signal.result is
     (c.operated-in-Signal.ensures _ c.args.view.now (signal_makes primitive (library c.args.self.now.lib.now) level c.deref-in-Signal.result.now values c.args.view.now c.signalled-made.result c.signalled-made.ensures))
@@ -204,24 +200,24 @@ Engine::statement-returns-in-Signal g t c =
 pub Engine::statement-returns-in-Emit : goal.Engine::statement-returns-in-Emit
 Engine::statement-returns-in-Emit g t c =
     let is : R.emit (expression c.deref-in-Emit.result.now) ≡ statement c.args.stmt.now = search (rules, the_lemmas) in
-    steps_at (library c.args.self.now.lib.now) (level_at (library c.args.self.now.lib.now) c.args.context.now.depth) (context c.args.context.now) c.args.view.now c.args.view.now c.emitted.result is (c.emitted.ensures c.args.view.now (library c.args.self.now.lib.now) (level_at (library c.args.self.now.lib.now) c.args.context.now.depth))
+    steps_at (library c.args.self.now.lib.now) (level_at (library c.args.self.now.lib.now) c.args.context.now.env.time c.args.context.now.depth) (context c.args.context.now) c.args.view.now c.args.view.now c.emitted.result is (c.emitted.ensures c.args.view.now (library c.args.self.now.lib.now) (level_at (library c.args.self.now.lib.now) c.args.context.now.env.time c.args.context.now.depth))
 
 pub Engine::statement-returns-in-If : goal.Engine::statement-returns-in-If
 Engine::statement-returns-in-If g t c =
     let is : R.when (expression c.deref-in-If.result.now) (body_in c.deref-in-If-2.result.now) (body_in c.deref-in-If-3.result.now) ≡ statement c.args.stmt.now = search (rules, the_lemmas, row_body_lem) in
-    steps_at (library c.args.self.now.lib.now) (level_at (library c.args.self.now.lib.now) c.args.context.now.depth) (context c.args.context.now) c.args.view.now c.run_branch.new.view c.run_branch.result is c.run_branch.ensures
+    steps_at (library c.args.self.now.lib.now) (level_at (library c.args.self.now.lib.now) c.args.context.now.env.time c.args.context.now.depth) (context c.args.context.now) c.args.view.now c.run_branch.new.view c.run_branch.result is c.run_branch.ensures
 
 pub Engine::statement-returns-in-Each : goal.Engine::statement-returns-in-Each
 Engine::statement-returns-in-Each g t c =
     let is : R.each c.deref-in-Each.result.now c.in-Each.class (expression c.deref-in-Each-2.result.now) (body_in c.deref-in-Each-3.result.now) ≡ statement c.args.stmt.now = search (rules, the_lemmas, row_body_lem) in
-    steps_at (library c.args.self.now.lib.now) (level_at (library c.args.self.now.lib.now) c.args.context.now.depth) (context c.args.context.now) c.args.view.now c.each_found.new.view c.each_found.result is c.each_found.ensures
+    steps_at (library c.args.self.now.lib.now) (level_at (library c.args.self.now.lib.now) c.args.context.now.env.time c.args.context.now.depth) (context c.args.context.now) c.args.view.now c.each_found.new.view c.each_found.result is c.each_found.ensures
 
 pub Engine::statement-returns-in-For : goal.Engine::statement-returns-in-For
 Engine::statement-returns-in-For g t c =
     let name = c.deref-query.result.now in
     let body = body_in c.deref-in-For.result.now in
     let lib = library c.args.self.now.lib.now in
-    let level = level_at (library c.args.self.now.lib.now) c.args.context.now.depth in
+    let level = level_at (library c.args.self.now.lib.now) c.args.context.now.env.time c.args.context.now.depth in
     let is : R.for_answer c.deref-query.result.now (body_in c.deref-in-For.result.now) ≡ statement c.args.stmt.now = search (rules, the_lemmas, row_body_lem) in
     steps_at lib level (context c.args.context.now) c.args.view.now c.each_row.new.view c.each_row.result is
     (subst (λ rs. Steps lib (for_each rs (λ r. run_body body level (with_row name r (context c.args.context.now)))) c.args.view.now c.each_row.new.view c.each_row.result) c.kept-rows.ensures c.each_row.ensures)
@@ -231,32 +227,38 @@ Engine::statement-returns-in-With g t c =
     let is : R.with_object c.deref-in-With.result.now c.in-With.class (expression c.deref-in-With-2.result.now) (body_in c.deref-in-With-3.result.now) ≡ statement c.args.stmt.now =
     (λ i. R.with_object (c.deref-in-With.ensures i) c.in-With.class (expression (c.deref-in-With-2.ensures i)) (body_in (c.deref-in-With-3.ensures.value i)))
     ∙ with_is c.args.stmt.now c.in-With.variable c.in-With.class c.in-With.key c.in-With.body c.in-With.is in
-    steps_at (library c.args.self.now.lib.now) (level_at (library c.args.self.now.lib.now) c.args.context.now.depth) (context c.args.context.now) c.args.view.now c.with_object.new.view c.with_object.result is c.with_object.ensures
+    steps_at (library c.args.self.now.lib.now) (level_at (library c.args.self.now.lib.now) c.args.context.now.env.time c.args.context.now.depth) (context c.args.context.now) c.args.view.now c.with_object.new.view c.with_object.result is c.with_object.ensures
 
 pub Engine::statement-returns-in-Sub : goal.Engine::statement-returns-in-Sub
 Engine::statement-returns-in-Sub g t c =
     let is : R.subtransaction (body_in c.deref-in-Sub.result.now) (body_in c.deref-in-Sub-2.result.now) ≡ statement c.args.stmt.now = search (rules, the_lemmas, row_body_lem) in
-    steps_at (library c.args.self.now.lib.now) (level_at (library c.args.self.now.lib.now) c.args.context.now.depth) (context c.args.context.now) c.args.view.now c.sub_or_otherwise.new.view c.sub_or_otherwise.result is c.sub_or_otherwise.ensures
+    steps_at (library c.args.self.now.lib.now) (level_at (library c.args.self.now.lib.now) c.args.context.now.env.time c.args.context.now.depth) (context c.args.context.now) c.args.view.now c.sub_or_otherwise.new.view c.sub_or_otherwise.result is c.sub_or_otherwise.ensures
 
 pub Engine::statement-returns-in-Abort : goal.Engine::statement-returns-in-Abort
 Engine::statement-returns-in-Abort g t c =
     let is : R.abort ≡ statement c.args.stmt.now = search (rules, the_lemmas) in
-    runs_at (level_at (library c.args.self.now.lib.now) c.args.context.now.depth) (context c.args.context.now) is (runs_answer c.ended.ensures (runs_ends (abort_by requested) c.args.view.now))
+    runs_at (level_at (library c.args.self.now.lib.now) c.args.context.now.env.time c.args.context.now.depth) (context c.args.context.now) is (runs_answer c.ended.ensures (runs_ends (abort_by requested) c.args.view.now))
+
+pub Engine::statement-returns-in-Let : goal.Engine::statement-returns-in-Let
+Engine::statement-returns-in-Let g t c =
+    let is : R.let_value c.deref-in-Let.result.now (aggregate c.in-Let.aggregate) (body_in c.deref-in-Let-2.result.now) ≡ statement c.args.stmt.now = search (rules, the_lemmas, row_body_lem) in
+    steps_at (library c.args.self.now.lib.now) (level_at (library c.args.self.now.lib.now) c.args.context.now.env.time c.args.context.now.depth) (context c.args.context.now) c.args.view.now c.with_let.new.view c.with_let.result is c.with_let.ensures
 
 pub Engine::statement-returns-in-Veto : goal.Engine::statement-returns-in-Veto
 Engine::statement-returns-in-Veto g t c =
-    let is : R.veto ≡ statement c.args.stmt.now = search (rules, the_lemmas) in
-    runs_at (level_at (library c.args.self.now.lib.now) c.args.context.now.depth) (context c.args.context.now) is (c.vetoed.ensures (library c.args.self.now.lib.now) c.args.view.now)
+    let level = level_at (library c.args.self.now.lib.now) c.args.context.now.env.time c.args.context.now.depth in
+    let is = veto_is c.args.stmt.now c.in-Veto.message c.in-Veto.is in
+    steps_at (library c.args.self.now.lib.now) level (context c.args.context.now) c.args.view.now c.args.view.now c.run_veto.result is (c.run_veto.ensures (library c.args.self.now.lib.now) level c.args.view.now)
 
 pub Engine::statement-returns-in-OnRule : goal.Engine::statement-returns-in-OnRule
 Engine::statement-returns-in-OnRule g t c =
     let is : R.on_rule (rule_operation c.in-OnRule.operation) c.in-OnRule.rule ≡ statement c.args.stmt.now = search (rules, the_lemmas) in
-    steps_at (library c.args.self.now.lib.now) (level_at (library c.args.self.now.lib.now) c.args.context.now.depth) (context c.args.context.now) c.args.view.now c.rule_changed.new.view c.rule_changed.result is (c.rule_changed.ensures (level_at (library c.args.self.now.lib.now) c.args.context.now.depth) (context c.args.context.now))
+    steps_at (library c.args.self.now.lib.now) (level_at (library c.args.self.now.lib.now) c.args.context.now.env.time c.args.context.now.depth) (context c.args.context.now) c.args.view.now c.rule_changed.new.view c.rule_changed.result is (c.rule_changed.ensures (level_at (library c.args.self.now.lib.now) c.args.context.now.env.time c.args.context.now.depth) (context c.args.context.now))
 
 pub Engine::statement-returns-in-Fire : goal.Engine::statement-returns-in-Fire
 Engine::statement-returns-in-Fire g t c =
     let is : R.fire c.in-Fire.rule ≡ statement c.args.stmt.now = search (rules, the_lemmas) in
-    let level = level_at (library c.args.self.now.lib.now) c.args.context.now.depth in
+    let level = level_at (library c.args.self.now.lib.now) c.args.context.now.env.time c.args.context.now.depth in
     steps_at (library c.args.self.now.lib.now) level (context c.args.context.now) c.args.view.now c.start.new.view c.start.result is
     (c.start.ensures (run_statement (R.fire c.in-Fire.rule) level (context c.args.context.now)) c.args.view.now (c.fired-tasks.ensures.starts (context c.args.context.now)))
 
@@ -266,30 +268,30 @@ pub Engine::run_branch-returns-in_err-is_true : goal.Engine::run_branch-returns-
 Engine::run_branch-returns-in_err-is_true g t c =
     let p = err_from_is_err_and c.from_residual.result c.from_residual.ensures.1 in
     rw (p.1, p.2)
-    (steps_halt (λ b. b) (λ S b. choose b (run_body (body_in c.args.then_body.now) (level_at (library c.args.self.now.lib.now) c.args.context.now.depth) (context c.args.context.now)) (run_body (body_in c.args.else_body.now) (level_at (library c.args.self.now.lib.now) c.args.context.now.depth) (context c.args.context.now)))
+    (steps_halt (λ b. b) (λ S b. choose b (run_body (body_in c.args.then_body.now) (level_at (library c.args.self.now.lib.now) c.args.context.now.env.time c.args.context.now.depth) (context c.args.context.now)) (run_body (body_in c.args.else_body.now) (level_at (library c.args.self.now.lib.now) c.args.context.now.env.time c.args.context.now.depth) (context c.args.context.now)))
     (boolean_value (context c.args.context.now).environment (expression c.args.condition.now)) c.in_err-is_true.field-0.0 (library c.args.self.now.lib.now) c.args.view.now c.in_err-is_true.ensures)
 
 pub Engine::run_branch-returns-in_ok-course : goal.Engine::run_branch-returns-in_ok-course
 Engine::run_branch-returns-in_ok-course g t c =
-    runs_value (λ b. choose b (run_body (body_in c.args.then_body.now) (level_at (library c.args.self.now.lib.now) c.args.context.now.depth) (context c.args.context.now)) (run_body (body_in c.args.else_body.now) (level_at (library c.args.self.now.lib.now) c.args.context.now.depth) (context c.args.context.now)))
+    runs_value (λ b. choose b (run_body (body_in c.args.then_body.now) (level_at (library c.args.self.now.lib.now) c.args.context.now.env.time c.args.context.now.depth) (context c.args.context.now)) (run_body (body_in c.args.else_body.now) (level_at (library c.args.self.now.lib.now) c.args.context.now.env.time c.args.context.now.depth) (context c.args.context.now)))
     (boolean_value (context c.args.context.now).environment (expression c.args.condition.now)) true (ap Ok (sym c.if-branch.true) ∙ c.in_ok-is_true.ensures) c.in_ok-course.ensures
 
 pub Engine::run_branch-returns-in_ok-course-2 : goal.Engine::run_branch-returns-in_ok-course-2
 Engine::run_branch-returns-in_ok-course-2 g t c =
-    runs_value (λ b. choose b (run_body (body_in c.args.then_body.now) (level_at (library c.args.self.now.lib.now) c.args.context.now.depth) (context c.args.context.now)) (run_body (body_in c.args.else_body.now) (level_at (library c.args.self.now.lib.now) c.args.context.now.depth) (context c.args.context.now)))
+    runs_value (λ b. choose b (run_body (body_in c.args.then_body.now) (level_at (library c.args.self.now.lib.now) c.args.context.now.env.time c.args.context.now.depth) (context c.args.context.now)) (run_body (body_in c.args.else_body.now) (level_at (library c.args.self.now.lib.now) c.args.context.now.env.time c.args.context.now.depth) (context c.args.context.now)))
     (boolean_value (context c.args.context.now).environment (expression c.args.condition.now)) false (ap Ok (sym c.if-branch.false) ∙ c.in_ok-is_true.ensures) c.in_ok-course-2.ensures
 
 pub Engine::each_found-returns-in_err-rows : goal.Engine::each_found-returns-in_err-rows
 Engine::each_found-returns-in_err-rows g t c =
     let p = err_from_is_err_and c.from_residual.result c.from_residual.ensures.1 in
     rw (p.1, p.2)
-    (found_halt keyed_rows (λ rows. for_each rows (λ r. run_body (body_in c.args.body.now) (level_at (library c.args.self.now.lib.now) c.args.context.now.depth) (with_row c.args.selection.variable.now r (context c.args.context.now))))
+    (found_halt keyed_rows (λ rows. for_each rows (λ r. run_body (body_in c.args.body.now) (level_at (library c.args.self.now.lib.now) c.args.context.now.env.time c.args.context.now.depth) (with_row c.args.selection.variable.now r (context c.args.context.now))))
     (λ S. answer (context c.args.context.now).environment c.args.selection.variable.now c.args.selection.class (expression c.args.selection.predicate.now) S.objects) c.in_err-rows.field-0.0
     (library c.args.self.now.lib.now) c.args.view.now c.selected.new.view c.in_err-rows.ensures)
 
 pub Engine::each_found-returns : goal.Engine::each_found-returns
 Engine::each_found-returns g t c =
-    let work = λ (r : KeyedRow). run_body (body_in c.args.body.now) (level_at (library c.args.self.now.lib.now) c.args.context.now.depth) (with_row c.args.selection.variable.now r (context c.args.context.now)) in
+    let work = λ (r : KeyedRow). run_body (body_in c.args.body.now) (level_at (library c.args.self.now.lib.now) c.args.context.now.env.time c.args.context.now.depth) (with_row c.args.selection.variable.now r (context c.args.context.now)) in
     found_steps (library c.args.self.now.lib.now) (λ S. answer (context c.args.context.now).environment c.args.selection.variable.now c.args.selection.class (expression c.args.selection.predicate.now) S.objects)
     (λ rs. for_each rs work) (map keyed_row c.in_ok-rows.rows.items) c.args.view.now c.selected.new.view c.each_row.new.view c.each_row.result c.in_ok-rows.ensures
     (subst (λ rs. Steps (library c.args.self.now.lib.now) (for_each (map keyed_row rs) work) c.selected.new.view c.each_row.new.view c.each_row.result) c.deref.ensures.value c.each_row.ensures)
@@ -298,7 +300,7 @@ pub Engine::with_object-returns-in_err-row : goal.Engine::with_object-returns-in
 Engine::with_object-returns-in_err-row g t c =
     let p = err_from_is_err_and c.from_residual.result c.from_residual.ensures.1 in
     rw (p.1, p.2)
-    (found_halt keyed_row (λ r. run_body (body_in c.args.body.now) (level_at (library c.args.self.now.lib.now) c.args.context.now.depth) (with_row c.args.binding.variable.now r (context c.args.context.now)))
+    (found_halt keyed_row (λ r. run_body (body_in c.args.body.now) (level_at (library c.args.self.now.lib.now) c.args.context.now.env.time c.args.context.now.depth) (with_row c.args.binding.variable.now r (context c.args.context.now)))
     (λ S. named_object S.objects (context c.args.context.now).environment c.args.binding.class (expression c.args.binding.key.now)) c.in_err-row.field-0.0
     (library c.args.self.now.lib.now) c.args.view.now c.named_object.new.view c.in_err-row.ensures)
 
@@ -307,22 +309,32 @@ Engine::with_object-returns g t c =
     let x = c.args.binding.variable.now in
     let fits : SFits w64 c.in_ok-row.row.key = search rules in
     let back : to_z w64 (of_z w64 c.in_ok-row.row.key) ≡ c.in_ok-row.row.key = to_z-of_z w64 c.in_ok-row.row.key fits in
-    found_value (λ r. run_body (body_in c.args.body.now) (level_at (library c.args.self.now.lib.now) c.args.context.now.depth) (with_row x r (context c.args.context.now))) c.in_ok-row.ensures
-    (subst (λ (y : Context). Runs (library c.args.self.now.lib.now) (run_body (body_in c.args.body.now) (level_at (library c.args.self.now.lib.now) c.args.context.now.depth) y) c.named_object.new.view c.statements.new.view (course c.in_ok-course.course))
-    (c.bound-inner.ensures.context ∙ ap (λ k. with_row x (record { key = k; row = c.in_ok-row.row.row }) (context c.args.context.now)) back)
-    (subst (λ d. Runs (library c.args.self.now.lib.now) (run_body (body_in c.args.body.now) (level_at (library c.args.self.now.lib.now) d) (context c.bound-inner.result)) c.named_object.new.view c.statements.new.view (course c.in_ok-course.course)) c.bound-inner.ensures.depth
-    c.in_ok-course.ensures))
+    found_value (λ r. run_body (body_in c.args.body.now) (level_at (library c.args.self.now.lib.now) c.args.context.now.env.time c.args.context.now.depth) (with_row x r (context c.args.context.now))) c.in_ok-row.ensures
+    (body_under (body_in c.args.body.now) (c.bound-inner.ensures.context ∙ ap (λ k. with_row x (record { key = k; row = c.in_ok-row.row.row }) (context c.args.context.now)) back) c.bound-inner.ensures.depth c.in_ok-course.ensures)
+
+pub Engine::with_let-returns-in_err-value : goal.Engine::with_let-returns-in_err-value
+Engine::with_let-returns-in_err-value g t c =
+    let p = err_from_is_err_and c.from_residual.result c.from_residual.ensures.1 in
+    rw (p.1, p.2)
+    (found_halt value (λ v. run_body (body_in c.args.body.now) (level_at (library c.args.self.now.lib.now) c.args.context.now.env.time c.args.context.now.depth) (with_let c.args.name.now v (context c.args.context.now)))
+    (λ S. let_of S.objects (context c.args.context.now).environment (aggregate c.args.aggregate.now)) c.in_err-value.field-0.0
+    (library c.args.self.now.lib.now) c.args.view.now c.let_value.new.view c.in_err-value.ensures)
+
+pub Engine::with_let-returns : goal.Engine::with_let-returns
+Engine::with_let-returns g t c =
+    found_value (λ v. run_body (body_in c.args.body.now) (level_at (library c.args.self.now.lib.now) c.args.context.now.env.time c.args.context.now.depth) (with_let c.args.name.now v (context c.args.context.now))) c.in_ok-value.ensures
+    (body_under (body_in c.args.body.now) c.holding-inner.ensures.context c.holding-inner.ensures.depth c.in_ok-course.ensures)
 
 pub Engine::sub_or_otherwise-returns-then-not-aborted : goal.Engine::sub_or_otherwise-returns-then-not-aborted
 Engine::sub_or_otherwise-returns-then-not-aborted g t c =
-    let work = (run_body (body_in c.args.body.now) (level_at (library c.args.self.now.lib.now) c.args.context.now.depth) (context c.args.context.now)) in
+    let work = (run_body (body_in c.args.body.now) (level_at (library c.args.self.now.lib.now) c.args.context.now.env.time c.args.context.now.depth) (context c.args.context.now)) in
     let ran : SubRuns (library c.args.self.now.lib.now) work c.args.view.now c.close_sub.new.view (course c.in_ok-course.course) c.in_ok-course.aborted = c.in_ok-course.ensures (library c.args.self.now.lib.now) work c.args.view.now c.in_ok-inside.ensures (sym c.enter-mark.ensures) in
-    sub_over (run_body (body_in c.args.otherwise.now) (level_at (library c.args.self.now.lib.now) c.args.context.now.depth) (context c.args.context.now))
+    sub_over (run_body (body_in c.args.otherwise.now) (level_at (library c.args.self.now.lib.now) c.args.context.now.env.time c.args.context.now.depth) (context c.args.context.now))
     (subst (λ b. SubRuns (library c.args.self.now.lib.now) work c.args.view.now c.close_sub.new.view (course c.in_ok-course.course) b) c.if-not-aborted.true ran)
 
 pub Engine::sub_or_otherwise-returns : goal.Engine::sub_or_otherwise-returns
 Engine::sub_or_otherwise-returns g t c =
-    let work = (run_body (body_in c.args.body.now) (level_at (library c.args.self.now.lib.now) c.args.context.now.depth) (context c.args.context.now)) in
+    let work = (run_body (body_in c.args.body.now) (level_at (library c.args.self.now.lib.now) c.args.context.now.env.time c.args.context.now.depth) (context c.args.context.now)) in
     let ran : SubRuns (library c.args.self.now.lib.now) work c.args.view.now c.close_sub.new.view (course c.in_ok-course.course) c.in_ok-course.aborted = c.in_ok-course.ensures (library c.args.self.now.lib.now) work c.args.view.now c.in_ok-inside.ensures (sym c.enter-mark.ensures) in
     runs_answer c.in_ok-join.ensures
     (sub_then (subst (λ b. SubRuns (library c.args.self.now.lib.now) work c.args.view.now c.close_sub.new.view (course c.in_ok-course.course) b) c.if-not-aborted.false ran) c.in_ok-more.ensures)

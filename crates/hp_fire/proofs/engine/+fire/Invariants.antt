@@ -30,11 +30,14 @@ decreases-Engine::each_found g l = 16 * left l.self.now.lib.now (levels l.self.n
 abbrev pub decreases-Engine::with_object : goal.decreases-Engine::with_object
 decreases-Engine::with_object g l = 16 * left l.self.now.lib.now (levels l.self.now.lib.now l.context.now.depth) (most size-Stmt l.body.now) + 2
 
+abbrev pub decreases-Engine::with_let : goal.decreases-Engine::with_let
+decreases-Engine::with_let g l = 16 * left l.self.now.lib.now (levels l.self.now.lib.now l.context.now.depth) (most size-Stmt l.body.now) + 2
+
 abbrev pub decreases-Engine::sub_or_otherwise : goal.decreases-Engine::sub_or_otherwise
 decreases-Engine::sub_or_otherwise g l = 16 * left l.self.now.lib.now (levels l.self.now.lib.now l.context.now.depth) (max (most size-Stmt l.body.now) (most size-Stmt l.otherwise.now)) + 3
 
 abbrev pub decreases-Engine::operated : goal.decreases-Engine::operated
-decreases-Engine::operated g l = 16 * left l.self.now.lib.now (levels l.self.now.lib.now l.depth) 0 + 3
+decreases-Engine::operated g l = 16 * left l.self.now.lib.now (levels l.self.now.lib.now l.context.now.depth) 0 + 3
 
 abbrev pub decreases-Engine::start : goal.decreases-Engine::start
 decreases-Engine::start g l = 16 * left l.self.now.lib.now (levels l.self.now.lib.now l.depth) 0 + 1
@@ -52,10 +55,10 @@ decreases-Engine::firing g l = 16 * left l.self.now.lib.now (levels l.self.now.l
 
 abbrev pub invariant-Engine::statements-loop-stmt : goal.invariant-Engine::statements-loop-stmt
 invariant-Engine::statements-loop-stmt g l =
-    Loop (library l.self.lib.now) (λ s. run_statement (statement s) (level_at (library l.self.lib.now) l.context.depth) (context l.context))
-    (run_body (body_in l.body) (level_at (library l.self.lib.now) l.context.depth) (context l.context)) (drop l.stmt-index l.body) l.fn.view l.view (course l.so_far)
+    Loop (library l.self.lib.now) (λ s. run_statement (statement s) (level_at (library l.self.lib.now) l.context.env.time l.context.depth) (context l.context))
+    (run_body (body_in l.body) (level_at (library l.self.lib.now) l.context.env.time l.context.depth) (context l.context)) (drop l.stmt-index l.body) l.fn.view l.view (course l.so_far)
 
 abbrev pub invariant-Engine::each_row-loop-row : goal.invariant-Engine::each_row-loop-row
 invariant-Engine::each_row-loop-row g l =
-    Loop (library l.self.lib.now) (λ r. run_body (body_in l.body) (level_at (library l.self.lib.now) l.context.depth) (with_row l.variable r (context l.context)))
-    (for_each (map keyed_row l.rows) (λ r. run_body (body_in l.body) (level_at (library l.self.lib.now) l.context.depth) (with_row l.variable r (context l.context)))) (map keyed_row (drop l.row-index l.rows)) l.fn.view l.view (course l.so_far)
+    Loop (library l.self.lib.now) (λ r. run_body (body_in l.body) (level_at (library l.self.lib.now) l.context.env.time l.context.depth) (with_row l.variable r (context l.context)))
+    (for_each (map keyed_row l.rows) (λ r. run_body (body_in l.body) (level_at (library l.self.lib.now) l.context.env.time l.context.depth) (with_row l.variable r (context l.context)))) (map keyed_row (drop l.row-index l.rows)) l.fn.view l.view (course l.so_far)

@@ -21,5 +21,5 @@ returns g c =
       only = subst (λ (v : Seeing). OnlyReads v new) c.new-look.ensures.now c.evaluate_condition.ensures.goes_on.only;
       finds = finds_world lib (λ objects. verdict objects (task_environment t) (rule_at lib t.rule).condition) new found
           (λ world rise allowed. sym (c.in_ok-verdict.ensures.verdict world rise allowed
-          ∙ (λ i. verdict world (record { occurrence = Some (occurrence (c.deref.ensures i)); rows = [] }) (c.condition_of-queries.ensures i))));
+          ∙ (λ i. verdict world (record { occurrence = Some (occurrence (c.deref.ensures i)); rows = []; values = []; now = t.now }) (c.condition_of-entries.ensures i))));
     })

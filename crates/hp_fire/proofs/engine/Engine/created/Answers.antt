@@ -16,7 +16,7 @@ use Rattle.hp_fire.proofs.engine.Engine.created.Goals as goal
 
 pub returns-in_err-new : goal.returns-in_err-new
 returns-in_err-new g c =
-    let level = level_at (library c.args.self.now.lib.now) c.args.context.now.depth in
+    let level = level_at (library c.args.self.now.lib.now) c.args.context.now.env.time c.args.context.now.depth in
     let p = err_from_is_err_and c.from_residual.result c.from_residual.ensures.1 in
     rw (p.1, p.2)
     (makes_halt mapped.keyed_row primitive (λ S r. created_if_absent level c.args.class r.key r.row (find_object S.objects c.args.class r.key))
@@ -27,6 +27,6 @@ pub returns : goal.returns
 returns g c =
     let fits : SFits w64 c.in_ok-new.new.key = search rules in
     let back : to_z w64 (of_z w64 c.in_ok-new.new.key) ≡ c.in_ok-new.new.key = to_z-of_z w64 c.in_ok-new.new.key fits in
-    create_makes primitive (library c.args.self.now.lib.now) (level_at (library c.args.self.now.lib.now) c.args.context.now.depth) (context c.args.context.now) c.args.class (expression c.args.key.now)
+    create_makes primitive (library c.args.self.now.lib.now) (level_at (library c.args.self.now.lib.now) c.args.context.now.env.time c.args.context.now.depth) (context c.args.context.now) c.args.class (expression c.args.key.now)
     (map assignment c.args.pairs.now) (mapped.keyed_row c.in_ok-new.new) c.args.view.now c.create.new.view c.create.result c.in_ok-new.ensures c.create.ensures.goes_on
     (subst (λ k. Performs primitive (library c.args.self.now.lib.now) (create_object c.args.class k c.in_ok-new.new.row) c.args.view.now c.create.new.view c.create.result) back (c.create.ensures.operation (library c.args.self.now.lib.now)))

@@ -1,7 +1,7 @@
-use Rattle.std.proofs.Common.{ap, sym, subst, ◌∙◌, [], IfOk}
+use Rattle.std.proofs.Common.{ap, sym, subst, ◌∙◌, None, IfOk}
 use Rattle.hp_model.specs.Conditions.{Verdict}
 use Rattle.hp_model.specs.Tree.{Node}
-use Rattle.hp_model.specs.Answers.{handing_on}
+use Rattle.hp_model.specs.Answers.{standing}
 use Rattle.hp_value.specs.Mapped.{cause}
 use Rattle.hp_query.specs.Mapped.{verdict}
 use Rattle.hp_rule.specs.Mapped.{library, task}
@@ -20,10 +20,10 @@ pub returns-in_ok-outcome-in-Unsatisfied : goal.returns-in_ok-outcome-in-Unsatis
 returns-in_ok-outcome-in-Unsatisfied g c =
     subst (λ (v : Verdict). Follows (library c.args.self.now.lib.now) (task c.args.task.now) v (Over c.in_ok-outcome-in-Unsatisfied.outcome)) (ap verdict (sym c.in-Unsatisfied.is))
     (λ view. unsatisfied_over (library c.args.self.now.lib.now) (task c.args.task.now) (firing c.in_ok-outcome-in-Unsatisfied.outcome) view
-    (c.in_ok-outcome-in-Unsatisfied.ensures ∙ ap (λ (n : Node). handing_on n []) c.fired-what.ensures))
+    (c.in_ok-outcome-in-Unsatisfied.ensures ∙ ap (λ (n : Node). standing n None) c.fired-what.ensures))
 
 pub returns-in_ok-outcome-in-Faulty : goal.returns-in_ok-outcome-in-Faulty
 returns-in_ok-outcome-in-Faulty g c =
     subst (λ (v : Verdict). Follows (library c.args.self.now.lib.now) (task c.args.task.now) v (Over c.in_ok-outcome-in-Faulty.outcome)) (ap verdict (sym c.in-Faulty.is))
     (λ view. faulty_over (library c.args.self.now.lib.now) (task c.args.task.now) (cause c.in-Faulty.cause) (firing c.in_ok-outcome-in-Faulty.outcome) view
-    (c.in_ok-outcome-in-Faulty.ensures ∙ ap (λ (n : Node). handing_on n []) c.fired-what-in-Faulty.ensures))
+    (c.in_ok-outcome-in-Faulty.ensures ∙ (λ i. standing (c.fired-what-in-Faulty.ensures i) (c.fault_veto-veto.ensures i))))

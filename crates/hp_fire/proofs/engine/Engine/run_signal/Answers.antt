@@ -8,11 +8,11 @@ use Rattle.hp_fire.proofs.engine.Engine.run_signal.Goals as goal
 
 pub start-result-requires : goal.start-result-requires
 start-result-requires g c =
-    (search rules, signal_ready c.args.self.now.lib.now c.args.depth (primitive c.args.prim.now) c.args.view.now c.trigger-tasks.new.view c.trigger-tasks.result c.trigger-tasks.ensures.triggers)
+    (search rules, signal_ready c.args.self.now.lib.now c.args.time c.args.depth (primitive c.args.prim.now) c.args.view.now c.trigger-tasks.new.view c.trigger-tasks.result c.trigger-tasks.ensures.triggers)
 
 pub returns : goal.returns
 returns g c =
     let lib = c.args.self.now.lib.now in
-    let started = c.start-result.ensures (signal_in (level_at (library lib) c.args.depth) (primitive c.args.prim.now)) c.args.view.now
-    (signal_starts lib c.args.depth (primitive c.args.prim.now) c.args.view.now c.trigger-tasks.new.view c.trigger-tasks.result c.trigger-tasks.ensures.triggers c.trigger-tasks.ensures.goes_on) in
+    let started = c.start-result.ensures (signal_in (level_at (library lib) c.args.time c.args.depth) (primitive c.args.prim.now)) c.args.view.now
+    (signal_starts lib c.args.time c.args.depth (primitive c.args.prim.now) c.args.view.now c.trigger-tasks.new.view c.trigger-tasks.result c.trigger-tasks.ensures.triggers c.trigger-tasks.ensures.goes_on) in
     IfOk-weaker c.settled.result _ _ (λ r runs. runs (library lib) _ c.args.view.now c.start-result.new.view started) c.settled.ensures

@@ -18,7 +18,7 @@ use Rattle.hp_fire.proofs.engine.Engine.updated.Goals as goal
 
 pub returns-in_err-key : goal.returns-in_err-key
 returns-in_err-key g c =
-    let level = level_at (library c.args.self.now.lib.now) c.args.context.now.depth in
+    let level = level_at (library c.args.self.now.lib.now) c.args.context.now.env.time c.args.context.now.depth in
     let p = err_from_is_err_and c.from_residual.result c.from_residual.ensures.1 in
     rw (p.1, p.2)
     (makes_halt (λ (k : ℤ × Vec Given). keyed_in k.0 k.1.items) primitive (λ S r. updated_if_present level c.args.class r.key r.row (find_object S.objects c.args.class r.key))
@@ -29,7 +29,7 @@ pub returns : goal.returns
 returns g c =
     let fits : SFits w64 c.in_ok-key.key = search rules in
     let back : to_z w64 (of_z w64 c.in_ok-key.key) ≡ c.in_ok-key.key = to_z-of_z w64 c.in_ok-key.key fits in
-    update_makes primitive (library c.args.self.now.lib.now) (level_at (library c.args.self.now.lib.now) c.args.context.now.depth) (context c.args.context.now) c.args.class (expression c.args.key.now)
+    update_makes primitive (library c.args.self.now.lib.now) (level_at (library c.args.self.now.lib.now) c.args.context.now.env.time c.args.context.now.depth) (context c.args.context.now) c.args.class (expression c.args.key.now)
     (map assignment c.args.pairs.now) (keyed_in c.in_ok-key.key c.in_ok-key.given.items) c.args.view.now c.update.new.view c.update.result c.in_ok-key.ensures c.update.ensures.goes_on
     (subst (λ gs. Performs primitive (library c.args.self.now.lib.now) (update_object c.args.class c.in_ok-key.key (given_in gs)) c.args.view.now c.update.new.view c.update.result) c.deref.ensures.value
     (subst (λ k. Performs primitive (library c.args.self.now.lib.now) (update_object c.args.class k (given_in c.deref.result.now)) c.args.view.now c.update.new.view c.update.result) back (c.update.ensures.operation (library c.args.self.now.lib.now))))

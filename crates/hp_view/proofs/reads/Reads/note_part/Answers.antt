@@ -1,5 +1,5 @@
 use Rattle.std.proofs.Common.{◌∙◌, sym, ap, map, [], ◌∷◌, ◌++◌}
-use Rattle.hp_model.specs.Cells.{Read, part_read}
+use Rattle.hp_model.specs.Cells.{part_read}
 use Rattle.hp_value.specs.Mapped.{class_part, keyed_row}
 use Rattle.hp_view.specs.declared.part.FoundPart.{FoundPart}
 use Rattle.hp_view.specs.Mapped.{part_of}

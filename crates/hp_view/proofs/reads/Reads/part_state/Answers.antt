@@ -2,7 +2,6 @@ use Rattle.std.proofs.Common.{◌∙◌, sym, ap, subst, is_some}
 use Rattle.hp_value.specs.Mapped.{class_part}
 use Rattle.hp_view.specs.declared.reads.Seen.TheVariants.{Part as OfPart}
 use Rattle.hp_view.specs.Numbered.{IsStateOf}
-use Rattle.hp_view.specs.Parts.{number_of}
 use Rattle.hp_view.specs.Seeing.{number_was_read}
 use Rattle.hp_view.proofs.Noting.{recorded, compared_state, seen_same, seen_none}
 use Rattle.hp_view.proofs.reads.Reads.part_state.Goals as goal

@@ -1,4 +1,4 @@
-use Rattle.std.proofs.Common.{◌∙◌, sym, ap, subst, take, drop}
+use Rattle.std.proofs.Common.{sym, subst, take, drop}
 use Rattle.std.proofs.lemmas.List.{take-append-drop}
 use Rattle.hp_model.specs.Cells.{Holds}
 use Rattle.hp_model.proofs.BridgesCells.{Holds-front}

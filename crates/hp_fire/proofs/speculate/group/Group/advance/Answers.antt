@@ -1,5 +1,7 @@
 use Rattle.std.proofs.Common.{rules, arith, ◌≡◌, sym, ap, ◌∙◌, subst, ◌<◌, [], ◌∷◌, drop, length, length-append, map}
 use Rattle.std.proofs.lemmas.List.{drop-map}
+use Rattle.std.specs.Prelude.{option_map}
+use Rattle.hp_value.specs.Mapped.{veto}
 use Rattle.hp_rule.specs.Mapped.{library, task}
 use Rattle.hp_model.specs.Firing.{fire_task}
 use Rattle.hp_attempt.specs.Mapped.{firing}
@@ -35,6 +37,6 @@ returns g c =
       counted = counted_ahead added _ (counted_run waved added by_wave.owes c.in_ok-add.ensures.counts longer) came.ahead;
       sound = came.sound;
       so_far = λ first so_far. came.so_far first
-          (so_far_ran waved.settled.outcomes.items added.settled.outcomes.items waved.settled.end added.settled.end (task c.index-self-done.result) _ c.in_ok-outcome.outcome (by_wave.none same) here
+          (so_far_ran waved.settled.outcomes.items added.settled.outcomes.items (option_map veto waved.settled.end) (option_map veto added.settled.end) (task c.index-self-done.result) _ c.in_ok-outcome.outcome (ap (option_map veto) (by_wave.none same)) here
           c.in_ok-add.ensures.outcomes c.in_ok-add.ensures.end (by_wave.so_far first so_far) ran);
     }

@@ -7,4 +7,4 @@ use Rattle.hp_fire.proofs.speculate.trial.Trial.try_place.Goals as goal
 pub returns-clause-sound : goal.returns-clause-sound
 returns-clause-sound g c =
     let is : c.attempted.result ≡ Ok c.in_ok-attempt.attempt = search rules in
-    subst (λ r. IfOk r (λ a. IsSound (library c.args.self.now.lib.now) (attempt a))) is c.attempted.ensures
+    subst (λ r. IfOk r (λ a. IsSound (library c.args.self.now.lib.now) (attempt a))) is c.attempted.ensures.sound

@@ -1,0 +1,18 @@
+use Rattle.std.proofs.Common.{sym, subst}
+use Rattle.hp_model.specs.Rules.{veto_with}
+use Rattle.hp_model.specs.Firing.{run_statement}
+use Rattle.hp_value.specs.declared.expr.Expr.{Expr}
+use Rattle.hp_value.specs.Mapped.{expression}
+use Rattle.hp_fire.specs.Mapped.{context, course}
+use Rattle.hp_fire.specs.Runs.{Runs, Steps}
+use Rattle.hp_fire.specs.Statements.{veto_statement}
+use Rattle.hp_fire.proofs.vetoes.run_veto.Goals as goal
+
+pub returns-in-Some : goal.returns-in-Some
+returns-in-Some c = λ library level view.
+    subst (λ message. Steps library (run_statement (veto_statement message) level (context c.args.context.now)) view view c.veto_saying.result) (sym c.in-Some.is)
+    (subst (λ (e : Expr). Steps library (run_statement (veto_with (expression e)) level (context c.args.context.now)) view view c.veto_saying.result) c.deref.ensures (c.veto_saying.ensures library level view))
+
+pub returns-in-None : goal.returns-in-None
+returns-in-None c = λ library level view.
+    subst (λ message. Runs library (run_statement (veto_statement message) level (context c.args.context.now)) view view (course c.vetoed.result)) (sym c.in-None.is) (c.vetoed.ensures library view)
