@@ -233,6 +233,31 @@ impl Server {
         Ok(server)
     }
 
+    /// Answers a last line without a line feed, if one has begun.
+    fn reply_last<T: Threads + Sync, W: Sink>(
+        &mut self,
+        rt: &T,
+        alloc: Global,
+        writer: &mut W,
+    ) -> Result<(), Fault>
+        requires { W.has_failed writer.old ≡ false }
+        ensures output { OnOk result ((s : L.Server) →
+            IsServer self.old s → Appends (W.contents writer.old) (W.contents writer.new) (L.end_output s)) }
+        ensures stage { OnOk result ((s : L.Server) →
+            IsServer self.old s → IsStage self.new.stage (L.stage_after s.with_tree s.stage (begun s.line))) }
+        ensures begins { (s : L.Server) →
+            IsServer self.old s → Begins (W.contents writer.old) (W.contents writer.new) (L.end_output s) }
+        ensures memory { result ≡ Err Fault.NoMemory → writer.new ≡ writer.old }
+        ensures write { result ≡ Err Fault.Write ↔ (W.has_failed writer.new ≡ true) }
+        ensures whole { OnOk result (W.has_failed writer.new ≡ false) }
+        ensures read { result ≢ Err Fault.Read }
+    {
+        if self.line.is_empty() {
+            return Ok(());
+        }
+        self.reply(rt, alloc, writer)
+    }
+
     /// Takes the end of the input: answers a last line without a line feed. The result is the status of the run.
     ///
     /// The writer must not have failed before. After an error what was written is a prefix of the answer; after
@@ -255,10 +280,7 @@ impl Server {
         ensures read { result ≢ Err Fault.Read }
     {
         let mut server = self;
-        if server.line.is_empty() {
-            return Ok(server.status());
-        }
-        server.reply(rt, alloc, writer)?;
+        server.reply_last(rt, alloc, writer)?;
         Ok(server.status())
     }
 }
