@@ -1,5 +1,6 @@
 //! The command line, and devices that move little at a time or fail.
 
+use super::program::program;
 use super::running::run;
 use hp_report::{Fault, Status, Watched, exit_code};
 use hp_words::{Options, WordFault, parse_words, word_code};
@@ -155,6 +156,45 @@ fn each_ending_has_its_exit_status(rt: HostRuntime) -> Result<(), Fail> {
     assert_eq!(rt; exit_code(&Err(Fault::NoMemory)), 4);
     assert_eq!(rt; word_code(WordFault::Refused), 3);
     assert_eq!(rt; word_code(WordFault::NoMemory), 4);
+    Ok(())
+}
+
+#[test]
+fn without_options_no_device_is_called(rt: HostRuntime) -> Result<(), Fail> {
+    for (fault, code) in [(WordFault::Refused, 3), (WordFault::NoMemory, 4)] {
+        let mut reader = Watched::new(slow_device(&rt, SCRIPT, 1));
+        let mut writer = Watched::new(slow_device(&rt, b"", 1));
+        let ended = program(&rt, rt.alloc(), Err(fault), &mut reader, &mut writer);
+        assert_eq!(rt; ended.code, code);
+        assert_eq!(rt; reader.into_inner().calls, 0);
+        assert_eq!(rt; writer.into_inner().calls, 0);
+    }
+    Ok(())
+}
+
+const WITH_TREE: &[u8] = b"unit 1 committed
+emit 2
+  op install r
+  op create acct 1 bal=5
+  op update acct 1 bal=7
+  fire r immediate satisfied committed
+    emit 2
+final
+object acct 1 bal=7
+rule r enabled
+end
+";
+
+#[test]
+fn the_program_passes_its_options_on(rt: HostRuntime) -> Result<(), Fail> {
+    for (words, text) in [(["--workers", "2"].as_slice(), TEXT), (["--tree"].as_slice(), WITH_TREE)] {
+        let options = asked(&rt, words)?;
+        let mut reader = Watched::new(slow_device(&rt, SCRIPT, 4096));
+        let mut writer = Watched::new(slow_device(&rt, b"", 4096));
+        let ended = program(&rt, rt.alloc(), options, &mut reader, &mut writer);
+        assert_eq!(rt; (ended.code, ended.stop), (0, None));
+        assert_eq!(rt; writer.into_inner().output.as_slice(), text);
+    }
     Ok(())
 }
 

@@ -60,18 +60,64 @@ emit 9
 ok 4
 ";
 
-/// The script on one line, followed by the lines.
-pub fn session(alloc: Global) -> Result<String, AllocError> {
-    let mut input = String::new(alloc);
-    for letter in SCRIPT.chars() {
+/// A rule base of version 4. Its rule vetoes with the clock's moment.
+const FOURTH: &str = r#"{
+  "version": 4,
+  "classes": [["acct", [["bal", "int"]]]],
+  "rules": [["vetoes", ["signal", "go"], "immediate", [], "immediate", [["veto", ["now"]]]]],
+  "items": [["tx", [["install", "vetoes"], ["emit", ["now"]]]]]
+}"#;
+
+/// The lines after it.
+const FOURTH_LINES: &str = r#"["clock", 5]
+["tx", [["let", "k", ["next", "acct"], [["create", "acct", ["value", "k"], [["bal", ["now"]]]]]]]]
+["tx", [["signal", "go", []]]]
+["tx", [["let", "k", ["least", "a", "acct", false, 1], []]]]
+["tx", [["emit", ["value", "k"]]]]
+["show", "acct"]
+"#;
+
+/// The answers to them.
+pub const FOURTH_ANSWERS: &str = "unit 1 committed
+emit 0
+ok 1
+ok 1
+unit 2 committed
+ok 2
+unit 3 aborted A9 vetoes 5
+ok 3
+unit 4 aborted A2
+ok 4
+refused S4 /1/0/1/1
+object acct 1 bal=5
+ok 4
+";
+
+/// A script on one line, with its line feed.
+fn one_line(alloc: Global, script: &str) -> Result<String, AllocError> {
+    let mut line = String::new(alloc);
+    for letter in script.chars() {
         if letter != '\n' {
-            input.push(letter)?;
+            line.push(letter)?;
         }
     }
-    input.push('\n')?;
+    line.push('\n')?;
+    Ok(line)
+}
+
+/// The script on one line, followed by the lines.
+pub fn session(alloc: Global) -> Result<String, AllocError> {
+    let mut input = one_line(alloc, SCRIPT)?;
     input.push_str(UPDATE)?;
     input.push_str("\r\n")?;
     input.push_str(LINES)?;
+    Ok(input)
+}
+
+/// The same in version 4.
+pub fn fourth_session(alloc: Global) -> Result<String, AllocError> {
+    let mut input = one_line(alloc, FOURTH)?;
+    input.push_str(FOURTH_LINES)?;
     Ok(input)
 }
 

@@ -1,6 +1,8 @@
 //! Whole runs on devices that transfer little at a time, and that fail.
 
-use super::fixtures::{ANSWERS, EASY, Steps, bytes_until, new_device, session};
+use super::fixtures::{
+    ANSWERS, EASY, FOURTH_ANSWERS, Steps, bytes_until, fourth_session, new_device, session,
+};
 use hp_live::{Fault, Options, Status, serve};
 use hp_report::Watched;
 use std::process::Abort;
@@ -120,5 +122,26 @@ fn a_write_that_takes_nothing_ends_the_run(rt: HostRuntime) -> Result<(), Fail> 
     };
     let first_answer = "unit 1 committed\nok 1\n";
     expect_write_fault(&rt, input.as_bytes(), writes, first_answer.len());
+    Ok(())
+}
+
+#[test]
+fn lines_of_version_4_have_its_forms(rt: HostRuntime) -> Result<(), Fail> {
+    let input = fourth_session(rt.alloc())?;
+    let (output, ended) = served(&rt, input.as_bytes(), EASY, EASY);
+    assert_eq!(rt; output.as_slice(), FOURTH_ANSWERS.as_bytes());
+    assert_eq!(rt; ended, Ok(Status::Reported));
+    Ok(())
+}
+
+#[test]
+fn lines_of_version_2_have_none_of_them(rt: HostRuntime) -> Result<(), Fail> {
+    let input = r#"{"version":2,"classes":[],"rules":[],"items":[]}
+["tx",[["emit",["now"]]]]
+["tx",[["let","k",1,[]]]]
+"#;
+    let answers = "ok 0\nrefused S2 /1/0/1\nrefused S2 /1/0\n";
+    let (output, _ended) = served(&rt, input.as_bytes(), EASY, EASY);
+    assert_eq!(rt; output.as_slice(), answers.as_bytes());
     Ok(())
 }

@@ -3,7 +3,9 @@
 use super::fixtures::library;
 use hp_report::{Report, RuleStatus, Watched, write_report};
 use hp_tree::{ConditionEnd, Ending, Item, Node, Objects, Operation, TopReport, UnitReport, What};
-use hp_value::{Cause, ClassDef, Coupling, Field, Key, Kind, Row, RuleNo, RuleOperation, Value};
+use hp_value::{
+    Cause, ClassDef, Coupling, Field, Key, Kind, Row, RuleNo, RuleOperation, Value, Veto,
+};
 use std::alloc::Global;
 use std::sync::Arc;
 use std::test::Fail;
@@ -78,6 +80,11 @@ fn fire(rule: RuleNo, place: Coupling, condition: ConditionEnd) -> What {
         place,
         condition,
     }
+}
+
+/// The end by a rule's veto.
+fn veto(rule: RuleNo, message: Option<Value>) -> Ending {
+    Ending::Vetoed(Veto { rule, message })
 }
 
 fn objects(alloc: Global, classes: &[ClassDef], entries: &[(Key, i64)]) -> Result<Objects, Fail> {
@@ -239,7 +246,7 @@ const OTHER_LINES: &str = r#"unit 1 time 9223372036854775807 aborted A9 down
   sub aborted A8
     emit true
   fire up deferred unsatisfied none
-  fire up dependent fault A9 up none
+  fire up dependent fault A5 none
   act down exclusive aborted A1
 final
 object acct -20 bal=1
@@ -277,7 +284,7 @@ fn others(alloc: Global) -> Result<UnitReport, Fail> {
     let emit = Item::Emit(Value::Bool(true));
     let end = Ending::Aborted(Cause::Asked);
     tree.push(node(alloc, What::Sub, end, Some(emit), None)?)?;
-    let fault = ConditionEnd::WithFault(Cause::Vetoed(0));
+    let fault = ConditionEnd::WithFault(Cause::DivideByZero);
     for (place, condition) in [
         (Coupling::Deferred, ConditionEnd::WithoutAction),
         (Coupling::Dependent, fault),
@@ -291,8 +298,7 @@ fn others(alloc: Global) -> Result<UnitReport, Fail> {
     };
     let end = Ending::Aborted(Cause::Exists);
     tree.push(node(alloc, act, end, None, None)?)?;
-    let end = Ending::Aborted(Cause::Vetoed(1));
-    unit(alloc, Some(9223372036854775807), end, tree)
+    unit(alloc, Some(9223372036854775807), veto(1, None), tree)
 }
 
 #[test]
@@ -303,5 +309,51 @@ fn shows_each_other_kind_of_line(rt: HostRuntime) -> Result<(), Fail> {
     let report = report(alloc, &["up", "down"], others(alloc)?, &objects, &statuses)?;
     assert_eq!(rt; written(alloc, &report, true)?.as_str(), OTHER_LINES);
     assert_eq!(rt; written(alloc, &report, false)?.as_str(), WITHOUT_TREE);
+    Ok(())
+}
+
+const MESSAGES: &str = r#"unit 1 aborted A9 up -7
+  sub aborted A9 down "say \"no\""
+    fire down immediate satisfied aborted A9 down "say \"no\""
+  sub aborted A9 up true
+  act up deferred aborted A9 up -7
+dependent down aborted A9 down "say \"no\""
+  fire down dependent satisfied aborted A9 down "say \"no\""
+final
+rule up enabled
+rule down enabled
+end
+"#;
+
+/// A unit and a detached task that are aborted by vetoes with messages, as are the nodes in them.
+fn messages(alloc: Global) -> Result<UnitReport, Fail> {
+    let no = Value::Text(String::from_str(alloc, "say \"no\"")?);
+    let fires = fire(1, Coupling::Immediate, ConditionEnd::WithAction);
+    let fired = node(alloc, fires, veto(1, Some(no.clone()?)), None, None)?;
+    let act = What::Act {
+        rule: 0,
+        place: Coupling::Deferred,
+    };
+    let mut tree = Vec::new(alloc);
+    tree.push(node(alloc, What::Sub, veto(1, Some(no.clone()?)), Some(fired), None)?)?;
+    tree.push(node(alloc, What::Sub, veto(0, Some(Value::Bool(true))), None, None)?)?;
+    tree.push(node(alloc, act, veto(0, Some(Value::Int(-7))), None, None)?)?;
+    let mut unit = unit(alloc, None, veto(0, Some(Value::Int(-7))), tree)?;
+    let fires = fire(1, Coupling::Dependent, ConditionEnd::WithAction);
+    let fired = node(alloc, fires, veto(1, Some(no.clone()?)), None, None)?;
+    unit.tops.push(TopReport {
+        task: Some((1, Coupling::Dependent)),
+        end: veto(1, Some(no)),
+        tree: vec![in alloc; fired]?,
+    })?;
+    Ok(unit)
+}
+
+#[test]
+fn shows_a_message_wherever_its_cause_stands(rt: HostRuntime) -> Result<(), Fail> {
+    let alloc = rt.alloc();
+    let statuses = [RuleStatus::Enabled, RuleStatus::Enabled];
+    let report = report(alloc, &["up", "down"], messages(alloc)?, &[], &statuses)?;
+    assert_eq!(rt; written(alloc, &report, true)?.as_str(), MESSAGES);
     Ok(())
 }

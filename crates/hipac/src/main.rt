@@ -1,26 +1,21 @@
 //! The rule manager: reads a script from standard input, runs it, and writes its firing report.
 #![tactic(auto)]
 
+mod program;
 mod running;
 
-use hp_report::{Watched, exit_code};
-use hp_words::{options_of, word_code};
-use running::run;
+use hp_report::Watched;
+use hp_words::options_of;
+use program::program;
 use std::process::ExitCode;
 
 fn main(rt: HostRuntime) -> ExitCode {
-    let options = match options_of(&rt) {
-        Ok(options) => options,
-        Err(fault) => {
-            let _ = eprintln!(rt; "{fault}");
-            return ExitCode::from(word_code(fault));
-        }
-    };
+    let asked = options_of(&rt);
     let mut reader = Watched::new(rt.stdin());
     let mut writer = Watched::new(rt.stdout());
-    let ended = run(&rt, rt.alloc(), &mut reader, &mut writer, options);
-    if let Err(fault) = &ended {
-        let _ = eprintln!(rt; "{fault}");
+    let ended = program(&rt, rt.alloc(), asked, &mut reader, &mut writer);
+    if let Some(stop) = ended.stop {
+        let _ = eprintln!(rt; "{stop}");
     }
-    ExitCode::from(exit_code(&ended))
+    ExitCode::from(ended.code)
 }

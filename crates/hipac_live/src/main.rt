@@ -1,29 +1,22 @@
 //! The rule manager that stays up: reads lines from standard input and answers each on standard output.
 //!
-//! The first line is a script, each later one an item of it, or `["show"]`.
+//! The first line is a script, each later one an item of it, or a question for the state.
 #![tactic(auto)]
 
-use hp_live::{Options, exit_code, serve};
+mod program;
+
 use hp_report::Watched;
-use hp_words::{options_of, word_code};
+use hp_words::options_of;
+use program::program;
 use std::process::ExitCode;
 
 fn main(rt: HostRuntime) -> ExitCode {
-    let options = match options_of(&rt) {
-        Ok(words) => Options {
-            workers: words.workers,
-            tree: words.tree,
-        },
-        Err(fault) => {
-            let _ = eprintln!(rt; "{fault}");
-            return ExitCode::from(word_code(fault));
-        }
-    };
+    let asked = options_of(&rt);
     let mut reader = Watched::new(rt.stdin());
     let mut writer = Watched::new(rt.stdout());
-    let ended = serve(&rt, rt.alloc(), &mut reader, &mut writer, options);
-    if let Err(fault) = &ended {
-        let _ = eprintln!(rt; "{fault}");
+    let ended = program(&rt, rt.alloc(), asked, &mut reader, &mut writer);
+    if let Some(stop) = ended.stop {
+        let _ = eprintln!(rt; "{stop}");
     }
-    ExitCode::from(exit_code(&ended))
+    ExitCode::from(ended.code)
 }

@@ -9,7 +9,7 @@ use Rattle.hp_lines.specs.Live as L
 use Rattle.hp_lines.specs.Live.{piece_output, after, byte_output, next, end_output, new_server, output, closed, unopened}
 use Rattle.hp_lines.proofs.Pieces.{output-append, after-append, in_all, in_all-append, in_all_of, stage_in_all, stage_of, stage-append, closed_writes, closed_stays}
 use Rattle.hp_lines.proofs.Kept.{begins_more, begins_on}
-use Rattle.hp_live.specs.Kept.{IsServer, StopsAtRefusal}
+use Rattle.hp_live.specs.Kept.{IsServer, FirstAnswers, ReadSoFar, WholeAnswers, AnswersBegun, StopsAtRefusal}
 use Rattle.hp_live.specs.Ends.{status_at, status_of}
 use Rattle.hp_live.specs.declared.server.Server.{Server}
 use Rattle.hp_report.specs.declared.status.Status.{Status}
@@ -56,6 +56,16 @@ begins_piece old mid new was before now xs i fed begins low d here =
     sym (output-append d front (x ∷ drop (suc i) xs)) ∙ ap (λ (l : List ℕ). piece_output d (front ++ l)) (sym (drop-cons xs i 0 low)) ∙ ap (piece_output d) (take-append-drop i xs) in
     subst (Begins old new) parts (begins_on old mid new (piece_output d front) (byte_output e x ++ rest) (fed.out d here) (begins_more mid new (byte_output e x) rest (begins e (fed.at d here))))
 
+-- memory ran out at one of the bytes: those before it are answered
+pub first_of_piece : (old mid new : Option (List ℕ)) (was : Bool) (before now : Server) (xs : List ℕ) (i : ℕ) → Fed old mid was before now (take i xs) → mid ≡ new
+    → (d : L.Server) → IsServer before d → FirstAnswers old new d xs
+first_of_piece old mid new was before now xs i fed none d here = record {
+  fed = take i xs;
+  unfed = drop i xs;
+  parts = sym (take-append-drop i xs);
+  out = subst (λ (b : Option (List ℕ)). Appends old b (piece_output d (take i xs))) none (fed.out d here);
+}
+
 -- ---- a whole run
 
 -- a run that doesn't end with the refusal of the script
@@ -71,13 +81,16 @@ stops_whole left rest first bytes taken unrefused = record {
   unrefused = unrefused;
 }
 
+pub short_piece : (buf : List ℕ) (n : ℕ) → n ≤ length buf → length buf ≡ 4096 → length (take n buf) ≤ 4096
+short_piece buf n fits room = omega (arith, length-take-le n buf fits, fits, room)
+
 pub stops_piece : (left rest more : Option (List ℕ)) (first : L.Server) (bytes buf : List ℕ) (n : ℕ) → Consumes left rest bytes → Consumes rest more (take n buf) → n ≤ length buf → length buf ≡ 4096
     → (after first bytes).stage ≢ closed → StopsAtRefusal left more first
 stops_piece left rest more first bytes buf n taken next fits room unrefused = record {
   before = bytes;
   piece = take n buf;
   taken = Consumes-trans left rest more bytes (take n buf) taken next;
-  short = omega (arith, length-take-le n buf fits, fits, room);
+  short = short_piece buf n fits room;
   unrefused = unrefused;
 }
 
@@ -90,6 +103,68 @@ pub record Served (left rest : Option (List ℕ)) (lost : Bool) (old new : Optio
   pub at : IsServer now (after first bytes)
   pub whole : failed ≡ false
   pub stops : StopsAtRefusal left rest first
+
+-- by what was read before a piece
+abbrev so_far : (left rest more : Option (List ℕ)) (lost : Bool) (old mid : Option (List ℕ)) (was : Bool) (first : L.Server) (now : Server) (piece : List ℕ)
+    → Served left rest lost old mid was first now → Consumes rest more piece → length piece ≤ 4096 → ReadSoFar left more old mid first
+so_far left rest more lost old mid was first now piece s taken short = record {
+  before = s.bytes;
+  piece = piece;
+  taken = Consumes-trans left rest more s.bytes piece s.taken taken;
+  short = short;
+  out = s.out;
+}
+
+-- at no piece, as no byte was read since
+abbrev nothing_more : (left rest : Option (List ℕ)) (lost : Bool) (old mid : Option (List ℕ)) (was : Bool) (first : L.Server) (now : Server)
+    → Served left rest lost old mid was first now → ReadSoFar left rest old mid first
+nothing_more left rest lost old mid was first now s = record {
+  before = s.bytes;
+  piece = [];
+  taken = subst (Consumes left rest) (sym (append-nil s.bytes)) s.taken;
+  short = omega arith;
+  out = s.out;
+}
+
+none_written : (a b : Option (List ℕ)) → a ≡ b → Appends a b []
+none_written None b same = tt
+none_written (Some xs) None same = cc
+none_written (Some xs) (Some ys) same = let is : xs ≡ ys = cc in sym is ∙ sym (append-nil xs)
+
+-- memory ran out in a piece
+pub whole_in_piece : (left rest more : Option (List ℕ)) (lost : Bool) (old mid new : Option (List ℕ)) (was : Bool) (first : L.Server) (now : Server) (piece : List ℕ)
+    → Served left rest lost old mid was first now → Consumes rest more piece → length piece ≤ 4096
+    → ((d : L.Server) → IsServer now d → FirstAnswers mid new d piece) → WholeAnswers left more old new first
+whole_in_piece left rest more lost old mid new was first now piece s taken short answered =
+    record { between = mid; so_far = so_far left rest more lost old mid was first now piece s taken short; more = answered (after first s.bytes) s.at }
+
+-- memory ran out after all pieces
+pub whole_at_end : (left rest : Option (List ℕ)) (lost : Bool) (old mid new : Option (List ℕ)) (was : Bool) (first : L.Server) (now : Server)
+    → Served left rest lost old mid was first now → mid ≡ new → WholeAnswers left rest old new first
+whole_at_end left rest lost old mid new was first now s same = record {
+  between = mid;
+  so_far = nothing_more left rest lost old mid was first now s;
+  more = record { fed = []; unfed = []; parts = refl; out = none_written mid new same };
+}
+
+-- a write failed in a piece
+pub begun_in_piece : (left rest more : Option (List ℕ)) (lost : Bool) (old mid new : Option (List ℕ)) (was : Bool) (first : L.Server) (now : Server) (piece : List ℕ)
+    → Served left rest lost old mid was first now → Consumes rest more piece → length piece ≤ 4096
+    → ((d : L.Server) → IsServer now d → Begins mid new (piece_output d piece)) → AnswersBegun left more old new first
+begun_in_piece left rest more lost old mid new was first now piece s taken short begins = record {
+  between = mid;
+  so_far = so_far left rest more lost old mid was first now piece s taken short;
+  more = begins_more mid new (piece_output (after first s.bytes) piece) (end_output (after (after first s.bytes) piece)) (begins (after first s.bytes) s.at);
+}
+
+-- a write failed at the end
+pub begun_at_end : (left rest : Option (List ℕ)) (lost : Bool) (old mid new : Option (List ℕ)) (was : Bool) (first : L.Server) (now : Server)
+    → Served left rest lost old mid was first now → ((d : L.Server) → IsServer now d → Begins mid new (end_output d)) → AnswersBegun left rest old new first
+begun_at_end left rest lost old mid new was first now s begins = record {
+  between = mid;
+  so_far = nothing_more left rest lost old mid was first now s;
+  more = begins (after first s.bytes) s.at;
+}
 
 -- the same after one more read
 pub served_on : (left rest more : Option (List ℕ)) (lost gone : Bool) (old mid new : Option (List ℕ)) (was is : Bool) (first : L.Server) (now then : Server) (piece : List ℕ)
@@ -172,11 +247,6 @@ status_end (Some input) (Some r) with_tree bytes status taken ended known =
     known ∙ ap status_at (stage_of with_tree bytes) ∙ ap (status_of with_tree) whole
 
 -- ---- the rest after reads
-
--- a read at the end gave nothing
-pub ended : (left rest more : Option (List ℕ)) (bytes buf : List ℕ) (n : ℕ) → n ≡ 0 → Consumes left rest bytes → Consumes rest more (take n buf) → Consumes left more bytes
-ended left rest more bytes buf n none taken last =
-    subst (Consumes left more) (append-nil bytes) (Consumes-trans left rest more bytes [] taken (subst (λ m. Consumes rest more (take m buf)) none last))
 
 -- a read that failed gave nothing
 pub kept_left : (left rest new : Option (List ℕ)) (bytes : List ℕ) → Consumes left rest bytes → Keeps rest new → Consumes left new bytes

@@ -9,6 +9,7 @@ use Rattle.hp_model.specs.Report.{Bytes}
 use Rattle.hp_rule.specs.Mapped.{library}
 use Rattle.hp_script.specs.Versions.{version_view}
 use Rattle.hp_store.specs.Stack.{cells_in}
+use Rattle.hp_report.specs.Device.{Begins}
 use Rattle.hp_lines.specs.Live as L
 use Rattle.hp_live.specs.declared.base.RuleBase.{RuleBase}
 use Rattle.hp_live.specs.declared.server.Stage.{Stage}
@@ -44,6 +45,33 @@ pub record Answers (text : String Global) (kept : Stage) (a : L.Answer) : Type 0
 -- the answers to all that was read were written, and the script wasn't refused
 abbrev pub AllAnswered : (left rest : Option (List ℕ)) → (old new : Option (List ℕ)) → L.Server → Type 0
 AllAnswered left rest old new s = (bytes : List ℕ) × Consumes left rest bytes × Appends old new (L.piece_output s bytes) × ((L.after s bytes).stage ≢ L.closed)
+
+-- the answers to the first lines of a piece were written, and no other byte
+pub record FirstAnswers (old new : Option (List ℕ)) (s : L.Server) (piece : List ℕ) : Type 0 where
+  pub fed : List ℕ
+  pub unfed : List ℕ
+  pub parts : piece ≡ fed ++ unfed
+  pub out : Appends old new (L.piece_output s fed)
+
+-- the bytes that were read: those of whose lines all answers were written, and then one piece of at most 4096 bytes
+pub record ReadSoFar (left rest : Option (List ℕ)) (old between : Option (List ℕ)) (s : L.Server) : Type 0 where
+  pub before : List ℕ
+  pub piece : List ℕ
+  pub taken : Consumes left rest (before ++ piece)
+  pub short : length piece ≤ 4096
+  pub out : Appends old between (L.piece_output s before)
+
+-- the answers to all lines that were complete before the last piece were written, and those to some of its lines
+pub record WholeAnswers (left rest : Option (List ℕ)) (old new : Option (List ℕ)) (s : L.Server) : Type 0 where
+  pub between : Option (List ℕ)
+  pub so_far : ReadSoFar left rest old between s
+  pub more : FirstAnswers between new (L.after s so_far.before) so_far.piece
+
+-- the answers to all lines that were complete before the last piece were written, and a beginning of the others
+pub record AnswersBegun (left rest : Option (List ℕ)) (old new : Option (List ℕ)) (s : L.Server) : Type 0 where
+  pub between : Option (List ℕ)
+  pub so_far : ReadSoFar left rest old between s
+  pub more : Begins between new (L.piece_output (L.after s so_far.before) so_far.piece ++ L.end_output (L.after (L.after s so_far.before) so_far.piece))
 
 -- bytes were read only as long as the script wasn't refused: they are some that leave it so, and one piece more
 pub record StopsAtRefusal (left rest : Option (List ℕ)) (s : L.Server) : Type 0 where

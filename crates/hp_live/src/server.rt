@@ -8,7 +8,7 @@ ghost use Rattle.hp_script.specs.Timed.{timed_script_of};
 ghost use Rattle.hp_lines.specs.Lines.{begun};
 ghost use Rattle.hp_lines.specs.Live as L;
 ghost use Rattle.hp_live.specs.Ends.{status_at};
-ghost use Rattle.hp_live.specs.Kept.{StandsFor, IsStage, IsServer, Answers};
+ghost use Rattle.hp_live.specs.Kept.{StandsFor, IsStage, IsServer, Answers, FirstAnswers};
 
 use crate::base::RuleBase;
 use crate::options::Options;
@@ -33,6 +33,9 @@ pub(crate) enum Stage {
 
 /// Collects the bytes of lines and answers each line. It drops the reports of a line's units after the answer is
 /// written.
+///
+/// A call that takes the next bytes consumes the server, and gives it back only if it succeeds. So nobody can use a
+/// server after an error: some of what its last line asks for may have happened without an answer.
 #[derive(Drop)]
 pub struct Server {
     pub(crate) options: Options,
@@ -162,6 +165,7 @@ impl Server {
         ensures next { OnOk result ((s : L.Server) → IsServer self.old s → IsServer self.new (L.answered s)) }
         ensures begins { (s : L.Server) →
             IsServer self.old s → Begins (W.contents writer.old) (W.contents writer.new) (L.reply s) }
+        ensures memory { result ≡ Err Fault.NoMemory → writer.new ≡ writer.old }
         ensures write { result ≡ Err Fault.Write ↔ (W.has_failed writer.new ≡ true) }
         ensures whole { OnOk result (W.has_failed writer.new ≡ false) }
         ensures read { result ≢ Err Fault.Read }
@@ -185,6 +189,7 @@ impl Server {
         ensures next { OnOk result ((s : L.Server) → IsServer self.old s → IsServer self.new (L.next s byte)) }
         ensures begins { (s : L.Server) →
             IsServer self.old s → Begins (W.contents writer.old) (W.contents writer.new) (L.byte_output s byte) }
+        ensures memory { result ≡ Err Fault.NoMemory → writer.new ≡ writer.old }
         ensures write { result ≡ Err Fault.Write ↔ (W.has_failed writer.new ≡ true) }
         ensures whole { OnOk result (W.has_failed writer.new ≡ false) }
         ensures read { result ≢ Err Fault.Read }
@@ -200,35 +205,36 @@ impl Server {
 
     /// Takes a piece of the input. When it returns `Ok`, all lines that are complete with the piece have been answered.
     ///
-    /// The writer must not have failed before. After an error what was written is a prefix of these answers, and the
-    /// server can't be used further: some of what a line asks for may have happened without an answer.
+    /// The writer must not have failed before. After an error what was written is a prefix of these answers; after
+    /// `Fault::NoMemory` it is whole answers.
     pub fn feed<T: Threads + Sync, W: Sink>(
-        &mut self,
+        self,
         rt: &T,
         alloc: Global,
         writer: &mut W,
         piece: &[u8],
-    ) -> Result<(), Fault>
+    ) -> Result<Server, Fault>
         requires { W.has_failed writer.old ≡ false }
-        ensures output { OnOk result ((s : L.Server) → IsServer self.old s →
+        ensures output { OnOk result ((s : L.Server) → IsServer self s →
             Appends (W.contents writer.old) (W.contents writer.new) (L.piece_output s piece.now)) }
-        ensures next { OnOk result ((s : L.Server) → IsServer self.old s → IsServer self.new (L.after s piece.now)) }
+        ensures next { IfOk result (λ later. (s : L.Server) → IsServer self s → IsServer later (L.after s piece.now)) }
         ensures begins { (s : L.Server) →
-            IsServer self.old s → Begins (W.contents writer.old) (W.contents writer.new) (L.piece_output s piece.now) }
+            IsServer self s → Begins (W.contents writer.old) (W.contents writer.new) (L.piece_output s piece.now) }
+        ensures memory { result ≡ Err Fault.NoMemory → (s : L.Server) →
+            IsServer self s → FirstAnswers (W.contents writer.old) (W.contents writer.new) s piece.now }
         ensures write { result ≡ Err Fault.Write ↔ (W.has_failed writer.new ≡ true) }
         ensures whole { OnOk result (W.has_failed writer.new ≡ false) }
         ensures read { result ≢ Err Fault.Read }
     {
+        let mut server = self;
         for byte in piece {
-            self.feed_byte(rt, alloc, writer, *byte)?;
+            server.feed_byte(rt, alloc, writer, *byte)?;
         }
-        Ok(())
+        Ok(server)
     }
 
-    /// Takes the end of the input: answers a last line without a line feed.
-    ///
-    /// The writer must not have failed before. After an error what was written is a prefix of the answer.
-    pub fn finish<T: Threads + Sync, W: Sink>(
+    /// Answers a last line without a line feed, if one has begun.
+    fn reply_last<T: Threads + Sync, W: Sink>(
         &mut self,
         rt: &T,
         alloc: Global,
@@ -241,6 +247,7 @@ impl Server {
             IsServer self.old s → IsStage self.new.stage (L.stage_after s.with_tree s.stage (begun s.line))) }
         ensures begins { (s : L.Server) →
             IsServer self.old s → Begins (W.contents writer.old) (W.contents writer.new) (L.end_output s) }
+        ensures memory { result ≡ Err Fault.NoMemory → writer.new ≡ writer.old }
         ensures write { result ≡ Err Fault.Write ↔ (W.has_failed writer.new ≡ true) }
         ensures whole { OnOk result (W.has_failed writer.new ≡ false) }
         ensures read { result ≢ Err Fault.Read }
@@ -249,5 +256,31 @@ impl Server {
             return Ok(());
         }
         self.reply(rt, alloc, writer)
+    }
+
+    /// Takes the end of the input: answers a last line without a line feed. The result is the status of the run.
+    ///
+    /// The writer must not have failed before. After an error what was written is a prefix of the answer; after
+    /// `Fault::NoMemory` it is nothing.
+    pub fn finish<T: Threads + Sync, W: Sink>(
+        self,
+        rt: &T,
+        alloc: Global,
+        writer: &mut W,
+    ) -> Result<Status, Fault>
+        requires { W.has_failed writer.old ≡ false }
+        ensures output { OnOk result ((s : L.Server) →
+            IsServer self s → Appends (W.contents writer.old) (W.contents writer.new) (L.end_output s)) }
+        ensures status { IfOk result (λ status. (s : L.Server) →
+            IsServer self s → status ≡ status_at (L.stage_after s.with_tree s.stage (begun s.line))) }
+        ensures begins { (s : L.Server) →
+            IsServer self s → Begins (W.contents writer.old) (W.contents writer.new) (L.end_output s) }
+        ensures memory { result ≡ Err Fault.NoMemory → writer.new ≡ writer.old }
+        ensures write { result ≡ Err Fault.Write ↔ (W.has_failed writer.new ≡ true) }
+        ensures read { result ≢ Err Fault.Read }
+    {
+        let mut server = self;
+        server.reply_last(rt, alloc, writer)?;
+        Ok(server.status())
     }
 }

@@ -4,7 +4,7 @@ ghost use Rattle.std.specs.Prelude.{◌≡◌, ◌↔◌, OnOk, IfOk, IfSome, tr
 ghost use Rattle.std.specs.Io.KnownBytes.{Appends};
 ghost use Rattle.hp_report.specs.Device.{Begins};
 ghost use Rattle.hp_lines.specs.Live as L;
-ghost use Rattle.hp_live.specs.Kept.{AllAnswered, StopsAtRefusal};
+ghost use Rattle.hp_live.specs.Kept.{AllAnswered, WholeAnswers, AnswersBegun, StopsAtRefusal};
 ghost use Rattle.hp_live.specs.Ends.{status_of};
 
 use crate::options::Options;
@@ -16,8 +16,9 @@ use std::thread::Threads;
 /// Reads lines up to the reader's end, and answers each line as soon as it is read. It ends early if the script is
 /// refused.
 ///
-/// The reader and the writer must not have failed before. After a fault what was written is a prefix of the answers;
-/// after `Fault::Read` it is all answers to what was read. No call of a device is repeated.
+/// The reader and the writer must not have failed before. After a fault what was written is a prefix of the answers,
+/// with all those to the lines that were complete before the last read; after `Fault::Read` it is all answers to what
+/// was read, and after `Fault::NoMemory` it is whole answers. No call of a device is repeated.
 pub fn serve<T: Threads + Sync, R: Source, W: Sink>(
     rt: &T,
     alloc: Global,
@@ -43,6 +44,13 @@ pub fn serve<T: Threads + Sync, R: Source, W: Sink>(
     ensures at_once { result ≡ Err Fault.Read → AllAnswered (R.remaining reader.old) (R.remaining reader.new)
         (W.contents writer.old) (W.contents writer.new) (L.new_server options.tree) }
 
+    // After other faults, all lines that were complete before the last read have been answered. If memory ran out, what
+    // was written is whole answers.
+    ensures memory { result ≡ Err Fault.NoMemory → WholeAnswers (R.remaining reader.old) (R.remaining reader.new)
+        (W.contents writer.old) (W.contents writer.new) (L.new_server options.tree) }
+    ensures cut { result ≡ Err Fault.Write → AnswersBegun (R.remaining reader.old) (R.remaining reader.new)
+        (W.contents writer.old) (W.contents writer.new) (L.new_server options.tree) }
+
     // It reads on only while the script isn't refused, in pieces of at most 4096 bytes.
     ensures stops { StopsAtRefusal (R.remaining reader.old) (R.remaining reader.new) (L.new_server options.tree) }
 
@@ -57,11 +65,11 @@ pub fn serve<T: Threads + Sync, R: Source, W: Sink>(
             return Ok(Status::Refused);
         }
         if reader.ended() {
-            server.finish(rt, alloc, writer)?;
-            return Ok(server.status());
+            let status = server.finish(rt, alloc, writer)?;
+            return Ok(status);
         }
         match reader.read(&mut buf) {
-            Ok(count) => server.feed(rt, alloc, writer, &buf[..count])?,
+            Ok(count) => server = server.feed(rt, alloc, writer, &buf[..count])?,
             Err(_) => return Err(Fault::Read),
         }
     }

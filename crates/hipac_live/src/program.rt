@@ -1,0 +1,90 @@
+//! The program, as a function of its words and its devices.
+
+ghost use Rattle.std.specs.Prelude.{◌≡◌, ◌≢◌, IfOk, IfSome, OnErr, OnOk, Ok, true, false};
+ghost use Rattle.std.specs.Result.{IfErr};
+ghost use Rattle.std.specs.Io.KnownBytes.{Appends};
+ghost use Rattle.hp_report.specs.Device.{Begins};
+ghost use Rattle.hp_report.specs.Exits.{code_of};
+ghost use Rattle.hp_lines.specs.Live as L;
+ghost use Rattle.hp_live.specs.Ends.{status_of};
+ghost use Rattle.hp_words.specs.Words.{word_code_of};
+
+use hp_live::{Fault, Options, exit_code, serve};
+use hp_report::{Sink, Source};
+use hp_words::{WordFault, word_code};
+use std::alloc::Global;
+use std::thread::Threads;
+use thiserror::Error;
+
+/// Why the program ends before it has answered all lines.
+#[derive(Clone, Copy, Debug, PartialEq, Eq, Error)]
+pub enum Stop {
+    /// Its words gave no options.
+    #[error("{0}")]
+    Words(WordFault),
+    /// Its run met a fault.
+    #[error("{0}")]
+    Run(Fault),
+}
+
+/// How the program ends.
+#[derive(Clone, Copy, Debug, PartialEq, Eq)]
+pub struct Ended {
+    /// The exit status: 0 after all answers, 2 if the script was refused, 3 if the words were, 4 after a fault.
+    pub code: u8,
+    /// What is said on standard error, if anything.
+    pub stop: Option<Stop>,
+}
+
+/// The options of a rule base for those of the words.
+fn options_for(words: hp_words::Options) -> Options
+    ensures workers { result.workers ≡ words.workers }
+    ensures tree { result.tree ≡ words.tree }
+{
+    Options {
+        workers: words.workers,
+        tree: words.tree,
+    }
+}
+
+/// Runs the program with what its words gave.
+///
+/// The reader and the writer must not have failed before. Without options no device is called.
+pub fn program<T: Threads + Sync, R: Source, W: Sink>(
+    rt: &T,
+    alloc: Global,
+    asked: Result<hp_words::Options, WordFault>,
+    reader: &mut R,
+    writer: &mut W,
+) -> Ended
+    requires reader { R.has_failed reader.old ≡ false }
+    requires writer { W.has_failed writer.old ≡ false }
+    ensures refused { IfErr asked (λ fault. result.code ≡ word_code_of fault) }
+    ensures unread { OnErr asked (reader.new ≡ reader.old) }
+    ensures unwritten { OnErr asked (writer.new ≡ writer.old) }
+
+    // At 0 and 2 it has written the definition's answers for all bytes up to the reader's end, with the trees that the
+    // options ask for; and in any case a prefix of them.
+    ensures code { IfOk asked (λ options. result.code ≢ 4 → IfSome (R.remaining reader.old) (λ input.
+        result.code ≡ code_of (Ok (status_of options.tree input)))) }
+    ensures output { IfOk asked (λ options. result.code ≢ 4 → IfSome (R.remaining reader.old) (λ input.
+        Appends (W.contents writer.old) (W.contents writer.new) (L.output options.tree input))) }
+    ensures begins { IfOk asked (λ options. IfSome (R.remaining reader.old) (λ input.
+        Begins (W.contents writer.old) (W.contents writer.new) (L.output options.tree input))) }
+    ensures read { R.has_failed reader.new ≡ true → result.code ≡ 4 }
+    ensures write { W.has_failed writer.new ≡ true → result.code ≡ 4 }
+{
+    match asked {
+        Ok(words) => {
+            let ended = serve(rt, alloc, reader, writer, options_for(words));
+            Ended {
+                code: exit_code(&ended),
+                stop: ended.err().map(Stop::Run),
+            }
+        }
+        Err(fault) => Ended {
+            code: word_code(fault),
+            stop: Some(Stop::Words(fault)),
+        },
+    }
+}
