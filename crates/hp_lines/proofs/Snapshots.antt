@@ -34,25 +34,28 @@ excerpt_same library S T like whole_state = (λ i.
 excerpt_same library S T like (objects_of class) = ap (class_text library class) like.objects
 excerpt_same library S T like (object_at class key) = ap (object_text library class key) like.objects
 
+-- an answer, and those to the lines after it
+abbrev answered : (with_tree : Bool) → List Line → RuleBase → Decoded Request → Bytes
+answered with_tree ls b r = let a = later_answer with_tree b r in (a.body ++ a.last) ++ answers with_tree a.stage ls
+
+-- one line, if the later ones have the same answers
+one_answer : (with_tree : Bool) (ls : List Line) (base : RuleBase) (T : State) → StatesAlike base.library base.state T
+    → ((b : RuleBase) (S : State) → StatesAlike b.library b.state S → answers with_tree (up b) ls ≡ answers with_tree (up (with_state b S)) ls)
+    → (r : Decoded Request) → answered with_tree ls base r ≡ answered with_tree ls (with_state base T) r
+one_answer with_tree ls base T like later (Err e) = ap (λ more. refusal_text e ++ more) (later base T like)
+one_answer with_tree ls base T like later (Ok (show excerpt)) = (λ i. (excerpt_same base.library base.state T like excerpt i ++ ok_line base.units) ++ later base T like i)
+one_answer with_tree ls base T like later (Ok (item schedule)) =
+    let e = run_units base.library schedule.units base.state in
+    let f = run_units base.library schedule.units T in
+    let same = alike_go_on base.library schedule.units base.state T like in
+    let next : List UnitReport → State → RuleBase = λ us S. record { version = base.version; library = base.library; state = S; clock = schedule.clock; units = base.units + length us } in
+    let said : List UnitReport → Bytes = λ us. units_text base.library with_tree (base.units + 1) us ++ ok_line (base.units + length us) in
+    ap (λ more. said e.units ++ more) (later (next e.units e.state) f.state same.1) ∙ ap (λ us. said us ++ answers with_tree (up (next us f.state)) ls) same.0
+
 pub alike_answer : AlikeAnswer
 alike_answer with_tree [] base T like = refl
-alike_answer with_tree (l ∷ ls) base T like = by (request_of base.version base.library base.clock l)
-  where
-    -- an answer, and those to the lines after it
-    abbrev answered : RuleBase → Decoded Request → Bytes
-    answered b r = let a = later_answer with_tree b r in (a.body ++ a.last) ++ answers with_tree a.stage ls
-
-    by : (r : Decoded Request) → answered base r ≡ answered (with_state base T) r
-    by (Err e) = ap (λ more. refusal_text e ++ more) (alike_answer with_tree ls base T like)
-    by (Ok (show excerpt)) = (λ i. (excerpt_same base.library base.state T like excerpt i ++ ok_line base.units) ++ alike_answer with_tree ls base T like i)
-    by (Ok (item schedule)) =
-        let e = run_units base.library schedule.units base.state in
-        let f = run_units base.library schedule.units T in
-        let same = alike_go_on base.library schedule.units base.state T like in
-        let next : List UnitReport → State → RuleBase = λ us S. record { version = base.version; library = base.library; state = S; clock = schedule.clock; units = base.units + length us } in
-        let said : List UnitReport → Bytes = λ us. units_text base.library with_tree (base.units + 1) us ++ ok_line (base.units + length us) in
-        ap (λ more. said e.units ++ more) (alike_answer with_tree ls (next e.units e.state) f.state same.1)
-        ∙ ap (λ us. said us ++ answers with_tree (up (next us f.state)) ls) same.0
+alike_answer with_tree (l ∷ ls) base T like =
+    one_answer with_tree ls base T like (λ b S h. alike_answer with_tree ls b S h) (request_of base.version base.library base.clock l)
 
 pub snapshots_answer : SnapshotsAnswer
 snapshots_answer with_tree lines base times parts fit_library fit same forgets =
