@@ -1,8 +1,10 @@
 -- The names of a condition in a scope.
-use Rattle.std.proofs.Common.{◌≡◌, refl, sym, ap, ap₂, ◌∙◌, ℕ, suc, List, [], ◌∷◌, ◌++◌, map, Option, Some, None, Ok, bytes_eq, if◌then◌else◌}
+use Rattle.std.proofs.Common.{arith, ◌≡◌, refl, sym, ap, ap₂, ◌∙◌, ℕ, zero, suc, ◌+◌, List, [], ◌∷◌, ◌++◌, take, drop, map, Option, Some, None, Ok, bytes_eq, if◌then◌else◌}
 use Rattle.std.proofs.lemmas.List.{map-append}
 use Rattle.std.specs.Map.{lookup}
 use Rattle.hp_model.specs.Values.{Name, ◌>>=◌}
+use Rattle.hp_query.specs.Mapped.{entry}
+use Rattle.hp_query.specs.declared.entry.Entry.{Entry as AnEntry}
 use Rattle.hp_model.specs.Rules.{Entry, query_entry, no_entry, let_entry, Library}
 use Rattle.hp_model.specs.Refusals.{Path, item_at}
 use Rattle.hp_model.specs.Kinds.{Sort, Declared, Columns, Scope}
@@ -61,3 +63,31 @@ pub entries_step : (library : Library) (d : Declared) (path : Path) (scope inner
 entries_step library d path scope inner after i e rest passed same =
     let later : Judged Scope → Judged Scope = λ r. r >>= λ s. entries_check library d path s (suc i) rest in
     sym (ap later passed ∙ ap (λ s. entries_check library d path s (suc i) rest) same)
+
+-- the values after one more entry
+abbrev pub kept : Option NamedSort → List NamedSort → List NamedSort
+kept None ns = ns
+kept (Some n) ns = ns ++ n ∷ []
+
+scope_next : (c : Columns) (es : List Entry) (ns : List NamedSort) (e : Entry) (n : Option NamedSort) → scope_after_entry (scope_there c es ns) e n ≡ scope_there c (es ++ e ∷ []) (kept n ns)
+scope_next c es ns e None = scope_keep c es ns e
+scope_next c es ns e (Some n) = scope_push c es ns e n
+
+take_next : {A : Type 0} (i : ℕ) (xs : List A) (x : A) (rest : List A) → drop i xs ≡ x ∷ rest → take (i + 1) xs ≡ take i xs ++ x ∷ []
+take_next zero xs x rest h = ap (take 1) h
+take_next (suc i) [] x rest h = cc
+take_next (suc i) (y ∷ xs) x rest h = let e : suc i + 1 ≡ suc (i + 1) = omega arith in ap (λ n. take n (y ∷ xs)) e ∙ ap (λ l. y ∷ l) (take_next i xs x rest h)
+
+pub condition_step : (library : Library) (d : Declared) (path : Path) (c : Columns) (es : List AnEntry) (i : ℕ) (e : AnEntry) (ns ns' : List NamedSort) (n : Option NamedSort) → drop i es ≡ e ∷ drop (i + 1) es
+    → ns' ≡ kept n ns
+    → entry_check library d (scope_there c (map entry (take i es)) ns) (item_at path i) (entry e) ≡ Ok (scope_after_entry (scope_there c (map entry (take i es)) ns) (entry e) n)
+    → entries_check library d path (scope_there c (map entry (take (i + 1) es)) ns') (i + 1) (map entry (drop (i + 1) es)) ≡ entries_check library d path (scope_there c (map entry (take i es)) ns) i (map entry (drop i es))
+condition_step library d path c es i e ns ns' n split is passed =
+    let there = scope_there c (map entry (take i es)) ns in
+    let rest = map entry (drop (i + 1) es) in
+    let taken : map entry (take (i + 1) es) ≡ map entry (take i es) ++ entry e ∷ [] = ap (map entry) (take_next i es e (drop (i + 1) es) split) ∙ map-append entry (take i es) (e ∷ []) in
+    let same : scope_after_entry there (entry e) n ≡ scope_there c (map entry (take (i + 1) es)) ns' = scope_next c (map entry (take i es)) ns (entry e) n ∙ sym (ap₂ (scope_there c) taken is) in
+    let next : i + 1 ≡ suc i = omega arith in
+    ap (λ k. entries_check library d path (scope_there c (map entry (take (i + 1) es)) ns') k rest) next
+    ∙ entries_step library d path there (scope_after_entry there (entry e) n) (scope_there c (map entry (take (i + 1) es)) ns') i (entry e) rest passed same
+    ∙ sym (ap (entries_check library d path there i) (ap (map entry) split))

@@ -105,13 +105,23 @@ impl Gathering {
     ) -> Result<(), AllocError> {
         self.values.truncate(0);
         for (i, entry) in rule.condition.iter().enumerate() {
-            let scope = base.asked(known, &rule.condition[..i], &[]);
-            self.add_entry(&scope, entry)?;
+            self.add_next(base, known, &rule.condition[..i], entry)?;
         }
         let scope = base.asked(known, &rule.condition, &[]);
         self.add_body(&rule.action, &scope)?;
         self.values.truncate(0);
         Ok(())
+    }
+
+    fn add_next(
+        &mut self,
+        base: Base<'_>,
+        known: &Columns<'_>,
+        before: &[Entry],
+        next: &Entry,
+    ) -> Result<(), AllocError> {
+        let scope = base.asked(known, before, &[]);
+        self.add_entry(&scope, next)
     }
 
     fn add_entry(&mut self, scope: &Scope<'_>, entry: &Entry) -> Result<(), AllocError> {

@@ -41,8 +41,8 @@ check_inner-returns-in-For t c =
     let inner : Passes c.check_body-in-For.result (F.body_check (library c.args.scope.now) (declared c.args.scope.now) (with_name (string_bytes c.in-For.query) (unwrap_or (lookup (bytes_eq (string_bytes c.in-For.query)) (queries c.args.scope.now)) 0) (scope_in c.args.scope.now)) (queries c.args.scope.now) (item_at (steps c.args.place.now) 2) 0 (body_in c.deref-in-For.result.now)) = search rules in
     subst (λ s. Passes c.check_body-in-For.result (inner_there c.args.scope.now (steps c.args.place.now) s)) is inner
 
-pub check_inner-returns-in-Let : goal.check_inner-returns-in-Let
-check_inner-returns-in-Let t c =
+pub check_inner-returns-in_ok-given-in-Let : goal.check_inner-returns-in_ok-given-in-Let
+check_inner-returns-in_ok-given-in-Let t c =
     let name = c.as_str-in-Let.result.now in
     let a = aggregate c.in-Let.computed in
     let held : Sort = unwrap_or (aggregate_sort (library c.args.scope.now) (declared c.args.scope.now) (scope_in c.args.scope.now) a) any in
