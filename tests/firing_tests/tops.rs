@@ -93,6 +93,7 @@ fn is_enabled(view: &View) -> bool {
 }
 
 // What such a transaction leaves.
+#[derive(Drop)]
 struct Remains {
     end: Ending,
     items: usize,

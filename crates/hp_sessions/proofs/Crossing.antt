@@ -11,6 +11,7 @@ use Rattle.atomic_table.proofs.shared.Seat.TheSendSync as seat
 use Rattle.atomic_table.proofs.shared.Shared.TheSendSync as shared
 use Rattle.atomic_table.proofs.send_lease.SendLease.TheSendSync as lease
 use Rattle.hp_value.proofs.value.Value.TheSendSync as value
+use Rattle.hp_value.proofs.halt.Veto.TheSendSync as veto
 use Rattle.hp_value.proofs.occurrence.Coupling.TheSendSync as coupling
 use Rattle.hp_value.proofs.rule_operation.RuleOperation.TheSendSync as operation_word
 use Rattle.hp_value.proofs.expr.Arithmetic.TheSendSync as arithmetic
@@ -22,6 +23,8 @@ use Rattle.hp_event.proofs.pattern.Pattern.TheSendSync as pattern
 use Rattle.hp_detect.specs.contracts.event.EventExpr as EventExpr
 use Rattle.hp_detect.proofs.event.EventExpr.TheLaws.TheKnot as event
 use Rattle.hp_query.specs.contracts.query.Query as Query
+use Rattle.hp_query.specs.contracts.aggregate.Aggregate as Aggregate
+use Rattle.hp_query.specs.contracts.entry.Entry as ConditionEntry
 use Rattle.hp_rule.specs.contracts.stmt.Assignment as Assignment
 use Rattle.hp_rule.specs.contracts.stmt.Stmt as Stmt
 use Rattle.hp_rule.proofs.stmt.Stmt.TheLaws.TheKnot as stmt
@@ -52,16 +55,22 @@ event_send = event.send-EventExpr (search expression_parts depth 12) heap.Box-se
 assignment_send : IsSend Assignment.the_field.row
 assignment_send = search (expr_send, expression_parts) depth 12
 
-ruleset statement_parts = (expr_send, assignment_send, expression_parts)
-
-stmt_send : IsSend Stmt.the_field.row
-stmt_send = stmt.send-Stmt (search statement_parts depth 12) (search statement_parts depth 12) (search statement_parts depth 12) (search statement_parts depth 12) (search statement_parts depth 12) heap.Vec-send (search statement_parts depth 12)
-
 query_send : IsSend Query.the_field.row
 query_send = search (expr_send, expression_parts) depth 12
 
+aggregate_send : IsSend Aggregate.the_field.row
+aggregate_send = search (query_send, expr_send, expression_parts) depth 12
+
+condition_entry_send : IsSend ConditionEntry.the_field.row
+condition_entry_send = search (query_send, aggregate_send, expression_parts) depth 12
+
+ruleset statement_parts = (expr_send, assignment_send, aggregate_send, expression_parts)
+
+stmt_send : IsSend Stmt.the_field.row
+stmt_send = stmt.send-Stmt (search statement_parts depth 12) (search statement_parts depth 12) (search statement_parts depth 12) (search statement_parts depth 12) (search statement_parts depth 12) heap.Vec-send (search statement_parts depth 12) (search statement_parts depth 12) (search statement_parts depth 12)
+
 rule_send : IsSend Rule.the_field.row
-rule_send = search (event_send, event_sync, query_send, stmt_send, expression_parts) depth 30 fits 20000
+rule_send = search (event_send, event_sync, condition_entry_send, stmt_send, expression_parts) depth 30 fits 20000
 
 library_send : IsSend Library.the_field.row
 library_send = search (rule_send, expression_parts) depth 30 fits 20000
@@ -78,10 +87,10 @@ body_send = search (shared_library_send, stmt_send, heap.crosses, sendable) dept
 -- ---- replies
 
 top_send : IsSend TopReport.the_field.row
-top_send = search (item_send, coupling.the_send, heap.crosses, sendable) depth 20
+top_send = search (item_send, veto.the_send, coupling.the_send, heap.crosses, sendable) depth 20
 
 top_sync : IsSync TopReport.the_field.row
-top_sync = search (item_sync, coupling.the_sync, heap.crosses, sendable) depth 20
+top_sync = search (item_sync, veto.the_sync, coupling.the_sync, heap.crosses, sendable) depth 20
 
 report_send : IsSend UnitReport.the_row
 report_send = search (top_send, heap.crosses, sendable) depth 12

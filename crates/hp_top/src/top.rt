@@ -1,11 +1,12 @@
 //! Top-level transactions.
 
-ghost use Rattle.std.specs.Prelude.{◌≡◌, ◌≤◌, IfOk, length};
-ghost use Rattle.hp_model.specs.Cascade.{now_in, top, unit_work, task_work};
+ghost use Rattle.std.specs.Prelude.{◌≡◌, ◌≤◌, IfOk, length, option_map};
+ghost use Rattle.hp_model.specs.Cascade.{now_in, top, unit_work, task_work, veto_end};
 ghost use Rattle.hp_model.proofs.FaithfulTops.{task_answer};
+ghost use Rattle.hp_value.specs.Mapped.{veto as veto_of};
 ghost use Rattle.hp_rule.specs.Mapped.{library, task as task_of, unit as unit_of};
 ghost use Rattle.hp_attempt.specs.Mapped.{firing};
-ghost use Rattle.hp_fire.specs.Mapped.{course as course_of};
+ghost use Rattle.hp_fire.specs.Mapped.{course as course_of, end as end_of};
 ghost use Rattle.hp_top.specs.Mapped.{top_of};
 ghost use Rattle.hp_top.specs.Runs.{RunsTop, Finishes};
 
@@ -15,7 +16,7 @@ use hp_attempt::Outcome;
 use hp_fire::{Course, End, Past};
 use hp_rule::{Detached, Library, Task, Unit};
 use hp_tree::{Ending, Item};
-use hp_value::Prim;
+use hp_value::{Prim, Veto};
 use hp_view::{Mark, View};
 use std::alloc::{AllocError, Global};
 use std::thread::Threads;
@@ -118,14 +119,26 @@ pub fn run_top<R: Threads + Sync>(
 fn task_course(outcome: Outcome) -> Course
     ensures { course_of result ≡ task_answer (firing outcome) }
 {
-    let end = match outcome.end {
+    let Outcome {
+        end,
+        queued,
+        detached,
+        tree,
+    } = outcome;
+    Course {
+        end: vetoed_end(end),
+        queued,
+        detached,
+        items: tree,
+    }
+}
+
+/// The end of a transaction whose whole work is a firing with this veto, if it vetoes.
+fn vetoed_end(veto: Option<Veto>) -> End
+    ensures { end_of result ≡ veto_end (option_map veto_of veto) }
+{
+    match veto {
         Some(veto) => End::Veto(veto),
         None => End::Done,
-    };
-    Course {
-        end,
-        queued: outcome.queued,
-        detached: outcome.detached,
-        items: outcome.tree,
     }
 }
