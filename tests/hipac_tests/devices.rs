@@ -187,7 +187,10 @@ end
 
 #[test]
 fn the_program_passes_its_options_on(rt: HostRuntime) -> Result<(), Fail> {
-    for (words, text) in [(["--workers", "2"].as_slice(), TEXT), (["--tree"].as_slice(), WITH_TREE)] {
+    for (words, text) in [
+        (["--workers", "2"].as_slice(), TEXT),
+        (["--tree"].as_slice(), WITH_TREE),
+    ] {
         let options = asked(&rt, words)?;
         let mut reader = Watched::new(slow_device(&rt, SCRIPT, 4096));
         let mut writer = Watched::new(slow_device(&rt, b"", 4096));

@@ -108,7 +108,7 @@ fn nothing_is_written_by_no_call(rt: HostRuntime) -> Result<(), Fail> {
 fn a_source_is_not_read_after_its_end(rt: HostRuntime) -> Result<(), Fail> {
     let mut reader = reader(b"abcde", 0);
     let input = read_up_to(rt.alloc(), &mut reader, 5)?;
-    assert_eq!(rt; input.as_slice(), b"abcde");
+    assert_eq!(rt; input.as_slice(), b"abcde".as_slice());
     assert!(rt; !Source::ended(&reader));
     let rest = read_up_to(rt.alloc(), &mut reader, 5)?;
     assert!(rt; rest.is_empty() && Source::ended(&reader));

@@ -335,8 +335,20 @@ fn messages(alloc: Global) -> Result<UnitReport, Fail> {
         place: Coupling::Deferred,
     };
     let mut tree = Vec::new(alloc);
-    tree.push(node(alloc, What::Sub, veto(1, Some(no.clone()?)), Some(fired), None)?)?;
-    tree.push(node(alloc, What::Sub, veto(0, Some(Value::Bool(true))), None, None)?)?;
+    tree.push(node(
+        alloc,
+        What::Sub,
+        veto(1, Some(no.clone()?)),
+        Some(fired),
+        None,
+    )?)?;
+    tree.push(node(
+        alloc,
+        What::Sub,
+        veto(0, Some(Value::Bool(true))),
+        None,
+        None,
+    )?)?;
     tree.push(node(alloc, act, veto(0, Some(Value::Int(-7))), None, None)?)?;
     let mut unit = unit(alloc, None, veto(0, Some(Value::Int(-7))), tree)?;
     let fires = fire(1, Coupling::Dependent, ConditionEnd::WithAction);
