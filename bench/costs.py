@@ -6,6 +6,7 @@ A case is a script with its firings and the same without: the difference of thei
 from dataclasses import dataclass
 from typing import Optional
 
+import version4
 from scripts import ACCOUNT, GO, add, create, deferred, has_key, immediate, installs, lines, on_go, script
 from workloads import richest
 
@@ -89,6 +90,11 @@ def desk_sql(size, orders):
 def order_desk(size, orders=1000):
     scripts = desk_script(size, 0), desk_script(size, orders)
     return Case(size, orders, *scripts, desk_sql(size, 0), desk_sql(size, orders))
+
+
+def order_desk_of_version_4(size, orders=1000):
+    scripts = version4.desk_script(size, 0), version4.desk_script(size, orders)
+    return Case(size, orders, *scripts, version4.desk_sql(size, 0), version4.desk_sql(size, orders))
 
 
 # ---- conditions on one key, or on one value of a field
@@ -184,6 +190,8 @@ def scan_and_write(objects, rounds=100):
 TABLES = {
     "orders": ("an order desk of five rules, items and customers", "order",
                [lambda n=n: ("orders", order_desk(n)) for n in (10, 100, 1000, 4000)]),
+    "version4": ("an order desk in version 4, items and customers", "order",
+                 [lambda n=n: ("orders", order_desk_of_version_4(n)) for n in (10, 100, 1000, 4000)]),
     "conditions": ("conditions that look for one object, objects of the class", "firing",
                    [lambda n=n, name=name: (name, condition(name, n))
                 for name in CONDITIONS for n in (50, 5000, 15000)]),
