@@ -3,7 +3,8 @@
 use hp_event::Pattern;
 use hp_ops::{create, set_rule};
 use hp_rule::{
-    Aggregate, Assignment, CheckError, Entry, EventExpr, Library, Query, Rule, RuleOperation, Step, Stmt, Task,
+    Aggregate, Assignment, CheckError, Entry, EventExpr, Library, Query, Rule, RuleOperation, Step,
+    Stmt, Task,
 };
 use hp_store::Snapshot;
 use hp_value::{

@@ -170,11 +170,7 @@ fn now_is_the_moment_of_the_body_and_of_its_tasks(rt: HostRuntime) -> Result<(),
     let alloc = rt.alloc();
     let now = alone(alloc, Stmt::Emit(boxed(alloc, Expr::Now)?));
     let tells = acts(alloc, now);
-    let body = both(
-        alloc,
-        go(alloc)?,
-        Stmt::Emit(boxed(alloc, Expr::Now)?),
-    );
+    let body = both(alloc, go(alloc)?, Stmt::Emit(boxed(alloc, Expr::Now)?));
     let seen = run(&rt, alloc, tells, idle(alloc), body)?;
     assert_eq!(rt; seen.emitted, (Some(7), None, None));
     assert_eq!(rt; seen.inside, (Some(7), None, None));
@@ -249,7 +245,13 @@ fn a_closed_rule_vetoes_where_its_condition_faults(rt: HostRuntime) -> Result<()
         place: Coupling::Immediate,
         condition: ConditionEnd::WithFault(Cause::DivideByZero),
     };
-    let seen = run(&rt, alloc, closed(faults(alloc)), makes(alloc), going(alloc))?;
+    let seen = run(
+        &rt,
+        alloc,
+        closed(faults(alloc)),
+        makes(alloc),
+        going(alloc),
+    )?;
     assert_eq!(rt; seen.end, How::Vetoed((0, None)));
     assert_eq!(rt; seen.node, Some((what, How::Done)));
     assert_eq!(rt; (seen.items, seen.balances.2), (1, None));
