@@ -1,6 +1,6 @@
 //! Parts of libraries: texts, comparisons with 0, classes whose fields are numbers, queries and rules.
 
-use hp_rule::{Coupling, EventExpr, Query, Rule, Stmt};
+use hp_rule::{Coupling, Entry, EventExpr, Query, Rule, Stmt};
 use hp_value::{ClassDef, ClassNo, Comparison, Expr, Field, Kind, Value};
 use std::alloc::{AllocError, Global};
 use std::sync::Arc;
@@ -38,11 +38,11 @@ pub fn add_query(
     predicate: Box<Expr>,
 ) -> Result<(), AllocError> {
     let name = text(alloc, name)?;
-    rule.condition.push(Query {
+    rule.condition.push(Entry::Query(Query {
         name,
         class,
         predicate,
-    })?;
+    }))?;
     Ok(())
 }
 
@@ -87,5 +87,6 @@ pub fn rule(alloc: Global, name: &str, event: EventExpr) -> Result<Rule, AllocEr
         condition: Vec::new(alloc),
         ca: Coupling::Immediate,
         action: Vec::new(alloc),
+        closed: false,
     })
 }

@@ -5,3 +5,4 @@ mod fixtures;
 mod libraries;
 mod operations;
 mod signals;
+mod values;

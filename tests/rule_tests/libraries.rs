@@ -50,7 +50,7 @@ fn rules(alloc: Global) -> Result<Vec<Rule>, AllocError> {
     add_query(alloc, &mut grows, "poor", 0, poor)?;
     grows.action.push(Stmt::For {
         query: text(alloc, "poor")?,
-        body: vec![in alloc; Stmt::Veto]?,
+        body: vec![in alloc; Stmt::Veto(None)]?,
     })?;
     all.push(grows)?;
     let every = Pattern::Every {
@@ -515,7 +515,7 @@ fn wrong_statements(alloc: Global) -> Result<Vec<(Box<Faulty>, Wanted)>, AllocEr
     let again = with_object(alloc, number(alloc, 1)?, each_x)?;
     let own_key = with_object(alloc, is_poor(alloc, "x")?, Vec::new(alloc))?;
     let mut cases = Vec::new(alloc);
-    cases.push((body(alloc, Stmt::Veto)?, Wanted::Shape(None, &[0])))?;
+    cases.push((body(alloc, Stmt::Veto(None))?, Wanted::Shape(None, &[0])))?;
     cases.push((body(alloc, Stmt::Fire(4))?, Wanted::Name(None, &[0, 1])))?;
     cases.push((going_over(alloc)?, Wanted::Name(None, &[0, 1])))?;
     cases.push((again, Wanted::Name(None, &[0, 4, 0, 1])))?;

@@ -137,7 +137,7 @@ fn signalled(
         name: text(alloc, name)?,
         args: Vec::new(alloc),
     };
-    trigger(alloc, view, lib, &prim, depth)
+    trigger(alloc, view, lib, &prim, depth, 0)
 }
 
 // How many tasks a signal triggers.
@@ -175,7 +175,7 @@ fn fired(
     rule: RuleNo,
     depth: u8,
 ) -> Result<Facts, Halt> {
-    let task = fire(alloc, view, lib, rule, depth)?;
+    let task = fire(alloc, view, lib, rule, depth, 0)?;
     Ok(facts(&task))
 }
 
@@ -249,7 +249,7 @@ fn made_row(
 ) -> Result<(Key, Option<i64>), Halt> {
     let pairs = assignments(alloc, field, number)?;
     let key = Expr::literal(Value::Int(9));
-    let made = new_object(alloc, lib, 0, &Env::new(None, &[]), &key, &pairs)?;
+    let made = new_object(alloc, lib, 0, &Env::new(None, &[], &[], 0), &key, &pairs)?;
     Ok((made.key, balance(&made.row)))
 }
 
@@ -257,7 +257,7 @@ fn made_row(
 fn given(alloc: Global, lib: &Library, field: &str, number: bool) -> Result<(Key, usize), Halt> {
     let pairs = assignments(alloc, field, number)?;
     let key = Expr::literal(Value::Int(9));
-    let (key, given) = given_values(alloc, lib, 0, &Env::new(None, &[]), &key, &pairs)?;
+    let (key, given) = given_values(alloc, lib, 0, &Env::new(None, &[], &[], 0), &key, &pairs)?;
     Ok((key, given.len()))
 }
 

@@ -38,7 +38,7 @@ fn triggered(alloc: Global, view: &mut View, lib: &Library, name: &str) -> Resul
         name: text(alloc, name)?,
         args: Vec::new(alloc),
     };
-    let tasks = trigger(alloc, view, lib, &prim, 0)?;
+    let tasks = trigger(alloc, view, lib, &prim, 0, 0)?;
     Ok(tasks.len())
 }
 

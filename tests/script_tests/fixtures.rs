@@ -15,6 +15,7 @@ fn rule(alloc: Global, name: &str) -> Result<Rule, AllocError> {
         condition: Vec::new(alloc),
         ca: Coupling::Immediate,
         action: Vec::new(alloc),
+        closed: false,
     })
 }
 

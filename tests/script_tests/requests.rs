@@ -1,10 +1,9 @@
 //! Lines to a rule base, read or refused.
 
-use hp_rule::Library;
+use hp_rule::Unit;
 use hp_script::{DecodeError, Excerpt, Request, Script, decode, decode_request, refusal_text};
 use std::alloc::Global;
 use std::process::Abort;
-use std::sync::Arc;
 use std::test::Fail;
 
 /// A class, and a rule that fires at 7.
@@ -24,9 +23,16 @@ fn name_of(alloc: Global, excerpt: Excerpt) -> Result<String, Fail> {
     }
 }
 
-/// The line for a refused request, without its line feed, or else how many units it has, and the time after it.
-fn asked(alloc: Global, library: &Arc<Library>, clock: u64, line: &str) -> Result<String, Fail> {
-    match decode_request(alloc, library, clock, line.as_bytes()) {
+/// The line for a refused request after the script, without its line feed, or else how many units it has, and the time
+/// after it.
+fn asked(alloc: Global, script: &Script, line: &str) -> Result<String, Fail> {
+    match decode_request(
+        alloc,
+        script.version,
+        &script.library,
+        script.clock,
+        line.as_bytes(),
+    ) {
         Ok(Request::Show(excerpt)) => name_of(alloc, excerpt),
         Ok(Request::Item(schedule)) => {
             let count = schedule.units.len();
@@ -41,12 +47,17 @@ fn asked(alloc: Global, library: &Arc<Library>, clock: u64, line: &str) -> Resul
     }
 }
 
-/// What is answered to a line after the script.
-fn answer(alloc: Global, line: &str) -> Result<String, Fail> {
-    let Ok(Script { library, clock, .. }) = decode(alloc, BASE.as_bytes()) else {
+/// What is answered to a line after this script.
+fn answer_after(alloc: Global, script: &str, line: &str) -> Result<String, Fail> {
+    let Ok(script) = decode(alloc, script.as_bytes()) else {
         return Err(Fail::from("refused"));
     };
-    asked(alloc, &library, clock, line)
+    asked(alloc, &script, line)
+}
+
+/// What is answered to a line after the script.
+fn answer(alloc: Global, line: &str) -> Result<String, Fail> {
+    answer_after(alloc, BASE, line)
 }
 
 fn expect(rt: &impl Abort, alloc: Global, line: &str, wanted: &str) -> Result<(), Fail> {
@@ -109,4 +120,31 @@ fn refuses_unknown_names(rt: HostRuntime) -> Result<(), Fail> {
 fn refuses_what_is_no_item(rt: HostRuntime) -> Result<(), Fail> {
     expect(&rt, rt.alloc(), "{}", "refused S2 /")?;
     expect(&rt, rt.alloc(), "", "refused S1")
+}
+
+/// The same in version 4.
+const NEW_BASE: &str = r#"{"version": 4, "classes": [], "rules": [], "items": [["clock", 5]]}"#;
+
+#[test]
+fn reads_items_in_the_version_of_the_script(rt: HostRuntime) -> Result<(), Fail> {
+    let alloc = rt.alloc();
+    let line = r#"["tx", [["let", "n", ["now"], [["emit", ["value", "n"]]]]]]"#;
+    assert!(rt; answer_after(alloc, BASE, line)?.as_str() == "refused S2 /1/0");
+    assert!(rt; answer_after(alloc, NEW_BASE, line)?.as_str() == "1 at 5");
+    Ok(())
+}
+
+#[test]
+fn runs_a_transaction_at_the_time_of_the_clock(rt: HostRuntime) -> Result<(), Fail> {
+    let alloc = rt.alloc();
+    let Ok(script) = decode(alloc, NEW_BASE.as_bytes()) else {
+        return Err(Fail::from("refused"));
+    };
+    let line = br#"["tx", []]"#;
+    let read = decode_request(alloc, script.version, &script.library, script.clock, line);
+    let Ok(Request::Item(schedule)) = read else {
+        return Err(Fail::from("no item"));
+    };
+    assert!(rt; matches!(schedule.units.as_slice(), [Unit::Transaction { time: 5, .. }]));
+    Ok(())
 }

@@ -45,11 +45,17 @@ fn reads(
 }
 
 fn is_fault(rt: &impl Abort, alloc: Global, postfix: &str, cause: Cause) -> Result<(), AllocError> {
-    reads(rt, alloc, &Env::new(None, &[]), postfix, fault(cause))
+    reads(
+        rt,
+        alloc,
+        &Env::new(None, &[], &[], 0),
+        postfix,
+        fault(cause),
+    )
 }
 
 fn is_truth(rt: &impl Abort, alloc: Global, postfix: &str, b: bool) -> Result<(), AllocError> {
-    reads(rt, alloc, &Env::new(None, &[]), postfix, truth(b))
+    reads(rt, alloc, &Env::new(None, &[], &[], 0), postfix, truth(b))
 }
 
 #[test]
@@ -231,10 +237,10 @@ fn other_values(rt: &impl Abort, alloc: Global, env: &Env<'_>) -> Result<(), All
 #[test]
 fn expressions_read_the_parts_of_an_occurrence(rt: HostRuntime) -> Result<(), Fail> {
     let occurrence = three_parts(rt.alloc())?;
-    let env = Env::new(Some(&occurrence), &[]);
+    let env = Env::new(Some(&occurrence), &[], &[], 0);
     field_values(&rt, rt.alloc(), &env)?;
     other_values(&rt, rt.alloc(), &env)?;
-    let env = Env::new(None, &[]);
+    let env = Env::new(None, &[], &[], 0);
     shows(
         &rt,
         rt.alloc(),
@@ -285,7 +291,7 @@ fn named_values(
 fn a_name_means_its_innermost_row(rt: HostRuntime) -> Result<(), Fail> {
     let kept = kept(rt.alloc())?;
     let row = stock(rt.alloc(), "cog", 9)?;
-    named_values(&rt, rt.alloc(), &Env::new(None, &kept), &row)?;
+    named_values(&rt, rt.alloc(), &Env::new(None, &kept, &[], 0), &row)?;
     Ok(())
 }
 
@@ -367,7 +373,7 @@ fn lists_of_objects_are_equal_if_their_rows_are(rt: HostRuntime) -> Result<(), F
 fn a_refused_allocation_gives_no_other_value(rt: HostRuntime) -> Result<(), Fail> {
     let row = stock(rt.alloc(), "bolt", 7)?;
     let same = expression(rt.alloc(), "s.name 'bolt =")?;
-    let env = Env::new(None, &[]);
+    let env = Env::new(None, &[], &[], 0);
     let found = same.eval(rt.alloc(), &env.bound("s", 1, &row));
     assert!(rt; found == Ok(Value::Bool(true)) || found == Err(Halt::Memory));
     Ok(())

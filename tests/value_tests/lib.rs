@@ -1,5 +1,6 @@
 //! Tests of values, patterns, detectors, queries and trees. The expected values are worked out by hand.
 
+mod aggregates;
 mod detectors;
 mod expressions;
 mod fixtures;

@@ -1,8 +1,8 @@
 //! Queries that begin by asking for a part of a class, with a look that finds parts and with one that doesn't.
 
-use super::fixtures::{account, accounts, assert_fault, assert_keys, row, text};
+use super::fixtures::{account, accounts, assert_fault, assert_keys, query, row, text};
 use super::postfix::expression;
-use hp_query::{Look, PlainObjects, selected_rows};
+use hp_query::{Aggregate, Look, PlainObjects, aggregated, selected_rows};
 use hp_value::{Cause, ClassNo, ClassPart, Env, Expr, Halt, Key, KeyedRow, ObjectList, Row, Value};
 use std::alloc::{AllocError, Global};
 use std::process::Abort;
@@ -42,6 +42,10 @@ impl Look for Parts {
 
     fn keys(&mut self, alloc: Global, class: ClassNo) -> Result<Vec<Key>, AllocError> {
         Look::keys(&mut self.objects, alloc, class)
+    }
+
+    fn greatest_key(&mut self, alloc: Global, class: ClassNo) -> Result<Option<Key>, AllocError> {
+        Look::greatest_key(&mut self.objects, alloc, class)
     }
 
     fn objects(
@@ -141,7 +145,7 @@ impl Looks {
         predicate: &str,
         keys: &[Key],
     ) -> Result<Option<usize>, Halt> {
-        self.assert_rows(rt, alloc, &Env::new(None, &[]), predicate, keys)
+        self.assert_rows(rt, alloc, &Env::new(None, &[], &[], 0), predicate, keys)
     }
 
     /// Each comparison has its answer, with either side first.
@@ -164,7 +168,7 @@ impl Looks {
         cause: Cause,
     ) -> Result<(), AllocError> {
         let predicate = expression(alloc, predicate)?;
-        let env = Env::new(None, &[]);
+        let env = Env::new(None, &[], &[], 0);
         let found = selected_rows(alloc, "x", 0, &predicate, &env, &mut self.plain);
         assert_fault(rt, found, cause);
         self.parts.found = None;
@@ -182,7 +186,7 @@ impl Looks {
         predicate: &str,
     ) -> Result<(), Halt> {
         let predicate = expression(alloc, predicate)?;
-        let env = Env::new(None, &[]);
+        let env = Env::new(None, &[], &[], 0);
         let rows = selected_rows(alloc, "x", 2, &predicate, &env, &mut self.parts)?;
         assert_keys(rt, &rows, &[]);
         Ok(())
@@ -223,6 +227,43 @@ fn each_comparison_of_a_key_finds_its_rows(rt: HostRuntime) -> Result<(), Fail> 
 fn each_comparison_of_a_field_finds_its_rows(rt: HostRuntime) -> Result<(), Fail> {
     let mut looks = Looks::new(rt.alloc())?;
     looks.assert_cases(&rt, rt.alloc(), &BY_BALANCE)?;
+    Ok(())
+}
+
+// The sum of the balances of the predicate's rows, with the number of objects in the part that was asked for.
+fn part_summed(
+    alloc: Global,
+    parts: &mut Parts,
+    predicate: &str,
+) -> Result<(Option<Value>, Option<usize>), Halt> {
+    let rows = query(alloc, "x", 0, predicate)?;
+    let term = expression(alloc, "x.bal")?;
+    let sum = Aggregate::Sum { rows, term };
+    parts.found = None;
+    let value = aggregated(alloc, &sum, &Env::new(None, &[], &[], 0), parts)?;
+    Ok((value, parts.found))
+}
+
+fn assert_sums(rt: &impl Abort, alloc: Global, parts: &mut Parts) -> Result<(), Halt> {
+    for (predicate, sum, found) in [
+        ("x.bal 4 >=", 9, Some(2)),
+        ("x.key 2 <=", 8, Some(3)),
+        ("x.key 2 =", 3, None),
+        ("x.key 2 !=", 9, None),
+    ] {
+        let wanted = (Some(Value::Int(sum)), found);
+        assert!(rt;
+            part_summed(alloc, parts, predicate)? == wanted,
+            "{predicate}"
+        );
+    }
+    Ok(())
+}
+
+#[test]
+fn an_aggregate_asks_for_what_a_query_asks_for(rt: HostRuntime) -> Result<(), Fail> {
+    let mut looks = Looks::new(rt.alloc())?;
+    assert_sums(&rt, rt.alloc(), &mut looks.parts)?;
     Ok(())
 }
 
@@ -344,7 +385,7 @@ fn assert_hidden(
     looks: &mut Looks,
     outer: &Row,
 ) -> Result<(), Halt> {
-    let env = Env::new(None, &[]);
+    let env = Env::new(None, &[], &[], 0);
     let hidden = env.bound("x", 1, outer);
     for own in ["x.bal x.key <", "x.key x.bal >"] {
         assert_eq!(rt; looks.assert_alone(rt, alloc, own, &[10])?, None);
@@ -364,7 +405,7 @@ fn the_name_of_the_row_hides_an_outer_one(rt: HostRuntime) -> Result<(), Fail> {
 
     // Another row's balance serves as a number does.
     let four = account(rt.alloc(), 4)?;
-    let env = Env::new(None, &[]);
+    let env = Env::new(None, &[], &[], 0);
     let env = env.bound("y", 1, &four);
     let found = looks.assert_rows(&rt, rt.alloc(), &env, "x.bal y.bal <", &[-3, 2])?;
     assert_eq!(rt; found, Some(3));

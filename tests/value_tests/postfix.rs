@@ -4,7 +4,8 @@ use hp_value::{Arithmetic, Comparison, Expr, Value};
 use std::alloc::{AllocError, Global};
 
 /// The expression of some words: each is an integer, `true`, `false`, a text such as `'low`, the key of a row as
-/// `x.key`, another field of it as `x.bal`, the key of an occurrence's first operation as `key_in_0`, or an operator.
+/// `x.key`, another field of it as `x.bal`, the key of an occurrence's first operation as `key_in_0`, the value of a
+/// `let` as `$n`, the clock's moment as `now`, or an operator.
 pub fn expression(alloc: Global, postfix: &str) -> Result<Box<Expr>, AllocError> {
     let mut stack = Vec::new(alloc);
     for word in postfix.split_whitespace() {
@@ -67,6 +68,13 @@ fn arithmetic(word: &str) -> Arithmetic {
 fn operand(alloc: Global, word: &str) -> Result<Expr, AllocError> {
     if word == "key_in_0" {
         return Ok(Expr::KeyIn { part: 0 });
+    }
+    if word == "now" {
+        return Ok(Expr::Now);
+    }
+    if let Some(name) = word.strip_prefix('$') {
+        let name = String::from_str(alloc, name)?;
+        return Ok(Expr::ValueOf { name });
     }
     match word.split_once('.') {
         Some((variable, field)) => attribute(alloc, variable, field),

@@ -2,7 +2,7 @@
 
 use super::fixtures::{accounts, assert_fault, assert_keys, put, query, row, text};
 use super::postfix::expression;
-use hp_query::{PlainObjects, Query, Verdict, answer, evaluate_condition, selected_rows};
+use hp_query::{Entry, PlainObjects, Verdict, answer, evaluate_condition, selected_rows};
 use hp_value::{Answer, Cause, ClassNo, Env, Halt, Key, KeyedRow, Occurrence, Value};
 use std::alloc::{AllocError, Global};
 use std::process::Abort;
@@ -16,7 +16,14 @@ fn selected(
     predicate: &str,
 ) -> Result<Vec<KeyedRow>, Halt> {
     let predicate = expression(alloc, predicate)?;
-    selected_rows(alloc, "x", class, &predicate, &Env::new(None, &[]), objects)
+    selected_rows(
+        alloc,
+        "x",
+        class,
+        &predicate,
+        &Env::new(None, &[], &[], 0),
+        objects,
+    )
 }
 
 fn assert_selected(
@@ -40,7 +47,7 @@ fn answered(
     predicate: &str,
 ) -> Result<Vec<KeyedRow>, Halt> {
     let asked = query(alloc, "x", class, predicate)?;
-    answer(alloc, &asked, &Env::new(None, &[]), objects)
+    answer(alloc, &asked, &Env::new(None, &[], &[], 0), objects)
 }
 
 fn assert_positive(rt: &impl Abort, alloc: Global, objects: &mut PlainObjects) -> Result<(), Halt> {
@@ -159,14 +166,14 @@ fn a_fault_of_the_key_is_one_of_the_first_row(rt: HostRuntime) -> Result<(), Fai
 
 fn verdict(
     alloc: Global,
-    queries: &[Query],
+    queries: &[Entry],
     objects: &mut PlainObjects,
 ) -> Result<Verdict, AllocError> {
     let occurrence = Occurrence {
         parts: Vec::new(alloc),
         count: 0,
     };
-    evaluate_condition(alloc, queries, &occurrence, objects)
+    evaluate_condition(alloc, queries, &occurrence, 0, objects)
 }
 
 fn assert_answer(rt: &impl Abort, answer: Option<&Answer>, name: &str, wanted: &[Key]) {
@@ -180,10 +187,10 @@ fn assert_answer(rt: &impl Abort, answer: Option<&Answer>, name: &str, wanted: &
 }
 
 // x: -20, 2 and 10, the first of which has the balance 5; y: those of class 1 above it.
-fn two_queries(alloc: Global) -> Result<Vec<Query>, AllocError> {
+fn two_queries(alloc: Global) -> Result<Vec<Entry>, AllocError> {
     let mut queries = Vec::new(alloc);
-    queries.push(query(alloc, "x", 0, "x.bal 0 >")?)?;
-    queries.push(query(alloc, "y", 1, "y.bal x.bal >")?)?;
+    queries.push(Entry::Query(query(alloc, "x", 0, "x.bal 0 >")?))?;
+    queries.push(Entry::Query(query(alloc, "y", 1, "y.bal x.bal >")?))?;
     Ok(queries)
 }
 
@@ -191,16 +198,16 @@ fn two_queries(alloc: Global) -> Result<Vec<Query>, AllocError> {
 fn assert_kept(
     rt: &impl Abort,
     alloc: Global,
-    queries: &[Query],
+    queries: &[Entry],
     objects: &mut PlainObjects,
     xs: &[Key],
     ys: &[Key],
 ) -> Result<(), AllocError> {
     match verdict(alloc, queries, objects)? {
-        Verdict::Satisfied(kept) => {
-            assert_eq!(rt; kept.len(), 2);
-            assert_answer(rt, kept.get(0), "x", xs);
-            assert_answer(rt, kept.get(1), "y", ys);
+        Verdict::Satisfied(found) => {
+            assert_eq!(rt; found.answers.len(), 2);
+            assert_answer(rt, found.answers.get(0), "x", xs);
+            assert_answer(rt, found.answers.get(1), "y", ys);
         }
         other => panic!(rt; "not satisfied: {other:?}"),
     }
@@ -219,17 +226,17 @@ fn a_later_query_may_name_the_first_row_of_an_earlier_one(rt: HostRuntime) -> Re
 }
 
 // The first has an empty answer while no balance is above 100, and the second has a fault.
-fn empty_and_faulty(alloc: Global) -> Result<Vec<Query>, AllocError> {
+fn empty_and_faulty(alloc: Global) -> Result<Vec<Entry>, AllocError> {
     let mut queries = Vec::new(alloc);
-    queries.push(query(alloc, "x", 0, "x.bal 100 >")?)?;
-    queries.push(query(alloc, "y", 1, "y.bal")?)?;
+    queries.push(Entry::Query(query(alloc, "x", 0, "x.bal 100 >")?))?;
+    queries.push(Entry::Query(query(alloc, "y", 1, "y.bal")?))?;
     Ok(queries)
 }
 
 fn assert_ends(
     rt: &impl Abort,
     alloc: Global,
-    queries: &[Query],
+    queries: &[Entry],
     objects: &mut PlainObjects,
 ) -> Result<(), AllocError> {
     assert!(rt; matches!(verdict(alloc, &[], objects)?, Verdict::Satisfied(_)));
@@ -253,7 +260,7 @@ fn a_condition_ends_at_its_first_empty_answer_or_fault(rt: HostRuntime) -> Resul
 #[test]
 fn a_refused_allocation_is_reported(rt: HostRuntime) {
     let alloc = rt.alloc();
-    let env = Env::new(None, &[]);
+    let env = Env::new(None, &[], &[], 0);
     let Ok(mut objects) = accounts(alloc) else {
         return;
     };

@@ -176,7 +176,8 @@ fn change_the_greatest(
 ) -> Result<(), Fail> {
     assert!(rt; holds(reads, view));
 
-    // Objects below it come and go.
+    // Objects below it come and go, and its own row changes.
+    set(alloc, view, 10, 1)?;
     set(alloc, view, 5, 1)?;
     view.cut(Cell::Object(0, 2))?;
     assert!(rt; holds(reads, view));

@@ -4,6 +4,7 @@
 mod attempts;
 mod boards;
 mod fixtures;
+mod greatest;
 mod lists;
 mod parts;
 mod read_parts;

@@ -169,7 +169,7 @@ fn assert_all(
     wanted: &[(Key, i64)],
 ) -> Result<(), Fail> {
     let asked = all_rows(alloc)?;
-    let rows = answer(alloc, &asked, &Env::new(None, &[]), view)?;
+    let rows = answer(alloc, &asked, &Env::new(None, &[], &[], 0), view)?;
     assert_rows(rt, &rows, wanted);
     Ok(())
 }
@@ -299,7 +299,7 @@ fn assert_of_key(
     wanted: &[(Key, i64)],
 ) -> Result<(), Fail> {
     let asked = of_key(alloc, key)?;
-    let rows = answer(alloc, &asked, &Env::new(None, &[]), view)?;
+    let rows = answer(alloc, &asked, &Env::new(None, &[], &[], 0), view)?;
     assert_rows(rt, &rows, wanted);
     Ok(())
 }

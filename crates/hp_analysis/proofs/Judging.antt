@@ -5,18 +5,19 @@ use Rattle.std.specs.Bool.{then_some}
 use Rattle.std.specs.Map.{lookup}
 use Rattle.hp_model.specs.Values.{Name, Kind, integer_kind, boolean_kind, text_kind, is_kind, Field, ◌>>=◌}
 use Rattle.hp_model.specs.Events.{Pattern, on_create, on_update, on_delete, on_signal, at_moment, every_moment}
-use Rattle.hp_model.specs.Expressions.{Comparison, equal, unequal, less, at_most, greater, at_least, Expression, constant, arithmetic, negated, inverted, both, either, compared, field_of, key_of, new_field, old_field, key_in, argument, time_of, occurrence_count}
-use Rattle.hp_model.specs.Rules.{Query, Assignment, Statement, create, update, delete, signal, emit, when, each, for_answer, with_object, subtransaction, abort, veto, on_rule, fire, Body, empty, ◌then◌, Rule, Library, class_at}
+use Rattle.hp_model.specs.Expressions.{Comparison, equal, unequal, less, at_most, greater, at_least, Expression, constant, arithmetic, negated, inverted, both, either, compared, field_of, key_of, new_field, old_field, key_in, argument, time_of, occurrence_count, value_named, time_now}
+use Rattle.hp_model.specs.Rules.{Query, Aggregate, count_over, sum_over, least_over, greatest_over, next_key, single, Entry, query_entry, no_entry, let_entry}
+use Rattle.hp_model.specs.Rules.{Assignment, Statement, create, update, delete, signal, emit, when, each, for_answer, with_object, subtransaction, let_value, abort, veto, veto_with, on_rule, fire, Body, empty, ◌then◌, Rule, Library, class_at}
 use Rattle.hp_model.specs.Firing.{kind_in}
 use Rattle.hp_model.specs.Cascade.{Unit, transaction, moment}
 use Rattle.hp_model.specs.Refusals.{Path, under_root, item_at}
 use Rattle.hp_model.specs.Kinds as K
-use Rattle.hp_model.specs.Kinds.{Sort, only, any, Declared, signature_of, is_fired, Columns, columns_by, Scope, with_name, no_scope, is_only, meets, meet, only_if, common, all_assigned, assignments_kinded, arguments_kinded, statement_kinded, body_kinded, queries_kinded, with_queries, query_classes, rules_kinded, library_kinded, unit_kinded, is_given, gives_sort, sort_of}
+use Rattle.hp_model.specs.Kinds.{Sort, only, any, Declared, signature_of, is_fired, Columns, columns_by, Scope, with_name, with_sort, no_scope, is_only, meets, meet, only_if, common, all_assigned, assignments_kinded, arguments_kinded, statement_kinded, body_kinded, aggregate_sort, if_sorted, entries_kinded, with_entries, query_classes, rules_kinded, library_kinded, unit_kinded, is_given, gives_sort, sort_of}
 use Rattle.hp_analysis.specs.declared.kinds.finding.KindError.{KindError}
 use Rattle.hp_analysis.specs.declared.kinds.finding.KindError.TheVariants.{Found, Memory}
 use Rattle.hp_analysis.specs.Kinded.{Passes, Judges}
 use Rattle.hp_analysis.specs.Findings as F
-use Rattle.hp_analysis.specs.Findings.{Wanted, Reason, Reasoned, Judged, refused, placed, reasoned, suits, demanded, operand_sort, operands_sort, alike_check, ordered_check, comparable_check, comparison_sort, Reading, read_new, read_old, read_key, read_argument, read_time, argument_sort, read_sort, sort_with, sort_among, sort_at, row_field_sort, row_key_sort, count_sort, expression_check, kind_check, each_check, assignment_check, assignments_check, update_check, create_check, none_missing, next_demand, later_demands, argument_check, arguments_check, emission_check, query_known, both_check, own_check, statement_check, body_check, asked_scope, query_check, condition_check, action_check, parts_check, rule_check, rules_check, library_check, unit_check, unset_field, no_such_field, no_such_argument, unknown_row, not_fired}
+use Rattle.hp_analysis.specs.Findings.{Wanted, Reason, Reasoned, Judged, refused, placed, reasoned, suits, demanded, operand_sort, operands_sort, alike_check, ordered_check, comparable_check, comparison_sort, Reading, read_new, read_old, read_key, read_argument, read_time, argument_sort, read_sort, sort_with, sort_among, sort_at, row_field_sort, row_key_sort, count_sort, expression_check, kind_check, each_check, assignment_check, assignments_check, update_check, create_check, none_missing, next_demand, later_demands, argument_check, arguments_check, emission_check, query_known, both_check, own_check, statement_check, body_check, value_sort, count_check, sum_check, is_ordered, extreme_check, aggregate_check, value_check, first_scope, test_check, query_check, no_check, let_check, entry_check, entries_check, parts_check, rule_check, rules_check, library_check, unit_check, unset_field, no_such_field, no_such_argument, unknown_name, not_fired}
 
 -- ---- results
 
@@ -24,8 +25,8 @@ abbrev pub value_in : {A E : Type 0} → Result A E → Option A
 value_in (Ok x) = Some x
 value_in (Err e) = None
 
-abbrev pub passes : {E : Type 0} → Result ⊤ E → Bool
-passes (Ok u) = true
+abbrev pub passes : {A E : Type 0} → Result A E → Bool
+passes (Ok x) = true
 passes (Err e) = false
 
 then_passes : {E : Type 0} (a b : Result ⊤ E) → passes (a >>= λ _. b) ≡ (passes a && passes b)
@@ -235,7 +236,7 @@ row_field_given : (library : Library) (scope : Scope) (x f : Name) → value_in 
 unfolding row_field_sort
 row_field_given library scope x f = by (lookup (bytes_eq x) scope.rows)
   where
-    by : (o : Option ℕ) → value_in (reasoned unknown_row o >>= λ class. F.field_sort library class f) ≡ K.named_sort library o f
+    by : (o : Option ℕ) → value_in (reasoned unknown_name o >>= λ class. F.field_sort library class f) ≡ K.named_sort library o f
     by None = refl
     by (Some class) = field_given library class f
 
@@ -243,7 +244,7 @@ row_key_given : (scope : Scope) (x : Name) → value_in (row_key_sort scope x) �
 unfolding row_key_sort
 row_key_given scope x = by (lookup (bytes_eq x) scope.rows)
   where
-    by : (o : Option ℕ) → value_in (reasoned unknown_row o >>= λ _. Ok (only integer_kind)) ≡ then_some (is_some o) (only integer_kind)
+    by : (o : Option ℕ) → value_in (reasoned unknown_name o >>= λ _. Ok (only integer_kind)) ≡ then_some (is_some o) (only integer_kind)
     by None = refl
     by (Some class) = refl
 
@@ -282,6 +283,8 @@ sort_given library d scope path (key_in i) = placed_given path (F.part_sort libr
 sort_given library d scope path (argument i j) = placed_given path (F.part_sort library d scope.columns i (read_argument j)) ∙ part_given library d scope.columns i (read_argument j)
 sort_given library d scope path (time_of i) = placed_given path (F.part_sort library d scope.columns i read_time) ∙ part_given library d scope.columns i read_time
 sort_given library d scope path occurrence_count = placed_given path (count_sort scope) ∙ count_given scope
+sort_given library d scope path (value_named x) = placed_given path (value_sort scope x) ∙ reasoned_given unknown_name (lookup (bytes_eq x) scope.values)
+sort_given library d scope path time_now = refl
 
 kind_judged : (library : Library) (d : Declared) (scope : Scope) (k : Kind) (path : Path) (e : Expression) → passes (kind_check library d scope k path e) ≡ is_only k (sort_of library d scope e)
 unfolding kind_check
@@ -290,6 +293,69 @@ kind_judged library d scope k path e = by (expression_check library d scope path
     by : (r : Judged Sort) → passes (r >>= suits k path) ≡ is_only k (value_in r)
     by (Ok s) = choice (is_only k (Some s)) path (F.unsuited (F.of_kind k) s)
     by (Err e) = refl
+
+-- ---- aggregates
+
+-- what a passed test lets give
+after_pass : {A : Type 0} (r : Judged ⊤) (b : Bool) (later : Judged A) (c : Bool) (x : A) → passes r ≡ b → value_in later ≡ then_some c x → value_in (r >>= λ _. later) ≡ then_some (b && c) x
+after_pass (Ok u) true later c x e is = is
+after_pass (Err f) false later c x e is = refl
+after_pass (Ok u) false later c x e is = cc
+after_pass (Err f) true later c x e is = cc
+
+and_true : (b : Bool) → (b && true) ≡ b
+and_true true = refl
+and_true false = refl
+
+test_given : {A : Type 0} (r : Judged ⊤) (b : Bool) (x : A) → passes r ≡ b → value_in (r >>= λ _. Ok x) ≡ then_some b x
+test_given r b x e = after_pass r b (Ok x) true x e refl ∙ ap (λ c. then_some c x) (and_true b)
+
+module _ (library : Library) (d : Declared) (scope : Scope) (path : Path) (x : Name) (class : ℕ) (predicate : Expression) where
+  abbrev inside : Scope
+  inside = with_name x class scope
+
+  abbrev tests : Bool
+  tests = K.is_test library d scope x class predicate
+
+  predicate_judged : passes (kind_check library d inside boolean_kind (item_at path 3) predicate) ≡ tests
+  predicate_judged = kind_judged library d inside boolean_kind (item_at path 3) predicate
+
+  count_of_given : value_in (count_check library d scope path x class predicate) ≡ then_some tests (only integer_kind)
+  unfolding count_check
+  count_of_given = test_given (kind_check library d inside boolean_kind (item_at path 3) predicate) tests (only integer_kind) predicate_judged
+
+  sum_given : (term : Expression) → value_in (sum_check library d scope path x class predicate term) ≡ then_some (tests && is_only integer_kind (sort_of library d inside term)) (only integer_kind)
+  unfolding sum_check
+  sum_given term =
+      let terms = kind_check library d inside integer_kind (item_at path 4) term in
+      let are_integers = is_only integer_kind (sort_of library d inside term) in
+      after_pass (kind_check library d inside boolean_kind (item_at path 3) predicate) tests (terms >>= λ _. Ok (only integer_kind)) are_integers (only integer_kind) predicate_judged
+      (test_given terms are_integers (only integer_kind) (kind_judged library d inside integer_kind (item_at path 4) term))
+
+  ordered_term : (r : Judged Sort) → value_in (r >>= λ s. is_ordered (item_at path 4) s >>= λ _. Ok s) ≡ K.ordered (value_in r)
+  ordered_term (Err f) = refl
+  ordered_term (Ok s) = test_given (is_ordered (item_at path 4) s) (K.are_ordered (Some s) (Some s)) s (choice (K.are_ordered (Some s) (Some s)) (item_at path 4) (F.unsuited F.of_ordered_kind s))
+
+  extreme_given : (term : Expression) → value_in (extreme_check library d scope path x class predicate term) ≡ (if tests then K.ordered (sort_of library d inside term) else None)
+  unfolding extreme_check
+  extreme_given term =
+      by (kind_check library d inside boolean_kind (item_at path 3) predicate) tests predicate_judged
+      (expression_check library d inside (item_at path 4) term >>= λ s. is_ordered (item_at path 4) s >>= λ _. Ok s) (K.ordered (sort_of library d inside term))
+      (ordered_term (expression_check library d inside (item_at path 4) term) ∙ ap K.ordered (sort_given library d inside (item_at path 4) term))
+    where
+      by : (r : Judged ⊤) (b : Bool) → passes r ≡ b → (later : Judged Sort) (o : Option Sort) → value_in later ≡ o → value_in (r >>= λ _. later) ≡ (if b then o else None)
+      by (Ok u) true e later o is = is
+      by (Err f) false e later o is = refl
+      by (Ok u) false e later o is = cc
+      by (Err f) true e later o is = cc
+
+pub aggregate_given : (library : Library) (d : Declared) (scope : Scope) (path : Path) (a : Aggregate) → value_in (aggregate_check library d scope path a) ≡ aggregate_sort library d scope a
+aggregate_given library d scope path (count_over x class predicate) = count_of_given library d scope path x class predicate
+aggregate_given library d scope path (sum_over x class predicate term) = sum_given library d scope path x class predicate term
+aggregate_given library d scope path (least_over x class predicate term) = extreme_given library d scope path x class predicate term
+aggregate_given library d scope path (greatest_over x class predicate term) = extreme_given library d scope path x class predicate term
+aggregate_given library d scope path (next_key class) = refl
+aggregate_given library d scope path (single e) = sort_given library d scope path e
 
 -- ---- statements
 
@@ -381,6 +447,22 @@ emission_judged library d scope path e = by (expression_check library d scope (i
     by (Ok s) = refl
     by (Err f) = refl
 
+value_judged : (library : Library) (d : Declared) (scope : Scope) (path : Path) (a : Aggregate) → passes (value_check library d scope path a) ≡ is_some (aggregate_sort library d scope a)
+unfolding value_check
+value_judged library d scope path a = by (aggregate_check library d scope path a) ∙ ap is_some (aggregate_given library d scope path a)
+  where
+    done : Judged ⊤
+    done = Ok tt
+
+    by : (r : Judged Sort) → passes (r >>= λ _. done) ≡ is_some (value_in r)
+    by (Ok s) = refl
+    by (Err f) = refl
+
+-- a `let` is kinded if its aggregate has a sort, and its body is kinded in the scope of that
+held_kinded : (o : Option Sort) (test : Sort → Bool) → (is_some o && test (unwrap_or o any)) ≡ if_sorted o test
+held_kinded None test = refl
+held_kinded (Some s) test = refl
+
 query_judged : (path : Path) (o : Option ℕ) → passes (query_known path o) ≡ is_some o
 query_judged path None = refl
 query_judged path (Some class) = refl
@@ -434,6 +516,14 @@ mutual
       (two_judged (body_check library d scope queries (item_at path 1) 0 a) (body_check library d scope queries (item_at path 2) 0 b)
       (body_kinded library d scope queries a) (body_kinded library d scope queries b)
       (body_judged library d scope queries (item_at path 1) 0 a) (body_judged library d scope queries (item_at path 2) 0 b))
+  statement_judged library d scope queries path (let_value x a body) =
+      let inner = with_sort x (unwrap_or (aggregate_sort library d scope a) any) scope in
+      two_judged (value_check library d scope (item_at path 2) a) (body_check library d inner queries (item_at path 3) 0 body)
+      (is_some (aggregate_sort library d scope a)) (body_kinded library d inner queries body)
+      (value_judged library d scope (item_at path 2) a) (body_judged library d inner queries (item_at path 3) 0 body)
+      ∙ held_kinded (aggregate_sort library d scope a) (λ s. body_kinded library d (with_sort x s scope) queries body)
+  statement_judged library d scope queries path (veto_with e) =
+      plain_judged (emission_check library d scope path e) (statement_kinded library d scope queries (veto_with e)) (emission_judged library d scope path e)
   statement_judged library d scope queries path abort = plain_judged (own_check library d scope queries path abort) true refl
   statement_judged library d scope queries path veto = plain_judged (own_check library d scope queries path veto) true refl
   statement_judged library d scope queries path (on_rule op n) = plain_judged (own_check library d scope queries path (on_rule op n)) true refl
@@ -449,33 +539,57 @@ mutual
 
 -- ---- rules
 
-one_more : (scope : Scope) (before : List Query) (q : Query) → with_queries scope (before ++ q ∷ []) ≡ with_name q.name q.class (with_queries scope before)
-one_more scope [] q = refl
-one_more scope (p ∷ before) q = one_more (with_name p.name p.class scope) before q
+module _ (library : Library) (d : Declared) where
+  -- an entry that is a query, with the scope after it
+  after_test : (path place : Path) (scope inner : Scope) (q : Query) (i : ℕ) (es : List Entry)
+      → value_in (entries_check library d path inner i es) ≡ then_some (entries_kinded library d inner es) (with_entries library d inner es)
+      → value_in ((test_check library d scope place q >>= λ _. Ok inner) >>= λ s. entries_check library d path s i es)
+      ≡ then_some (K.is_test library d scope q.name q.class q.predicate && entries_kinded library d inner es) (with_entries library d inner es)
+  after_test path place scope inner q i es later =
+      by (test_check library d scope place q) (K.is_test library d scope q.name q.class q.predicate) (kind_judged library d (with_name q.name q.class scope) boolean_kind place q.predicate)
+    where
+      by : (r : Judged ⊤) (b : Bool) → passes r ≡ b
+          → value_in ((r >>= λ _. Ok inner) >>= λ s. entries_check library d path s i es) ≡ then_some (b && entries_kinded library d inner es) (with_entries library d inner es)
+      by (Ok u) true e = later
+      by (Err f) false e = refl
+      by (Ok u) false e = cc
+      by (Err f) true e = cc
 
-first_judged : (library : Library) (d : Declared) (c : Columns) (before : List Query) (path : Path) (q : Query)
-    → passes (query_check library d c before path q) ≡ is_only boolean_kind (sort_of library d (with_name q.name q.class (asked_scope c before)) q.predicate)
-unfolding query_check
-first_judged library d c before path q = kind_judged library d (with_name q.name q.class (asked_scope c before)) boolean_kind (item_at path 2) q.predicate
+  -- the entries pass where they are kinded, and then give the scope after them
+  pub entries_given : (path : Path) (scope : Scope) (i : ℕ) (es : List Entry)
+      → value_in (entries_check library d path scope i es) ≡ then_some (entries_kinded library d scope es) (with_entries library d scope es)
+  unfolding query_check no_check let_check
+  entries_given path scope i [] = refl
+  entries_given path scope i (query_entry q ∷ es) =
+      after_test path (item_at (item_at path i) 2) scope (with_name q.name q.class scope) q (suc i) es (entries_given path (with_name q.name q.class scope) (suc i) es)
+  entries_given path scope i (no_entry q ∷ es) = after_test path (item_at (item_at path i) 3) scope scope q (suc i) es (entries_given path scope (suc i) es)
+  entries_given path scope i (let_entry x a ∷ es) =
+      by (aggregate_check library d scope (item_at (item_at path i) 2) a) (λ s. entries_given path (with_sort x s scope) (suc i) es)
+      ∙ ap given (aggregate_given library d scope (item_at (item_at path i) 2) a)
+    where
+      given : Option Sort → Option Scope
+      given o = then_some (if_sorted o (λ s. entries_kinded library d (with_sort x s scope) es)) (with_entries library d (with_sort x (unwrap_or o any) scope) es)
 
-condition_judged : (library : Library) (d : Declared) (c : Columns) (path : Path) (before : List Query) (i : ℕ) (qs : List Query)
-    → passes (each_check (query_check library d c) path before i qs) ≡ queries_kinded library d (asked_scope c before) qs
-condition_judged library d c path before i [] = refl
-condition_judged library d c path before i (q ∷ qs) =
-    both_pass (query_check library d c before (item_at path i) q) (each_check (query_check library d c) path (before ++ q ∷ []) (suc i) qs)
-    (is_only boolean_kind (sort_of library d (with_name q.name q.class (asked_scope c before)) q.predicate)) (queries_kinded library d (with_name q.name q.class (asked_scope c before)) qs)
-    (first_judged library d c before (item_at path i) q)
-    (condition_judged library d c path (before ++ q ∷ []) (suc i) qs
-    ∙ ap (λ scope. queries_kinded library d scope qs) (one_more (record { columns = Some c; rows = [] }) before q))
+      by : (r : Judged Sort) → ((s : Sort) → value_in (entries_check library d path (with_sort x s scope) (suc i) es) ≡ then_some (entries_kinded library d (with_sort x s scope) es) (with_entries library d (with_sort x s scope) es))
+          → value_in ((r >>= λ s. Ok (with_sort x s scope)) >>= λ inner. entries_check library d path inner (suc i) es) ≡ given (value_in r)
+      by (Ok s) later = later s
+      by (Err f) later = refl
 
-rule_judged : (library : Library) (d : Declared) (fired : Bool) (path : Path) (rule : Rule) → passes (rule_check library d fired path rule) ≡ K.rule_kinded library d fired rule
-unfolding parts_check
-rule_judged library d fired path rule =
-    let c = columns_by fired rule.event in
-    let inner = with_queries (K.rule_scope fired rule) rule.condition in
-    both_pass (condition_check library d c (item_at path 3) rule.condition) (action_check library d c rule.condition (item_at path 5) rule.action)
-    (queries_kinded library d (K.rule_scope fired rule) rule.condition) (body_kinded library d inner (query_classes rule.condition) rule.action)
-    (condition_judged library d c (item_at path 3) [] 0 rule.condition) (body_judged library d inner (query_classes rule.condition) (item_at path 5) 0 rule.action)
+  rule_judged : (fired : Bool) (path : Path) (rule : Rule) → passes (rule_check library d fired path rule) ≡ K.rule_kinded library d fired rule
+  unfolding parts_check
+  rule_judged fired path rule =
+      let start = first_scope (columns_by fired rule.event) in
+      by (entries_check library d (item_at path 3) start 0 rule.condition) (entries_kinded library d start rule.condition) (with_entries library d start rule.condition)
+      (entries_given (item_at path 3) start 0 rule.condition)
+      (λ scope. body_judged library d scope (query_classes rule.condition) (item_at path 5) 0 rule.action)
+    where
+      by : (r : Judged Scope) (b : Bool) (after : Scope) → value_in r ≡ then_some b after
+          → ((scope : Scope) → passes (body_check library d scope (query_classes rule.condition) (item_at path 5) 0 rule.action) ≡ body_kinded library d scope (query_classes rule.condition) rule.action)
+          → passes (r >>= λ scope. body_check library d scope (query_classes rule.condition) (item_at path 5) 0 rule.action) ≡ (b && body_kinded library d after (query_classes rule.condition) rule.action)
+      by (Ok s) true after e later = later s ∙ ap (λ o. body_kinded library d (unwrap_or o after) (query_classes rule.condition) rule.action) e
+      by (Err f) false after e later = refl
+      by (Ok s) false after e later = cc
+      by (Err f) true after e later = cc
 
 rules_judged : (library : Library) (d : Declared) (path : Path) (n : ℕ) (rules : List Rule) → passes (rules_check library d path n rules) ≡ rules_kinded library d n rules
 rules_judged library d path n [] = refl
@@ -488,7 +602,7 @@ pub library_passes : (library : Library) (d : Declared) → passes (library_chec
 library_passes library d = rules_judged library d (under_root (F.rules_member)) 0 library.rules
 
 pub unit_passes : (library : Library) (d : Declared) (unit : Unit) → passes (unit_check library d unit) ≡ unit_kinded library d unit
-unit_passes library d (transaction body) = body_judged library d no_scope [] [] 0 body
+unit_passes library d (transaction now body) = body_judged library d no_scope [] [] 0 body
 unit_passes library d (moment t) = refl
 
 -- ---- the program's checks

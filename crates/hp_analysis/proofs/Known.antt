@@ -4,12 +4,12 @@ use Rattle.std.specs.Prelude.{if◌then◌else◌, Ok}
 use Rattle.std.specs.List.{list_all}
 use Rattle.std.proofs.lemmas.Bool.{and_parts, and_from, lt-ltb}
 use Rattle.std.proofs.lemmas.List.Folds.{list_all-append}
-use Rattle.hp_model.specs.Values.{Name, ClassDef}
+use Rattle.hp_model.specs.Values.{ClassDef}
 use Rattle.hp_model.specs.Occurrences.{Primitive, created, updated, deleted, signalled, commit_reached}
-use Rattle.hp_model.specs.Rules.{Rule, Library, Statement, create, update, delete, signal, emit, when, each, for_answer, with_object, subtransaction, abort, veto, on_rule, fire, Body, empty, ◌then◌}
-use Rattle.hp_model.specs.Checked.{Scope, library_check, action_scope, query_names}
+use Rattle.hp_model.specs.Rules.{Rule, Library, Statement, create, update, delete, signal, emit, when, each, for_answer, with_object, subtransaction, let_value, abort, veto, veto_with, on_rule, fire, Body, empty, ◌then◌}
+use Rattle.hp_model.specs.Checked.{Scope, library_check, action_scope, Names, knowing_row, knowing_value, names_of}
 use Rattle.hp_model.specs.Chains.{completes, triggers_from, signal_triggers, statement_triggers, body_triggers, may_detach, rule_triggers}
-use Rattle.hp_rule.specs.WellNamed.{IsWellNamed, knows_expression, knows_class, knows_row, knows_event, knows_queries, knows_statement, knows_body, knows_rule}
+use Rattle.hp_rule.specs.WellNamed.{IsWellNamed, knows_expression, knows_class, knows_row, knows_event, knows_aggregate, knows_entries, knows_statement, knows_body, knows_rule}
 use Rattle.hp_rule.proofs.WellNamedLemmas.{library_is_well_named}
 use Rattle.hp_analysis.proofs.Within.{knows_targets}
 
@@ -35,7 +35,7 @@ module _ (library : Library) where
 
   module _ (scope : Scope) (same : scope.rules ≡ length library.rules) where
     mutual
-      statement_below : (names : List Name) (s : Statement) → IsTrue (knows_statement scope names s) → IsTrue (list_all below (statement_triggers library s))
+      statement_below : (names : Names) (s : Statement) → IsTrue (knows_statement scope names s) → IsTrue (list_all below (statement_triggers library s))
       statement_below names (create class key assignments) h = signal_below (created class (pos 0) [])
       statement_below names (update class key assignments) h = signal_below (updated class (pos 0) [] [])
       statement_below names (delete class key) h = signal_below (deleted class (pos 0) [])
@@ -45,21 +45,23 @@ module _ (library : Library) where
           let parts = and_parts (knows_body scope names a) (knows_body scope names b) (and_parts (knows_expression names e) (knows_body scope names a && knows_body scope names b) h).1 in
           both_below (body_triggers library a) (body_triggers library b) (body_below names a parts.0) (body_below names b parts.1)
       statement_below names (each x class predicate body) h =
-          body_below (x ∷ names) body
-          (and_parts (knows_expression (x ∷ names) predicate) (knows_body scope (x ∷ names) body) (and_parts (knows_class scope class) (knows_expression (x ∷ names) predicate && knows_body scope (x ∷ names) body) h).1).1
+          body_below (knowing_row x names) body
+          (and_parts (knows_expression (knowing_row x names) predicate) (knows_body scope (knowing_row x names) body) (and_parts (knows_class scope class) (knows_expression (knowing_row x names) predicate && knows_body scope (knowing_row x names) body) h).1).1
       statement_below names (for_answer x body) h = body_below names body (and_parts _ (knows_body scope names body) h).1
       statement_below names (with_object x class key body) h =
-          body_below (x ∷ names) body
-          (and_parts (knows_expression names key) (knows_body scope (x ∷ names) body) (and_parts (knows_class scope class) (knows_expression names key && knows_body scope (x ∷ names) body) h).1).1
+          body_below (knowing_row x names) body
+          (and_parts (knows_expression names key) (knows_body scope (knowing_row x names) body) (and_parts (knows_class scope class) (knows_expression names key && knows_body scope (knowing_row x names) body) h).1).1
       statement_below names (subtransaction body otherwise) h =
           let parts = and_parts (knows_body scope names body) (knows_body scope names otherwise) h in
           both_below (body_triggers library body) (body_triggers library otherwise) (body_below names body parts.0) (body_below names otherwise parts.1)
+      statement_below names (let_value x a body) h = body_below (knowing_value x names) body (and_parts (knows_aggregate (length scope.classes) names a) (knows_body scope (knowing_value x names) body) h).1
       statement_below names abort h = refl
       statement_below names veto h = refl
+      statement_below names (veto_with e) h = refl
       statement_below names (on_rule op n) h = refl
       statement_below names (fire n) h = and_from (below n) true (subst (λ count. IsTrue (nat_lt n count)) same h) refl
 
-      body_below : (names : List Name) (b : Body) → IsTrue (knows_body scope names b) → IsTrue (list_all below (body_triggers library b))
+      body_below : (names : Names) (b : Body) → IsTrue (knows_body scope names b) → IsTrue (list_all below (body_triggers library b))
       body_below names empty h = refl
       body_below names (s then rest) h =
           let parts = and_parts (knows_statement scope names s) (knows_body scope names rest) h in
@@ -68,9 +70,9 @@ module _ (library : Library) where
   rule_below : (r : Rule) → IsTrue (knows_rule library.classes (length library.rules) r) → IsTrue (knows_targets library r)
   rule_below r h =
       let action = action_scope library.classes (length library.rules) r.condition in
-      let body = (and_parts (knows_queries (length library.classes) [] r.condition) (knows_body action (query_names r.condition) r.action)
-      (and_parts (knows_event (length library.classes) r.event) (knows_queries (length library.classes) [] r.condition && knows_body action (query_names r.condition) r.action) h).1).1 in
-      both_below (body_triggers library r.action) (if may_detach r then signal_triggers library commit_reached else []) (body_below action refl (query_names r.condition) r.action body) (commit (may_detach r))
+      let body = (and_parts (knows_entries (length library.classes) [] r.condition) (knows_body action (names_of r.condition) r.action)
+      (and_parts (knows_event (length library.classes) r.event) (knows_entries (length library.classes) [] r.condition && knows_body action (names_of r.condition) r.action) h).1).1 in
+      both_below (body_triggers library r.action) (if may_detach r then signal_triggers library commit_reached else []) (body_below action refl (names_of r.condition) r.action body) (commit (may_detach r))
     where
       commit : (b : Bool) → IsTrue (list_all below (if b then signal_triggers library commit_reached else []))
       commit true = signal_below commit_reached

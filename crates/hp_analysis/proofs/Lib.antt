@@ -6,7 +6,7 @@ pub mod Within
 pub mod Witnessed
 pub mod Judging
 pub mod Keeping
-pub mod LastQueries
+pub mod LastNames
 pub mod Lengths
 pub mod Placing
 pub mod Signatures

@@ -3,12 +3,13 @@ use Rattle.std.proofs.Common.{◌≡◌, refl, sym, ap, ap₂, ◌∙◌, ℕ, s
 use Rattle.std.specs.Prelude.{◌||◌, if◌then◌else◌, slice_set}
 use Rattle.hp_model.specs.Occurrences.{Primitive, created, updated, deleted, signalled, commit_reached}
 use Rattle.hp_model.specs.Events.{Event, pattern_event, or_event, seq_event, closure_event, Pattern, on_create, on_update, on_delete, on_signal, on_commit, at_moment, every_moment, matches}
-use Rattle.hp_model.specs.Rules.{Statement, create, update, delete, signal, emit, when, each, for_answer, with_object, subtransaction, abort, veto, on_rule, fire, Body, ◌then◌, Rule, Library}
+use Rattle.hp_model.specs.Rules.{Statement, create, update, delete, signal, emit, when, each, for_answer, with_object, subtransaction, let_value, abort, veto, veto_with, on_rule, fire, Body, ◌then◌, Rule, Library}
 use Rattle.hp_model.specs.Chains.{completes, triggers_from, signal_triggers, statement_triggers, body_triggers, may_detach, rule_triggers, unit_triggers}
 use Rattle.hp_model.specs.Cascade.{Unit, transaction, moment}
 use Rattle.hp_rule.specs.Index.{numbers_from}
-use Rattle.hp_analysis.specs.declared.listeners.Listeners.{Listeners}
-use Rattle.hp_analysis.specs.Listeners.{listed, listed_by, pattern_ends, may_end, ending, is_plain}
+use Rattle.hp_rule.specs.RuleLists.{listed}
+use Rattle.hp_rule.specs.declared.rule_lists.RuleLists.{RuleLists}
+use Rattle.hp_analysis.specs.Listeners.{listed_by, pattern_ends, may_end, ending, is_plain}
 use Rattle.hp_analysis.specs.Sets.{marked, begun_by}
 
 -- ---- sets
@@ -44,17 +45,17 @@ numbers_same p none n [] = refl
 numbers_same p none n (rule ∷ rules) = ap₂ (λ b ns. if b then n ∷ ns else ns) (event_same p none rule.event) (numbers_same p none (suc n) rules)
 
 -- an index of these rules
-abbrev pub IsIndexOf : Listeners → Library → Type 0
+abbrev pub IsIndexOf : RuleLists → Library → Type 0
 IsIndexOf l library = (p : Primitive) → listed l p ≡ ending library.rules p
 
-listed_same : (l : Listeners) (library : Library) → IsIndexOf l library → (p : Primitive) → IsNoMoment p → listed l p ≡ signal_triggers library p
+listed_same : (l : RuleLists) (library : Library) → IsIndexOf l library → (p : Primitive) → IsNoMoment p → listed l p ≡ signal_triggers library p
 listed_same l library is p none = is p ∙ numbers_same p none 0 library.rules
 
-pub commit_listed : (l : Listeners) (library : Library) → IsIndexOf l library → listed l commit_reached ≡ signal_triggers library commit_reached
+pub commit_listed : (l : RuleLists) (library : Library) → IsIndexOf l library → listed l commit_reached ≡ signal_triggers library commit_reached
 commit_listed l library is = listed_same l library is commit_reached (record { at = λ t. refl; every = λ f p. refl })
 
 -- a statement without statements in it
-pub own_listed : (l : Listeners) (library : Library) → IsIndexOf l library → (s : Statement) → is_plain s ≡ true → listed_by l s ≡ statement_triggers library s
+pub own_listed : (l : RuleLists) (library : Library) → IsIndexOf l library → (s : Statement) → is_plain s ≡ true → listed_by l s ≡ statement_triggers library s
 own_listed l library is (create class key assignments) plain = listed_same l library is (created class (pos 0) []) (record { at = λ t. refl; every = λ f p. refl })
 own_listed l library is (update class key assignments) plain = listed_same l library is (updated class (pos 0) [] []) (record { at = λ t. refl; every = λ f p. refl })
 own_listed l library is (delete class key) plain = listed_same l library is (deleted class (pos 0) []) (record { at = λ t. refl; every = λ f p. refl })
@@ -62,12 +63,14 @@ own_listed l library is (signal name arguments) plain = listed_same l library is
 own_listed l library is (emit e) plain = refl
 own_listed l library is abort plain = refl
 own_listed l library is veto plain = refl
+own_listed l library is (veto_with e) plain = refl
 own_listed l library is (on_rule op n) plain = refl
 own_listed l library is (when e then_body else_body) plain = cc
 own_listed l library is (each x class predicate body) plain = cc
 own_listed l library is (for_answer x body) plain = cc
 own_listed l library is (with_object x class key body) plain = cc
 own_listed l library is (subtransaction body otherwise) plain = cc
+own_listed l library is (let_value x a body) plain = cc
 own_listed l library is (fire n) plain = cc
 
 -- ---- statements, rules and moments
@@ -86,7 +89,7 @@ pub rule_split : (library : Library) (rule : Rule) → may_detach rule ≡ true 
 rule_split library rule e = ap (λ b. body_triggers library rule.action ++ (if b then signal_triggers library commit_reached else [])) (sym e)
 
 pub unit_split : (library : Library) (u : Unit) → (begun_by library u ++ signal_triggers library commit_reached) ≡ unit_triggers library u
-unit_split library (transaction body) = refl
+unit_split library (transaction now body) = refl
 unit_split library (moment t) = refl
 
 -- first some rules, and then others

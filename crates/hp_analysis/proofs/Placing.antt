@@ -1,23 +1,25 @@
 -- A finding names a place at which the judgement fails.
 use Rattle.std.proofs.Common.{◌≡◌, refl, sym, ap, ap₂, ◌∙◌, subst, ℕ, zero, suc, Bool, true, false, List, [], ◌∷◌, ◌++◌, take, Option, Some, None, Result, Ok, Err, append_assoc, append-nil, inl, inr, drop}
 use Rattle.std.specs.Prelude.{⊤, bytes_eq, slice_get, unwrap_or, if◌then◌else◌}
+use Rattle.std.specs.Bool.{then_some}
 use Rattle.std.specs.Map.{lookup}
 use Rattle.hp_model.specs.Values.{Name, Kind, integer_kind, boolean_kind, text_kind, Field, ◌>>=◌}
-use Rattle.hp_model.specs.Expressions.{Comparison, equal, unequal, less, at_most, greater, at_least, Expression, constant, arithmetic, negated, inverted, both, either, compared, field_of, key_of, new_field, old_field, key_in, argument, time_of, occurrence_count}
-use Rattle.hp_model.specs.Rules.{Query, Assignment, Statement, create, update, delete, signal, emit, when, each, for_answer, with_object, subtransaction, abort, veto, on_rule, fire, Body, empty, ◌then◌, Rule, Library, class_at}
+use Rattle.hp_model.specs.Expressions.{Comparison, equal, unequal, less, at_most, greater, at_least, Expression, constant, arithmetic, negated, inverted, both, either, compared, field_of, key_of, new_field, old_field, key_in, argument, time_of, occurrence_count, value_named, time_now}
+use Rattle.hp_model.specs.Rules.{Query, Aggregate, count_over, sum_over, least_over, greatest_over, next_key, single, Entry, query_entry, no_entry, let_entry}
+use Rattle.hp_model.specs.Rules.{Assignment, Statement, create, update, delete, signal, emit, when, each, for_answer, with_object, subtransaction, let_value, abort, veto, veto_with, on_rule, fire, Body, empty, ◌then◌, Rule, Library, class_at}
 use Rattle.hp_model.specs.Firing.{kind_in}
 use Rattle.hp_model.specs.Cascade.{Unit, transaction, moment}
 use Rattle.hp_model.specs.Refusals.{to_item, Path, under_root, item_at}
 use Rattle.hp_model.specs.Kinds as K
-use Rattle.hp_model.specs.Kinds.{Sort, only, any, Declared, signature_of, is_fired, Columns, columns_by, Scope, with_name, no_scope, is_only, all_assigned, query_classes, sort_of}
+use Rattle.hp_model.specs.Kinds.{Sort, only, any, Declared, signature_of, is_fired, Columns, columns_by, Scope, with_name, with_sort, no_scope, is_only, all_assigned, aggregate_sort, entries_kinded, with_entries, query_classes, sort_of}
 use Rattle.hp_analysis.specs.declared.kinds.finding.KindError.{KindError}
 use Rattle.hp_analysis.specs.declared.kinds.finding.KindError.TheVariants.{Found, Memory}
 use Rattle.hp_analysis.specs.Kinded.{Passes}
 use Rattle.hp_analysis.specs.Placed.{Places}
 use Rattle.hp_analysis.specs.Findings as F
-use Rattle.hp_analysis.specs.Findings.{Finding, Wanted, Reason, Reasoned, Judged, refused, placed, reasoned, suits, demanded, operand_sort, operands_sort, alike_check, ordered_check, comparable_check, comparison_sort, expression_check, kind_check, each_check, assignment_check, assignments_check, update_check, create_check, none_missing, next_demand, later_demands, argument_check, arguments_check, emission_check, query_known, both_check, own_check, inner_check, statement_check, body_check, asked_scope, query_check, condition_check, action_check, parts_check, rule_check, rules_check, library_check, unit_check, rules_member, row_field_sort, row_key_sort, count_sort, read_new, read_old, read_key, read_argument, read_time}
-use Rattle.hp_analysis.specs.Parts.{Part, expression_part, statement_part, field_part, pairs_part, query_part, along, part_in_expression, part_in_pair, part_in_pairs, part_in_arguments, statement_at, part_in_statement, part_in_body, part_in_query, part_in_condition, part_in_rule, part_in_rules, part_in_library, part_in_unit, is_wanted, IsRefused, IsPlacedIn}
-use Rattle.hp_analysis.proofs.Judging.{value_in, passes, chosen, sort_given, statement_judged}
+use Rattle.hp_analysis.specs.Findings.{Finding, Wanted, Reason, Reasoned, Judged, refused, placed, reasoned, suits, demanded, operand_sort, operands_sort, alike_check, ordered_check, comparable_check, comparison_sort, expression_check, kind_check, each_check, assignment_check, assignments_check, update_check, create_check, none_missing, next_demand, later_demands, argument_check, arguments_check, emission_check, query_known, both_check, own_check, inner_check, statement_check, body_check, value_sort, count_check, sum_check, is_ordered, extreme_check, aggregate_check, value_check, first_scope, test_check, query_check, no_check, let_check, entry_check, entries_check, parts_check, rule_check, rules_check, library_check, unit_check, rules_member, row_field_sort, row_key_sort, count_sort, read_new, read_old, read_key, read_argument, read_time}
+use Rattle.hp_analysis.specs.Parts.{Part, expression_part, statement_part, field_part, pairs_part, query_part, along, part_in_expression, part_in_aggregate, part_in_pair, part_in_pairs, part_in_arguments, statement_at, part_in_statement, part_in_body, part_in_entry, scope_after, part_in_condition, part_in_rule, part_in_rules, part_in_library, part_in_unit, is_wanted, IsRefused, IsPlacedIn}
+use Rattle.hp_analysis.proofs.Judging.{value_in, passes, chosen, sort_given, statement_judged, entries_given}
 
 -- ---- results that have a part
 
@@ -151,11 +153,69 @@ module _ (library : Library) (d : Declared) where
   expression_located scope path (argument i j) = leaf_located scope path (argument i j) (F.part_sort library d scope.columns i (read_argument j)) (sort_given library d scope path (argument i j))
   expression_located scope path (time_of i) = leaf_located scope path (time_of i) (F.part_sort library d scope.columns i read_time) (sort_given library d scope path (time_of i))
   expression_located scope path occurrence_count = leaf_located scope path occurrence_count (count_sort scope) (sort_given library d scope path occurrence_count)
+  expression_located scope path (value_named x) = leaf_located scope path (value_named x) (value_sort scope x) (sort_given library d scope path (value_named x))
+  expression_located scope path time_now = tt
 
   kind_located : (scope : Scope) (path : Path) (k : Kind) (e : Expression) → Located library d (In scope e) path (kind_check library d scope k path e)
   unfolding kind_check
   kind_located scope path k e =
       located_then (In scope e) path (expression_check library d scope path e) (suits k path) (expression_located scope path e) (λ s is. suits_located scope path k s e (sort_is scope path e s is))
+
+  -- ---- aggregates
+
+  abbrev InAggregate : Scope → Aggregate → Path → Option Part
+  InAggregate scope a steps = part_in_aggregate scope steps a
+
+  -- the predicate of an aggregate over rows, with what is checked after it
+  rows_located : {A : Type 0} (scope : Scope) (path : Path) (a : Aggregate) (inner : Scope) (predicate : Expression) (later : Judged A)
+      → ((steps : Path) → InAggregate scope a (to_item 3 ∷ steps) ≡ In inner predicate steps) → Located library d (InAggregate scope a) path later
+      → Located library d (InAggregate scope a) path (kind_check library d inner boolean_kind (item_at path 3) predicate >>= λ _. later)
+  rows_located scope path a inner predicate later third there =
+      located_then (InAggregate scope a) path (kind_check library d inner boolean_kind (item_at path 3) predicate) (λ _. later)
+      (located_deeper (InAggregate scope a) (In inner predicate) path 3 (kind_check library d inner boolean_kind (item_at path 3) predicate) third (kind_located inner (item_at path 3) boolean_kind predicate)) (λ _ _. there)
+
+  count_located : (scope : Scope) (path : Path) (x : Name) (class : ℕ) (predicate : Expression)
+      → Located library d (InAggregate scope (count_over x class predicate)) path (count_check library d scope path x class predicate)
+  unfolding count_check
+  count_located scope path x class predicate = rows_located scope path (count_over x class predicate) (with_name x class scope) predicate (Ok (only integer_kind)) (λ steps. refl) tt
+
+  sum_located : (scope : Scope) (path : Path) (x : Name) (class : ℕ) (predicate term : Expression)
+      → Located library d (InAggregate scope (sum_over x class predicate term)) path (sum_check library d scope path x class predicate term)
+  unfolding sum_check
+  sum_located scope path x class predicate term =
+      let a = sum_over x class predicate term in
+      let inner = with_name x class scope in
+      let terms = kind_check library d inner integer_kind (item_at path 4) term in
+      rows_located scope path a inner predicate (terms >>= λ _. Ok (only integer_kind)) (λ steps. refl)
+      (located_then (InAggregate scope a) path terms (λ _. Ok (only integer_kind))
+      (located_deeper (InAggregate scope a) (In inner term) path 4 terms (λ steps. refl) (kind_located inner (item_at path 4) integer_kind term)) (λ _ _. tt))
+
+  order_located : (scope : Scope) (path : Path) (e : Expression) (s : Sort) → sort_of library d scope e ≡ Some s → Located library d (In scope e) path (is_ordered path s)
+  order_located scope path e any is = here (In scope e) path (F.unsuited F.of_ordered_kind any) (expression_part scope e) refl (inr (is, refl))
+  order_located scope path e (only integer_kind) is = tt
+  order_located scope path e (only boolean_kind) is = here (In scope e) path (F.unsuited F.of_ordered_kind (only boolean_kind)) (expression_part scope e) refl (inr (is, refl))
+  order_located scope path e (only text_kind) is = tt
+
+  extreme_located : (scope : Scope) (path : Path) (a : Aggregate) (x : Name) (class : ℕ) (predicate term : Expression)
+      → ((steps : Path) → InAggregate scope a (to_item 3 ∷ steps) ≡ In (with_name x class scope) predicate steps) → ((steps : Path) → InAggregate scope a (to_item 4 ∷ steps) ≡ In (with_name x class scope) term steps)
+      → Located library d (InAggregate scope a) path (extreme_check library d scope path x class predicate term)
+  unfolding extreme_check
+  extreme_located scope path a x class predicate term third fourth =
+      let inner = with_name x class scope in
+      let sorted = expression_check library d inner (item_at path 4) term in
+      rows_located scope path a inner predicate (sorted >>= λ s. is_ordered (item_at path 4) s >>= λ _. Ok s) third
+      (located_then (InAggregate scope a) path sorted (λ s. is_ordered (item_at path 4) s >>= λ _. Ok s)
+      (located_deeper (InAggregate scope a) (In inner term) path 4 sorted fourth (expression_located inner (item_at path 4) term))
+      (λ s is. located_then (InAggregate scope a) path (is_ordered (item_at path 4) s) (λ _. Ok s)
+      (located_deeper (InAggregate scope a) (In inner term) path 4 (is_ordered (item_at path 4) s) fourth (order_located inner (item_at path 4) term s (sort_is inner (item_at path 4) term s is))) (λ _ _. tt)))
+
+  aggregate_located : (scope : Scope) (path : Path) (a : Aggregate) → Located library d (InAggregate scope a) path (aggregate_check library d scope path a)
+  aggregate_located scope path (count_over x class predicate) = count_located scope path x class predicate
+  aggregate_located scope path (sum_over x class predicate term) = sum_located scope path x class predicate term
+  aggregate_located scope path (least_over x class predicate term) = extreme_located scope path (least_over x class predicate term) x class predicate term (λ steps. refl) (λ steps. refl)
+  aggregate_located scope path (greatest_over x class predicate term) = extreme_located scope path (greatest_over x class predicate term) x class predicate term (λ steps. refl) (λ steps. refl)
+  aggregate_located scope path (next_key class) = tt
+  aggregate_located scope path (single e) = expression_located scope path e
 
   -- ---- lists
 
@@ -190,10 +250,10 @@ module _ (library : Library) (d : Declared) where
       (λ _ _. pairs_located scope fields path whole (before ++ a ∷ []) (suc i) pairs (rest_is i whole a pairs is))
 
   abbrev At : Scope → List (Name × ℕ) → Statement → Path → Option Part
-  At scope queries s steps = part_in_statement library scope queries steps s
+  At scope queries s steps = part_in_statement library d scope queries steps s
 
   abbrev AtBody : Scope → List (Name × ℕ) → Body → Path → Option Part
-  AtBody scope queries body steps = part_in_body library scope queries steps body
+  AtBody scope queries body steps = part_in_body library d scope queries steps body
 
   update_located : (scope : Scope) (queries : List (Name × ℕ)) (path : Path) (s : Statement) (class : ℕ) (key : Expression) (pairs : List Assignment)
       → ((steps : Path) → At scope queries s (to_item 2 ∷ steps) ≡ In scope key steps) → ((steps : Path) → At scope queries s (to_item 3 ∷ steps) ≡ part_in_pairs scope (class_at library class).fields steps pairs)
@@ -249,11 +309,16 @@ module _ (library : Library) (d : Declared) where
   if_failed scope queries path s (Err f) is there =
       there (sym (statement_judged library d scope queries path s) ∙ both_failed (own_check library d scope queries path s) (inner_check library d scope queries path s) f is)
 
-  emission_located : (scope : Scope) (queries : List (Name × ℕ)) (path : Path) (e : Expression) → Located library d (At scope queries (emit e)) path (emission_check library d scope path e)
+  emission_located : (scope : Scope) (queries : List (Name × ℕ)) (path : Path) (s : Statement) (e : Expression) → ((steps : Path) → At scope queries s (to_item 1 ∷ steps) ≡ In scope e steps)
+      → Located library d (At scope queries s) path (emission_check library d scope path e)
   unfolding emission_check
-  emission_located scope queries path e =
-      located_then (At scope queries (emit e)) path (expression_check library d scope (item_at path 1) e) (λ _. Ok tt)
-      (located_deeper (At scope queries (emit e)) (In scope e) path 1 (expression_check library d scope (item_at path 1) e) (λ steps. refl) (expression_located scope (item_at path 1) e)) (λ _ _. tt)
+  emission_located scope queries path s e first =
+      located_then (At scope queries s) path (expression_check library d scope (item_at path 1) e) (λ _. Ok tt)
+      (located_deeper (At scope queries s) (In scope e) path 1 (expression_check library d scope (item_at path 1) e) first (expression_located scope (item_at path 1) e)) (λ _ _. tt)
+
+  value_located : (scope : Scope) (path : Path) (a : Aggregate) → Located library d (InAggregate scope a) path (value_check library d scope path a)
+  unfolding value_check
+  value_located scope path a = located_then (InAggregate scope a) path (aggregate_check library d scope path a) (λ _. Ok tt) (aggregate_located scope path a) (λ _ _. tt)
 
   query_located : (scope : Scope) (queries : List (Name × ℕ)) (path : Path) (x : Name) (body : Body) → Located library d (At scope queries (for_answer x body)) path (query_known (item_at path 1) (lookup (bytes_eq x) queries))
   query_located scope queries path x body = by (lookup (bytes_eq x) queries) refl
@@ -276,7 +341,7 @@ module _ (library : Library) (d : Declared) where
   own_located scope queries path (signal name arguments) =
       if_failed scope queries path (signal name arguments) (arguments_check library d scope path 0 (signature_of d name) arguments) refl
       (arguments_located scope queries path name arguments 0 (signature_of d name) arguments refl)
-  own_located scope queries path (emit e) = emission_located scope queries path e
+  own_located scope queries path (emit e) = emission_located scope queries path (emit e) e (λ steps. refl)
   own_located scope queries path (when e a b) = located_deeper (At scope queries (when e a b)) (In scope e) path 1 (kind_check library d scope boolean_kind (item_at path 1) e) (λ steps. refl) (kind_located scope (item_at path 1) boolean_kind e)
   own_located scope queries path (each x class predicate body) =
       located_deeper (At scope queries (each x class predicate body)) (In (with_name x class scope) predicate) path 3 (kind_check library d (with_name x class scope) boolean_kind (item_at path 3) predicate) (λ steps. refl)
@@ -285,6 +350,9 @@ module _ (library : Library) (d : Declared) where
   own_located scope queries path (with_object x class key body) =
       located_deeper (At scope queries (with_object x class key body)) (In scope key) path 3 (kind_check library d scope integer_kind (item_at path 3) key) (λ steps. refl) (kind_located scope (item_at path 3) integer_kind key)
   own_located scope queries path (subtransaction a b) = tt
+  own_located scope queries path (let_value x a body) =
+      located_deeper (At scope queries (let_value x a body)) (InAggregate scope a) path 2 (value_check library d scope (item_at path 2) a) (λ steps. refl) (value_located scope (item_at path 2) a)
+  own_located scope queries path (veto_with e) = emission_located scope queries path (veto_with e) e (λ steps. refl)
   own_located scope queries path abort = tt
   own_located scope queries path veto = tt
   own_located scope queries path (on_rule op n) = tt
@@ -333,6 +401,9 @@ module _ (library : Library) (d : Declared) where
         both_located (At scope queries (subtransaction a b)) path (body_check library d scope queries (item_at path 1) 0 a) (body_check library d scope queries (item_at path 2) 0 b)
         (located_deeper (At scope queries (subtransaction a b)) (AtBody scope queries a) path 1 (body_check library d scope queries (item_at path 1) 0 a) (λ steps. refl) (body_located scope queries (item_at path 1) a 0 a (from_start a)))
         (located_deeper (At scope queries (subtransaction a b)) (AtBody scope queries b) path 2 (body_check library d scope queries (item_at path 2) 0 b) (λ steps. refl) (body_located scope queries (item_at path 2) b 0 b (from_start b)))
+    inner_located scope queries path (let_value x a body) =
+        let inner = with_sort x (unwrap_or (aggregate_sort library d scope a) any) scope in
+        located_deeper (At scope queries (let_value x a body)) (AtBody inner queries body) path 3 (body_check library d inner queries (item_at path 3) 0 body) (λ steps. refl) (body_located inner queries (item_at path 3) body 0 body (from_start body))
     inner_located scope queries path s = tt
 
     body_located : (scope : Scope) (queries : List (Name × ℕ)) (path : Path) (whole : Body) (i : ℕ) (b : Body) → body_from i whole ≡ b → Located library d (AtBody scope queries whole) path (body_check library d scope queries path i b)
@@ -340,7 +411,7 @@ module _ (library : Library) (d : Declared) where
     body_located scope queries path whole i (s then rest) is =
         located_then (AtBody scope queries whole) path (statement_check library d scope queries (item_at path i) s) (λ _. body_check library d scope queries path (suc i) rest)
         (located_deeper (AtBody scope queries whole) (At scope queries s) path i (statement_check library d scope queries (item_at path i) s)
-        (λ steps. ap (λ o. along o (λ t. part_in_statement library scope queries steps t)) (statement_is i whole s rest is))
+        (λ steps. ap (λ o. along o (λ t. part_in_statement library d scope queries steps t)) (statement_is i whole s rest is))
         (both_located (At scope queries s) (item_at path i) (own_check library d scope queries (item_at path i) s) (inner_check library d scope queries (item_at path i) s) (own_located scope queries (item_at path i) s) (inner_located scope queries (item_at path i) s)))
         (λ _ _. body_located scope queries path whole (suc i) rest (later_is i whole s rest is))
 
@@ -352,38 +423,78 @@ module _ (library : Library) (d : Declared) where
   take_next (suc i) [] x rest is = cc
   take_next (suc i) (y ∷ ys) x rest is = ap (λ xs. y ∷ xs) (take_next i ys x rest is)
 
-  asked_located : (c : Columns) (before : List Query) (path : Path) (q : Query) → Located library d (λ steps. part_in_query c before steps q) path (query_check library d c before path q)
-  unfolding query_check
-  asked_located c before path q =
-      let inner = with_name q.name q.class (asked_scope c before) in
-      located_deeper (λ steps. part_in_query c before steps q) (In inner q.predicate) path 2 (kind_check library d inner boolean_kind (item_at path 2) q.predicate) (λ steps. refl)
-      (kind_located inner (item_at path 2) boolean_kind q.predicate)
+  -- one more entry
+  one_more : (scope : Scope) (before : List Entry) (e : Entry) → with_entries library d scope (before ++ e ∷ []) ≡ with_entries library d (with_entries library d scope before) (e ∷ [])
+  one_more scope [] e = refl
+  one_more scope (query_entry q ∷ before) e = one_more (with_name q.name q.class scope) before e
+  one_more scope (no_entry q ∷ before) e = one_more scope before e
+  one_more scope (let_entry x a ∷ before) e = one_more (with_sort x (unwrap_or (aggregate_sort library d scope a) any) scope) before e
 
-  condition_located : (c : Columns) (path : Path) (whole before : List Query) (i : ℕ) (qs : List Query) → drop i whole ≡ qs → before ≡ take i whole
-      → Located library d (λ steps. part_in_condition c steps whole) path (each_check (query_check library d c) path before i qs)
-  condition_located c path whole before i [] is earlier = tt
-  condition_located c path whole before i (q ∷ qs) is earlier =
-      located_then (λ steps. part_in_condition c steps whole) path (query_check library d c before (item_at path i) q) (λ _. each_check (query_check library d c) path (before ++ q ∷ []) (suc i) qs)
-      (located_deeper (λ steps. part_in_condition c steps whole) (λ steps. part_in_query c before steps q) path i (query_check library d c before (item_at path i) q)
-      (λ steps. ap₂ (λ o b. along o (λ p. part_in_query c b steps p)) (item_is i whole q qs is) (sym earlier)) (asked_located c before (item_at path i) q))
-      (λ _ _. condition_located c path whole (before ++ q ∷ []) (suc i) qs (rest_is i whole q qs is) (ap (λ b. b ++ q ∷ []) earlier ∙ take_next i whole q qs is))
+  abbrev AtEntry : Scope → Entry → Path → Option Part
+  AtEntry scope e steps = part_in_entry scope steps e
 
-  rule_located : (fired : Bool) (path : Path) (rule : Rule) → Located library d (λ steps. part_in_rule library fired steps rule) path (rule_check library d fired path rule)
+  entry_located : (scope : Scope) (path : Path) (e : Entry) → Located library d (AtEntry scope e) path (entry_check library d scope path e)
+  unfolding query_check no_check let_check
+  entry_located scope path (query_entry q) =
+      let inner = with_name q.name q.class scope in
+      located_then (AtEntry scope (query_entry q)) path (test_check library d scope (item_at path 2) q) (λ _. Ok inner)
+      (located_deeper (AtEntry scope (query_entry q)) (In inner q.predicate) path 2 (test_check library d scope (item_at path 2) q) (λ steps. refl) (kind_located inner (item_at path 2) boolean_kind q.predicate)) (λ _ _. tt)
+  entry_located scope path (no_entry q) =
+      let inner = with_name q.name q.class scope in
+      located_then (AtEntry scope (no_entry q)) path (test_check library d scope (item_at path 3) q) (λ _. Ok scope)
+      (located_deeper (AtEntry scope (no_entry q)) (In inner q.predicate) path 3 (test_check library d scope (item_at path 3) q) (λ steps. refl) (kind_located inner (item_at path 3) boolean_kind q.predicate)) (λ _ _. tt)
+  entry_located scope path (let_entry x a) =
+      located_then (AtEntry scope (let_entry x a)) path (aggregate_check library d scope (item_at path 2) a) (λ s. Ok (with_sort x s scope))
+      (located_deeper (AtEntry scope (let_entry x a)) (InAggregate scope a) path 2 (aggregate_check library d scope (item_at path 2) a) (λ steps. refl) (aggregate_located scope (item_at path 2) a)) (λ _ _. tt)
+
+  -- the scope that a passed check gives
+  some_scope : (b : Bool) (s after : Scope) → Some s ≡ then_some b after → s ≡ after
+  some_scope true s after e = ap (λ o. unwrap_or o after) e
+  some_scope false s after e = cc
+
+  entries_after : (path : Path) (scope : Scope) (i : ℕ) (es : List Entry) (after : Scope) → entries_check library d path scope i es ≡ Ok after → after ≡ with_entries library d scope es
+  entries_after path scope i es after is =
+      some_scope (entries_kinded library d scope es) after (with_entries library d scope es) (sym (ap value_in is) ∙ entries_given library d path scope i es)
+
+  then_none : {A : Type 0} (r : Judged A) (x : A) → r ≡ Ok x → (r >>= λ y. Ok y) ≡ Ok x
+  then_none (Ok y) x is = is
+  then_none (Err f) x is = cc
+
+  entry_after : (path : Path) (scope : Scope) (i : ℕ) (e : Entry) (after : Scope) → entry_check library d scope (item_at path i) e ≡ Ok after → after ≡ with_entries library d scope (e ∷ [])
+  entry_after path scope i e after is = entries_after path scope i (e ∷ []) after (then_none (entry_check library d scope (item_at path i) e) after is)
+
+  module _ (c : Columns) where
+    abbrev start : Scope
+    start = first_scope c
+
+    condition_located : (path : Path) (whole : List Entry) (i : ℕ) (scope : Scope) (es : List Entry) → drop i whole ≡ es → scope ≡ with_entries library d start (take i whole)
+        → Located library d (λ steps. part_in_condition library d c steps whole) path (entries_check library d path scope i es)
+    condition_located path whole i scope [] is earlier = tt
+    condition_located path whole i scope (e ∷ es) is earlier =
+        located_then (λ steps. part_in_condition library d c steps whole) path (entry_check library d scope (item_at path i) e) (λ inner. entries_check library d path inner (suc i) es)
+        (located_deeper (λ steps. part_in_condition library d c steps whole) (AtEntry scope e) path i (entry_check library d scope (item_at path i) e)
+        (λ steps. ap₂ (λ o s. along o (λ e. part_in_entry s steps e)) (item_is i whole e es is) (sym earlier)) (entry_located scope (item_at path i) e))
+        (λ inner passed. condition_located path whole (suc i) inner es (rest_is i whole e es is)
+        (entry_after path scope i e inner passed ∙ ap (λ s. with_entries library d s (e ∷ [])) earlier ∙ sym (one_more start (take i whole) e) ∙ ap (with_entries library d start) (take_next i whole e es is)))
+
+  rule_located : (fired : Bool) (path : Path) (rule : Rule) → Located library d (λ steps. part_in_rule library d fired steps rule) path (rule_check library d fired path rule)
   unfolding parts_check
   rule_located fired path rule =
       let c = columns_by fired rule.event in
-      located_then (λ steps. part_in_rule library fired steps rule) path (condition_check library d c (item_at path 3) rule.condition) (λ _. action_check library d c rule.condition (item_at path 5) rule.action)
-      (located_deeper (λ steps. part_in_rule library fired steps rule) (λ steps. part_in_condition c steps rule.condition) path 3 (condition_check library d c (item_at path 3) rule.condition) (λ steps. refl)
-      (condition_located c (item_at path 3) rule.condition [] 0 rule.condition refl refl))
-      (λ _ _. located_deeper (λ steps. part_in_rule library fired steps rule) (AtBody (asked_scope c rule.condition) (query_classes rule.condition) rule.action) path 5 (action_check library d c rule.condition (item_at path 5) rule.action) (λ steps. refl)
-      (body_located (asked_scope c rule.condition) (query_classes rule.condition) (item_at path 5) rule.action 0 rule.action (from_start rule.action)))
+      let queries = query_classes rule.condition in
+      located_then (λ steps. part_in_rule library d fired steps rule) path (entries_check library d (item_at path 3) (first_scope c) 0 rule.condition) (λ scope. body_check library d scope queries (item_at path 5) 0 rule.action)
+      (located_deeper (λ steps. part_in_rule library d fired steps rule) (λ steps. part_in_condition library d c steps rule.condition) path 3 (entries_check library d (item_at path 3) (first_scope c) 0 rule.condition) (λ steps. refl)
+      (condition_located c (item_at path 3) rule.condition 0 (first_scope c) rule.condition refl refl))
+      (λ scope passed. located_deeper (λ steps. part_in_rule library d fired steps rule) (AtBody scope queries rule.action) path 5 (body_check library d scope queries (item_at path 5) 0 rule.action)
+      (λ steps. ap (λ s. part_in_body library d s queries steps rule.action) (sym (entries_after (item_at path 3) (first_scope c) 0 rule.condition scope passed)))
+      (body_located scope queries (item_at path 5) rule.action 0 rule.action (from_start rule.action)))
 
   rules_located : (path : Path) (n : ℕ) (rules : List Rule) → drop n library.rules ≡ rules → Located library d (part_in_rules library d) path (rules_check library d path n rules)
   rules_located path n [] is = tt
   rules_located path n (rule ∷ rules) is =
       located_then (part_in_rules library d) path (rule_check library d (is_fired d n) (item_at path n) rule) (λ _. rules_check library d path (suc n) rules)
-      (located_deeper (part_in_rules library d) (λ steps. part_in_rule library (is_fired d n) steps rule) path n (rule_check library d (is_fired d n) (item_at path n) rule)
-      (λ steps. ap (λ o. along o (λ r. part_in_rule library (is_fired d n) steps r)) (item_is n library.rules rule rules is)) (rule_located (is_fired d n) (item_at path n) rule))
+      (located_deeper (part_in_rules library d) (λ steps. part_in_rule library d (is_fired d n) steps rule) path n (rule_check library d (is_fired d n) (item_at path n) rule)
+      (λ steps. ap (λ o. along o (λ r. part_in_rule library d (is_fired d n) steps r)) (item_is n library.rules rule rules is)) (rule_located (is_fired d n) (item_at path n) rule))
       (λ _ _. rules_located path (suc n) rules (rest_is n library.rules rule rules is))
 
 -- ---- libraries and units
@@ -395,13 +506,13 @@ library_placed library d = by (library_check library d) (rules_located library d
     by (Ok u) there = tt
     by (Err f) (steps, part, is, found, fails) = (part, ap (part_in_library library d) is ∙ found, fails)
 
-pub unit_placed : (library : Library) (d : Declared) (unit : Unit) → IsPlacedIn library d (λ path. part_in_unit library path unit) (unit_check library d unit)
+pub unit_placed : (library : Library) (d : Declared) (unit : Unit) → IsPlacedIn library d (λ path. part_in_unit library d path unit) (unit_check library d unit)
 unit_placed library d (moment t) = tt
-unit_placed library d (transaction body) = by (unit_check library d (transaction body)) (body_located library d no_scope [] [] body 0 body (from_start library d body))
+unit_placed library d (transaction now body) = by (unit_check library d (transaction now body)) (body_located library d no_scope [] [] body 0 body (from_start library d body))
   where
-    by : (r : Judged ⊤) → Located library d (λ steps. part_in_body library no_scope [] steps body) [] r → IsPlacedIn library d (λ path. part_in_unit library path (transaction body)) r
+    by : (r : Judged ⊤) → Located library d (λ steps. part_in_body library d no_scope [] steps body) [] r → IsPlacedIn library d (λ path. part_in_unit library d path (transaction now body)) r
     by (Ok u) there = tt
-    by (Err f) (steps, part, is, found, fails) = (part, ap (λ path. part_in_body library no_scope [] path body) is ∙ found, fails)
+    by (Err f) (steps, part, is, found, fails) = (part, ap (λ path. part_in_body library d no_scope [] path body) is ∙ found, fails)
 
 -- ---- the program's checks
 
@@ -413,5 +524,5 @@ places library d parts r there (Err (Found f)) is = subst (λ (j : Judged ⊤). 
 pub library_places : (library : Library) (d : Declared) (done : Result ⊤ KindError) → Passes done (library_check library d) → Places library d (part_in_library library d) done
 library_places library d done is = places library d (part_in_library library d) (library_check library d) (library_placed library d) done is
 
-pub unit_places : (library : Library) (d : Declared) (unit : Unit) (done : Result ⊤ KindError) → Passes done (unit_check library d unit) → Places library d (λ path. part_in_unit library path unit) done
-unit_places library d unit done is = places library d (λ path. part_in_unit library path unit) (unit_check library d unit) (unit_placed library d unit) done is
+pub unit_places : (library : Library) (d : Declared) (unit : Unit) (done : Result ⊤ KindError) → Passes done (unit_check library d unit) → Places library d (λ path. part_in_unit library d path unit) done
+unit_places library d unit done is = places library d (λ path. part_in_unit library d path unit) (unit_check library d unit) (unit_placed library d unit) done is

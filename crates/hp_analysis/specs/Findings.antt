@@ -4,12 +4,13 @@ use Rattle.std.specs.Prelude.{ℕ, suc, Bool, ⊤, List, [], ◌∷◌, ◌++◌
 use Rattle.std.specs.Map.{lookup}
 use Rattle.hp_model.specs.Values.{Name, Kind, integer_kind, boolean_kind, text_kind, Field, kind_of, ◌>>=◌}
 use Rattle.hp_model.specs.Events.{Pattern, on_create, on_update, on_delete, on_signal, at_moment, every_moment}
-use Rattle.hp_model.specs.Expressions.{Comparison, equal, unequal, less, at_most, greater, at_least, Expression, constant, arithmetic, negated, inverted, both, either, compared, field_of, key_of, new_field, old_field, key_in, argument, time_of, occurrence_count}
-use Rattle.hp_model.specs.Rules.{Query, Assignment, Statement, create, update, delete, signal, emit, when, each, for_answer, with_object, subtransaction, fire, Body, empty, ◌then◌, Rule, Library, class_at}
+use Rattle.hp_model.specs.Expressions.{Comparison, equal, unequal, less, at_most, greater, at_least, Expression, constant, arithmetic, negated, inverted, both, either, compared, field_of, key_of, new_field, old_field, key_in, argument, time_of, occurrence_count, value_named, time_now}
+use Rattle.hp_model.specs.Rules.{Query, Aggregate, count_over, sum_over, least_over, greatest_over, next_key, single, Entry, query_entry, no_entry, let_entry}
+use Rattle.hp_model.specs.Rules.{Assignment, Statement, create, update, delete, signal, emit, when, each, for_answer, with_object, subtransaction, let_value, veto_with, fire, Body, empty, ◌then◌, Rule, Library, class_at}
 use Rattle.hp_model.specs.Firing.{kind_in}
 use Rattle.hp_model.specs.Cascade.{Unit, transaction, moment}
 use Rattle.hp_model.specs.Refusals.{Path, under_root, item_at}
-use Rattle.hp_model.specs.Kinds.{Sort, only, any, Declared, signature_of, is_fired, Columns, columns_by, Scope, with_name, no_scope, is_only, meets, all_assigned, with_queries, query_classes}
+use Rattle.hp_model.specs.Kinds.{Sort, only, any, Declared, signature_of, is_fired, Columns, columns_by, Scope, with_name, with_sort, no_scope, is_only, are_ordered, meets, all_assigned, aggregate_sort, query_classes}
 
 -- ---- findings
 
@@ -40,8 +41,8 @@ pub data Reason : Type 0 where
   too_few_arguments : Reason
   -- a `create` doesn't set each field
   unset_field : Reason
-  -- no row, or no query, of this name is known
-  unknown_row : Reason
+  -- no row, no query or no value of this name is known
+  unknown_name : Reason
   -- the rule isn't one of those that statements may fire
   not_fired : Reason
 
@@ -170,7 +171,7 @@ part_sort library d (Some c) i reading = sort_at (read_sort library d reading) (
 -- ---- expressions
 
 abbrev pub row_class : Scope → Name → Reasoned ℕ
-row_class scope x = reasoned unknown_row (lookup (bytes_eq x) scope.rows)
+row_class scope x = reasoned unknown_name (lookup (bytes_eq x) scope.rows)
 
 unfoldable pub row_field_sort : Library → Scope → (x field : Name) → Reasoned Sort
 row_field_sort library scope x f = do
@@ -184,6 +185,9 @@ row_key_sort scope x = do
 
 abbrev pub count_sort : Scope → Reasoned Sort
 count_sort scope = if is_some scope.columns then Ok (only integer_kind) else Err no_occurrence
+
+abbrev pub value_sort : Scope → Name → Reasoned Sort
+value_sort scope x = reasoned unknown_name (lookup (bytes_eq x) scope.values)
 
 -- the sort of the expression at a path, or its first part that is refused
 abbrev pub expression_check : Library → Declared → Scope → Path → Expression → Judged Sort
@@ -206,12 +210,49 @@ expression_check library d scope path (key_in i) = placed path (part_sort librar
 expression_check library d scope path (argument i j) = placed path (part_sort library d scope.columns i (read_argument j))
 expression_check library d scope path (time_of i) = placed path (part_sort library d scope.columns i read_time)
 expression_check library d scope path occurrence_count = placed path (count_sort scope)
+expression_check library d scope path (value_named x) = placed path (value_sort scope x)
+expression_check library d scope path time_now = Ok (only integer_kind)
 
 -- the expression at a path has this kind
 unfoldable pub kind_check : Library → Declared → Scope → Kind → Path → Expression → Judged ⊤
 kind_check library d scope k path e = do
   s ← expression_check library d scope path e
   suits k path s
+
+-- ---- aggregates
+
+-- the variable means a row of the class in the predicate, which is a boolean
+unfoldable pub count_check : Library → Declared → Scope → Path → (variable : Name) → (class : ℕ) → (predicate : Expression) → Judged Sort
+count_check library d scope path x class predicate = do
+  _ ← kind_check library d (with_name x class scope) boolean_kind (item_at path 3) predicate
+  Ok (only integer_kind)
+
+unfoldable pub sum_check : Library → Declared → Scope → Path → (variable : Name) → (class : ℕ) → (predicate term : Expression) → Judged Sort
+sum_check library d scope path x class predicate term = do
+  _ ← kind_check library d (with_name x class scope) boolean_kind (item_at path 3) predicate
+  _ ← kind_check library d (with_name x class scope) integer_kind (item_at path 4) term
+  Ok (only integer_kind)
+
+-- the sort is of integers or of texts
+abbrev pub is_ordered : Path → Sort → Judged ⊤
+is_ordered path s = if are_ordered (Some s) (Some s) then Ok tt else refused path (unsuited of_ordered_kind s)
+
+-- the least or the greatest value of a term
+unfoldable pub extreme_check : Library → Declared → Scope → Path → (variable : Name) → (class : ℕ) → (predicate term : Expression) → Judged Sort
+extreme_check library d scope path x class predicate term = do
+  _ ← kind_check library d (with_name x class scope) boolean_kind (item_at path 3) predicate
+  s ← expression_check library d (with_name x class scope) (item_at path 4) term
+  _ ← is_ordered (item_at path 4) s
+  Ok s
+
+-- the sort of the value of the aggregate at a path, or its first part that is refused
+abbrev pub aggregate_check : Library → Declared → Scope → Path → Aggregate → Judged Sort
+aggregate_check library d scope path (count_over x class predicate) = count_check library d scope path x class predicate
+aggregate_check library d scope path (sum_over x class predicate term) = sum_check library d scope path x class predicate term
+aggregate_check library d scope path (least_over x class predicate term) = extreme_check library d scope path x class predicate term
+aggregate_check library d scope path (greatest_over x class predicate term) = extreme_check library d scope path x class predicate term
+aggregate_check library d scope path (next_key class) = Ok (only integer_kind)
+aggregate_check library d scope path (single e) = expression_check library d scope path e
 
 -- the items of a list from an index, each checked with the items before it
 abbrev pub each_check : {A : Type 0} → (List A → Path → A → Judged ⊤) → Path → List A → ℕ → List A → Judged ⊤
@@ -268,9 +309,14 @@ emission_check library d scope path e = do
   _ ← expression_check library d scope (item_at path 1) e
   Ok tt
 
+unfoldable pub value_check : Library → Declared → Scope → Path → Aggregate → Judged ⊤
+value_check library d scope path a = do
+  _ ← aggregate_check library d scope path a
+  Ok tt
+
 -- a query has this class
 abbrev pub query_known : Path → Option ℕ → Judged ⊤
-query_known path None = refused path unknown_row
+query_known path None = refused path unknown_name
 query_known path (Some class) = Ok tt
 
 -- one check after another
@@ -290,6 +336,8 @@ own_check library d scope queries path (when e then_body else_body) = kind_check
 own_check library d scope queries path (each x class predicate body) = kind_check library d (with_name x class scope) boolean_kind (item_at path 3) predicate
 own_check library d scope queries path (for_answer x body) = query_known (item_at path 1) (lookup (bytes_eq x) queries)
 own_check library d scope queries path (with_object x class key body) = kind_check library d scope integer_kind (item_at path 3) key
+own_check library d scope queries path (let_value x a body) = value_check library d scope (item_at path 2) a
+own_check library d scope queries path (veto_with e) = emission_check library d scope path e
 own_check library d scope queries path (fire n) = if is_fired d n then Ok tt else refused path not_fired
 own_check library d scope queries path s = Ok tt
 
@@ -303,6 +351,8 @@ abbrev mutual
   inner_check library d scope queries path (with_object x class key body) = body_check library d (with_name x class scope) queries (item_at path 4) 0 body
   inner_check library d scope queries path (subtransaction body otherwise) =
       both_check (body_check library d scope queries (item_at path 1) 0 body) (body_check library d scope queries (item_at path 2) 0 otherwise)
+  inner_check library d scope queries path (let_value x a body) =
+      body_check library d (with_sort x (unwrap_or (aggregate_sort library d scope a) any) scope) queries (item_at path 3) 0 body
   inner_check library d scope queries path s = Ok tt
 
   -- the statements of a body from an index on, in the scope, and with these classes of the rule's queries
@@ -316,24 +366,45 @@ statement_check library d scope queries path s = both_check (own_check library d
 
 -- ---- rules, libraries and units
 
--- where these queries of a rule were asked
-abbrev pub asked_scope : Columns → List Query → Scope
-asked_scope columns queries = with_queries (record { columns = Some columns; rows = [] }) queries
+-- where a rule's condition begins
+abbrev pub first_scope : Columns → Scope
+first_scope columns = record { columns = Some columns; rows = []; values = [] }
 
-unfoldable pub query_check : Library → Declared → Columns → List Query → Path → Query → Judged ⊤
-query_check library d columns before path q = kind_check library d (with_name q.name q.class (asked_scope columns before)) boolean_kind (item_at path 2) q.predicate
+-- a query's predicate at a path
+abbrev pub test_check : Library → Declared → Scope → Path → Query → Judged ⊤
+test_check library d scope path q = kind_check library d (with_name q.name q.class scope) boolean_kind path q.predicate
 
-abbrev pub condition_check : Library → Declared → Columns → Path → List Query → Judged ⊤
-condition_check library d columns path queries = each_check (query_check library d columns) path [] 0 queries
+-- an entry, and the scope after it
+unfoldable pub query_check : Library → Declared → Scope → Path → Query → Judged Scope
+query_check library d scope path q = do
+  _ ← test_check library d scope (item_at path 2) q
+  Ok (with_name q.name q.class scope)
 
-abbrev pub action_check : Library → Declared → Columns → List Query → Path → Body → Judged ⊤
-action_check library d columns queries path body = body_check library d (asked_scope columns queries) (query_classes queries) path 0 body
+unfoldable pub no_check : Library → Declared → Scope → Path → Query → Judged Scope
+no_check library d scope path q = do
+  _ ← test_check library d scope (item_at path 3) q
+  Ok scope
+
+unfoldable pub let_check : Library → Declared → Scope → Path → Name → Aggregate → Judged Scope
+let_check library d scope path x a = do
+  s ← aggregate_check library d scope (item_at path 2) a
+  Ok (with_sort x s scope)
+
+abbrev pub entry_check : Library → Declared → Scope → Path → Entry → Judged Scope
+entry_check library d scope path (query_entry q) = query_check library d scope path q
+entry_check library d scope path (no_entry q) = no_check library d scope path q
+entry_check library d scope path (let_entry x a) = let_check library d scope path x a
+
+-- the entries of a condition from an index on, and the scope after them
+abbrev pub entries_check : Library → Declared → Path → Scope → ℕ → List Entry → Judged Scope
+entries_check library d path scope i [] = Ok scope
+entries_check library d path scope i (e ∷ es) = entry_check library d scope (item_at path i) e >>= λ inner. entries_check library d path inner (suc i) es
 
 -- the condition and the action of a rule
 unfoldable pub parts_check : Library → Declared → Columns → Path → Rule → Judged ⊤
 parts_check library d columns path rule = do
-  _ ← condition_check library d columns (item_at path 3) rule.condition
-  action_check library d columns rule.condition (item_at path 5) rule.action
+  scope ← entries_check library d (item_at path 3) (first_scope columns) 0 rule.condition
+  body_check library d scope (query_classes rule.condition) (item_at path 5) 0 rule.action
 
 abbrev pub rule_check : Library → Declared → (fired : Bool) → Path → Rule → Judged ⊤
 rule_check library d fired path rule = parts_check library d (columns_by fired rule.event) path rule
@@ -352,5 +423,5 @@ library_check library d = rules_check library d (under_root rules_member) 0 libr
 
 -- by its path in the body
 abbrev pub unit_check : Library → Declared → Unit → Judged ⊤
-unit_check library d (transaction body) = body_check library d no_scope [] [] 0 body
+unit_check library d (transaction now body) = body_check library d no_scope [] [] 0 body
 unit_check library d (moment t) = Ok tt

@@ -33,7 +33,7 @@ reason reasons.NoSuchField = F.no_such_field
 reason reasons.NoSuchArgument = F.no_such_argument
 reason reasons.TooFewArguments = F.too_few_arguments
 reason reasons.UnsetField = F.unset_field
-reason reasons.UnknownRow = F.unknown_row
+reason reasons.UnknownName = F.unknown_name
 reason reasons.NotFired = F.not_fired
 
 abbrev pub finding : Finding → F.Finding

@@ -1,23 +1,14 @@
 -- Which rules the index lists for a primitive occurrence: those whose event may end with it.
 use Rattle.std.specs.Prelude.{ℕ, Bool, true, false, ◌||◌, List, [], pos}
-use Rattle.hp_model.specs.Occurrences.{Primitive, created, updated, deleted, signalled, commit_reached, moment_reached}
+use Rattle.hp_model.specs.Occurrences.{Primitive, created, updated, deleted, signalled}
 use Rattle.hp_model.specs.Events.{Pattern, at_moment, every_moment, matches, Event, pattern_event, or_event, seq_event, closure_event}
-use Rattle.hp_model.specs.Rules.{Statement, create, update, delete, signal, when, each, for_answer, with_object, subtransaction, fire, Rule}
-use Rattle.hp_rule.specs.Noted.{of_class, of_name}
+use Rattle.hp_model.specs.Rules.{Statement, create, update, delete, signal, when, each, for_answer, with_object, subtransaction, let_value, fire, Rule}
 use Rattle.hp_rule.specs.Index.{numbers_from}
-use Rattle.hp_analysis.specs.declared.listeners.Listeners.{Listeners}
-
--- moments have no list
-abbrev pub listed : Listeners → Primitive → List ℕ
-listed l (created class key new) = of_class l.created class
-listed l (updated class key old new) = of_class l.updated class
-listed l (deleted class key old) = of_class l.deleted class
-listed l (signalled name arguments) = of_name l.signalled name
-listed l commit_reached = l.commit.items
-listed l (moment_reached t) = []
+use Rattle.hp_rule.specs.RuleLists.{listed}
+use Rattle.hp_rule.specs.declared.rule_lists.RuleLists.{RuleLists}
 
 -- for what a statement signals itself
-abbrev pub listed_by : Listeners → Statement → List ℕ
+abbrev pub listed_by : RuleLists → Statement → List ℕ
 listed_by l (create class key assignments) = listed l (created class (pos 0) [])
 listed_by l (update class key assignments) = listed l (updated class (pos 0) [] [])
 listed_by l (delete class key) = listed l (deleted class (pos 0) [])
@@ -47,5 +38,6 @@ is_plain (each x class predicate body) = false
 is_plain (for_answer x body) = false
 is_plain (with_object x class key body) = false
 is_plain (subtransaction body otherwise) = false
+is_plain (let_value x a body) = false
 is_plain (fire n) = false
 is_plain s = true

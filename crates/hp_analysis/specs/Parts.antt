@@ -4,12 +4,13 @@ use Rattle.std.specs.List.{slice_index_or}
 use Rattle.std.specs.Map.{lookup}
 use Rattle.hp_model.specs.Values.{Name, integer_kind, boolean_kind, text_kind, Field}
 use Rattle.hp_model.specs.Expressions.{Expression, arithmetic, negated, inverted, both, either, compared}
-use Rattle.hp_model.specs.Rules.{Query, Assignment, Statement, create, update, delete, signal, emit, when, each, for_answer, with_object, subtransaction, Body, empty, ◌then◌, Rule, Library, class_at}
+use Rattle.hp_model.specs.Rules.{Aggregate, count_over, sum_over, least_over, greatest_over, next_key, single, Entry, query_entry, no_entry, let_entry}
+use Rattle.hp_model.specs.Rules.{Assignment, Statement, create, update, delete, signal, emit, when, each, for_answer, with_object, subtransaction, let_value, veto_with, Body, empty, ◌then◌, Rule, Library, class_at}
 use Rattle.hp_model.specs.Firing.{kind_in}
 use Rattle.hp_model.specs.Cascade.{Unit, transaction, moment}
 use Rattle.hp_model.specs.Refusals.{to_member, to_item, Path}
-use Rattle.hp_model.specs.Kinds.{Sort, only, any, Declared, is_fired, Columns, columns_by, Scope, with_name, no_scope, is_only, all_assigned, query_classes, sort_of, statement_kinded}
-use Rattle.hp_analysis.specs.Findings.{Wanted, of_kind, of_known_kind, of_ordered_kind, Reason, unsuited, Finding, Judged, asked_scope}
+use Rattle.hp_model.specs.Kinds.{Sort, only, any, Declared, is_fired, Columns, columns_by, Scope, with_name, with_sort, no_scope, is_only, all_assigned, aggregate_sort, with_entries, query_classes, sort_of, statement_kinded}
+use Rattle.hp_analysis.specs.Findings.{Wanted, of_kind, of_known_kind, of_ordered_kind, Reason, unsuited, Finding, Judged, first_scope}
 
 -- ---- parts
 
@@ -45,6 +46,22 @@ part_in_expression scope [] e = Some (expression_part scope e)
 part_in_expression scope (to_member m ∷ steps) e = None
 part_in_expression scope (to_item i ∷ steps) e = along (operand i e) (λ a. part_in_expression scope steps a)
 
+-- the items of an aggregate over rows
+abbrev pub terms_item : Scope → Path → (predicate : Expression) → (term : Option Part) → List (Option Part)
+terms_item scope steps predicate term = None ∷ None ∷ None ∷ part_in_expression scope steps predicate ∷ term ∷ []
+
+-- an aggregate that is an expression has the expression's parts
+abbrev pub part_in_aggregate : Scope → Path → Aggregate → Option Part
+part_in_aggregate scope steps (single e) = part_in_expression scope steps e
+part_in_aggregate scope (to_item i ∷ steps) (count_over x class predicate) = item_of (terms_item (with_name x class scope) steps predicate None) i
+part_in_aggregate scope (to_item i ∷ steps) (sum_over x class predicate term) =
+    item_of (terms_item (with_name x class scope) steps predicate (part_in_expression (with_name x class scope) steps term)) i
+part_in_aggregate scope (to_item i ∷ steps) (least_over x class predicate term) =
+    item_of (terms_item (with_name x class scope) steps predicate (part_in_expression (with_name x class scope) steps term)) i
+part_in_aggregate scope (to_item i ∷ steps) (greatest_over x class predicate term) =
+    item_of (terms_item (with_name x class scope) steps predicate (part_in_expression (with_name x class scope) steps term)) i
+part_in_aggregate scope steps a = None
+
 abbrev pub part_in_pair : Scope → List Field → Path → Assignment → Option Part
 part_in_pair scope fields [] a = None
 part_in_pair scope fields (to_member m ∷ steps) a = None
@@ -71,53 +88,64 @@ row_item library scope steps class key pairs =
     None ∷ None ∷ part_in_expression scope steps key ∷ part_in_pairs scope (class_at library class).fields steps pairs ∷ []
 
 abbrev mutual
-  pub part_in_statement : Library → Scope → List (Name × ℕ) → Path → Statement → Option Part
-  part_in_statement library scope queries [] s = Some (statement_part scope queries s)
-  part_in_statement library scope queries (to_member m ∷ steps) s = None
-  part_in_statement library scope queries (to_item i ∷ steps) (create class key pairs) = item_of (row_item library scope steps class key pairs) i
-  part_in_statement library scope queries (to_item i ∷ steps) (update class key pairs) = item_of (row_item library scope steps class key pairs) i
-  part_in_statement library scope queries (to_item i ∷ steps) (delete class key) = item_of (None ∷ None ∷ part_in_expression scope steps key ∷ []) i
-  part_in_statement library scope queries (to_item i ∷ steps) (signal name arguments) = item_of (None ∷ None ∷ part_in_arguments scope steps arguments ∷ []) i
-  part_in_statement library scope queries (to_item i ∷ steps) (emit e) = item_of (None ∷ part_in_expression scope steps e ∷ []) i
-  part_in_statement library scope queries (to_item i ∷ steps) (when e a b) =
-      item_of (None ∷ part_in_expression scope steps e ∷ part_in_body library scope queries steps a ∷ part_in_body library scope queries steps b ∷ []) i
-  part_in_statement library scope queries (to_item i ∷ steps) (each x class predicate body) =
-      item_of (None ∷ None ∷ None ∷ part_in_expression (with_name x class scope) steps predicate ∷ part_in_body library (with_name x class scope) queries steps body ∷ []) i
-  part_in_statement library scope queries (to_item i ∷ steps) (for_answer x body) =
-      item_of (None ∷ Some (query_part queries x) ∷ part_in_body library (with_name x (unwrap_or (lookup (bytes_eq x) queries) 0) scope) queries steps body ∷ []) i
-  part_in_statement library scope queries (to_item i ∷ steps) (with_object x class key body) =
-      item_of (None ∷ None ∷ None ∷ part_in_expression scope steps key ∷ part_in_body library (with_name x class scope) queries steps body ∷ []) i
-  part_in_statement library scope queries (to_item i ∷ steps) (subtransaction a b) =
-      item_of (None ∷ part_in_body library scope queries steps a ∷ part_in_body library scope queries steps b ∷ []) i
-  part_in_statement library scope queries (to_item i ∷ steps) s = None
+  pub part_in_statement : Library → Declared → Scope → List (Name × ℕ) → Path → Statement → Option Part
+  part_in_statement library d scope queries [] s = Some (statement_part scope queries s)
+  part_in_statement library d scope queries (to_member m ∷ steps) s = None
+  part_in_statement library d scope queries (to_item i ∷ steps) (create class key pairs) = item_of (row_item library scope steps class key pairs) i
+  part_in_statement library d scope queries (to_item i ∷ steps) (update class key pairs) = item_of (row_item library scope steps class key pairs) i
+  part_in_statement library d scope queries (to_item i ∷ steps) (delete class key) = item_of (None ∷ None ∷ part_in_expression scope steps key ∷ []) i
+  part_in_statement library d scope queries (to_item i ∷ steps) (signal name arguments) = item_of (None ∷ None ∷ part_in_arguments scope steps arguments ∷ []) i
+  part_in_statement library d scope queries (to_item i ∷ steps) (emit e) = item_of (None ∷ part_in_expression scope steps e ∷ []) i
+  part_in_statement library d scope queries (to_item i ∷ steps) (when e a b) =
+      item_of (None ∷ part_in_expression scope steps e ∷ part_in_body library d scope queries steps a ∷ part_in_body library d scope queries steps b ∷ []) i
+  part_in_statement library d scope queries (to_item i ∷ steps) (each x class predicate body) =
+      item_of (None ∷ None ∷ None ∷ part_in_expression (with_name x class scope) steps predicate ∷ part_in_body library d (with_name x class scope) queries steps body ∷ []) i
+  part_in_statement library d scope queries (to_item i ∷ steps) (for_answer x body) =
+      item_of (None ∷ Some (query_part queries x) ∷ part_in_body library d (with_name x (unwrap_or (lookup (bytes_eq x) queries) 0) scope) queries steps body ∷ []) i
+  part_in_statement library d scope queries (to_item i ∷ steps) (with_object x class key body) =
+      item_of (None ∷ None ∷ None ∷ part_in_expression scope steps key ∷ part_in_body library d (with_name x class scope) queries steps body ∷ []) i
+  part_in_statement library d scope queries (to_item i ∷ steps) (subtransaction a b) =
+      item_of (None ∷ part_in_body library d scope queries steps a ∷ part_in_body library d scope queries steps b ∷ []) i
+  part_in_statement library d scope queries (to_item i ∷ steps) (let_value x a body) =
+      item_of (None ∷ None ∷ part_in_aggregate scope steps a
+      ∷ part_in_body library d (with_sort x (unwrap_or (aggregate_sort library d scope a) any) scope) queries steps body ∷ []) i
+  part_in_statement library d scope queries (to_item i ∷ steps) (veto_with e) = item_of (None ∷ part_in_expression scope steps e ∷ []) i
+  part_in_statement library d scope queries (to_item i ∷ steps) s = None
 
-  pub part_in_body : Library → Scope → List (Name × ℕ) → Path → Body → Option Part
-  part_in_body library scope queries [] body = None
-  part_in_body library scope queries (to_member m ∷ steps) body = None
-  part_in_body library scope queries (to_item i ∷ steps) body = along (statement_at i body) (λ s. part_in_statement library scope queries steps s)
+  pub part_in_body : Library → Declared → Scope → List (Name × ℕ) → Path → Body → Option Part
+  part_in_body library d scope queries [] body = None
+  part_in_body library d scope queries (to_member m ∷ steps) body = None
+  part_in_body library d scope queries (to_item i ∷ steps) body = along (statement_at i body) (λ s. part_in_statement library d scope queries steps s)
 
--- a query's predicate is its item 2
-abbrev pub part_in_query : Columns → List Query → Path → Query → Option Part
-part_in_query columns before [] q = None
-part_in_query columns before (to_member m ∷ steps) q = None
-part_in_query columns before (to_item i ∷ steps) q = item_of (None ∷ None ∷ part_in_expression (with_name q.name q.class (asked_scope columns before)) steps q.predicate ∷ []) i
+-- a query's predicate is its item 2, and that of a query without an answer its item 3
+abbrev pub part_in_entry : Scope → Path → Entry → Option Part
+part_in_entry scope [] e = None
+part_in_entry scope (to_member m ∷ steps) e = None
+part_in_entry scope (to_item i ∷ steps) (query_entry q) = item_of (None ∷ None ∷ part_in_expression (with_name q.name q.class scope) steps q.predicate ∷ []) i
+part_in_entry scope (to_item i ∷ steps) (no_entry q) = item_of (None ∷ None ∷ None ∷ part_in_expression (with_name q.name q.class scope) steps q.predicate ∷ []) i
+part_in_entry scope (to_item i ∷ steps) (let_entry x a) = item_of (None ∷ None ∷ part_in_aggregate scope steps a ∷ []) i
 
-abbrev pub part_in_condition : Columns → Path → List Query → Option Part
-part_in_condition columns [] queries = None
-part_in_condition columns (to_member m ∷ steps) queries = None
-part_in_condition columns (to_item i ∷ steps) queries = along (slice_get queries i) (λ q. part_in_query columns (take i queries) steps q)
+-- the scope after the entries of a condition
+abbrev pub scope_after : Library → Declared → Columns → List Entry → Scope
+scope_after library d columns entries = with_entries library d (first_scope columns) entries
 
-abbrev pub part_in_rule : Library → (fired : Bool) → Path → Rule → Option Part
-part_in_rule library fired [] rule = None
-part_in_rule library fired (to_member m ∷ steps) rule = None
-part_in_rule library fired (to_item i ∷ steps) rule =
-    item_of (None ∷ None ∷ None ∷ part_in_condition (columns_by fired rule.event) steps rule.condition ∷ None
-    ∷ part_in_body library (asked_scope (columns_by fired rule.event) rule.condition) (query_classes rule.condition) steps rule.action ∷ []) i
+abbrev pub part_in_condition : Library → Declared → Columns → Path → List Entry → Option Part
+part_in_condition library d columns [] entries = None
+part_in_condition library d columns (to_member m ∷ steps) entries = None
+part_in_condition library d columns (to_item i ∷ steps) entries =
+    along (slice_get entries i) (λ e. part_in_entry (scope_after library d columns (take i entries)) steps e)
+
+abbrev pub part_in_rule : Library → Declared → (fired : Bool) → Path → Rule → Option Part
+part_in_rule library d fired [] rule = None
+part_in_rule library d fired (to_member m ∷ steps) rule = None
+part_in_rule library d fired (to_item i ∷ steps) rule =
+    item_of (None ∷ None ∷ None ∷ part_in_condition library d (columns_by fired rule.event) steps rule.condition ∷ None
+    ∷ part_in_body library d (scope_after library d (columns_by fired rule.event) rule.condition) (query_classes rule.condition) steps rule.action ∷ []) i
 
 abbrev pub part_in_rules : Library → Declared → Path → Option Part
 part_in_rules library d [] = None
 part_in_rules library d (to_member m ∷ steps) = None
-part_in_rules library d (to_item n ∷ steps) = along (slice_get library.rules n) (λ rule. part_in_rule library (is_fired d n) steps rule)
+part_in_rules library d (to_item n ∷ steps) = along (slice_get library.rules n) (λ rule. part_in_rule library d (is_fired d n) steps rule)
 
 -- by its path in the script
 abbrev pub part_in_library : Library → Declared → Path → Option Part
@@ -126,9 +154,9 @@ part_in_library library d (to_item n ∷ steps) = None
 part_in_library library d (to_member m ∷ steps) = part_in_rules library d steps
 
 -- by its path in the body
-abbrev pub part_in_unit : Library → Path → Unit → Option Part
-part_in_unit library steps (transaction body) = part_in_body library no_scope [] steps body
-part_in_unit library steps (moment t) = None
+abbrev pub part_in_unit : Library → Declared → Path → Unit → Option Part
+part_in_unit library d steps (transaction now body) = part_in_body library d no_scope [] steps body
+part_in_unit library d steps (moment t) = None
 
 -- ---- what is rightly refused
 

@@ -20,7 +20,7 @@ targets library rule = marked (rule_triggers library rule) (no_rules library)
 
 -- the rules that a unit's own transaction may trigger before its commit event
 abbrev pub begun_by : Library → Unit → List ℕ
-begun_by library (transaction body) = body_triggers library body
+begun_by library (transaction now body) = body_triggers library body
 begun_by library (moment t) = signal_triggers library (moment_reached t)
 
 -- the rules that these units' own transactions may trigger, and those of the set

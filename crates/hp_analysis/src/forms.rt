@@ -49,6 +49,7 @@ pub(crate) fn is_plain(s: &Stmt) -> bool
         | Stmt::For { .. }
         | Stmt::With { .. }
         | Stmt::Sub { .. }
+        | Stmt::Let { .. }
         | Stmt::Fire(_) => false,
         _ => true,
     }

@@ -1,5 +1,6 @@
 //! Kinds: that each value is used as what it is, read off the rule base alone.
 
+mod aggregate;
 pub(crate) mod check;
 mod columns;
 pub(crate) mod declaration;
@@ -11,4 +12,5 @@ mod rows;
 mod rule;
 mod scope;
 pub(crate) mod sort;
+mod sorts;
 mod statement;

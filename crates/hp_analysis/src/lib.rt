@@ -12,7 +12,6 @@ mod graph;
 mod kinds;
 pub mod laws;
 mod listeners;
-mod numbers;
 mod sets;
 mod triggers;
 

@@ -3,12 +3,13 @@
 ghost use Rattle.std.specs.Prelude.{◌≡◌};
 ghost use Rattle.hp_model.specs.Occurrences.{Primitive};
 ghost use Rattle.hp_rule.specs.Libraries as libraries;
-ghost use Rattle.hp_analysis.specs.Listeners.{listed, ending};
+ghost use Rattle.hp_rule.specs.RuleLists.{listed};
+ghost use Rattle.hp_analysis.specs.Listeners.{ending};
 
 use crate::forms::{completes, is_plain, may_detach};
-use crate::listeners::Listeners;
+use crate::listeners::{listeners_of, listening};
 use crate::sets::{filled, mark, mark_all};
-use hp_rule::{Library, Rule, Stmt, Unit};
+use hp_rule::{Library, Rule, RuleLists, Stmt, Subject, Unit};
 use hp_value::Prim;
 use std::alloc::{AllocError, Global};
 
@@ -16,7 +17,7 @@ use std::alloc::{AllocError, Global};
 #[derive(Debug, Drop)]
 pub(crate) struct Triggers<'a> {
     library: &'a Library,
-    listeners: Listeners,
+    listeners: RuleLists,
     // The listeners are those of the library's rules.
     ghost of_rules: { (p : Primitive) → listed listeners p ≡ ending (libraries.library library.now).rules p },
 }
@@ -38,7 +39,7 @@ impl<'a> Triggers<'a> {
     pub(crate) fn of(alloc: Global, library: &'a Library) -> Result<Triggers<'a>, AllocError>
         ensures { IfOk result (λ t. t.library.now ≡ library.now) }
     {
-        let listeners = Listeners::of(alloc, library.rules())?;
+        let listeners = listeners_of(alloc, library.rules())?;
         Ok(Triggers { library, listeners })
     }
 
@@ -55,7 +56,7 @@ impl<'a> Triggers<'a> {
         ensures { set.new.items
             ≡ marked (statement_triggers (libraries.library self.now.library.now) (statement s.now)) set.old.items }
     {
-        mark_all(set, self.listeners.of_statement(s));
+        mark_all(set, listening(&self.listeners, s));
     }
 
     /// Adds the rules that a statement may trigger.
@@ -80,6 +81,7 @@ impl<'a> Triggers<'a> {
             Stmt::Each { body, .. } => self.mark_body(body, set),
             Stmt::For { body, .. } => self.mark_body(body, set),
             Stmt::With { body, .. } => self.mark_body(body, set),
+            Stmt::Let { body, .. } => self.mark_body(body, set),
             Stmt::Sub { body, otherwise } => {
                 self.mark_body(body, set);
                 self.mark_body(otherwise, set);
@@ -105,7 +107,7 @@ impl<'a> Triggers<'a> {
         ensures { set.new.items
             ≡ marked (signal_triggers (libraries.library self.now.library.now) commit_reached) set.old.items }
     {
-        mark_all(set, self.listeners.of_commit());
+        mark_all(set, self.listeners.rules(Subject::Commit));
     }
 
     /// Adds the rules that a firing of the rule may trigger.
@@ -146,7 +148,7 @@ impl<'a> Triggers<'a> {
             ≡ marked (begun_by (libraries.library self.now.library.now) (unit begun.now)) set.old.items }
     {
         match begun {
-            Unit::Transaction(body) => self.mark_body(body.statements(), set),
+            Unit::Transaction { body, .. } => self.mark_body(body.statements(), set),
             Unit::Moment(time) => self.mark_time(*time, set),
         }
     }

@@ -72,7 +72,7 @@ use Rattle.hp_query.proofs.entry.Findings.TheSendSync as findings
 use Rattle.hp_value.proofs.halt.Veto.TheSendSync as veto
 use Rattle.hp_rule.specs.contracts.rule.Rule as Rule
 use Rattle.hp_rule.specs.contracts.library.Library as Library
-use Rattle.hp_rule.proofs.index.Index.TheSendSync as index
+use Rattle.hp_rule.proofs.rule_lists.RuleLists.TheSendSync as rule_lists
 use Rattle.hp_rule.proofs.asked.AskedField.TheSendSync as asked
 use Rattle.smallvec.specs.contracts.small_vec.SmallVec as SmallVec
 use Rattle.smallvec.specs.contracts.storage.Data as Data
@@ -198,7 +198,7 @@ outcome_send = search (item_send, veto.the_send, task.the_send, detached.the_sen
 pub attempt_send : IsSend Attempt.the_field.row
 attempt_send = search (outcome_send, task_send, reads_send, layer_send, layer_sync, heap.crosses, sendable) depth 12
 
-ruleset expression_parts = (value.the_sync, asked.the_sync, arithmetic.the_sync, comparison.the_sync, pattern.the_sync, class.the_sync, index.the_sync, coupling.the_sync, operation_word.the_sync, heap.crosses, maps.crosses, sendable)
+ruleset expression_parts = (value.the_sync, asked.the_sync, arithmetic.the_sync, comparison.the_sync, pattern.the_sync, class.the_sync, rule_lists.the_sync, coupling.the_sync, operation_word.the_sync, heap.crosses, maps.crosses, sendable)
 
 pub expr_sync : IsSync Expr.the_field.row
 expr_sync = expr.sync-Expr (search expression_parts depth 12) (search expression_parts depth 12) heap.Box-sync (search expression_parts depth 12) (search expression_parts depth 12) (search expression_parts depth 12)

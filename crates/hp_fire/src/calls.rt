@@ -31,8 +31,8 @@ use std::alloc::{AllocError, Global};
 use std::thread::Threads;
 
 impl<R: Threads + Sync> Engine<'_, R> {
-    /// Runs the body of a script in a transaction of depth `depth`, at the moment `time` of the clock: its statements in
-    /// order, up to the first that isn't done.
+    /// Runs the body of a script in a transaction of depth `depth`, at the moment `time` of the clock: its statements
+    /// in order, up to the first that isn't done.
     ///
     /// While a group of firings inside has workers, this thread sleeps.
     pub fn run_body(

@@ -144,7 +144,8 @@ impl<R> Engine<'_, R> {
     ) -> Result<Outcome, AllocError>
         requires { mark ≤ length view.old.undo }
         ensures { let t = task_of task.now in
-            IfOk result (ActionEnds (library self.now.lib.now) t mark (what_of what) view.old view.new (course_in course)) }
+            IfOk result (ActionEnds (library self.now.lib.now) t mark (what_of what) view.old view.new
+            (course_in course)) }
     {
         end_transaction(view, mark, &course.end)?;
         let end = action_veto(self.lib, task.rule, &course.end)?;

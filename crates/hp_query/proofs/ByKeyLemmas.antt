@@ -5,7 +5,9 @@ use Rattle.std.specs.Map.{lookup}
 use Rattle.std.proofs.lemmas.Cmp.{int_eq_equiv}
 use lib.Pointwise.{bytes_decides}
 use Rattle.hp_model.specs.Values.{Name, Value, integer, boolean, text, KeyedRow, wrong_kind, Cause, Outcome, ◌>>=◌, or_cause}
-use Rattle.hp_model.specs.Expressions.{Expression, constant, arithmetic, negated, inverted, both, either, compared, equal, field_of, key_of, new_field, old_field, key_in, argument, time_of, occurrence_count, value_named, time_now, Environment, bound, as_integer, as_boolean, in_range, calculate, compare, part_of, row_named, field_in, new_row, old_row, operation_key, argument_of, moment_of, count_in, value_at, value_of}
+use Rattle.hp_model.specs.Expressions.{Expression, constant, arithmetic, negated, inverted, both, either, compared, equal, field_of, key_of, new_field, old_field, key_in, argument, time_of}
+use Rattle.hp_model.specs.Expressions.{occurrence_count, value_named, time_now, Environment, bound, as_integer, as_boolean, in_range, calculate, compare}
+use Rattle.hp_model.specs.Expressions.{part_of, row_named, field_in, new_row, old_row, operation_key, argument_of, moment_of, count_in, value_at, value_of}
 use Rattle.hp_model.specs.Firing.{boolean_value}
 use Rattle.hp_model.specs.Conditions.{selected}
 use Rattle.hp_query.specs.ByKey.{AsksFor}

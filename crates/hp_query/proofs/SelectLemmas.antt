@@ -17,7 +17,8 @@ abbrev pub test : Environment → Name → Expression → KeyedRow → Outcome B
 test env x predicate r = boolean_value (bound x r env) predicate
 
 -- an object is the first that is left
-pub next_left : (objects : List RustRow) (i : ℕ) (object : RustRow) → i < length objects → object ≡ get_or objects i object → map keyed_row (drop i objects) ≡ keyed_row object ∷ map keyed_row (drop (i + 1) objects)
+pub next_left : (objects : List RustRow) (i : ℕ) (object : RustRow) → i < length objects → object ≡ get_or objects i object
+    → map keyed_row (drop i objects) ≡ keyed_row object ∷ map keyed_row (drop (i + 1) objects)
 next_left objects i object within is = at_drop_more (map keyed_row) objects i object within ∙ ap (λ o. keyed_row o ∷ map keyed_row (drop (i + 1) objects)) (sym is)
 
 -- selected rows in front of those of the rest

@@ -36,7 +36,8 @@ module _ (merge : Merge) (env : Environment) (x : Name) (predicate term : Expres
   merged_first so_far next r rest is =
       ap (λ (o : Outcome (Option Value)). o >>= λ n. merged merge env x predicate term n rest) is ∙ sym (merged-cons so_far r rest)
 
-  pub merged_halt : (so_far : Option Value) (r : KeyedRow) (rest : List KeyedRow) (halt : Halt) → Meets {A = Option RustValue} {B = Option Value} (option_map value) (Err halt) (merged merge env x predicate term so_far (r ∷ []))
+  pub merged_halt : (so_far : Option Value) (r : KeyedRow) (rest : List KeyedRow) (halt : Halt)
+      → Meets {A = Option RustValue} {B = Option Value} (option_map value) (Err halt) (merged merge env x predicate term so_far (r ∷ []))
       → Meets {A = Option RustValue} {B = Option Value} (option_map value) (Err halt) (merged merge env x predicate term so_far (r ∷ rest))
   merged_halt so_far r rest (ByCause c) faults =
       ap (λ (o : Outcome (Option Value)). o >>= λ n. merged merge env x predicate term n rest) faults ∙ sym (merged-cons so_far r rest)

@@ -1,5 +1,6 @@
 -- The verdict on a condition, one entry after another.
-use Rattle.std.proofs.Common.{◌≡◌, ℕ, ◌==◌, true, false, true≢false, suc, ◌+◌, ◌<◌, ◌≤◌, length, get_or, drop, add-one, List, [], ◌∷◌, ◌++◌, map, Option, Some, None, Ok, Err, refl, sym, ap, ◌∙◌, append-nil, append_assoc, subst}
+use Rattle.std.proofs.Common.{◌≡◌, ℕ, ◌==◌, true, false, true≢false, suc, ◌+◌, ◌<◌, ◌≤◌, length, get_or, drop, add-one, List, [], ◌∷◌, ◌++◌}
+use Rattle.std.proofs.Common.{map, Option, Some, None, Ok, Err, refl, sym, ap, ◌∙◌, append-nil, append_assoc, subst}
 use Rattle.std.proofs.Math.Seq.{drop-cons}
 use Rattle.std.proofs.Math.ListN.{drop_of_length-le}
 use Rattle.std.proofs.lemmas.Bool.{eqb-true, eq-eqb}
@@ -8,7 +9,8 @@ use Rattle.hp_model.specs.Values.{Name, NamedValues, Value, KeyedRow, Cause, Out
 use Rattle.hp_model.specs.Expressions.{Environment, bound, holding}
 use Rattle.hp_model.specs.State.{Objects}
 use Rattle.hp_model.specs.Rules.{Entry, query_entry, no_entry, let_entry}
-use Rattle.hp_model.specs.Conditions.{answer, aggregated, Answers, Findings, no_findings, Verdict, satisfied, unsatisfied, faulty, keeping, keeping_value, if_answered, if_unanswered, if_valued, verdict, with_answers, with_values, with_findings}
+use Rattle.hp_model.specs.Conditions.{answer, aggregated, Answers, Findings, no_findings, Verdict, satisfied, unsatisfied, faulty}
+use Rattle.hp_model.specs.Conditions.{keeping, keeping_value, if_answered, if_unanswered, if_valued, verdict, with_answers, with_values, with_findings}
 use Rattle.hp_query.specs.Findings.{joined}
 
 -- ---- lists

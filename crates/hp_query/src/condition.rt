@@ -29,9 +29,9 @@ pub enum Verdict {
 /// Evaluates a condition for the occurrence that triggered its rule, at a moment of the clock.
 ///
 /// HiPAC: a condition is a list of queries, and is satisfied if each has a non-empty answer. This project's own
-/// choices: an entry may also ask that a query has an empty answer, or give a value a name. The entries are evaluated in
-/// order, up to the first that isn't satisfied or has a fault. A later one may name an earlier query's first row and an
-/// earlier value. A condition without entries is satisfied.
+/// choices: an entry may also ask that a query has an empty answer, or name a value. The entries are taken in order, up
+/// to the first that isn't satisfied or has a fault. A later one may name an earlier query's first row, and an earlier
+/// value. A condition without entries is satisfied.
 ///
 /// The look is asked about the entries' classes alone. An error means that memory ran out. The look may then allow
 /// fewer worlds, and nothing else has changed.

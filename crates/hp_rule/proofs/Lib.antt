@@ -6,3 +6,4 @@ pub mod Fitting
 pub mod Compared
 pub mod Told
 pub mod Known
+pub mod Subjects

@@ -1,10 +1,9 @@
 -- Which rules the index of a library lists for a primitive occurrence.
 use Rattle.std.specs.Prelude.{ℕ, suc, Bool, true, ◌||◌, List, [], ◌∷◌, if◌then◌else◌}
-use Rattle.hp_model.specs.Occurrences.{Primitive, created, updated, deleted, signalled, commit_reached, moment_reached}
+use Rattle.hp_model.specs.Occurrences.{Primitive, moment_reached}
 use Rattle.hp_model.specs.Events.{Pattern, at_moment, every_moment, matches, Event, pattern_event, or_event, seq_event, closure_event}
 use Rattle.hp_model.specs.Rules.{Rule}
-use Rattle.hp_rule.specs.Noted.{of_class, of_name, noted_if}
-use Rattle.hp_rule.specs.declared.index.Index.{Index}
+use Rattle.hp_rule.specs.Noted.{noted_if}
 
 -- whether the pattern may match: any pattern of moments may match at any moment
 abbrev pub may_match : Pattern → Primitive → Bool
@@ -27,14 +26,6 @@ numbers_from test n (rule ∷ rules) = if test rule.event then n ∷ numbers_fro
 -- the numbers of the rules that may mention the occurrence, in rule order
 abbrev pub candidates : List Rule → Primitive → List ℕ
 candidates rules p = numbers_from (λ event. may_mention event p) 0 rules
-
-abbrev pub listed : Index → Primitive → List ℕ
-listed index (created class key new) = of_class index.created class
-listed index (updated class key old new) = of_class index.updated class
-listed index (deleted class key old) = of_class index.deleted class
-listed index (signalled name arguments) = of_name index.signalled name
-listed index commit_reached = index.commit.items
-listed index (moment_reached t) = index.moments.items
 
 -- the list after the rules from the n-th on are added
 abbrev pub noted_from : (Event → Bool) → ℕ → List ℕ → List Rule → List ℕ

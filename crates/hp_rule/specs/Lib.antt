@@ -6,6 +6,7 @@ pub mod Libraries
 pub mod Mapped
 pub mod Noted
 pub mod Index
+pub mod RuleLists
 pub mod Places
 pub mod Faults
 pub mod Named

@@ -4,13 +4,15 @@ ghost use Rattle.std.specs.Prelude.{◌≡◌, Ok, map};
 ghost use Rattle.hp_model.specs.Occurrences.{Primitive};
 ghost use Rattle.hp_rule.specs.Statements.{rule, library_of};
 ghost use Rattle.hp_model.specs.Checked.{library_check};
-ghost use Rattle.hp_rule.specs.Index.{listed, candidates};
+ghost use Rattle.hp_rule.specs.Index.{candidates};
+ghost use Rattle.hp_rule.specs.RuleLists as lists_of;
 
 use crate::asked::{AskedField, asked_fields};
 use crate::check::rules::check_library;
 use crate::fault::CheckError;
-use crate::index::Index;
+use crate::index::{index_of, listed};
 use crate::rule::Rule;
+use crate::rule_lists::RuleLists;
 use hp_value::{ClassDef, ClassNo, Prim, RuleNo};
 use std::alloc::{AllocError, Global};
 
@@ -28,12 +30,12 @@ pub struct Library {
     depth_limit: u8,
     // The rules give it, so it isn't compared.
     #[derive_where(skip(EqHashOrd))]
-    index: Index,
+    index: RuleLists,
     // The rules give them too.
     #[derive_where(skip(EqHashOrd))]
     asked_fields: Vec<AskedField>,
     // The index lists the rules that an occurrence may concern.
-    ghost indexed: { (p : Primitive) → listed index p ≡ candidates (map rule rules.items) p },
+    ghost indexed: { (p : Primitive) → lists_of.listed index p ≡ candidates (map rule rules.items) p },
     // The library is well formed.
     pub ghost checked: { library_check (library_of classes.items rules.items depth_limit) ≡ Ok tt },
 }
@@ -76,7 +78,7 @@ impl Library {
         ensures library { IfOk result (λ l. library l ≡ library_of classes.items rules.items depth_limit) }
         ensures well_named { IfOk result (λ l. IsWellNamed (library l)) }
     {
-        let index = Index::of(alloc, &rules)?;
+        let index = index_of(alloc, &rules)?;
         let asked_fields = asked_fields(alloc, &rules)?;
         Ok(Library {
             classes,
@@ -152,7 +154,7 @@ impl Library {
         ensures { filter (is_mentioned (library self.now).rules (primitive prim.now)) result.now
             ≡ mentioning (library self.now) (primitive prim.now) }
     {
-        self.index.listed(prim)
+        listed(&self.index, prim)
     }
 
     /// Whether the event of the rule of this number has a pattern that matches. A rule that the library lacks has none.

@@ -1,6 +1,6 @@
 //! The lists of rule numbers in an index.
 
-ghost use Rattle.std.specs.Prelude.{◌≡◌, ℕ, List, ◌==◌, OnOk, IfOk, string_bytes, bytes_eq};
+ghost use Rattle.std.specs.Prelude.{◌≡◌, ℕ, List, ◌==◌, ◌<◌, ◌^◌, OnOk, IfOk, Ok, bytes_eq};
 ghost use Rattle.hp_rule.specs.Noted.{of_class, of_name, noted, noted_if};
 
 use hp_value::{ClassNo, RuleNo};
@@ -57,21 +57,24 @@ pub(crate) fn note_class(
 pub(crate) fn note_name(
     alloc: Global,
     map: &mut BTreeMap<String, Vec<RuleNo>>,
-    name: &String,
+    name: &str,
     number: RuleNo,
 ) -> Result<(), AllocError>
     ensures { OnOk result ((x : List ℕ) →
-        of_name map.new x ≡ noted_if (bytes_eq (string_bytes name.now) x) number (of_name map.old x)) }
+        of_name map.new x ≡ noted_if (bytes_eq name.now x) number (of_name map.old x)) }
 {
-    let mut numbers = map.remove(name.as_str()).unwrap_or(Vec::new(alloc));
+    let mut numbers = map.remove(name).unwrap_or(Vec::new(alloc));
     note(&mut numbers, number)?;
-    map.insert(name.clone()?, numbers)?;
+    map.insert(String::from_str(alloc, name)?, numbers)?;
     Ok(())
 }
 
-/// The number of the rule at an index.
-pub(crate) fn rule_number(place: usize) -> Result<RuleNo, AllocError>
-    ensures { IfOk result (λ n. n ≡ place) }
+/// The number of the rule at an index. It allocates nothing.
+///
+/// An error means that there is no such rule number: the index is 2^32 or more.
+pub fn rule_number(place: usize) -> Result<RuleNo, AllocError>
+    ensures number { IfOk result (λ n. n ≡ place) }
+    ensures fits { place < 2 ^ 32 → result ≡ Ok place }
 {
     RuleNo::try_from(place).map_err(|_| AllocError)
 }

@@ -5,9 +5,11 @@ use Rattle.hp_model.specs.Rules as R
 use Rattle.hp_model.specs.StatementGrammar.{body_of}
 use Rattle.hp_value.specs.Mapped.{expression}
 use Rattle.hp_value.specs.declared.expr.Expr.{Expr}
+use Rattle.hp_query.specs.Mapped.{aggregate}
+use Rattle.hp_query.specs.declared.aggregate.Aggregate.{Aggregate}
 use Rattle.hp_rule.specs.Mapped.{statement, row_body, body_in}
 use Rattle.hp_rule.specs.declared.stmt.Stmt.{Stmt, Row_of-Stmt, end_of-Stmt, more_of-Stmt, items-the_row-Stmt, items_hidden-the_row-Stmt-0}
-use Rattle.hp_rule.specs.declared.stmt.Stmt.TheVariants.{If, Each, For, With, Sub, Sub'}
+use Rattle.hp_rule.specs.declared.stmt.Stmt.TheVariants.{If, Each, For, With, Sub, Let, Sub'}
 
 abbrev read_body : List Stmt → R.Body
 read_body ss = body_of (map statement ss)
@@ -48,3 +50,6 @@ with_statement x name class e body is = ap (λ y. R.with_object y class (express
 
 pub sub_statement : (a b : Vec Stmt Global) → statement (Sub a b) ≡ R.subtransaction (body_of (map statement a.items)) (body_of (map statement b.items))
 sub_statement a b = inner_two (λ x y. R.subtransaction x y) a b
+
+pub let_statement : (x : String Global) (name : List ℕ) (a : Aggregate) (body : Vec Stmt Global) → string_bytes x ≡ name → statement (Let x a body) ≡ R.let_value name (aggregate a) (body_of (map statement body.items))
+let_statement x name a body is = ap (λ y. R.let_value y (aggregate a) (inner body)) is ∙ ap (λ b. R.let_value name (aggregate a) b) (inner_is body)

@@ -11,7 +11,7 @@ use Rattle.hp_model.specs.Decode.{Version, rules_at, script_scope}
 use Rattle.hp_model.specs.Checked.{classes_check, heads_check, library_check, limit_check, script_body_check}
 use Rattle.hp_model.specs.StatementGrammar.{body_of, statements_at}
 use Rattle.serde_json.specs.Data.{Data}
-use Rattle.hp_model.proofs.WellFormedScripts.{rules_read, IsScriptScope, body_passes}
+use Rattle.hp_model.proofs.WellFormedScripts.{rules_read, IsScriptScope, in_script, body_passes}
 use Rattle.hp_script.specs.Scopes.{library_scope}
 
 abbrev Passed : Decoded ⊤ → Type 0
@@ -55,8 +55,8 @@ its_scope : (l : R.Library) → IsScriptScope l (library_scope l)
 its_scope l = record { classes = refl; rules = length-map l.rules (λ (r : R.Rule). r.name); in_action = refl; queries = refl }
 
 -- a body that was read where the library stands is well formed
-pub read_body : (l : R.Library) (path : Path) (d : Data) (ss : List R.Statement) → statements_at (library_scope l) [] path d ≡ Ok ss → script_body_check l [] (body_of ss) ≡ Ok tt
-read_body l path d ss read = (body_passes l (library_scope l) (its_scope l) path d).fact ss read []
+pub read_body : (version : Version) (l : R.Library) (path : Path) (d : Data) (ss : List R.Statement) → statements_at (library_scope l) (in_script version) path d ≡ Ok ss → script_body_check l [] (body_of ss) ≡ Ok tt
+read_body version l path d ss read = (body_passes version l (library_scope l) (its_scope l) path d).fact ss read []
 
 -- what a list stands for is as long
 pub shorter : {A B : Type 0} (f : A → B) (xs : List A) (ys : List B) (most : ℕ) → map f xs ≡ ys → length ys ≤ most → length xs ≤ most

@@ -3,6 +3,7 @@ pub mod NamePlaces
 pub mod Bodies
 pub mod Moments
 pub mod Readings
+pub mod Overs
 pub mod Parsed
 pub mod ItemScopes
 pub mod OwnBodies

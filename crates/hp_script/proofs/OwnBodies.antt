@@ -17,8 +17,8 @@ none_own library = All-nil (IsOf library)
 own_last : (library : Library) (units new : List Unit) (last : Unit) → new ≡ units ++ last ∷ [] → IsOf library last → AreOf library units → AreOf library new
 own_last library units new last pushed is own = rw pushed (All-append (IsOf library) units (last ∷ []) own (All-cons (IsOf library) last [] is (All-nil (IsOf library))))
 
-pub own_body : (library : Library) (units new : List Unit) (body : Body) → new ≡ units ++ Transaction body ∷ [] → body.library.value ≡ library → AreOf library units → AreOf library new
-own_body library units new body pushed is own = own_last library units new (Transaction body) pushed is own
+pub own_body : (library : Library) (units new : List Unit) (time : ℕ) (body : Body) → new ≡ units ++ Transaction time body ∷ [] → body.library.value ≡ library → AreOf library units → AreOf library new
+own_body library units new time body pushed is own = own_last library units new (Transaction time body) pushed is own
 
 pub own_moment : (library : Library) (units new : List Unit) (time : ℕ) → new ≡ units ++ Moment time ∷ [] → AreOf library units → AreOf library new
 own_moment library units new time pushed own = own_last library units new (Moment time) pushed tt own

@@ -1,4 +1,4 @@
--- A script without its time is the script of the definitions.
+-- A script without its version and its time is the script of the definitions.
 use Rattle.std.proofs.Common.{◌≡◌, ℕ, List, [], Bool, true, false, cond, refl, sym, ap, ◌∙◌, length, nat_lt, Result, Ok, Err}
 use Rattle.std.specs.Prelude.{codes}
 use Rattle.serde_json.specs.Data.{Data}
@@ -31,41 +31,41 @@ untimed_part (Ok x) k f g h = h x refl
 untimed_part (Err e) k f g h = refl
 
 -- the items over a library
-abbrev items_of : Data → R.Library → Decoded TimedScript
-items_of items library =
-    units_at library.rules (library_scope library) (under_root (codes "items")) items
-    >>= λ schedule. Ok (record { script = record { library = library; units = schedule.units }; clock = schedule.clock })
+abbrev items_of : Version → Data → R.Library → Decoded TimedScript
+items_of version items library =
+    units_at version library.rules (library_scope library) (under_root (codes "items")) items
+    >>= λ schedule. Ok (record { script = record { library = library; units = schedule.units }; version = version; clock = schedule.clock })
 
 untimed_items : (depth : ℕ) (classes : List ClassDef) (heads : List RuleHead) (items : Data) (version : Version) (rules : List R.Rule)
     → rules_at version (script_scope classes heads) (under_root (codes "rules")) heads ≡ Ok rules
-    → untimed (items_of items (record { classes = classes; rules = rules; depth_limit = depth }))
-    ≡ (units_at rules (script_scope classes heads) (under_root (codes "items")) items >>= λ schedule. Ok (record { library = record { classes = classes; rules = rules; depth_limit = depth }; units = schedule.units }))
+    → untimed (items_of version items (record { classes = classes; rules = rules; depth_limit = depth }))
+    ≡ (units_at version rules (script_scope classes heads) (under_root (codes "items")) items >>= λ schedule. Ok (record { library = record { classes = classes; rules = rules; depth_limit = depth }; units = schedule.units }))
 untimed_items depth classes heads items version rules read =
     let library : R.Library = record { classes = classes; rules = rules; depth_limit = depth } in
-    ap (λ scope. untimed (units_at rules scope (under_root (codes "items")) items >>= λ schedule. Ok (record { script = record { library = library; units = schedule.units }; clock = schedule.clock })))
+    ap (λ scope. untimed (units_at version rules scope (under_root (codes "items")) items >>= λ schedule. Ok (record { script = record { library = library; units = schedule.units }; version = version; clock = schedule.clock })))
     (named_by_heads version classes heads rules depth (under_root (codes "rules")) read)
-    ∙ untimed_then (units_at rules (script_scope classes heads) (under_root (codes "items")) items) _ _ (λ schedule. refl)
+    ∙ untimed_then (units_at version rules (script_scope classes heads) (under_root (codes "items")) items) _ _ (λ schedule. refl)
 
-untimed_library : (root : Root) → untimed (library_at root >>= items_of root.items)
-    ≡ (version_at (under_root (codes "version")) root.version >>= λ version.
-    depth_if_any (under_root (codes "depth")) root.depth >>= λ depth.
+untimed_library : (version : Version) (root : Root) → untimed (library_at version root >>= items_of version root.items)
+    ≡ (depth_if_any (under_root (codes "depth")) root.depth >>= λ depth.
     classes_at (under_root (codes "classes")) root.classes >>= λ classes.
-    rule_heads_at (under_root (codes "rules")) root.rules >>= λ heads.
+    rule_heads_at version (under_root (codes "rules")) root.rules >>= λ heads.
     script_from version depth classes heads root.items)
 unfolding library_at script_from
-untimed_library root =
-    untimed_part (version_at (under_root (codes "version")) root.version) _ (items_of root.items) _ λ version _.
-    untimed_part (depth_if_any (under_root (codes "depth")) root.depth) _ (items_of root.items) _ λ depth _.
-    untimed_part (classes_at (under_root (codes "classes")) root.classes) _ (items_of root.items) _ λ classes _.
-    untimed_part (rule_heads_at (under_root (codes "rules")) root.rules) _ (items_of root.items) _ λ heads _.
-    untimed_part (rules_at version (script_scope classes heads) (under_root (codes "rules")) heads) _ (items_of root.items) _ λ rules read.
+untimed_library version root =
+    untimed_part (depth_if_any (under_root (codes "depth")) root.depth) _ (items_of version root.items) _ λ depth _.
+    untimed_part (classes_at (under_root (codes "classes")) root.classes) _ (items_of version root.items) _ λ classes _.
+    untimed_part (rule_heads_at version (under_root (codes "rules")) root.rules) _ (items_of version root.items) _ λ heads _.
+    untimed_part (rules_at version (script_scope classes heads) (under_root (codes "rules")) heads) _ (items_of version root.items) _ λ rules read.
     untimed_items depth classes heads root.items version rules read
 
 pub untimed_at : (d : Data) → untimed (timed_script_at d) ≡ decode d
 unfolding timed_script_at decode
-untimed_at d = untimed_then (shaped [] (root_of d)) _ _ untimed_library
+untimed_at d =
+    untimed_then (shaped [] (root_of d)) _ _ λ root.
+    untimed_then (version_at (under_root (codes "version")) root.version) _ _ λ version. untimed_library version root
 
--- the script without the time is the one that the definitions read from the bytes
+-- the script without its version and its time is the one that the definitions read from the bytes
 pub untimed_of : (bytes : List ℕ) → untimed (timed_script_of bytes) ≡ script_of bytes
 unfolding timed_script_of script_of
 untimed_of bytes =

@@ -1,9 +1,13 @@
+pub mod Versions
 pub mod Mapped
 pub mod Moments
 pub mod Heads
 pub mod Names
 pub mod Forms
+pub mod Entries
+pub mod Aggregates
 pub mod Scopes
+pub mod Settings
 pub mod Contexts
 pub mod Items
 pub mod Events

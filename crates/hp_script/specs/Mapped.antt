@@ -7,6 +7,7 @@ use Rattle.hp_rule.specs.Mapped.{library, unit}
 use Rattle.hp_rule.specs.Places.{path}
 use Rattle.hp_rule.specs.Faults.{limit}
 use Rattle.hp_script.specs.Timed.{TimedScript}
+use Rattle.hp_script.specs.Versions.{version_view}
 use Rattle.hp_script.specs.declared.schedule.Schedule.{Schedule}
 use Rattle.hp_script.specs.declared.script.Script.{Script}
 use Rattle.hp_script.specs.declared.refusal.Refusal.{Refusal}
@@ -43,4 +44,4 @@ abbrev pub script : Script → C.Script
 script s = record { library = library s.library.value; units = map unit s.items.items }
 
 abbrev pub timed_script : Script → TimedScript
-timed_script s = record { script = script s; clock = s.clock }
+timed_script s = record { script = script s; version = version_view s.version; clock = s.clock }

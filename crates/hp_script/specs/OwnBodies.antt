@@ -7,7 +7,7 @@ use Rattle.hp_script.specs.declared.schedule.Schedule.{Schedule}
 
 -- the unit's body, if it has one, was checked against this library
 abbrev pub IsOf : Library → Unit → Type 0
-IsOf library (Transaction body) = body.library.value ≡ library
+IsOf library (Transaction time body) = body.library.value ≡ library
 IsOf library (Moment t) = ⊤
 
 abbrev pub AreOf : Library → List Unit → Type 0

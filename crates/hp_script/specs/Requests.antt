@@ -7,7 +7,7 @@ use Rattle.hp_model.specs.Refusals.{item_at, size_limit, over_limit, Decoded}
 use Rattle.hp_model.specs.Json.{Form, form_of}
 use Rattle.hp_model.specs.Parts.{integer_at, place_at}
 use Rattle.hp_model.specs.Scopes.{class_names}
-use Rattle.hp_model.specs.Decode.{Schedule, unit_at, json_at}
+use Rattle.hp_model.specs.Decode.{Version, Schedule, unit_at, json_at}
 use Rattle.hp_script.specs.Scopes.{library_scope}
 
 -- the part of a state that a line asks for: its objects and the statuses of its rules, a class's objects, or one object
@@ -59,20 +59,21 @@ show_of library form = do
 abbrev pub nothing_since : (clock : ℕ) → Schedule
 nothing_since clock = record { units = []; clock = clock }
 
--- an item is read as an item of a script; paths begin at its own value
-unfoldable pub item_of : Library → (clock : ℕ) → Data → Decoded Request
-item_of library clock d = do
-  schedule ← unit_at library.rules (library_scope library) [] (nothing_since clock) d
+-- an item is read as an item of a script of this version; paths begin at its own value
+unfoldable pub item_of : Version → Library → (clock : ℕ) → Data → Decoded Request
+item_of version library clock d = do
+  schedule ← unit_at version library.rules (library_scope library) [] (nothing_since clock) d
   Ok (item schedule)
 
-abbrev pub request_from : Library → (clock : ℕ) → Data → Option ShowForm → Decoded Request
-request_from library clock d None = item_of library clock d
-request_from library clock d (Some form) = show_of library form
+abbrev pub request_from : Version → Library → (clock : ℕ) → Data → Option ShowForm → Decoded Request
+request_from version library clock d None = item_of version library clock d
+request_from version library clock d (Some form) = show_of library form
 
-unfoldable pub request_at : Library → (clock : ℕ) → Data → Decoded Request
-request_at library clock d = request_from library clock d (show_form_in d)
+unfoldable pub request_at : Version → Library → (clock : ℕ) → Data → Decoded Request
+request_at version library clock d = request_from version library clock d (show_form_in d)
 
 -- the size is checked first, as in a script
-unfoldable pub request_of : Library → (clock : ℕ) → List ℕ → Decoded Request
-request_of library clock bytes =
-    if nat_lt 1048576 (length bytes) then Err (over_limit size_limit) else json_at bytes >>= request_at library clock
+unfoldable pub request_of : Version → Library → (clock : ℕ) → List ℕ → Decoded Request
+request_of version library clock bytes =
+    if nat_lt 1048576 (length bytes) then Err (over_limit size_limit)
+    else json_at bytes >>= request_at version library clock

@@ -7,16 +7,17 @@ ghost use Rattle.hp_model.specs.StatementGrammar.{assigned_names, assigned_field
 ghost use Rattle.hp_model.specs.StatementGrammar.{assignment_at, assignments_at, all_assignments_at};
 ghost use Rattle.hp_value.specs.Mapped.{field};
 ghost use Rattle.hp_rule.specs.Mapped.{assignment};
-ghost use Rattle.hp_rule.specs.Named.{names_in};
 ghost use Rattle.hp_rule.specs.Places.{steps};
 ghost use Rattle.hp_script.specs.Mapped.{Gives};
+ghost use Rattle.hp_script.specs.Settings.{setting_view};
 
 use crate::expression::boxed_expression_at;
 use crate::list::list_at;
 use crate::names::{Names, new_name_at};
 use crate::refusal::{DecodeError, bad_name, shaped};
+use crate::setting::Setting;
 use crate::shape::pair_of;
-use hp_rule::{Assignment, Place, RowNames};
+use hp_rule::{Assignment, Place};
 use hp_value::Field;
 use serde_json::Value;
 use std::alloc::Global;
@@ -46,17 +47,17 @@ fn assignment_at(
     alloc: Global,
     place: &Place<'_>,
     fields: &[Field],
-    rows: &RowNames<'_>,
+    setting: &Setting<'_>,
     before: &[Assignment],
     value: &Value,
 ) -> Result<Assignment, DecodeError>
     ensures { Gives assignment result
-        (assignment_at (field_names (map field fields.now)) (names_in rows.now) (map assignment before.now)
+        (assignment_at (field_names (map field fields.now)) (setting_view setting.now) (map assignment before.now)
         (steps place.now) (view value.now)) }
 {
     let (name, value) = shaped(alloc, place, pair_of(value))?;
     let name = assigned_field_at(alloc, &place.item(0), fields, before, name)?;
-    let value = boxed_expression_at(alloc, &place.item(1), rows, value)?;
+    let value = boxed_expression_at(alloc, &place.item(1), setting, value)?;
     let field = String::from_str(alloc, name)?;
     Ok(Assignment { field, value })
 }
@@ -67,17 +68,24 @@ pub(crate) fn assignments_at(
     alloc: Global,
     place: &Place<'_>,
     fields: &[Field],
-    rows: &RowNames<'_>,
+    setting: &Setting<'_>,
     value: &Value,
 ) -> Result<Vec<Assignment>, DecodeError>
     ensures { Gives (λ pairs. map assignment pairs.items) result
-        (assignments_at (field_names (map field fields.now)) (names_in rows.now)
+        (assignments_at (field_names (map field fields.now)) (setting_view setting.now)
         (steps place.now) (view value.now)) }
 {
     let values = list_at(alloc, place, value)?;
-    let mut pairs = Vec::new(alloc);
+    let mut pairs = Vec::with_capacity(alloc, values.len())?;
     for (i, value) in values.iter().enumerate() {
-        let pair = assignment_at(alloc, &place.item(i), fields, rows, pairs.as_slice(), value)?;
+        let pair = assignment_at(
+            alloc,
+            &place.item(i),
+            fields,
+            setting,
+            pairs.as_slice(),
+            value,
+        )?;
         pairs.push(pair)?;
     }
     Ok(pairs)
@@ -89,14 +97,14 @@ pub(crate) fn all_assignments_at(
     alloc: Global,
     place: &Place<'_>,
     fields: &[Field],
-    rows: &RowNames<'_>,
+    setting: &Setting<'_>,
     value: &Value,
 ) -> Result<Vec<Assignment>, DecodeError>
     ensures { Gives (λ pairs. map assignment pairs.items) result
-        (all_assignments_at (field_names (map field fields.now)) (names_in rows.now)
+        (all_assignments_at (field_names (map field fields.now)) (setting_view setting.now)
         (steps place.now) (view value.now)) }
 {
-    let pairs = assignments_at(alloc, place, fields, rows, value)?;
+    let pairs = assignments_at(alloc, place, fields, setting, value)?;
     if pairs.len() < fields.len() {
         return Err(bad_name(alloc, place));
     }

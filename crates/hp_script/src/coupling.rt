@@ -2,10 +2,10 @@
 
 ghost use Rattle.std.specs.Prelude.{◌≡◌, option_map};
 ghost use Rattle.serde_json.specs.View.{view};
-ghost use Rattle.hp_model.specs.Decode.{is_second, common_coupling, coupling_of_word, coupling_at};
+ghost use Rattle.hp_model.specs.Decode.{has_exclusive, common_coupling, coupling_of_word, coupling_at};
 ghost use Rattle.hp_value.specs.Mapped.{coupling};
 ghost use Rattle.hp_rule.specs.Places.{steps};
-ghost use Rattle.hp_script.specs.Forms.{version_view};
+ghost use Rattle.hp_script.specs.Versions.{version_view};
 ghost use Rattle.hp_script.specs.Mapped.{Gives};
 
 use crate::refusal::{DecodeError, shaped};
@@ -14,13 +14,16 @@ use hp_rule::{Coupling, Place};
 use serde_json::Value;
 use std::alloc::Global;
 
-fn is_second(version: Version) -> bool
-    ensures { result ≡ is_second (version_view version) }
+fn has_exclusive(version: Version) -> bool
+    ensures { result ≡ has_exclusive (version_view version) }
 {
-    matches!(version, Version::Second)
+    match version {
+        Version::First => false,
+        Version::Second | Version::Fourth => true,
+    }
 }
 
-/// A coupling mode of both versions.
+/// A coupling mode of all versions.
 fn common_coupling(word: &str) -> Option<Coupling>
     ensures { option_map coupling result ≡ common_coupling word.now }
 {
@@ -36,7 +39,7 @@ fn common_coupling(word: &str) -> Option<Coupling>
 fn coupling_of_word(version: Version, word: &str) -> Option<Coupling>
     ensures { option_map coupling result ≡ coupling_of_word (version_view version) word.now }
 {
-    if is_second(version) && word == "exclusive" {
+    if has_exclusive(version) && word == "exclusive" {
         return Some(Coupling::Exclusive);
     }
     common_coupling(word)

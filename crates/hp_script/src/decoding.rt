@@ -6,11 +6,12 @@ ghost use Rattle.hp_model.specs.Refusals.{under_root};
 ghost use Rattle.hp_model.specs.Decode.{wanted_count, root_of, rules_at, script_scope, script_of};
 ghost use Rattle.hp_value.specs.Mapped.{class_def};
 ghost use Rattle.hp_rule.specs.Mapped.{library as model_library, rule};
-ghost use Rattle.hp_script.specs.Forms.{heads_view, root_view, version_view};
+ghost use Rattle.hp_script.specs.Forms.{heads_view, root_view};
 ghost use Rattle.hp_script.specs.Items.{items_over};
 ghost use Rattle.hp_script.specs.Mapped.{Gives, schedule, script, timed_script};
 ghost use Rattle.hp_script.specs.OwnBodies.{AreOf};
 ghost use Rattle.hp_script.specs.Timed.{library_at, timed_script_at, timed_script_of};
+ghost use Rattle.hp_script.specs.Versions.{version_view};
 
 use crate::class::classes_at;
 use crate::item::units_at;
@@ -84,32 +85,45 @@ fn rules_of(
         (rules_at (version_view version) scope (under_root (codes "rules")) (heads_view heads.entry.now)) }
 {
     let scope = Scope {
+        version,
         classes,
         rules: Names::Heads(heads),
-        queries: &[],
+        condition: &[],
         in_action: false,
     };
-    rules_at(alloc, &Place::Member(Member::Rules), version, &scope, heads)
+    rules_at(alloc, &Place::Member(Member::Rules), &scope, heads)
 }
 
 /// The units that the script's items run.
-fn items_of(alloc: Global, library: &Arc<Library>, value: &Value) -> Result<Schedule, DecodeError>
+fn items_of(
+    alloc: Global,
+    version: Version,
+    library: &Arc<Library>,
+    value: &Value,
+) -> Result<Schedule, DecodeError>
     ensures own { IfOk result (λ s. AreOf library.now.value s.units.items) }
     ensures reads { Gives schedule result
-        (items_over (model_library library.now.value) (under_root (codes "items")) (view value.now)) }
+        (items_over (version_view version) (model_library library.now.value) (under_root (codes "items"))
+        (view value.now)) }
 {
-    units_at(alloc, &Place::Member(Member::Items), library, value)
+    units_at(
+        alloc,
+        &Place::Member(Member::Items),
+        version,
+        library,
+        value,
+    )
 }
 
 /// The library in the root's members.
 #[tactic(auto, unfolding(crate::specs::Timed::library_at))]
-fn library_of(alloc: Global, root: &Root<'_>) -> Result<Arc<Library>, DecodeError>
-    ensures { Gives (λ l. model_library l.value) result (library_at (root_view root.entry.now)) }
+fn library_of(alloc: Global, version: Version, root: &Root<'_>) -> Result<Arc<Library>, DecodeError>
+    ensures { Gives (λ l. model_library l.value) result
+        (library_at (version_view version) (root_view root.entry.now)) }
 {
-    let version = version_at(alloc, &Place::Member(Member::Version), root.version)?;
     let depth_limit = depth_if_any(alloc, &Place::Member(Member::Depth), root.depth)?;
     let classes = classes_at(alloc, &Place::Member(Member::Classes), root.classes)?;
-    let heads = rule_heads_at(alloc, &Place::Member(Member::Rules), root.rules)?;
+    let heads = rule_heads_at(alloc, &Place::Member(Member::Rules), version, root.rules)?;
     let rules = rules_of(alloc, version, classes.as_slice(), heads.as_slice())?;
     let library = Library::of_checked(alloc, classes, rules, depth_limit)?;
     Ok(Arc::new(alloc, library)?)
@@ -122,9 +136,11 @@ fn script_at(alloc: Global, value: &Value) -> Result<Script, DecodeError>
     ensures reads { Gives timed_script result (timed_script_at (view value.now)) }
 {
     let root = shaped(alloc, &Place::Root, root_of(value))?;
-    let library = library_of(alloc, &root)?;
-    let schedule = items_of(alloc, &library, root.items)?;
+    let version = version_at(alloc, &Place::Member(Member::Version), root.version)?;
+    let library = library_of(alloc, version, &root)?;
+    let schedule = items_of(alloc, version, &library, root.items)?;
     Ok(Script {
+        version,
         library,
         items: schedule.units,
         clock: schedule.clock,

@@ -12,16 +12,18 @@ ghost use Rattle.hp_script.specs.Items.{item_over, items_over};
 ghost use Rattle.hp_script.specs.Mapped.{Gives, schedule};
 ghost use Rattle.hp_script.specs.OwnBodies.{AreOf, StayOf};
 ghost use Rattle.hp_script.specs.Scopes.{library_scope};
+ghost use Rattle.hp_script.specs.Versions.{version_view};
 
+use crate::known::no_names;
 use crate::list::list_at;
 use crate::moment::due_moments;
 use crate::number::number_from;
 use crate::refusal::{DecodeError, Refusal, shaped};
-use crate::rows::no_rows;
 use crate::schedule::Schedule;
 use crate::scope::Scope;
 use crate::shape::{Form, form_of};
 use crate::statement::statements_at;
+use crate::version::Version;
 use hp_rule::{Body, Library, Limit, Place, Rule, Unit};
 use serde_json::Value;
 use std::alloc::{AllocError, Global};
@@ -69,21 +71,22 @@ fn item_form_at<'a>(
 fn transaction_at(
     alloc: Global,
     place: &Place<'_>,
+    version: Version,
     library: &Arc<Library>,
     before: Schedule,
     body: &Value,
 ) -> Result<Schedule, DecodeError>
     ensures own { IfOk result (StayOf library.now.value before) }
     ensures reads { Gives schedule result
-        (transaction_at (library_scope (model_library library.now.value)) (steps place.now)
+        (transaction_at (version_view version) (library_scope (model_library library.now.value)) (steps place.now)
         (schedule before) (view body.now)) }
 {
-    let rows = no_rows();
-    let scope = Scope::of_library(library);
-    let statements = statements_at(alloc, &place.item(1), &scope, &rows, body)?;
+    let names = no_names();
+    let scope = Scope::of_library(version, library);
+    let statements = statements_at(alloc, &place.item(1), &scope, &names, body)?;
     let body = Body::of_checked(library, statements)?;
     let Schedule { mut units, clock } = before;
-    units.push(Unit::Transaction(body))?;
+    units.push(Unit::Transaction { time: clock, body })?;
     Ok(Schedule { units, clock })
 }
 
@@ -119,21 +122,23 @@ fn clock_at(
     Ok(Schedule { units, clock })
 }
 
-/// The schedule before, with the units of the item at a place added.
+/// The schedule before, with the units of the item at a place added. A transaction runs at the time before it.
 #[tactic(auto, unfolding(hp_model::specs::Decode::unit_at))]
 pub(crate) fn unit_at(
     alloc: Global,
     place: &Place<'_>,
+    version: Version,
     library: &Arc<Library>,
     before: Schedule,
     value: &Value,
 ) -> Result<Schedule, DecodeError>
     ensures own { IfOk result (StayOf library.now.value before) }
     ensures reads { Gives schedule result
-        (item_over (model_library library.now.value) (steps place.now) (schedule before) (view value.now)) }
+        (item_over (version_view version) (model_library library.now.value) (steps place.now)
+        (schedule before) (view value.now)) }
 {
     match item_form_at(alloc, place, value)? {
-        ItemForm::Transaction(body) => transaction_at(alloc, place, library, before, body),
+        ItemForm::Transaction(body) => transaction_at(alloc, place, version, library, before, body),
         ItemForm::Clock(time) => clock_at(alloc, place, library.rules(), before, time),
     }
 }
@@ -143,12 +148,13 @@ pub(crate) fn unit_at(
 pub(crate) fn units_at(
     alloc: Global,
     place: &Place<'_>,
+    version: Version,
     library: &Arc<Library>,
     value: &Value,
 ) -> Result<Schedule, DecodeError>
     ensures own { IfOk result (λ s. AreOf library.now.value s.units.items) }
     ensures reads { Gives schedule result
-        (items_over (model_library library.now.value) (steps place.now) (view value.now)) }
+        (items_over (version_view version) (model_library library.now.value) (steps place.now) (view value.now)) }
 {
     let values = list_at(alloc, place, value)?;
     let mut schedule = Schedule {
@@ -156,7 +162,7 @@ pub(crate) fn units_at(
         clock: 0,
     };
     for (i, value) in values.iter().enumerate() {
-        schedule = unit_at(alloc, &place.item(i), library, schedule, value)?;
+        schedule = unit_at(alloc, &place.item(i), version, library, schedule, value)?;
     }
     Ok(schedule)
 }

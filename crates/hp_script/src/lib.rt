@@ -3,14 +3,21 @@
 //! The grammar and the order of its checks are in `hp_model` (`specs/Decode.antt` and the files that it names).
 #![tactic(auto)]
 
+mod aggregate;
+mod aggregate_form;
 mod assignment;
 mod class;
 mod coupling;
 mod decoding;
+mod entry;
+mod entry_form;
 mod event;
 mod expression;
+mod expression_form;
 mod item;
 mod json;
+mod known;
+mod leaf;
 mod list;
 mod moment;
 mod name;
@@ -21,12 +28,12 @@ mod query;
 mod reference;
 mod refusal;
 mod request;
-mod rows;
 mod rule;
 mod rule_head;
 mod schedule;
 mod scope;
 mod script;
+mod setting;
 mod shape;
 mod shown;
 mod statement;
@@ -40,3 +47,4 @@ pub use request::{Excerpt, Request, decode_request};
 pub use schedule::Schedule;
 pub use script::Script;
 pub use shown::refusal_text;
+pub use version::Version;

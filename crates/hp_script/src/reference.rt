@@ -14,7 +14,7 @@ use crate::name::name_at;
 use crate::names::class_place;
 use crate::refusal::{DecodeError, bad_name, known};
 use crate::scope::Scope;
-use hp_rule::{Place, RowNames};
+use hp_rule::{KnownNames, Place};
 use hp_value::{ClassNo, Field, RuleNo};
 use serde_json::Value;
 use std::alloc::Global;
@@ -69,7 +69,7 @@ pub(crate) fn rule_at(
 fn is_query(scope: &Scope<'_>, name: &str) -> bool
     ensures { result ≡ is_known (scope_view scope.entry.now).queries name.now }
 {
-    RowNames::Queries(scope.queries).knows(name)
+    KnownNames::Entries(scope.condition).knows_row(name)
 }
 
 /// The name of a query of the rule, at a place.

@@ -9,6 +9,7 @@ ghost use Rattle.hp_script.specs.OwnBodies.{StayOf};
 ghost use Rattle.hp_script.specs.Requests.{show_form_in, excerpt_from, show_of};
 ghost use Rattle.hp_script.specs.Requests.{nothing_since, item_of, request_at, request_of};
 ghost use Rattle.hp_script.specs.Asked.{excerpt, request, show_form_view, IsRequestOf};
+ghost use Rattle.hp_script.specs.Versions.{version_view};
 
 use crate::decoding::MAX_BYTES;
 use crate::item::unit_at;
@@ -19,6 +20,7 @@ use crate::refusal::{DecodeError, Refusal};
 use crate::schedule::Schedule;
 use crate::scope::Scope;
 use crate::shape::{Form, form_of};
+use crate::version::Version;
 use hp_rule::{Library, Limit, Place};
 use hp_value::{ClassNo, Key};
 use serde_json::Value;
@@ -73,12 +75,13 @@ fn show_form_in(value: &Value) -> Option<ShowForm<'_>>
 #[tactic(auto, unfolding(crate::specs::Requests::excerpt_from))]
 fn excerpt_from(
     alloc: Global,
+    version: Version,
     library: &Library,
     form: ShowForm<'_>,
 ) -> Result<Excerpt, DecodeError>
     ensures { Gives excerpt result (excerpt_from (model_library library.now) (show_form_view form.entry)) }
 {
-    let scope = Scope::of_library(library);
+    let scope = Scope::of_library(version, library);
     let root = Place::Root;
     match form {
         ShowForm::State => Ok(Excerpt::State),
@@ -96,11 +99,16 @@ fn excerpt_from(
 
 /// The request to show what a form names.
 #[tactic(auto, unfolding(crate::specs::Requests::show_of))]
-fn show_of(alloc: Global, library: &Library, form: ShowForm<'_>) -> Result<Request, DecodeError>
+fn show_of(
+    alloc: Global,
+    version: Version,
+    library: &Library,
+    form: ShowForm<'_>,
+) -> Result<Request, DecodeError>
     ensures reads { Gives request result (show_of (model_library library.now) (show_form_view form.entry)) }
     ensures own { IfOk result (λ r. (all : _) → IsRequestOf all r) }
 {
-    let excerpt = excerpt_from(alloc, library, form)?;
+    let excerpt = excerpt_from(alloc, version, library, form)?;
     Ok(Request::Show(excerpt))
 }
 
@@ -118,30 +126,33 @@ fn nothing_since(alloc: Global, clock: u64) -> Schedule
 /// The schedule before, with the units of an item added. Paths begin at the item's own value.
 fn item_after(
     alloc: Global,
+    version: Version,
     library: &Arc<Library>,
     before: Schedule,
     value: &Value,
 ) -> Result<Schedule, DecodeError>
     ensures own { IfOk result (StayOf library.now.value before) }
     ensures reads { Gives schedule result
-        (item_over (model_library library.now.value) [] (schedule before) (view value.now)) }
+        (item_over (version_view version) (model_library library.now.value) [] (schedule before) (view value.now)) }
 {
-    unit_at(alloc, &Place::Root, library, before, value)
+    unit_at(alloc, &Place::Root, version, library, before, value)
 }
 
 /// The request for the item in a JSON value.
 #[tactic(auto, using(crate::proofs::OwnBodies::none_own), unfolding(crate::specs::Requests::item_of))]
 fn item_of(
     alloc: Global,
+    version: Version,
     library: &Arc<Library>,
     clock: u64,
     value: &Value,
 ) -> Result<Request, DecodeError>
     ensures own { IfOk result (λ r. IsRequestOf library.now.value r) }
-    ensures reads { Gives request result (item_of (model_library library.now.value) clock (view value.now)) }
+    ensures reads { Gives request result
+        (item_of (version_view version) (model_library library.now.value) clock (view value.now)) }
 {
     let before = nothing_since(alloc, clock);
-    let schedule = item_after(alloc, library, before, value)?;
+    let schedule = item_after(alloc, version, library, before, value)?;
     Ok(Request::Item(schedule))
 }
 
@@ -149,33 +160,38 @@ fn item_of(
 #[tactic(auto, unfolding(crate::specs::Requests::request_at))]
 fn request_at(
     alloc: Global,
+    version: Version,
     library: &Arc<Library>,
     clock: u64,
     value: &Value,
 ) -> Result<Request, DecodeError>
-    ensures reads { Gives request result (request_at (model_library library.now.value) clock (view value.now)) }
+    ensures reads { Gives request result
+        (request_at (version_view version) (model_library library.now.value) clock (view value.now)) }
     ensures own { IfOk result (λ r. IsRequestOf library.now.value r) }
 {
     match show_form_in(value) {
-        Some(form) => show_of(alloc, library, form),
-        None => item_of(alloc, library, clock, value),
+        Some(form) => show_of(alloc, version, library, form),
+        None => item_of(alloc, version, library, clock, value),
     }
 }
 
-/// Reads a line to a rule base with this library, whose clock is at `clock`. A body in it is checked against the
-/// library.
+/// Reads a line to a rule base with this library, whose script has this version, and whose clock is at `clock`. A body
+/// in it is checked against the library, and runs at the clock's time.
 ///
 /// `Refused` has the first fault, in the order of a script's checks: the size, which has a script's limit, the JSON
-/// text, and the item or what is to be shown, by a path from the line's own value. `Memory` means that memory ran out. More bytes than a
-/// script may have are refused before any memory is allocated, so with `Memory` the bytes are at most that many.
+/// text, and the item or what is to be shown, by a path from the line's own value. `Memory` means that memory ran out.
+/// More bytes than a script may have are refused before any memory is allocated, so with `Memory` the bytes are at most
+/// that many.
 #[tactic(auto, unfolding(crate::specs::Requests::request_of))]
 pub fn decode_request(
     alloc: Global,
+    version: Version,
     library: &Arc<Library>,
     clock: u64,
     bytes: &[u8],
 ) -> Result<Request, DecodeError>
-    ensures reads { Gives request result (request_of (model_library library.now.value) clock bytes.now) }
+    ensures reads { Gives request result
+        (request_of (version_view version) (model_library library.now.value) clock bytes.now) }
     ensures own { IfOk result (λ r. IsRequestOf library.now.value r) }
     ensures too_long { 1048576 < length bytes.now → result ≡ Err (DecodeError.Refused (Refusal.S5 Limit.Size)) }
 {
@@ -183,5 +199,5 @@ pub fn decode_request(
         return Err(DecodeError::Refused(Refusal::S5(Limit::Size)));
     }
     let value = json_at(alloc, bytes)?;
-    request_at(alloc, library, clock, &value)
+    request_at(alloc, version, library, clock, &value)
 }

@@ -4,16 +4,18 @@ ghost use Rattle.std.specs.Prelude.{length, ◌≤◌};
 ghost use Rattle.hp_script.specs.Names.{names_of};
 
 use crate::names::Names;
-use hp_rule::{Library, Query};
+use crate::version::Version;
+use hp_rule::{Entry, Library};
 use hp_value::ClassDef;
 
-/// The classes, rules and queries that a body may name.
+/// The classes, rules and queries that a body may name, and the version of its forms.
 #[derive(Clone, Copy)]
 pub(crate) struct Scope<'a> {
+    pub version: Version,
     pub classes: &'a [ClassDef],
     pub rules: Names<'a>,
     /// In a rule's action the rule's condition; else none.
-    pub queries: &'a [Query],
+    pub condition: &'a [Entry],
     pub in_action: bool,
     ghost few_classes: { length classes.now ≤ 64 },
     ghost few_rules: { length (names_of rules) ≤ 256 },
@@ -26,13 +28,15 @@ impl<'a> Scope<'a> {
     ghost use Rattle.hp_script.specs.Scopes.{library_scope};
 
     /// What the body of a transaction over this library may name.
-    pub(crate) fn of_library(library: &'a Library) -> Scope<'a>
-        ensures { scope_view result ≡ library_scope (model_library library.entry.now) }
+    pub(crate) fn of_library(version: Version, library: &'a Library) -> Scope<'a>
+        ensures scope { scope_view result ≡ library_scope (model_library library.entry.now) }
+        ensures version { result.version ≡ version }
     {
         Scope {
+            version,
             classes: library.classes(),
             rules: Names::Rules(library.rules()),
-            queries: &[],
+            condition: &[],
             in_action: false,
         }
     }

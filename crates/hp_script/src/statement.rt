@@ -2,23 +2,26 @@
 
 ghost use Rattle.std.specs.Prelude.{map};
 ghost use Rattle.serde_json.specs.View.{view};
-ghost use Rattle.hp_model.specs.StatementGrammar.{if_form, each_form, for_form, with_form, sub_form, statements_at};
+ghost use Rattle.hp_model.specs.StatementGrammar.{if_form, each_form, for_form, with_form, sub_form, let_form};
+ghost use Rattle.hp_model.specs.StatementGrammar.{statements_at};
 ghost use Rattle.hp_rule.specs.Mapped.{statement};
-ghost use Rattle.hp_rule.specs.Named.{names_in};
 ghost use Rattle.hp_rule.specs.Places.{steps};
 ghost use Rattle.hp_script.specs.Contexts.{form_here, statement_here, statements_here};
-ghost use Rattle.hp_script.specs.Forms.{scope_view};
+ghost use Rattle.hp_script.specs.Forms.{scope_view, statement_form_view};
 ghost use Rattle.hp_script.specs.Mapped.{Gives};
+ghost use Rattle.hp_script.specs.Settings.{setting_in};
 
+use crate::aggregate::aggregate_at;
 use crate::expression::boxed_expression_at;
+use crate::known::new_row_at;
 use crate::list::list_at;
-use crate::operation::{Write, delete_at, emit_at, fire_at, on_rule_at, signal_at, write_at};
+use crate::operation::operation_at;
 use crate::reference::{class_at, query_at};
 use crate::refusal::{DecodeError, Refusal};
-use crate::rows::new_row_at;
 use crate::scope::Scope;
+use crate::setting::setting_of;
 use crate::statement_form::{StatementForm, statement_form_at};
-use hp_rule::{Context, Limit, Place, RowNames, Stmt};
+use hp_rule::{Context, KnownNames, Limit, Place, Stmt};
 use serde_json::Value;
 use std::alloc::Global;
 
@@ -37,12 +40,8 @@ fn if_at(
     ensures { Gives statement result
         (form_here context.entry.now levels (if_form (view test.now) (view then_body.now) (view else_body.now))) }
 {
-    let condition = boxed_expression_at(
-        context.alloc,
-        &context.place.item(1),
-        &context.names,
-        test,
-    )?;
+    let setting = setting_of(context);
+    let condition = boxed_expression_at(context.alloc, &context.place.item(1), &setting, test)?;
     let then_body = statements_within(&context.item(2), levels, then_body)?;
     let else_body = statements_within(&context.item(3), levels, else_body)?;
     Ok(Stmt::If {
@@ -69,8 +68,9 @@ fn each_at(
     let alloc = context.alloc;
     let variable = new_row_at(alloc, &context.place.item(1), &context.names, variable)?;
     let class = class_at(alloc, &context.place.item(2), &context.scope, class)?;
-    let inner = (&*context).bound(variable);
-    let predicate = boxed_expression_at(alloc, &inner.place.item(3), &inner.names, predicate)?;
+    let inner = (&*context).with_row(variable);
+    let setting = setting_of(&inner);
+    let predicate = boxed_expression_at(alloc, &inner.place.item(3), &setting, predicate)?;
     let body = statements_within(&inner.item(4), levels, body)?;
     let variable = String::from_str(alloc, variable)?;
     Ok(Stmt::Each {
@@ -115,8 +115,9 @@ fn with_at(
     let alloc = context.alloc;
     let variable = new_row_at(alloc, &context.place.item(1), &context.names, variable)?;
     let class = class_at(alloc, &context.place.item(2), &context.scope, class)?;
-    let key = boxed_expression_at(alloc, &context.place.item(3), &context.names, key)?;
-    let inner = (&*context).bound(variable);
+    let setting = setting_of(context);
+    let key = boxed_expression_at(alloc, &context.place.item(3), &setting, key)?;
+    let inner = (&*context).with_row(variable);
     let body = statements_within(&inner.item(4), levels, body)?;
     let variable = String::from_str(alloc, variable)?;
     Ok(Stmt::With {
@@ -143,6 +144,62 @@ fn sub_at(
     Ok(Stmt::Sub { body, otherwise })
 }
 
+/// The statement `let`. Its value isn't known in its own aggregate.
+#[cycle(statement)]
+#[tactic(auto, unfolding(hp_model::specs::StatementGrammar::let_value_at))]
+fn let_at(
+    context: &Context<'_, Scope<'_>>,
+    levels: usize,
+    name: &Value,
+    aggregate: &Value,
+    body: &Value,
+) -> Result<Stmt, DecodeError>
+    ensures { Gives statement result
+        (form_here context.entry.now levels (let_form (view name.now) (view aggregate.now) (view body.now))) }
+{
+    let alloc = context.alloc;
+    let setting = setting_of(context);
+    let name = new_row_at(alloc, &context.place.item(1), &context.names, name)?;
+    let place = context.place.item(2);
+    let aggregate = aggregate_at(alloc, &place, &context.scope, &setting, aggregate)?;
+    let inner = (&*context).with_value(name);
+    let body = statements_within(&inner.item(3), levels, body)?;
+    let name = String::from_str(alloc, name)?;
+    Ok(Stmt::Let {
+        name,
+        aggregate,
+        body,
+    })
+}
+
+/// The statement here of a form, each of whose statements has at most `levels` levels.
+#[cycle(statement)]
+fn statement_from(
+    context: &Context<'_, Scope<'_>>,
+    levels: usize,
+    form: StatementForm<'_>,
+) -> Result<Stmt, DecodeError>
+    ensures { Gives statement result (form_here context.entry.now levels (statement_form_view form.entry)) }
+{
+    match form {
+        StatementForm::If(test, then_body, else_body) => {
+            if_at(context, levels, test, then_body, else_body)
+        }
+        StatementForm::Each(variable, class, predicate, body) => {
+            each_at(context, levels, variable, class, predicate, body)
+        }
+        StatementForm::For(query, body) => for_at(context, levels, query, body),
+        StatementForm::With(variable, class, key, body) => {
+            with_at(context, levels, variable, class, key, body)
+        }
+        StatementForm::Sub(body, otherwise) => sub_at(context, levels, body, otherwise),
+        StatementForm::Let(name, aggregate, body) => {
+            let_at(context, levels, name, aggregate, body)
+        }
+        StatementForm::Operation(form) => operation_at(context, form),
+    }
+}
+
 /// The statement here, which has at most `levels` levels.
 #[cycle(statement)]
 #[tactic(auto, unfolding(hp_model::specs::StatementGrammar::statement_within))]
@@ -157,33 +214,7 @@ fn statement_within(
     if levels == 0 {
         return Err(DecodeError::Refused(Refusal::S5(Limit::Nesting)));
     }
-    let levels = levels - 1;
-    match form {
-        StatementForm::Create(class, key, pairs) => {
-            write_at(context, Write::Create, class, key, pairs)
-        }
-        StatementForm::Update(class, key, pairs) => {
-            write_at(context, Write::Update, class, key, pairs)
-        }
-        StatementForm::Delete(class, key) => delete_at(context, class, key),
-        StatementForm::Signal(name, arguments) => signal_at(context, name, arguments),
-        StatementForm::Emit(value) => emit_at(context, value),
-        StatementForm::If(test, then_body, else_body) => {
-            if_at(context, levels, test, then_body, else_body)
-        }
-        StatementForm::Each(variable, class, predicate, body) => {
-            each_at(context, levels, variable, class, predicate, body)
-        }
-        StatementForm::For(query, body) => for_at(context, levels, query, body),
-        StatementForm::With(variable, class, key, body) => {
-            with_at(context, levels, variable, class, key, body)
-        }
-        StatementForm::Sub(body, otherwise) => sub_at(context, levels, body, otherwise),
-        StatementForm::Abort => Ok(Stmt::Abort),
-        StatementForm::Veto => Ok(Stmt::Veto),
-        StatementForm::OnRule(operation, rule) => on_rule_at(context, operation, rule),
-        StatementForm::Fire(rule) => fire_at(context, rule),
-    }
+    statement_from(context, levels - 1, form)
 }
 
 /// The statements of the body here, each of which has at most `levels` levels.
@@ -198,7 +229,7 @@ fn statements_within(
         (statements_here context.entry.now levels (view value.now)) }
 {
     let values = list_at(context.alloc, &context.place, value)?;
-    let mut body = Vec::new(context.alloc);
+    let mut body = Vec::with_capacity(context.alloc, values.len())?;
     for (i, value) in values.iter().enumerate() {
         let statement = statement_within(&context.item(i), levels, value)?;
         body.push(statement)?;
@@ -211,17 +242,18 @@ pub(crate) fn statements_at(
     alloc: Global,
     place: &Place<'_>,
     scope: &Scope<'_>,
-    rows: &RowNames<'_>,
+    names: &KnownNames<'_>,
     value: &Value,
 ) -> Result<Vec<Stmt>, DecodeError>
     ensures { Gives (λ body. map statement body.items) result
-        (statements_at (scope_view scope.entry.now) (names_in rows.now) (steps place.now) (view value.now)) }
+        (statements_at (scope_view scope.entry.now) (setting_in scope.entry.now names.now) (steps place.now)
+        (view value.now)) }
 {
     let context = Context {
         alloc,
         place: *place,
         scope: *scope,
-        names: *rows,
+        names: *names,
     };
     statements_within(&context, MAX_LEVELS, value)
 }

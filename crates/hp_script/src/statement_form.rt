@@ -5,43 +5,54 @@ ghost use Rattle.serde_json.specs.View.{view};
 ghost use Rattle.hp_model.specs.Json as J;
 ghost use Rattle.hp_model.specs.StatementGrammar.{statement_form_of_none, statement_form_of_one};
 ghost use Rattle.hp_model.specs.StatementGrammar.{statement_form_of_two, statement_form_of_three};
-ghost use Rattle.hp_model.specs.StatementGrammar.{statement_form_of_four, statement_form, is_veto, statement_form_at};
+ghost use Rattle.hp_model.specs.StatementGrammar.{statement_form_of_four, common_statement_form};
+ghost use Rattle.hp_model.specs.StatementGrammar.{new_statement_form, statement_form, is_veto, statement_form_at};
 ghost use Rattle.hp_rule.specs.Places.{steps};
 ghost use Rattle.hp_script.specs.Forms.{scope_view, statement_form_view};
 ghost use Rattle.hp_script.specs.Mapped.{Gives};
+ghost use Rattle.hp_script.specs.Versions.{version_view};
 
 use crate::refusal::{DecodeError, shaped, wrong_shape};
 use crate::scope::Scope;
 use crate::shape::{Form, form_of};
+use crate::version::{Version, is_fourth};
 use hp_rule::{Place, RuleOperation};
 use serde_json::Value;
 use std::alloc::Global;
 
-/// A statement whose parts are still JSON.
+/// A statement with no statement inside, whose parts are still JSON.
 #[derive(Clone, Copy)]
-pub(crate) enum StatementForm<'a> {
+pub(crate) enum OperationForm<'a> {
     Create(&'a Value, &'a Value, &'a Value),
     Update(&'a Value, &'a Value, &'a Value),
     Delete(&'a Value, &'a Value),
     Signal(&'a Value, &'a Value),
     Emit(&'a Value),
+    Abort,
+    Veto,
+    VetoWith(&'a Value),
+    OnRule(RuleOperation, &'a Value),
+    Fire(&'a Value),
+}
+
+/// A statement whose parts are still JSON.
+#[derive(Clone, Copy)]
+pub(crate) enum StatementForm<'a> {
     If(&'a Value, &'a Value, &'a Value),
     Each(&'a Value, &'a Value, &'a Value, &'a Value),
     For(&'a Value, &'a Value),
     With(&'a Value, &'a Value, &'a Value, &'a Value),
     Sub(&'a Value, &'a Value),
-    Abort,
-    Veto,
-    OnRule(RuleOperation, &'a Value),
-    Fire(&'a Value),
+    Let(&'a Value, &'a Value, &'a Value),
+    Operation(OperationForm<'a>),
 }
 
 fn statement_form_of_none<'a>(word: &str) -> Option<StatementForm<'a>>
     ensures { option_map statement_form_view result ≡ statement_form_of_none word.now }
 {
     match word {
-        "abort" => Some(StatementForm::Abort),
-        "veto" => Some(StatementForm::Veto),
+        "abort" => Some(StatementForm::Operation(OperationForm::Abort)),
+        "veto" => Some(StatementForm::Operation(OperationForm::Veto)),
         _ => None,
     }
 }
@@ -50,12 +61,24 @@ fn statement_form_of_one<'a>(word: &str, part: &'a Value) -> Option<StatementFor
     ensures { option_map statement_form_view result ≡ statement_form_of_one word.now (view part.entry.now) }
 {
     match word {
-        "emit" => Some(StatementForm::Emit(part)),
-        "install" => Some(StatementForm::OnRule(RuleOperation::Install, part)),
-        "enable" => Some(StatementForm::OnRule(RuleOperation::Enable, part)),
-        "disable" => Some(StatementForm::OnRule(RuleOperation::Disable, part)),
-        "remove" => Some(StatementForm::OnRule(RuleOperation::Remove, part)),
-        "fire" => Some(StatementForm::Fire(part)),
+        "emit" => Some(StatementForm::Operation(OperationForm::Emit(part))),
+        "install" => Some(StatementForm::Operation(OperationForm::OnRule(
+            RuleOperation::Install,
+            part,
+        ))),
+        "enable" => Some(StatementForm::Operation(OperationForm::OnRule(
+            RuleOperation::Enable,
+            part,
+        ))),
+        "disable" => Some(StatementForm::Operation(OperationForm::OnRule(
+            RuleOperation::Disable,
+            part,
+        ))),
+        "remove" => Some(StatementForm::Operation(OperationForm::OnRule(
+            RuleOperation::Remove,
+            part,
+        ))),
+        "fire" => Some(StatementForm::Operation(OperationForm::Fire(part))),
         _ => None,
     }
 }
@@ -69,8 +92,8 @@ fn statement_form_of_two<'a>(
         ≡ statement_form_of_two word.now (view first.entry.now) (view second.entry.now) }
 {
     match word {
-        "delete" => Some(StatementForm::Delete(first, second)),
-        "signal" => Some(StatementForm::Signal(first, second)),
+        "delete" => Some(StatementForm::Operation(OperationForm::Delete(first, second))),
+        "signal" => Some(StatementForm::Operation(OperationForm::Signal(first, second))),
         "for" => Some(StatementForm::For(first, second)),
         "sub" => Some(StatementForm::Sub(first, second)),
         _ => None,
@@ -87,8 +110,8 @@ fn statement_form_of_three<'a>(
         ≡ statement_form_of_three word.now (view first.entry.now) (view second.entry.now) (view third.entry.now) }
 {
     match word {
-        "create" => Some(StatementForm::Create(first, second, third)),
-        "update" => Some(StatementForm::Update(first, second, third)),
+        "create" => Some(StatementForm::Operation(OperationForm::Create(first, second, third))),
+        "update" => Some(StatementForm::Operation(OperationForm::Update(first, second, third))),
         "if" => Some(StatementForm::If(first, second, third)),
         _ => None,
     }
@@ -112,11 +135,10 @@ fn statement_form_of_four<'a>(
     }
 }
 
-fn statement_form(value: &Value) -> Option<StatementForm<'_>>
-    ensures { option_map statement_form_view result
-        ≡ option_and_then (λ (form : J.Form). statement_form form.word form.parts) (J.form_of (view value.now)) }
+/// A form of all versions.
+fn common_statement_form<'a>(word: &str, parts: &'a [Value]) -> Option<StatementForm<'a>>
+    ensures { option_map statement_form_view result ≡ common_statement_form word.now (map view parts.entry.now) }
 {
-    let Form { word, parts } = form_of(value)?;
     match parts {
         [] => statement_form_of_none(word),
         [part] => statement_form_of_one(word, part),
@@ -129,10 +151,47 @@ fn statement_form(value: &Value) -> Option<StatementForm<'_>>
     }
 }
 
+/// A form of version 4 alone.
+fn new_statement_form<'a>(word: &str, parts: &'a [Value]) -> Option<StatementForm<'a>>
+    ensures { option_map statement_form_view result ≡ new_statement_form word.now (map view parts.entry.now) }
+{
+    match parts {
+        [message] => if word == "veto" {
+            Some(StatementForm::Operation(OperationForm::VetoWith(message)))
+        } else {
+            None
+        },
+        [name, aggregate, body] => if word == "let" {
+            Some(StatementForm::Let(name, aggregate, body))
+        } else {
+            None
+        },
+        _ => None,
+    }
+}
+
+fn statement_form(version: Version, value: &Value) -> Option<StatementForm<'_>>
+    ensures { option_map statement_form_view result ≡ option_and_then
+        (λ (form : J.Form). statement_form (version_view version) form.word form.parts) (J.form_of (view value.now)) }
+{
+    let Form { word, parts } = form_of(value)?;
+    if let Some(form) = common_statement_form(word, parts) {
+        return Some(form);
+    }
+    if is_fourth(version) {
+        new_statement_form(word, parts)
+    } else {
+        None
+    }
+}
+
 fn is_veto(form: StatementForm<'_>) -> bool
     ensures { result ≡ is_veto (statement_form_view form.entry) }
 {
-    matches!(form, StatementForm::Veto)
+    matches!(
+        form,
+        StatementForm::Operation(OperationForm::Veto | OperationForm::VetoWith(_))
+    )
 }
 
 /// The form of the statement at a place. A veto is allowed only in a rule's action.
@@ -144,9 +203,10 @@ pub(crate) fn statement_form_at<'a>(
     value: &'a Value,
 ) -> Result<StatementForm<'a>, DecodeError>
     ensures { Gives statement_form_view result
-        (statement_form_at (scope_view scope.entry.now) (steps place.now) (view value.entry.now)) }
+        (statement_form_at (version_view scope.entry.now.version) (scope_view scope.entry.now)
+        (steps place.now) (view value.entry.now)) }
 {
-    let form = shaped(alloc, place, statement_form(value))?;
+    let form = shaped(alloc, place, statement_form(scope.version, value))?;
     if is_veto(form) && !scope.in_action {
         return Err(wrong_shape(alloc, place));
     }

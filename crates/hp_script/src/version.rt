@@ -1,10 +1,11 @@
 //! Versions of the grammar, and the depth limit.
 
-ghost use Rattle.std.specs.Prelude.{option_map};
+ghost use Rattle.std.specs.Prelude.{◌≡◌, option_map};
 ghost use Rattle.serde_json.specs.View.{view};
+ghost use Rattle.hp_model.specs.Scopes.{is_fourth};
 ghost use Rattle.hp_model.specs.Decode.{version_at, depth_at, depth_if_any};
 ghost use Rattle.hp_rule.specs.Places.{steps};
-ghost use Rattle.hp_script.specs.Forms.{version_view};
+ghost use Rattle.hp_script.specs.Versions.{version_view};
 ghost use Rattle.hp_script.specs.Mapped.{Gives};
 
 use crate::number::integer_at;
@@ -16,11 +17,23 @@ use std::alloc::Global;
 /// The depth limit of a script that gives none.
 const USUAL_DEPTH: u8 = 8;
 
-/// The versions of the grammar. The second has one more coupling mode.
-#[derive(Clone, Copy)]
-pub(crate) enum Version {
+/// The versions of the grammar. Each has the forms of the one before it, with the same meaning.
+#[derive(Clone, Copy, Debug)]
+pub enum Version {
+    /// Version 1.
     First,
+    /// Version 2, which has one more coupling mode.
     Second,
+    /// Version 4, which has conditions that count and that find nothing, values by name, the clock's moment, vetoes
+    /// with a message, and closed rules.
+    Fourth,
+}
+
+/// Whether the forms of version 4 are there.
+pub(crate) fn is_fourth(version: Version) -> bool
+    ensures { result ≡ is_fourth (version_view version) }
+{
+    matches!(version, Version::Fourth)
 }
 
 /// The version at a place.
@@ -35,6 +48,7 @@ pub(crate) fn version_at(
     match integer_at(alloc, place, value)? {
         1 => Ok(Version::First),
         2 => Ok(Version::Second),
+        4 => Ok(Version::Fourth),
         _ => Err(DecodeError::Refused(Refusal::S6)),
     }
 }

@@ -18,6 +18,7 @@ use crate::kinds::finding::KindError;
 use crate::kinds::rows::Rows;
 use crate::kinds::rule::{Base, check_rules};
 use crate::kinds::scope::Scope;
+use crate::kinds::sorts::Sorts;
 use crate::kinds::statement::check_body;
 use hp_rule::{Body, Library, Member, Place, Stmt, Unit};
 use std::alloc::{AllocError, Global};
@@ -72,8 +73,9 @@ fn check_statements(
         library,
         declared: declaration,
         columns: None,
-        rows: Rows::Queries(&[]),
-        queries: &[],
+        rows: Rows::Entries(&[]),
+        values: Sorts::Found(&[]),
+        condition: &[],
     };
     check_body(statements, &scope, &Place::Root)
 }
@@ -96,12 +98,14 @@ pub fn check_unit(
     ensures judges { Judges result
         (kinds.unit_kinded (libraries.library library.now) (declared declaration.now) (unit begun.now)) }
     ensures placed { Places (libraries.library library.now) (declared declaration.now)
-        (λ path. part_in_unit (libraries.library library.now) path (unit begun.now)) result }
+        (λ path. part_in_unit (libraries.library library.now) (declared declaration.now) path (unit begun.now)) result }
     ensures keeps { OnOk result
         (KeepsKinds (libraries.library library.now) (declared declaration.now) (unit begun.now)) }
 {
     match begun {
-        Unit::Transaction(body) => check_statements(alloc, library, declaration, body.statements()),
+        Unit::Transaction { body, .. } => {
+            check_statements(alloc, library, declaration, body.statements())
+        }
         Unit::Moment(_) => Ok(()),
     }
 }

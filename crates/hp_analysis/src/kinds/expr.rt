@@ -101,7 +101,7 @@ pub(crate) fn row_field_sort(scope: &Scope<'_>, variable: &str, field: &str) -> 
 {
     match scope.rows.class(variable) {
         Some(class) => field_sort(scope.library, class, field),
-        None => Err(Reason::UnknownRow),
+        None => Err(Reason::UnknownName),
     }
 }
 
@@ -112,7 +112,7 @@ fn row_key_sort(scope: &Scope<'_>, variable: &str) -> Result<Sort, Reason>
 {
     match scope.rows.class(variable) {
         Some(_) => Ok(Sort::Only(Kind::Int)),
-        None => Err(Reason::UnknownRow),
+        None => Err(Reason::UnknownName),
     }
 }
 
@@ -124,6 +124,13 @@ fn count_sort(scope: &Scope<'_>) -> Result<Sort, Reason>
         Some(_) => Ok(Sort::Only(Kind::Int)),
         None => Err(Reason::NoOccurrence),
     }
+}
+
+/// The sort of a value by its name.
+fn value_sort(scope: &Scope<'_>, name: &str) -> Result<Sort, Reason>
+    ensures { explained sort result ≡ model.value_sort (scope_in scope.now) name.now }
+{
+    scope.values.sort(name).ok_or(Reason::UnknownName)
 }
 
 /// What is known of what is read of a part of the occurrence.
@@ -218,6 +225,8 @@ pub(crate) fn sort_of(scope: &Scope<'_>, place: &Place<'_>, expr: &Expr) -> Resu
         Expr::Argument { part, place: j } => read(scope, place, *part, Reading::Argument(*j)),
         Expr::TimeOf { part } => read(scope, place, *part, Reading::Time),
         Expr::Count => placed(alloc, place, count_sort(scope)),
+        Expr::ValueOf { name } => placed(alloc, place, value_sort(scope, name)),
+        Expr::Now => Ok(Sort::Only(Kind::Int)),
     }
 }
 

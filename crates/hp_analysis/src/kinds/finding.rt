@@ -46,8 +46,8 @@ pub enum Reason {
     TooFewArguments,
     /// The statement creates an object without a value for each field.
     UnsetField,
-    /// No row, or no query, of this name is known.
-    UnknownRow,
+    /// No row, no query or no value of this name is known.
+    UnknownName,
     /// The statement fires a rule that isn't one of the declared ones: the rule reads parts of its occurrence, and a
     /// rule that a statement fires has an occurrence without parts.
     NotFired,

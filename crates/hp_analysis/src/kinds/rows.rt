@@ -1,43 +1,48 @@
 //! The classes of the rows in scope.
 
-ghost use Rattle.std.specs.Prelude.{◌≡◌, ◌∷◌, map, bytes_eq};
+ghost use Rattle.std.specs.Prelude.{◌≡◌, ◌∷◌, [], map, bytes_eq};
 ghost use Rattle.std.specs.Map.{lookup};
-ghost use Rattle.hp_query.specs.Mapped.{query};
+ghost use Rattle.hp_query.specs.Mapped.{entry};
 ghost use Rattle.hp_model.specs.Kinds.{query_classes};
-ghost use Rattle.hp_analysis.specs.Scopes.{rows_in, query_rows};
+ghost use Rattle.hp_analysis.specs.Scopes.{rows_in, rows_after};
 
-use hp_query::Query;
+use hp_query::Entry;
 use hp_value::ClassNo;
 
 /// The names of rows in scope and their classes, the innermost first.
 #[derive(Clone, Copy)]
 pub(crate) enum Rows<'a> {
-    /// The first rows of the answers of these queries. A later query of the same name hides an earlier one.
-    Queries(&'a [Query]),
+    /// The first rows of the answers of these queries of a condition. A later query of the same name hides an earlier
+    /// one.
+    Entries(&'a [Entry]),
     /// One more name, inside others.
     Bound(&'a str, ClassNo, &'a Rows<'a>),
 }
 
 /// The class of the last query of this name.
-fn last_class(queries: &[Query], name: &str) -> Option<ClassNo>
-    ensures { result ≡ lookup (bytes_eq name.now) (query_rows (map query queries.now)) }
+fn last_class(entries: &[Entry], name: &str) -> Option<ClassNo>
+    ensures { result ≡ lookup (bytes_eq name.now) (rows_after [] (map entry entries.now)) }
 {
     let mut class = None;
-    for asked in queries {
-        if name == asked.name.as_str() {
-            class = Some(asked.class);
+    for asked in entries {
+        if let Entry::Query(asked) = asked {
+            if name == asked.name.as_str() {
+                class = Some(asked.class);
+            }
         }
     }
     class
 }
 
 /// The class of the first query of this name.
-pub(crate) fn first_class(queries: &[Query], name: &str) -> Option<ClassNo>
-    ensures { result ≡ lookup (bytes_eq name.now) (query_classes (map query queries.now)) }
+pub(crate) fn first_class(entries: &[Entry], name: &str) -> Option<ClassNo>
+    ensures { result ≡ lookup (bytes_eq name.now) (query_classes (map entry entries.now)) }
 {
-    for asked in queries {
-        if name == asked.name.as_str() {
-            return Some(asked.class);
+    for asked in entries {
+        if let Entry::Query(asked) = asked {
+            if name == asked.name.as_str() {
+                return Some(asked.class);
+            }
         }
     }
     None
@@ -56,7 +61,7 @@ impl Rows<'_> {
         ensures { result ≡ lookup (bytes_eq name.now) (rows_in self.now) }
     {
         match self {
-            Rows::Queries(queries) => last_class(queries, name),
+            Rows::Entries(entries) => last_class(entries, name),
             Rows::Bound(newest, class, outer) => {
                 if name == *newest {
                     Some(*class)

@@ -1,9 +1,10 @@
 //! Statements and bodies.
 
-ghost use Rattle.std.specs.Prelude.{◌≡◌, ⊤, map, option_map, bytes_eq};
+ghost use Rattle.std.specs.Prelude.{◌≡◌, ⊤, IfOk, map, option_map, unwrap_or, bytes_eq};
 ghost use Rattle.std.specs.List.{list_any};
 ghost use Rattle.std.specs.Map.{lookup};
 ghost use Rattle.hp_value.specs.Mapped.{expression, field, kind};
+ghost use Rattle.hp_query.specs.Mapped.{aggregate};
 ghost use Rattle.hp_model.specs.Firing.{kind_in};
 ghost use Rattle.hp_model.specs.Rules as rules;
 ghost use Rattle.hp_rule.specs.Statements.{assignment, statement, body_in};
@@ -14,15 +15,17 @@ ghost use Rattle.hp_analysis.specs.Kinded.{sort, Gives, Passes};
 ghost use Rattle.hp_analysis.specs.Scopes.{library, declared, scope_in, queries, own_there, inner_there, body_there};
 ghost use Rattle.hp_analysis.specs.Findings.{Judged};
 
+use crate::kinds::aggregate::aggregate_sort;
 use crate::kinds::expr::{check_kind, check_suits, sort_of};
 use crate::kinds::finding::{KindError, Reason, found};
 use crate::kinds::part::{fields_of, kind_in};
 use crate::kinds::rows::first_class;
 use crate::kinds::scope::Scope;
 use crate::kinds::sort::Sort;
+use hp_query::Aggregate;
 use hp_rule::{Assignment, Place, Stmt};
 use hp_value::{ClassNo, Expr, Field, Kind};
-use std::alloc::Global;
+use std::alloc::{AllocError, Global};
 
 /// Checks that a sort meets a demand, if there is one.
 fn check_demand(
@@ -230,6 +233,30 @@ fn check_emission(scope: &Scope<'_>, place: &Place<'_>, emitted: &Expr) -> Resul
     Ok(())
 }
 
+/// Checks that an aggregate has a sort.
+#[tactic(auto, unfolding(crate::specs::Findings::value_check))]
+fn check_value(scope: &Scope<'_>, place: &Place<'_>, computed: &Aggregate) -> Result<(), KindError>
+    ensures { Passes result (model.value_check (library scope.now) (declared scope.now) (scope_in scope.now)
+        (steps place.now) (aggregate computed.now)) }
+{
+    aggregate_sort(scope, place, computed)?;
+    Ok(())
+}
+
+/// The sort of an aggregate's value in its statement's body; any sort if the aggregate is refused.
+#[tactic(auto, using(crate::proofs::Judging::aggregate_given))]
+fn held_sort(scope: &Scope<'_>, place: &Place<'_>, computed: &Aggregate) -> Result<Sort, AllocError>
+    ensures { IfOk result (λ s. sort s ≡ unwrap_or
+        (kinds.aggregate_sort (library scope.now) (declared scope.now) (scope_in scope.now) (aggregate computed.now))
+        kinds.any) }
+{
+    match aggregate_sort(scope, place, computed) {
+        Ok(given) => Ok(given),
+        Err(KindError::Found(_)) => Ok(Sort::Any),
+        Err(KindError::Memory) => Err(AllocError),
+    }
+}
+
 /// Checks that a statement may fire a rule.
 fn check_fire(scope: &Scope<'_>, place: &Place<'_>, rule: u32) -> Result<(), KindError>
     ensures { Passes result (own_there scope.now (steps place.now) (rules.fire rule)) }
@@ -245,9 +272,9 @@ fn check_query_name(scope: &Scope<'_>, place: &Place<'_>, query: &str) -> Result
     ensures { Passes result
         (model.query_known (steps place.now) (lookup (bytes_eq query.now) (queries scope.now))) }
 {
-    match first_class(scope.queries, query) {
+    match first_class(scope.condition, query) {
         Some(_) => Ok(()),
-        None => Err(found(scope.alloc, place, Reason::UnknownRow)),
+        None => Err(found(scope.alloc, place, Reason::UnknownName)),
     }
 }
 
@@ -260,7 +287,7 @@ fn check_own(s: &Stmt, scope: &Scope<'_>, place: &Place<'_>) -> Result<(), KindE
         Stmt::Update { class, key, pairs } => check_update(scope, place, *class, key, pairs),
         Stmt::Delete { key, .. } => check_kind(scope, &place.item(2), Kind::Int, key),
         Stmt::Signal { name, arguments } => check_signal(scope, place, name, arguments),
-        Stmt::Emit(value) => check_emission(scope, place, value),
+        Stmt::Emit(value) | Stmt::Veto(Some(value)) => check_emission(scope, place, value),
         Stmt::If { condition, .. } => check_kind(scope, &place.item(1), Kind::Bool, condition),
         Stmt::Each {
             variable,
@@ -273,8 +300,9 @@ fn check_own(s: &Stmt, scope: &Scope<'_>, place: &Place<'_>) -> Result<(), KindE
         }
         Stmt::For { query, .. } => check_query_name(scope, &place.item(1), query),
         Stmt::With { key, .. } => check_kind(scope, &place.item(3), Kind::Int, key),
+        Stmt::Let { aggregate, .. } => check_value(scope, &place.item(2), aggregate),
         Stmt::Fire(rule) => check_fire(scope, place, *rule),
-        Stmt::Sub { .. } | Stmt::Abort | Stmt::Veto | Stmt::OnRule { .. } => Ok(()),
+        Stmt::Sub { .. } | Stmt::Abort | Stmt::Veto(None) | Stmt::OnRule { .. } => Ok(()),
     }
 }
 
@@ -313,7 +341,7 @@ fn check_inner(s: &Stmt, scope: &Scope<'_>, place: &Place<'_>) -> Result<(), Kin
             &place.item(4),
         ),
         Stmt::For { query, body } => {
-            let class = first_class(scope.queries, query.as_str()).unwrap_or(0);
+            let class = first_class(scope.condition, query.as_str()).unwrap_or(0);
             check_body(
                 body,
                 &(&*scope).bound(query.as_str(), class),
@@ -330,6 +358,18 @@ fn check_inner(s: &Stmt, scope: &Scope<'_>, place: &Place<'_>) -> Result<(), Kin
             &(&*scope).bound(variable.as_str(), *class),
             &place.item(4),
         ),
+        Stmt::Let {
+            name,
+            aggregate: computed,
+            body,
+        } => {
+            let given = held_sort(scope, &place.item(2), computed)?;
+            check_body(
+                body,
+                &(&*scope).holding(name.as_str(), given),
+                &place.item(3),
+            )
+        }
         Stmt::Sub { body, otherwise } => {
             let first = check_body(body, scope, &place.item(1));
             let second = check_body(otherwise, scope, &place.item(2));

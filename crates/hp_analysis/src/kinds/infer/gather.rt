@@ -9,8 +9,9 @@ use crate::kinds::rows::{Rows, first_class};
 use crate::kinds::rule::Base;
 use crate::kinds::scope::Scope;
 use crate::kinds::sort::{Sort, kind_of};
+use crate::kinds::sorts::Sorts;
 use hp_event::Pattern;
-use hp_query::Query;
+use hp_query::{Aggregate, Entry, Query};
 use hp_rule::{Assignment, EventExpr, Library, Rule, Stmt, Unit};
 use hp_value::{ClassNo, Expr, Kind};
 use std::alloc::{AllocError, Global};
@@ -20,6 +21,15 @@ use std::alloc::{AllocError, Global};
 pub(crate) struct Gathering {
     alloc: Global,
     pub arguments: Arguments,
+    // The values in scope, the innermost last.
+    values: Vec<NamedOrigins>,
+}
+
+/// Where a value that has a name comes from.
+#[derive(Debug, Drop)]
+struct NamedOrigins {
+    name: String,
+    origins: Vec<Origin>,
 }
 
 /// One origin.
@@ -46,6 +56,7 @@ impl Gathering {
         let mut gathering = Gathering {
             alloc,
             arguments: Arguments::new(alloc),
+            values: Vec::new(alloc),
         };
         for rule in library.rules() {
             gathering.add_signals(&rule.event)?;
@@ -92,23 +103,70 @@ impl Gathering {
         known: &Columns<'_>,
         rule: &Rule,
     ) -> Result<(), AllocError> {
-        for (i, query) in rule.condition.iter().enumerate() {
-            self.add_query(base, known, &rule.condition[..i], query)?;
+        self.values.truncate(0);
+        for (i, entry) in rule.condition.iter().enumerate() {
+            let scope = base.asked(known, &rule.condition[..i], &[]);
+            self.add_entry(&scope, entry)?;
         }
-        let scope = base.asked(known, &rule.condition);
-        self.add_body(&rule.action, &scope)
+        let scope = base.asked(known, &rule.condition, &[]);
+        self.add_body(&rule.action, &scope)?;
+        self.values.truncate(0);
+        Ok(())
     }
 
-    fn add_query(
-        &mut self,
-        base: Base<'_>,
-        known: &Columns<'_>,
-        before: &[Query],
-        asked: &Query,
-    ) -> Result<(), AllocError> {
-        let scope = base.asked(known, before);
+    fn add_entry(&mut self, scope: &Scope<'_>, entry: &Entry) -> Result<(), AllocError> {
+        match entry {
+            Entry::Query(asked) | Entry::No(asked) => self.add_test(scope, asked),
+            Entry::Let { name, aggregate } => self.add_value(scope, name, aggregate),
+        }
+    }
+
+    /// Notes that a query's predicate has to be a boolean.
+    fn add_test(&mut self, scope: &Scope<'_>, asked: &Query) -> Result<(), AllocError> {
         let inner = scope.bound(asked.name.as_str(), asked.class);
         self.want(&inner, Kind::Bool, &asked.predicate)
+    }
+
+    /// Adds a value to those in scope.
+    fn add_value(
+        &mut self,
+        scope: &Scope<'_>,
+        name: &String,
+        aggregate: &Aggregate,
+    ) -> Result<(), AllocError> {
+        let origins = self.aggregate_origins(scope, aggregate)?;
+        let name = name.clone()?;
+        self.values.push(NamedOrigins { name, origins })?;
+        Ok(())
+    }
+
+    /// Where the value of an aggregate comes from, as far as it is known.
+    fn aggregate_origins(
+        &mut self,
+        scope: &Scope<'_>,
+        aggregate: &Aggregate,
+    ) -> Result<Vec<Origin>, AllocError> {
+        match aggregate {
+            Aggregate::Count(rows) => {
+                self.add_test(scope, rows)?;
+                one(self.alloc, Kind::Int)
+            }
+            Aggregate::Sum { rows, term } => {
+                self.add_test(scope, rows)?;
+                let inner = scope.bound(rows.name.as_str(), rows.class);
+                self.want(&inner, Kind::Int, term)?;
+                one(self.alloc, Kind::Int)
+            }
+            Aggregate::Least { rows, term } | Aggregate::Greatest { rows, term } => {
+                self.add_test(scope, rows)?;
+                let inner = scope.bound(rows.name.as_str(), rows.class);
+                let origins = self.origins(&inner, term)?;
+                self.arguments.note_alike(&origins);
+                Ok(origins)
+            }
+            Aggregate::Next(_) => one(self.alloc, Kind::Int),
+            Aggregate::Single(single) => self.origins(scope, single),
+        }
     }
 
     fn add_unit(
@@ -122,11 +180,12 @@ impl Gathering {
             library,
             declared: nothing,
             columns: None,
-            rows: Rows::Queries(&[]),
-            queries: &[],
+            rows: Rows::Entries(&[]),
+            values: Sorts::Found(&[]),
+            condition: &[],
         };
         match begun {
-            Unit::Transaction(body) => self.add_body(body.statements(), &scope),
+            Unit::Transaction { body, .. } => self.add_body(body.statements(), &scope),
             Unit::Moment(_) => Ok(()),
         }
     }
@@ -164,8 +223,18 @@ impl Gathering {
                 ..
             } => self.add_body(body, &(&*scope).bound(variable, *class)),
             Stmt::For { query, body } => {
-                let class = first_class(scope.queries, query).unwrap_or(0);
+                let class = first_class(scope.condition, query).unwrap_or(0);
                 self.add_body(body, &(&*scope).bound(query, class))
+            }
+            Stmt::Let {
+                name,
+                aggregate,
+                body,
+            } => {
+                self.add_value(scope, name, aggregate)?;
+                self.add_body(body, scope)?;
+                self.values.pop();
+                Ok(())
             }
             Stmt::Sub { body, otherwise } => {
                 self.add_body(body, scope)?;
@@ -184,7 +253,7 @@ impl Gathering {
             }
             Stmt::Delete { key, .. } | Stmt::With { key, .. } => self.want(scope, Kind::Int, key),
             Stmt::Signal { name, arguments } => self.add_signal(scope, name, arguments),
-            Stmt::Emit(value) => {
+            Stmt::Emit(value) | Stmt::Veto(Some(value)) => {
                 self.origins(scope, value)?;
                 Ok(())
             }
@@ -298,10 +367,24 @@ impl Gathering {
             Expr::NewField { part, field } => self.read(scope, *part, Reading::New(field)),
             Expr::OldField { part, field } => self.read(scope, *part, Reading::Old(field)),
             Expr::Argument { part, place } => self.read(scope, *part, Reading::Argument(*place)),
-            Expr::KeyOf { .. } | Expr::KeyIn { .. } | Expr::TimeOf { .. } | Expr::Count => {
-                one(self.alloc, Kind::Int)
+            Expr::ValueOf { name } => self.value_origins(name),
+            Expr::KeyOf { .. }
+            | Expr::KeyIn { .. }
+            | Expr::TimeOf { .. }
+            | Expr::Count
+            | Expr::Now => one(self.alloc, Kind::Int),
+        }
+    }
+
+    /// Where the value of a name comes from.
+    fn value_origins(&self, name: &str) -> Result<Vec<Origin>, AllocError> {
+        let mut origins = Vec::new(self.alloc);
+        for named in &self.values {
+            if named.name.as_str() == name {
+                origins = Vec::from_slice(self.alloc, &named.origins)?;
             }
         }
+        Ok(origins)
     }
 
     /// Where what is read of a part comes from: for each pattern that the part may match, an argument or a field.

@@ -12,7 +12,9 @@ use Rattle.hp_query.proofs.condition.evaluate_condition.Given as goal
 abbrev pub invariant-loop-entry : goal.invariant-loop-entry
 invariant-loop-entry g l = record {
   on : g.L.Look.goes_on l.fn.look l.look;
-  asked : AsksLeft g.L.Look.asks (flat_map entry_classes (map mapped.entry l.entries)) (flat_map entry_classes (map mapped.entry (drop l.entry-index l.entries))) l.fn.look l.look;
+  asked : AsksLeft g.L.Look.asks (flat_map entry_classes (map mapped.entry l.entries))
+      (flat_map entry_classes (map mapped.entry (drop l.entry-index l.entries))) l.fn.look l.look;
   continues : (world : Objects) → ObjectsRise world → g.L.Look.allows l.look world
-      → Continues world (record { occurrence = Some (value.occurrence l.occurrence); rows = []; values = []; now = l.time }) (map mapped.entry l.entries) (mapped.findings l.found) (map mapped.entry (drop l.entry-index l.entries));
+      → Continues world (record { occurrence = Some (value.occurrence l.occurrence); rows = []; values = []; now = l.time })
+      (map mapped.entry l.entries) (mapped.findings l.found) (map mapped.entry (drop l.entry-index l.entries));
 }

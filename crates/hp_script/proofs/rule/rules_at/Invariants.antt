@@ -8,5 +8,5 @@ use Rattle.hp_script.proofs.rule.rules_at.Given as goal
 
 abbrev pub invariant-loop-i : goal.invariant-loop-i
 invariant-loop-i l =
-    read_from (λ _. rule_at (version_view l.version) (scope_view l.scope)) (steps l.place) (map rule l.rules.items) l.i (heads_view (drop l.i l.heads))
-    ≡ read_from (λ _. rule_at (version_view l.version) (scope_view l.scope)) (steps l.place) [] 0 (heads_view l.heads)
+    read_from (λ _. rule_at (version_view l.scope.version) (scope_view l.scope)) (steps l.place) (map rule l.rules.items) l.i (heads_view (drop l.i l.heads))
+    ≡ read_from (λ _. rule_at (version_view l.scope.version) (scope_view l.scope)) (steps l.place) [] 0 (heads_view l.heads)

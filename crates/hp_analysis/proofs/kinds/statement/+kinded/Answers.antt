@@ -3,7 +3,8 @@ use Rattle.std.specs.Prelude.{string_bytes, unwrap_or}
 use Rattle.std.specs.Map.{lookup}
 use Rattle.hp_value.specs.Mapped.{expression}
 use Rattle.hp_model.specs.Rules as R
-use Rattle.hp_model.specs.Kinds.{with_name}
+use Rattle.hp_query.specs.Mapped.{aggregate}
+use Rattle.hp_model.specs.Kinds.{Sort, any, with_name, with_sort, aggregate_sort}
 use Rattle.hp_model.specs.Refusals.{item_at}
 use Rattle.hp_rule.specs.declared.stmt.Stmt.TheViews.{the_lemmas}
 use Rattle.hp_rule.specs.Statements.{statement, body_in}
@@ -39,6 +40,15 @@ check_inner-returns-in-For t c =
     let is : R.for_answer (string_bytes c.in-For.query) (body_in c.deref-in-For.result.now) ≡ statement c.args.s.now = search (rules, the_lemmas, row_body_lem) in
     let inner : Passes c.check_body-in-For.result (F.body_check (library c.args.scope.now) (declared c.args.scope.now) (with_name (string_bytes c.in-For.query) (unwrap_or (lookup (bytes_eq (string_bytes c.in-For.query)) (queries c.args.scope.now)) 0) (scope_in c.args.scope.now)) (queries c.args.scope.now) (item_at (steps c.args.place.now) 2) 0 (body_in c.deref-in-For.result.now)) = search rules in
     subst (λ s. Passes c.check_body-in-For.result (inner_there c.args.scope.now (steps c.args.place.now) s)) is inner
+
+pub check_inner-returns-in-Let : goal.check_inner-returns-in-Let
+check_inner-returns-in-Let t c =
+    let name = c.as_str-in-Let.result.now in
+    let a = aggregate c.in-Let.computed in
+    let held : Sort = unwrap_or (aggregate_sort (library c.args.scope.now) (declared c.args.scope.now) (scope_in c.args.scope.now) a) any in
+    let is : R.let_value name a (body_in c.deref-in-Let.result.now) ≡ statement c.args.s.now = search (rules, the_lemmas, row_body_lem) in
+    let inner : Passes c.check_body-in-Let.result (F.body_check (library c.args.scope.now) (declared c.args.scope.now) (with_sort name held (scope_in c.args.scope.now)) (queries c.args.scope.now) (item_at (steps c.args.place.now) 3) 0 (body_in c.deref-in-Let.result.now)) = search rules in
+    subst (λ s. Passes c.check_body-in-Let.result (inner_there c.args.scope.now (steps c.args.place.now) s)) is inner
 
 pub check_inner-returns-in-With : goal.check_inner-returns-in-With
 check_inner-returns-in-With t c =

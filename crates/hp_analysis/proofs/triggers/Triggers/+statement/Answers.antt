@@ -4,6 +4,7 @@ use Rattle.std.specs.Prelude.{string_bytes}
 use Rattle.hp_model.specs.Rules as R
 use Rattle.hp_model.specs.Chains.{statement_triggers, body_triggers}
 use Rattle.hp_value.specs.Mapped.{expression}
+use Rattle.hp_query.specs.Mapped.{aggregate}
 use Rattle.hp_rule.specs.declared.stmt.Stmt.TheViews.{the_lemmas}
 use Rattle.hp_rule.specs.Statements.{statement, body_in}
 use Rattle.hp_rule.specs.Libraries as libraries
@@ -37,6 +38,12 @@ mark_statement-returns-in-With t c =
     let library = libraries.library c.args.self.now.library.now in
     let is : R.with_object (string_bytes c.in-With.variable) c.in-With.class (expression c.in-With.key.value) (body_in c.deref-in-With.result.now) ≡ statement c.args.s.now = search (rules, the_lemmas, row_body_lem) in
     c.mark_body-in-With.ensures ∙ ap (λ s. marked (statement_triggers library s) c.args.set.now.items) is
+
+pub mark_statement-returns-in-Let : goal.mark_statement-returns-in-Let
+mark_statement-returns-in-Let t c =
+    let library = libraries.library c.args.self.now.library.now in
+    let is : R.let_value (string_bytes c.in-Let.name) (aggregate c.in-Let.aggregate) (body_in c.deref-in-Let.result.now) ≡ statement c.args.s.now = search (rules, the_lemmas, row_body_lem) in
+    c.mark_body-in-Let.ensures ∙ ap (λ s. marked (statement_triggers library s) c.args.set.now.items) is
 
 pub mark_statement-returns-in-Sub : goal.mark_statement-returns-in-Sub
 mark_statement-returns-in-Sub t c =

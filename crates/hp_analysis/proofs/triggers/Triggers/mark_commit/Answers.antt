@@ -7,4 +7,4 @@ use Rattle.hp_analysis.proofs.triggers.Triggers.mark_commit.Goals as goal
 pub returns : goal.returns
 returns c =
     let self = c.args.self.now in
-    c.mark_all.ensures ∙ ap (λ ns. marked ns c.args.set.now.items) (c.of_commit.ensures ∙ commit_listed self.listeners (libraries.library self.library.now) self.of_rules)
+    c.mark_all.ensures ∙ ap (λ ns. marked ns c.args.set.now.items) (c.rules.ensures ∙ commit_listed self.listeners (libraries.library self.library.now) self.of_rules)

@@ -9,5 +9,6 @@ pub returns-clause-found : goal.returns-clause-found
 returns-clause-found c = λ world rise is.
     let fits : SFits w64 c.in-Some.name.now.key = search rules in
     ap Some (to_z-of_z w64 c.in-Some.name.now.key fits)
-    ∙ last_key c.class_entries.result c.next_back.new.self (c.in-Some.name.now, c.in-Some.field-0-1.now) (class_keys c.args.class c.args.self.now) c.in-Some.ensures.steps (c.class_entries.ensures ∙ ap (class_keys c.args.class) c.self.view_is)
+    ∙ last_key c.class_entries.result c.next_back.new.self (c.in-Some.name.now, c.in-Some.field-0-1.now) (class_keys c.args.class c.args.self.now)
+    c.in-Some.ensures.steps (c.class_entries.ensures ∙ ap (class_keys c.args.class) c.self.view_is)
     ∙ ap (λ objects. last_or None (class_keys c.args.class objects)) (sym is)
