@@ -28,7 +28,7 @@ use Rattle.hp_rule.specs.contracts.stmt.Assignment as Assignment
 use Rattle.hp_rule.specs.contracts.stmt.Stmt as Stmt
 use Rattle.hp_rule.proofs.stmt.Stmt.TheLaws.TheKnot as stmt
 use Rattle.hp_rule.specs.contracts.rule.Rule as Rule
-use Rattle.hp_rule.proofs.index.Index.TheSendSync as index
+use Rattle.hp_rule.proofs.rule_lists.RuleLists.TheSendSync as rule_lists
 use Rattle.hp_rule.proofs.asked.AskedField.TheSendSync as asked
 use Rattle.hp_rule.specs.contracts.library.Library as Library
 use Rattle.hp_rule.specs.contracts.body.Body as Body
@@ -44,7 +44,7 @@ use Rattle.hp_sessions.specs.contracts.receipt.Receipt as Receipt
 
 -- ---- libraries and bodies
 
-ruleset expression_parts = (value.the_send, asked.the_send, arithmetic.the_send, comparison.the_send, pattern.the_send, class.the_send, index.the_send, coupling.the_send, operation_word.the_send, heap.crosses, maps.crosses, sendable)
+ruleset expression_parts = (value.the_send, asked.the_send, arithmetic.the_send, comparison.the_send, pattern.the_send, class.the_send, rule_lists.the_send, coupling.the_send, operation_word.the_send, heap.crosses, maps.crosses, sendable)
 
 expr_send : IsSend Expr.the_field.row
 expr_send = expr.send-Expr (search expression_parts depth 12) (search expression_parts depth 12) heap.Box-send (search expression_parts depth 12) (search expression_parts depth 12) (search expression_parts depth 12)
