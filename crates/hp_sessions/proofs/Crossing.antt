@@ -67,7 +67,9 @@ condition_entry_send = search (query_send, aggregate_send, expression_parts) dep
 ruleset statement_parts = (expr_send, assignment_send, aggregate_send, expression_parts)
 
 stmt_send : IsSend Stmt.the_field.row
-stmt_send = stmt.send-Stmt (search statement_parts depth 12) (search statement_parts depth 12) (search statement_parts depth 12) (search statement_parts depth 12) (search statement_parts depth 12) heap.Vec-send (search statement_parts depth 12) (search statement_parts depth 12) (search statement_parts depth 12)
+stmt_send =
+    stmt.send-Stmt (search statement_parts depth 12) (search statement_parts depth 12) (search statement_parts depth 12) (search statement_parts depth 12) (search statement_parts depth 12)
+    heap.Vec-send (search statement_parts depth 12) (search statement_parts depth 12) (search statement_parts depth 12)
 
 rule_send : IsSend Rule.the_field.row
 rule_send = search (event_send, event_sync, condition_entry_send, stmt_send, expression_parts) depth 30 fits 20000
