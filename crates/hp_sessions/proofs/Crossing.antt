@@ -11,7 +11,6 @@ use Rattle.atomic_table.proofs.shared.Seat.TheSendSync as seat
 use Rattle.atomic_table.proofs.shared.Shared.TheSendSync as shared
 use Rattle.atomic_table.proofs.send_lease.SendLease.TheSendSync as lease
 use Rattle.hp_value.proofs.value.Value.TheSendSync as value
-use Rattle.hp_value.proofs.halt.Veto.TheSendSync as veto
 use Rattle.hp_value.proofs.occurrence.Coupling.TheSendSync as coupling
 use Rattle.hp_value.proofs.rule_operation.RuleOperation.TheSendSync as operation_word
 use Rattle.hp_value.proofs.expr.Arithmetic.TheSendSync as arithmetic
@@ -29,10 +28,11 @@ use Rattle.hp_rule.specs.contracts.stmt.Assignment as Assignment
 use Rattle.hp_rule.specs.contracts.stmt.Stmt as Stmt
 use Rattle.hp_rule.proofs.stmt.Stmt.TheLaws.TheKnot as stmt
 use Rattle.hp_rule.specs.contracts.rule.Rule as Rule
-use Rattle.hp_rule.proofs.index.Index.TheSendSync as index
+use Rattle.hp_rule.proofs.rule_lists.RuleLists.TheSendSync as rule_lists
 use Rattle.hp_rule.proofs.asked.AskedField.TheSendSync as asked
 use Rattle.hp_rule.specs.contracts.library.Library as Library
 use Rattle.hp_rule.specs.contracts.body.Body as Body
+use Rattle.hp_tree.proofs.node.Ending.TheSendSync as ending
 use Rattle.hp_tree.specs.contracts.report.TopReport as TopReport
 use Rattle.hp_tree.specs.contracts.report.UnitReport as UnitReport
 use Rattle.hp_store.specs.contracts.store.Store as Store
@@ -44,7 +44,7 @@ use Rattle.hp_sessions.specs.contracts.receipt.Receipt as Receipt
 
 -- ---- libraries and bodies
 
-ruleset expression_parts = (value.the_send, asked.the_send, arithmetic.the_send, comparison.the_send, pattern.the_send, class.the_send, index.the_send, coupling.the_send, operation_word.the_send, heap.crosses, maps.crosses, sendable)
+ruleset expression_parts = (value.the_send, asked.the_send, arithmetic.the_send, comparison.the_send, pattern.the_send, class.the_send, rule_lists.the_send, coupling.the_send, operation_word.the_send, heap.crosses, maps.crosses, sendable)
 
 expr_send : IsSend Expr.the_field.row
 expr_send = expr.send-Expr (search expression_parts depth 12) (search expression_parts depth 12) heap.Box-send (search expression_parts depth 12) (search expression_parts depth 12) (search expression_parts depth 12)
@@ -67,7 +67,9 @@ condition_entry_send = search (query_send, aggregate_send, expression_parts) dep
 ruleset statement_parts = (expr_send, assignment_send, aggregate_send, expression_parts)
 
 stmt_send : IsSend Stmt.the_field.row
-stmt_send = stmt.send-Stmt (search statement_parts depth 12) (search statement_parts depth 12) (search statement_parts depth 12) (search statement_parts depth 12) (search statement_parts depth 12) heap.Vec-send (search statement_parts depth 12) (search statement_parts depth 12) (search statement_parts depth 12)
+stmt_send =
+    stmt.send-Stmt (search statement_parts depth 12) (search statement_parts depth 12) (search statement_parts depth 12) (search statement_parts depth 12) (search statement_parts depth 12)
+    heap.Vec-send (search statement_parts depth 12) (search statement_parts depth 12) (search statement_parts depth 12)
 
 rule_send : IsSend Rule.the_field.row
 rule_send = search (event_send, event_sync, condition_entry_send, stmt_send, expression_parts) depth 30 fits 20000
@@ -87,10 +89,10 @@ body_send = search (shared_library_send, stmt_send, heap.crosses, sendable) dept
 -- ---- replies
 
 top_send : IsSend TopReport.the_field.row
-top_send = search (item_send, veto.the_send, coupling.the_send, heap.crosses, sendable) depth 20
+top_send = search (item_send, ending.the_send, coupling.the_send, heap.crosses, sendable) depth 30 fits 20000
 
 top_sync : IsSync TopReport.the_field.row
-top_sync = search (item_sync, veto.the_sync, coupling.the_sync, heap.crosses, sendable) depth 20
+top_sync = search (item_sync, ending.the_sync, coupling.the_sync, heap.crosses, sendable) depth 30 fits 20000
 
 report_send : IsSend UnitReport.the_row
 report_send = search (top_send, heap.crosses, sendable) depth 12

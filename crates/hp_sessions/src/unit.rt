@@ -42,7 +42,13 @@ impl Model for Unit {
     ghost coded = { Prim.hlevel
         (codes, of_body.the_row.coded, of_report.the_row.coded, read_code, cell_code, value_code) };
 
-    ghost view = { λ u. record { body = u.body; time = u.time; reads = u.reads; layer = u.layer.value; reply = u.reply } };
+    ghost view = { λ u. record {
+      body = u.body;
+      time = u.time;
+      reads = u.reads;
+      layer = u.layer.value;
+      reply = u.reply;
+    } };
 
     // On each state in which the reads hold, the body has this report, and leaves the state overwritten by the layer.
     ghost invariant = { λ u. StandsFor u.body u.time u.reads u.layer.value u.reply };

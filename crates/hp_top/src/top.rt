@@ -71,7 +71,8 @@ impl<R: Threads + Sync> Runner<'_, R> {
     ) -> Result<Top, AllocError>
         requires { mark ≤ length view.old.undo }
         ensures { IfOk result (λ t.
-            Finishes (library self.now.engine.lib.now) time depth mark view.old view.new (course_of course) (top_of t)) }
+            Finishes (library self.now.engine.lib.now) time depth mark view.old view.new
+            (course_of course) (top_of t)) }
     {
         let all = self.complete(view, course, depth, time)?;
         let top = close(self.alloc(), view, mark, all)?;
