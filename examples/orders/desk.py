@@ -46,15 +46,12 @@ ADDRESS = ("127.0.0.1", int(os.environ.get("DESK_PORT", "7070")))
 # Seconds in which a desk that was just started is tried again.
 PATIENCE = 10
 
-# What a veto of a rule means to a client, and what a cause does.
+# What a cause means to a client. A veto has its reason as its message; a closed rule that failed has none.
 REASONS = {
-    "known": "there is no such product",
-    "some": "an order is for one piece or more",
-    "no_oversell": "there are not so many in stock",
-    "steps": "the order is past that, or not yet there",
     "A1": "that number is taken",
     "A2": "there is nothing of that number",
     "A3": "a number is wanted there",
+    "A9": "the numbers are too large",
 }
 
 
@@ -128,7 +125,7 @@ def news(units: Iterable[Unit]) -> List[str]:
 def end_of(units: List[Unit]) -> str:
     """The last line of an answer."""
     ending = next((it.ending for it in units if not it.committed), None)
-    return "done" if ending is None else "no: " + REASONS.get(ending.rule or ending.cause, str(ending))
+    return "done" if ending is None else f"no: {ending.message or REASONS.get(ending.cause, ending)}"
 
 
 def reason_of(refused: Refused, word: str, base: RuleBase) -> str:
