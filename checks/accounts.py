@@ -5,7 +5,7 @@
 
 For each script the program's report with trees must be the one of the definitions (definitions.py and
 definitions_run.py). Then each fact that `why` and `view` tell is compared with the plain account (plain_account.py): of
-each node its trigger with the parts of the occurrence, each query of its condition, why it aborted, what undid it and
+each node its trigger with the parts of the occurrence, each entry of its condition, why it aborted, what undid it and
 what it came to; each fault that lasts; each dropped task; and for each rule in each unit how often it was triggered,
 its status at each signal, and what became of each occurrence that its event could have been completed with. The same
 facts are worded, and each kind of sentence must occur.
@@ -43,6 +43,7 @@ from hipac_tools.report import Act, Fire, children  # noqa: E402
 from hipac_tools.wording import ALL  # noqa: E402
 from live_sessions import by_pipe, command_of  # noqa: E402
 from tests.made_scripts import ScriptMaker  # noqa: E402
+from tests.made_version4 import Version4Maker  # noqa: E402
 
 # With so many scripts each kind of sentence occurs.
 ENOUGH = 1000
@@ -68,6 +69,11 @@ SENTENCES = [
     "before its condition was tested, as unit", "before its action ran, as", "vetoed first",
     "Though it committed, the condition of", "Though it committed, the action of",
     "acted in vain", "failed once", "each time", "vetoed once", "and was dropped", "wasn't triggered in",
+    r"No x\d\w* found nothing", r"No x\d\w* found \w+ -?\d", r"The value v\d\w* is .*, with v", "the count over",
+    "the sum over", "the least over", "the greatest over", "the next key of", r"The value v\d\w* isn't there",
+    r"The value v\d\w* met a fault", "over no object, as", "It is closed, so it vetoed",
+    "The closed rule .* as its condition ended", "The closed rule .* as its action aborted",
+    r"vetoed with (-?\d|true|false|\")",
     *(f"aborted {cause}" for cause in ("A1", "A2", "A3", "A4", "A5", "A6", "A7", "A8", r"A9 \w+")),
 ]
 
@@ -118,8 +124,11 @@ class AccountMaker(ScriptMaker):
         return super().predicate(known)
 
 
+MAKERS = (ScriptMaker, AccountMaker, Version4Maker, AccountMaker)
+
+
 def made(seed):
-    return (AccountMaker if seed % 4 else ScriptMaker)(seed).script()
+    return MAKERS[seed % len(MAKERS)](seed).script()
 
 
 def written():

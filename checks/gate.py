@@ -25,6 +25,7 @@ SCRIPTS = (
     "checks/programs.py",
     "checks/live_sessions.py",
     "checks/conditions.py",
+    "checks/version4.py",
     "checks/accounts.py",
     "examples/orders/page_test.py",
     "editors/tests/run.py",
@@ -76,7 +77,7 @@ esac
 # test, and their layout is one more.
 FOLDERS = ("low_tests", "app_tests")
 QUICK = 2 * (len(SCRIPTS) - 1) + 3 + len(FOLDERS) + 1
-PROVED = QUICK + 7 + 2 * 3
+PROVED = QUICK + 7 + 2 * 4
 
 
 class Tree:
