@@ -39,7 +39,8 @@ class ReadingBackTest(unittest.TestCase):
         self.assertIsNone(reader)
 
     def test_examples(self):
-        for path in sorted((REPOSITORY / "examples").glob("*.json")):
+        examples = REPOSITORY / "examples"
+        for path in sorted([*examples.glob("*.json"), *examples.glob("version4/*.json")]):
             for trees in (False, True):
                 with self.subTest(path.name, trees=trees):
                     self.read_back(json.loads(path.read_text(encoding="utf-8")), trees)
