@@ -52,7 +52,8 @@ impl RuleBase {
         library: Arc<Library>,
         workers: usize,
     ) -> Result<RuleBase, AllocError>
-        ensures { IfOk result (λ base. StandsFor base (L.new_base (version_view version) (model_library library.value))) }
+        ensures { IfOk result (λ base.
+            StandsFor base (L.new_base (version_view version) (model_library library.value))) }
     {
         Ok(RuleBase {
             version,

@@ -44,7 +44,8 @@ pub trait Source {
 
 /// What bytes are written to.
 ///
-/// After a write that failed, no write may follow. So no caller can retry it or miss that it failed. None is of nothing.
+/// After a write that failed, no write may follow. So no caller can retry it or miss that it failed. No write is of
+/// nothing.
 /// [`Watched`](crate::Watched) makes a sink of each of std's writers.
 pub trait Sink {
     /// The bytes that the sink has taken, where they are known.
