@@ -6,7 +6,7 @@ A case is a script with its firings and the same without: the difference of thei
 from dataclasses import dataclass
 from typing import Optional
 
-import version4
+import desk
 from scripts import ACCOUNT, GO, add, create, deferred, has_key, immediate, installs, lines, on_go, script
 from workloads import richest
 
@@ -93,8 +93,8 @@ def order_desk(size, orders=1000):
 
 
 def order_desk_of_version_4(size, orders=1000):
-    scripts = version4.desk_script(size, 0), version4.desk_script(size, orders)
-    return Case(size, orders, *scripts, version4.desk_sql(size, 0), version4.desk_sql(size, orders))
+    scripts = desk.desk_script(size, 0), desk.desk_script(size, orders)
+    return Case(size, orders, *scripts, desk.desk_sql(size, 0), desk.desk_sql(size, orders))
 
 
 # ---- conditions on one key, or on one value of a field

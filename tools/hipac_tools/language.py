@@ -100,6 +100,7 @@ def counts(parts: tuple[str, ...]) -> range:
 
 # ---- the sort of each part, by its name
 
+
 NAME, PLACE, MOMENT, PERIOD, EVENT, EXPRESSION, AGGREGATE, PAIRS, ARGUMENTS, BODY = (
     "name", "place", "moment", "period", "event", "expression", "aggregate", "pairs", "arguments", "body")
 SORTS = {

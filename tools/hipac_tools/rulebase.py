@@ -13,6 +13,7 @@ from typing import Any, Iterator, NoReturn, Union
 from . import command, journal, language
 from .language import Form
 
+
 class Refused(Exception):
     """The text isn't a script. The message says where, and which word says more."""
 

@@ -15,7 +15,7 @@ from .test_broken import SEED
 try:
     import jsonschema
 except ImportError:
-    jsonschema = None
+    jsonschema = None  # type: ignore[assignment]
 
 SCHEMA = REPOSITORY / "docs" / "script.schema.json"
 SCRIPTS = 250

@@ -40,19 +40,20 @@ def hints(text: str) -> list[str]:
 class CheckTest(unittest.TestCase):
     def test_refusals(self) -> None:
         query, value = ["q", "acct", True], ["value", "n"]
-        for entries, wanted in (
-                ([["no", "k", "acct"]], ("S2 /rules/0/3/0", '["no", x, class, predicate] has 3 parts after its word')),
-                ([["no", 1, "none", True]], ("S2 /rules/0/3/0/1", "a variable's name is a text")),
-                ([["no", "k", "none", ["key", 1]]], ("S4 /rules/0/3/0/2", "there is no class `none`")),
-                ([query, ["no", "q", "acct", True]], ("S4 /rules/0/3/1/1", "a row `q` is there already")),
-                ([["let", "n", value]], ("S4 /rules/0/3/0/2/1", "no `let` is called `n` here")),
-                ([["let", "n", 1], ["n", "acct", True]], ("S4 /rules/0/3/1/0", "a `let` `n` is there already")),
-                ([["let", "n", ["sum", "s", "acct", True]]],
-                 ("S2 /rules/0/3/0/2", '["sum", x, class, predicate, term]')),
-                ([["let", "n", ["next", "none"]]], ("S4 /rules/0/3/0/2/1", "there is no class `none`")),
-                ([["q", "acct", ["count", "s", "acct", True]]], ("S2 /rules/0/3/0/2", '["count"] has no parts')),
-                ([["let", "s", ["count", "s", "acct", ["=", ["key", "s"], 1]]],
-                  ["q", "acct", ["=", ["value", "s"], 1]]], ("", ""))):
+        cases: list[tuple[list, tuple[str, str]]] = [
+            ([["no", "k", "acct"]], ("S2 /rules/0/3/0", '["no", x, class, predicate] has 3 parts after its word')),
+            ([["no", 1, "none", True]], ("S2 /rules/0/3/0/1", "a variable's name is a text")),
+            ([["no", "k", "none", ["key", 1]]], ("S4 /rules/0/3/0/2", "there is no class `none`")),
+            ([query, ["no", "q", "acct", True]], ("S4 /rules/0/3/1/1", "a row `q` is there already")),
+            ([["let", "n", value]], ("S4 /rules/0/3/0/2/1", "no `let` is called `n` here")),
+            ([["let", "n", 1], ["n", "acct", True]], ("S4 /rules/0/3/1/0", "a `let` `n` is there already")),
+            ([["let", "n", ["sum", "s", "acct", True]]],
+             ("S2 /rules/0/3/0/2", '["sum", x, class, predicate, term]')),
+            ([["let", "n", ["next", "none"]]], ("S4 /rules/0/3/0/2/1", "there is no class `none`")),
+            ([["q", "acct", ["count", "s", "acct", True]]], ("S2 /rules/0/3/0/2", '["count"] has no parts')),
+            ([["let", "s", ["count", "s", "acct", ["=", ["key", "s"], 1]]],
+              ["q", "acct", ["=", ["value", "s"], 1]]], ("", ""))]
+        for entries, wanted in cases:
             with self.subTest(entries):
                 found, message = refusal(script(entries))
                 self.assertEqual((found, message[:len(wanted[1])]), wanted)

@@ -90,7 +90,6 @@ STATEMENT_HABITS = {
 }
 
 
-
 @dataclass(frozen=True)
 class Forms:
     """The forms of a version."""

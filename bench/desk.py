@@ -78,7 +78,8 @@ DESK_SQL = [
     " at integer);",
     "create index of_customer on orders(customer);", "create index of_item on orders(item);",
     "create table report(v integer);",
-    f"create trigger low after insert on orders when {IN_STOCK}-{SOLD}<3 begin insert into report values(new.item); end;",
+    f"create trigger low after insert on orders when {IN_STOCK}-{SOLD}<3 "
+    "begin insert into report values(new.item); end;",
     trigger("oversell", f"{SOLD}>{IN_STOCK}", "'not so many in stock'"),
     trigger("credit", "(select sum(amount) from orders where customer=new.customer)"
             ">(select most from customer where k=new.customer)", "'over the limit'"),
