@@ -137,12 +137,14 @@ fn refuses_each_beginning_of_a_script_of_version_4(rt: HostRuntime) -> Result<()
 
 /// The line for a script of this version with a class `acct` and one rule, which has these entries and this end.
 fn with_rule(alloc: Global, version: u8, entries: &str, end: &str) -> Result<String, Fail> {
-    let script = format!(in alloc; r#"{{
+    let script = format!(in alloc;
+        r#"{{
       "version": {version},
       "classes": [["acct", [["bal", "int"]]]],
       "rules": [["r", ["commit"], "immediate", {entries}, "immediate", {end}]],
       "items": []
-    }}"#)?;
+    }}"#
+    )?;
     answer(alloc, script.as_bytes())
 }
 
@@ -174,9 +176,11 @@ fn reads_a_seventh_part_in_version_4(rt: HostRuntime) -> Result<(), Fail> {
 #[test]
 fn forgets_the_variable_of_an_aggregate(rt: HostRuntime) -> Result<(), Fail> {
     let alloc = rt.alloc();
-    let after = r#"[["let", "n", ["count", "x", "acct", true]], ["no", "y", "acct", [">", ["key", "x"], 0]]]"#;
+    let after =
+        r#"[["let", "n", ["count", "x", "acct", true]], ["no", "y", "acct", [">", ["key", "x"], 0]]]"#;
     assert!(rt; with_rule(alloc, 4, after, "[]")?.as_str() == "refused S4 /rules/0/3/1/3/1/1");
-    let again = r#"[["let", "n", ["count", "x", "acct", true]], ["let", "m", ["count", "x", "acct", true]]]"#;
+    let again =
+        r#"[["let", "n", ["count", "x", "acct", true]], ["let", "m", ["count", "x", "acct", true]]]"#;
     assert!(rt; with_rule(alloc, 4, again, "[]")?.as_str() == "read");
     let taken = r#"[["let", "n", ["now"]], ["let", "m", ["count", "n", "acct", true]]]"#;
     assert!(rt; with_rule(alloc, 4, taken, "[]")?.as_str() == "refused S4 /rules/0/3/1/2/1");
@@ -194,8 +198,12 @@ fn runs_transactions_at_the_time_of_the_clock(rt: HostRuntime) -> Result<(), Fai
     let Ok(Script { items, .. }) = decode(rt.alloc(), text.as_bytes()) else {
         return Err(Fail::from("refused"));
     };
-    let [Unit::Transaction { time: 0, .. }, Unit::Moment(3), Unit::Transaction { time: 7, .. }] =
-        items.as_slice() else {
+    let [
+        Unit::Transaction { time: 0, .. },
+        Unit::Moment(3),
+        Unit::Transaction { time: 7, .. },
+    ] = items.as_slice()
+    else {
         return Err(Fail::from("other items"));
     };
     Ok(())

@@ -145,6 +145,11 @@ fn runs_a_transaction_at_the_time_of_the_clock(rt: HostRuntime) -> Result<(), Fa
     let Ok(Request::Item(schedule)) = read else {
         return Err(Fail::from("no item"));
     };
-    assert!(rt; matches!(schedule.units.as_slice(), [Unit::Transaction { time: 5, .. }]));
+    assert!(rt;
+        matches!(
+            schedule.units.as_slice(),
+            [Unit::Transaction { time: 5, .. }]
+        )
+    );
     Ok(())
 }
