@@ -9,4 +9,3 @@ pub mod PartLemmas
 pub mod AskedLemmas
 mod CandidateLemmas
 mod TermLemmas
-pub mod Told
