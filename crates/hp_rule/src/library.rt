@@ -103,9 +103,9 @@ impl Library {
         &self.rules
     }
 
-    /// The fields by which the rules' queries find rows, without duplicates: those of conditions, and of `each`
-    /// statements in actions. With an index of such a field a query costs what it finds. The list lacks the fields that
-    /// the bodies of transactions ask for, since the library doesn't know them. No answer depends on it.
+    /// The fields by which the rules' queries and aggregates find rows, without duplicates: those of conditions, and of
+    /// `each` and `let` statements in actions. With an index of such a field a query costs what it finds. The list lacks
+    /// the fields that the bodies of transactions ask for, since the library doesn't know them. No answer depends on it.
     pub fn asked_fields(&self) -> &[AskedField] {
         &self.asked_fields
     }
