@@ -381,10 +381,10 @@ snapshots_are_alike library S now times parts fit_library fit same_objects h =
     let end = transaction now (restorations 0 S.rules) ∷ [] in
     let units = map (λ (part : Objects). transaction now (creations part)) parts ++ end in
     let at_end : (run_units library (snapshot now times parts S.rules) (initial_state library)).state ≡ left library now S.objects S.rules =
-        moments_pass library times units []
-        ∙ parts_created library now [] parts end (subst (λ objects. IsStrictlySortedBy compare_names (names objects)) (sym same_objects) fit.ordered.objects_rise) (subst (AllByRecursion (Fits library)) (sym same_objects) rows)
-        ∙ ap (λ objects. (run_units library end (resting library objects)).state) same_objects
-        ∙ rules_restored library now S.objects S.rules fit.ordered.each_rule h in
+    moments_pass library times units []
+    ∙ parts_created library now [] parts end (subst (λ objects. IsStrictlySortedBy compare_names (names objects)) (sym same_objects) fit.ordered.objects_rise) (subst (AllByRecursion (Fits library)) (sym same_objects) rows)
+    ∙ ap (λ objects. (run_units library end (resting library objects)).state) same_objects
+    ∙ rules_restored library now S.objects S.rules fit.ordered.each_rule h in
     subst (StatesAlike library S) (sym at_end) (record {
       objects = refl;
       rules = sym (length-map (map (λ (r : RuleState). with_status r.status) S.rules) (extended_rule commit_reached) ∙ length-map S.rules (λ (r : RuleState). with_status r.status));
