@@ -31,10 +31,10 @@ pub(crate) struct Base {
 }
 
 impl Base {
-    ghost use Rattle.std.specs.Prelude.{◌≡◌, ℤ, true, false, [], None, IfOk, OnOk, OnErr};
+    ghost use Rattle.std.specs.Prelude.{◌≡◌, ◌<◌, ◌^◌, ℤ, true, false, [], None, IfOk, OnOk, OnErr};
     ghost use Rattle.std.specs.Prelude.{IfSome, MatchOption, option_map, if◌then◌else◌};
     ghost use Rattle.hp_store.specs.Tables.{table_at};
-    ghost use Rattle.hp_model.specs.Cells.{Cell as ModelCell, object_cell, AreKeys, over, same_cell, is_above};
+    ghost use Rattle.hp_model.specs.Cells.{Cell as ModelCell, object_cell, AreKeys, IsCount, over, same_cell, is_above};
     ghost use Rattle.hp_value.specs.Mapped as mapped;
     ghost use Rattle.hp_store.specs.Changes.{changes};
     ghost use Rattle.hp_store.specs.Greatest.{is_below};
@@ -100,6 +100,17 @@ impl Base {
                 Ok(list)
             }
             None => Ok(Vec::new(alloc)),
+        }
+    }
+
+    /// The number of a class's objects.
+    pub(crate) fn count(&self, class: ClassNo) -> usize
+        ensures count { IsCount (base_cells self.now) class result }
+        ensures few { result < 2 ^ 63 }
+    {
+        match self.table(class) {
+            Some(table) => table.len(),
+            None => 0,
         }
     }
 

@@ -2,7 +2,7 @@
 use Rattle.std.specs.Prelude.{◌≡◌, ℕ, List, [], ◌∷◌, ◌++◌, None}
 use Rattle.std.proofs.Common.{ap, ◌∙◌, append-nil, append_assoc, sym}
 use Rattle.std.specs.List.{AllByRecursion}
-use Rattle.hp_model.specs.Cells.{object_cell, rule_cell, detector_cell, Changes, Read, cell_read, keys_read, greatest_read, objects_read, part_read}
+use Rattle.hp_model.specs.Cells.{object_cell, rule_cell, detector_cell, Changes, Read, cell_read, keys_read, greatest_read, count_read, objects_read, part_read}
 
 -- the reads are those before and others, each of which P allows
 pub record AddsReads (P : Read → Type 0) (before after : List Read) : Type 0 where
@@ -17,13 +17,15 @@ IsOfClass layer class (cell_read (rule_cell n) value) = ⊥
 IsOfClass layer class (cell_read (detector_cell n) value) = ⊥
 IsOfClass layer class (keys_read n keys) = n ≡ class
 IsOfClass layer class (greatest_read n greatest) = ⊥
+IsOfClass layer class (count_read n count) = ⊥
 IsOfClass layer class (objects_read n objects) = n ≡ class
 IsOfClass layer class (part_read n part objects) = ⊥
 
--- the same, or of a part of the class or its greatest key
+-- the same, or of a part of the class, of its greatest key or of the number of its objects
 abbrev pub IsOfClassOrPart : Changes → ℕ → Read → Type 0
 IsOfClassOrPart layer class (part_read n part objects) = n ≡ class
 IsOfClassOrPart layer class (greatest_read n greatest) = n ≡ class
+IsOfClassOrPart layer class (count_read n count) = n ≡ class
 IsOfClassOrPart layer class r = IsOfClass layer class r
 
 -- ---- one call after another
