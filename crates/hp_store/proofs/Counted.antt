@@ -244,3 +244,67 @@ no_more n true true = omega arith
 no_more n true false = omega arith
 no_more n false true = omega arith
 no_more n false false = omega arith
+
+-- ---- the same changes of other cells
+
+other_count : (base : Cells) (class : ℕ) (c : Cell) (v : Option CellValue) (n : ℕ) → is_of_class class c ≡ false → IsCount base class n → IsCount (with_value base c v) class n
+other_count base class c v n out p = same_count (λ key. ap (λ b. is_some (if b then v else base (object_cell class key))) (sym (other_class class c key out))) p
+
+turned_value : (b : Bool) (o v : Option CellValue) (c : Option (Option CellValue)) → (if b then v else changed o c) ≡ changed o (if b then Some v else c)
+turned_value true o v c = refl
+turned_value false o v c = refl
+
+-- two numbers of objects that are the same stay the same, if the cells agree on the objects that are named
+counts_over : (base other : Cells) (class : ℕ) (es : Entries) (n : ℕ)
+    → ((key : ℤ) → is_some (changes es (object_cell class key)) ≡ true → base (object_cell class key) ≡ other (object_cell class key)) → IsCount base class n → IsCount other class n
+    → (m : ℕ) × IsCount (over base (changes es)) class m × IsCount (over other (changes es)) class m
+counts_over base other class [] n agree p q = (n, p, q)
+counts_over base other class ((c, v) ∷ es) n agree p q = more c agree (counts_over base other class es n rest p q)
+  where
+    later : (b : Bool) (o : Option (Option CellValue)) → is_some o ≡ true → is_some (if b then Some v else o) ≡ true
+    later true o e = refl
+    later false o e = e
+
+    rest : (key : ℤ) → is_some (changes es (object_cell class key)) ≡ true → base (object_cell class key) ≡ other (object_cell class key)
+    rest key named = agree key (later (same_cell c (object_cell class key)) (changes es (object_cell class key)) named)
+
+    with : (cells : Cells) (d : Cell) (m : ℕ) → IsCount (with_value (over cells (changes es)) d v) class m → IsCount (over cells (changes ((d, v) ∷ es))) class m
+    with cells d m r = same_count (λ key. ap is_some (turned_value (same_cell d (object_cell class key)) (cells (object_cell class key)) v (changes es (object_cell class key)))) r
+
+    more : (d : Cell) → ((key : ℤ) → is_some (changes ((d, v) ∷ es) (object_cell class key)) ≡ true → base (object_cell class key) ≡ other (object_cell class key))
+        → ((m : ℕ) × IsCount (over base (changes es)) class m × IsCount (over other (changes es)) class m)
+        → (m : ℕ) × IsCount (over base (changes ((d, v) ∷ es))) class m × IsCount (over other (changes ((d, v) ∷ es))) class m
+    more (rule_cell r) at so_far =
+        (so_far.0, with base (rule_cell r) so_far.0 (other_count (over base (changes es)) class (rule_cell r) v so_far.0 refl so_far.1),
+        with other (rule_cell r) so_far.0 (other_count (over other (changes es)) class (rule_cell r) v so_far.0 refl so_far.2))
+    more (detector_cell r) at so_far =
+        (so_far.0, with base (detector_cell r) so_far.0 (other_count (over base (changes es)) class (detector_cell r) v so_far.0 refl so_far.1),
+        with other (detector_cell r) so_far.0 (other_count (over other (changes es)) class (detector_cell r) v so_far.0 refl so_far.2))
+    more (object_cell of key) at so_far = by (class == of) refl
+      where
+        Result : ℕ → Type 0
+        Result d = (m : ℕ) × IsCount (over base (changes ((object_cell d key, v) ∷ es))) class m × IsCount (over other (changes ((object_cell d key, v) ∷ es))) class m
+
+        agreed : (d : ℕ) → d ≡ class → ((k : ℤ) → is_some (changes ((object_cell d key, v) ∷ es) (object_cell class k)) ≡ true → base (object_cell class k) ≡ other (object_cell class k)) → Result class
+        agreed d is at =
+            let m = so_far.0 + one_if (is_some v) - one_if (is_some (over base (changes es) (object_cell class key))) in
+            let here : base (object_cell class key) ≡ other (object_cell class key) =
+            at key (ap (λ b. is_some (if b then Some v else changes es (object_cell class key))) (ap (λ e. same_cell (object_cell e key) (object_cell class key)) is ∙ same_itself class key)) in
+            (m, with base (object_cell class key) m (count_set (over base (changes es)) class key v so_far.0 m so_far.1 refl),
+            with other (object_cell class key) m
+            (count_set (over other (changes es)) class key v so_far.0 m so_far.2 (ap (λ o. so_far.0 + one_if (is_some v) - one_if (is_some (changed o (changes es (object_cell class key))))) here)))
+
+        by : (b : Bool) → (class == of) ≡ b → Result of
+        by true is =
+            let one : class ≡ of = (Decides-eqb class of).0 is in
+            subst Result one (agreed of (sym one) at)
+        by false is =
+            (so_far.0, with base (object_cell of key) so_far.0 (other_count (over base (changes es)) class (object_cell of key) v so_far.0 is so_far.1),
+            with other (object_cell of key) so_far.0 (other_count (over other (changes es)) class (object_cell of key) v so_far.0 is so_far.2))
+
+pub count_over_same : {base other : Cells} {class n total : ℕ} (es : Entries)
+    → ((key : ℤ) → is_some (changes es (object_cell class key)) ≡ true → base (object_cell class key) ≡ other (object_cell class key)) → IsCount base class n → IsCount other class n
+    → IsCount (over other (changes es)) class total → IsCount (over base (changes es)) class total
+count_over_same {base} {other} {class} {n} {total} es agree p q is =
+    let both = counts_over base other class es n agree p q in
+    subst (IsCount (over base (changes es)) class) (one_count both.2 is) both.1

@@ -32,7 +32,7 @@ pub(crate) struct Base {
 
 impl Base {
     ghost use Rattle.std.specs.Prelude.{◌≡◌, ◌<◌, ◌^◌, ℤ, true, false, [], None, IfOk, OnOk, OnErr};
-    ghost use Rattle.std.specs.Prelude.{IfSome, MatchOption, option_map, if◌then◌else◌};
+    ghost use Rattle.std.specs.Prelude.{IfSome, IsTrue, MatchOption, option_map, if◌then◌else◌};
     ghost use Rattle.hp_store.specs.Tables.{table_at};
     ghost use Rattle.hp_model.specs.Cells.{Cell as ModelCell, object_cell, AreKeys, IsCount, over, same_cell, is_above};
     ghost use Rattle.hp_value.specs.Mapped as mapped;
@@ -40,7 +40,7 @@ impl Base {
     ghost use Rattle.hp_store.specs.Greatest.{is_below};
     ghost use Rattle.hp_store.specs.Indexed.{IsComplete, AreComplete};
     ghost use Rattle.hp_store.specs.Mapped as here;
-    ghost use Rattle.hp_store.specs.Parts.{keys_left, is_among, lies_between, Covers};
+    ghost use Rattle.hp_store.specs.Parts.{keys_left, is_among, is_of_keys, lies_between, Covers};
     ghost use Rattle.hp_store.specs.Tables.{tables, base_cells};
 
     /// Empty cells.
@@ -135,7 +135,9 @@ impl Base {
     }
 
     /// Whether these keys are found without a look at the whole class.
-    pub(crate) fn finds(&self, class: ClassNo, part: &ClassPart<'_>) -> bool {
+    pub(crate) fn finds(&self, class: ClassNo, part: &ClassPart<'_>) -> bool
+        ensures { is_of_keys part.now ≡ true → IsTrue result }
+    {
         match (part.attribute, part.bounds) {
             (Attribute::Key, Bounds::Numbers(_, _)) => true,
             _ => indexed(&self.indexes, class, part).is_some(),

@@ -10,6 +10,7 @@ mod greatest;
 mod index;
 mod kept;
 mod layer;
+mod likely;
 mod parts;
 mod place;
 mod shared;

@@ -244,3 +244,7 @@ seen_same is copied = sym copied ∙ ap option_copied is
 
 pub seen_none : {A : Type 0} {r : Option (Bor A)} {found : Option A} → r ≡ None → option_copied r ≡ found → found ≡ None
 seen_none is copied = sym copied ∙ ap option_copied is
+
+pub copied_some : {A : Type 0} (r : Option (Bor A)) → is_some r ≡ is_some (option_copied r)
+copied_some None = refl
+copied_some (Some a) = refl

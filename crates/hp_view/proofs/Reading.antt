@@ -39,7 +39,7 @@ noted-again reads r e = ap (λ b. if b then reads else reads ++ r ∷ []) e
 -- ---- the same wherever the reads hold
 
 -- a cell that was read by itself
-itself_again : (B C : Cells) (cell : Cell) (reads : List Read) → ReadsHold B reads → ReadsHold C reads → list_any (reads_cell cell) reads ≡ true → B cell ≡ C cell
+pub itself_again : (B C : Cells) (cell : Cell) (reads : List Read) → ReadsHold B reads → ReadsHold C reads → list_any (reads_cell cell) reads ≡ true → B cell ≡ C cell
 itself_again B C cell [] b c h = absurd (true≢false (sym h))
 itself_again B C cell (cell_read q value ∷ rs) b c h = by (same_cell cell q) refl h (itself_again B C cell rs b.1 c.1)
   where
