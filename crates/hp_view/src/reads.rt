@@ -195,8 +195,8 @@ impl Model for Reads {
 }
 
 impl Reads {
-    ghost use Rattle.std.specs.Prelude.{◌≡◌, ◌↔◌, true, false, [], Some, IsTrue, IsSome, IsOk, IfOk, IfSome};
-    ghost use Rattle.std.specs.Prelude.{OnOk, OnErr, is_some, map, option_map, length, take};
+    ghost use Rattle.std.specs.Prelude.{◌≡◌, ◌↔◌, true, false, [], Some, IsTrue, IsSome, IsNone, IsOk, IfOk};
+    ghost use Rattle.std.specs.Prelude.{IfSome, OnOk, OnErr, is_some, map, option_map, length, take};
     ghost use Rattle.hp_model.specs.Cells.{Cells, AreKeys, AreObjects, Holds, cell_read};
     ghost use Rattle.hp_model.specs.Cells.{keys_read, greatest_read, count_read, objects_read, part_read};
     ghost use Rattle.hp_value.specs.Mapped as mapped;
@@ -268,6 +268,7 @@ impl Reads {
     /// All objects that were found in a class, if it was read as a whole.
     pub(crate) fn objects(&self, class: ClassNo) -> Option<&Arc<ObjectList>>
         ensures known { IsSome result → keys_were_read self.now class ≡ true }
+        ensures none { IsNone result → class_was_read self.now class ≡ false }
         ensures held { IfSome result (λ objects. (base : Cells) → Holds base self.now →
             AreObjects base class objects.now.value) }
     {

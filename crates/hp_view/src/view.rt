@@ -9,6 +9,8 @@ ghost use Rattle.hp_model.specs.Cells.{objects_read, over, is_above};
 ghost use Rattle.hp_value.specs.Mapped as mapped;
 ghost use Rattle.hp_store.specs.Changes.{class_entries};
 ghost use Rattle.hp_store.specs.Mapped.{cell_value};
+ghost use Rattle.hp_store.specs.Kept.{HoldsOther};
+ghost use Rattle.hp_store.specs.Parts.{is_of_keys, no_cells};
 ghost use Rattle.hp_store.specs.Stack.{cells_in};
 ghost use Rattle.hp_view.specs.Adding.{AddsReads, IsOfClass};
 ghost use Rattle.hp_view.specs.Keeping.{KeepsObject};
@@ -16,8 +18,10 @@ ghost use Rattle.hp_view.specs.Counts.{all_read};
 ghost use Rattle.hp_view.specs.Seeing.{Seeing as Seen, beneath, written, now_in, noted, read_cell, row_was_read};
 ghost use Rattle.hp_view.specs.Seeing.{cell_was_read, keys_were_read, Writes, TakesIn, IsSame, GoesBack, GoesOn};
 ghost use Rattle.hp_view.specs.Seeing.{Restores, OnlyReads, Shows, ShowsKeys, ShowsObjects, ShowsPart, ReadsKeys};
+ghost use Rattle.hp_view.specs.Parts.{number_of};
 ghost use Rattle.hp_view.specs.Seeing.{ReadsPart, ReadsGreatest, ShowsGreatest, ReadsCount, ShowsCount};
-ghost use Rattle.hp_view.specs.Wholes.{is_row};
+ghost use Rattle.hp_view.specs.Seeing.{part_was_read, number_was_read};
+ghost use Rattle.hp_view.specs.Wholes.{is_row, LacksList, HasNoList, ReadsWhole};
 
 use crate::reads::{PartState, Reads};
 use crate::undo::{Replaced, take_back, write, write_all};
@@ -478,6 +482,7 @@ impl View {
         class: ClassNo,
     ) -> Result<Option<Arc<ObjectList>>, AllocError>
         ensures reads { AddsReads (IsOfClass (written self.old) class) self.old.reads self.new.reads }
+        ensures none { IfOk result (λ found. IfNone found (HasNoList self.old class)) }
         ensures shows { IfOk result (λ found. IfSome found (λ objects. ShowsObjects self.new class objects.value)) }
         ensures only { OnlyReads self.old self.new }
         ensures goes_on { GoesOn self.old self.new }
@@ -498,8 +503,10 @@ impl View {
         class: ClassNo,
         under: Arc<ObjectList>,
     ) -> Result<Option<Arc<ObjectList>>, AllocError>
-        ensures { IfOk result (λ found. IfSome found (λ objects. (base : Cells) → AreObjects base class under.value →
-            AreObjects (over base (written self.now)) class objects.value)) }
+        ensures objects { IfOk result (λ found. IfSome found (λ objects. (base : Cells) →
+            AreObjects base class under.value → AreObjects (over base (written self.now)) class objects.value)) }
+        ensures none { IfOk result (λ found. IfNone found
+            ((key : ℤ) × HoldsOther (over no_cells (written self.now) (object_cell class key)))) }
     {
         if !self.writes.names_objects_of(class) {
             return Ok(Some(under));
@@ -520,6 +527,7 @@ impl View {
         ensures reads { IfOk result (λ found. IfSome found (λ objects.
             self.new ≡ record self.old { reads = noted self.old.reads (objects_read class objects.value) })) }
         ensures none { IfOk result (λ found. IfNone found (self.new ≡ self.old)) }
+        ensures lacks { IfOk result (λ found. IfNone found (LacksList self.old class)) }
         ensures err { OnErr result (self.new ≡ self.old) }
         ensures held { IfOk result (λ found. IfSome found (λ objects. (base : Cells) → Holds base self.new.reads →
             AreObjects base class objects.value)) }
@@ -547,6 +555,7 @@ impl View {
     /// An error means that memory ran out; some of it may have been read.
     pub fn read_objects(&mut self, alloc: Global, class: ClassNo) -> Result<(), AllocError>
         ensures reads { AddsReads (IsOfClass (written self.old) class) self.old.reads self.new.reads }
+        ensures whole { OnOk result ((LacksList self.old class → ⊥) → ReadsWhole self.old self.new class) }
         ensures cells { OnOk result ((key : ℤ) →
             Shows self.new (object_cell class key) (now_in self.old (object_cell class key))) }
         ensures shows { OnOk result ((objects : List model.KeyedRow) → AreObjects (now_in self.old) class objects →
@@ -603,6 +612,10 @@ impl View {
         ensures shows { IfOk result (λ is_read. is_read ≡ true → (objects : List model.KeyedRow) →
             ArePart (now_in self.old) class (mapped.class_part part.now) objects →
             ShowsPart self.new class (mapped.class_part part.now) objects) }
+        ensures again { IsTrue (part_was_read self.old.reads class (mapped.class_part part.now)) → IsOk result }
+        ensures found { is_of_keys part.now ≡ true →
+            number_was_read self.old.reads class (number_of (mapped.class_part part.now)) ≡ false →
+            IfOk result (λ is_read. is_read ≡ true) }
         ensures only { OnlyReads self.old self.new }
         ensures goes_on { GoesOn self.old self.new }
         ensures so_it_was { OnOk result (Holds (beneath self.new) self.new.reads) }
@@ -636,6 +649,9 @@ impl View {
         ensures err { OnErr result (self.new ≡ self.old) }
         ensures shows { IfOk result (λ found. IfSome found (λ objects.
             ShowsPart self.new class (mapped.class_part part.now) (map mapped.keyed_row objects.items))) }
+        ensures found { is_of_keys part.now ≡ true →
+            number_was_read self.old.reads class (number_of (mapped.class_part part.now)) ≡ false →
+            IfOk result (λ found. IsSome found) }
         ensures only { OnlyReads self.old self.new }
         ensures goes_on { GoesOn self.old self.new }
         ensures so_it_was { OnOk result (Holds (beneath self.new) self.new.reads) }
