@@ -67,8 +67,8 @@ fn other_side<'e>(name: &str, a: &'e Expr, b: &'e Expr) -> Option<&'e Expr>
     None
 }
 
-// Whether an expression is the key of the row of this name.
-fn is_key_of(name: &str, expr: &Expr) -> bool
+/// Whether an expression is the key of the row of this name.
+pub(crate) fn is_key_of(name: &str, expr: &Expr) -> bool
     ensures { IsTrue result → expression expr.now ≡ key_of name.now }
 {
     match expr {

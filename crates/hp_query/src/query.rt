@@ -1,7 +1,8 @@
 //! Queries and their answers.
 
-ghost use Rattle.std.specs.Prelude.{map};
-ghost use Rattle.hp_model.specs.Expressions.{bound};
+ghost use Rattle.std.specs.Prelude.{◌≡◌, IsTrue, true, map};
+ghost use Rattle.hp_model.specs.Expressions.{bound, constant};
+ghost use Rattle.hp_model.specs.Values.{boolean};
 ghost use Rattle.hp_model.specs.State.{Objects};
 ghost use Rattle.hp_model.specs.Firing.{boolean_value};
 ghost use Rattle.hp_model.specs.Conditions as model;
@@ -15,7 +16,7 @@ use crate::by_key::asks_key;
 use crate::candidates::{Asked, find_candidates};
 use crate::look::Look;
 use crate::part::asked_field;
-use hp_value::{ClassNo, Env, Expr, Halt, KeyedRow};
+use hp_value::{ClassNo, Env, Expr, Halt, KeyedRow, Value};
 use std::alloc::{AllocError, Global};
 
 /// A query: the rows of a class for which a predicate is true. HiPAC's conditions are lists of queries.
@@ -98,7 +99,8 @@ pub fn selected_rows<L: Look>(
     selected(alloc, &asked, found.rows())
 }
 
-/// The number of rows of a query's answer. It makes no list of them.
+/// The number of rows of a query's answer. It makes no list of them. If every object of the class is in the answer, the
+/// look counts them.
 ///
 /// The errors are those of [`answer`].
 pub(crate) fn count_answer<L: Look>(
@@ -115,9 +117,22 @@ pub(crate) fn count_answer<L: Look>(
         → Meets (λ n. n) result
         (counted (model.answer (environment env.now) asked.name asked.class asked.predicate world)) }
 {
+    if is_always_true(&query.predicate) {
+        return Ok(look.count(alloc, query.class)?);
+    }
     let asked = Asked::new(query, env);
     let found = find_candidates(alloc, &asked, look)?;
     count_selected(alloc, &asked, found.rows())
+}
+
+/// Whether a predicate is the constant `true`.
+pub(crate) fn is_always_true(predicate: &Expr) -> bool
+    ensures { IsTrue result → expression predicate.now ≡ constant (boolean true) }
+{
+    match predicate {
+        Expr::Constant(constant) => matches!(constant.value(), Value::Bool(true)),
+        _ => false,
+    }
 }
 
 /// The number of the given objects for which a predicate is true.
