@@ -205,7 +205,8 @@ impl Reads {
     ghost use Rattle.hp_view.specs.Numbered.{IsStateOf};
     ghost use Rattle.hp_view.specs.Parts.{number_of};
     ghost use Rattle.hp_view.specs.Seeing.{noted, class_was_read, row_was_read};
-    ghost use Rattle.hp_view.specs.Seeing.{cell_was_read, keys_were_read, greatest_was_read, count_was_read, reads_cell};
+    ghost use Rattle.hp_view.specs.Seeing.{cell_was_read, keys_were_read, greatest_was_read, count_was_read};
+    ghost use Rattle.hp_view.specs.Seeing.{reads_cell};
     ghost use Rattle.hp_view.specs.Seeing.{number_was_read};
 
     /// No reads.
