@@ -1,7 +1,6 @@
 -- The least and the greatest key in a range, read in a part at one end of the class.
 use Rattle.std.proofs.Common.{◌≡◌, refl, sym, ap, ap₂, ◌∙◌, ℕ, ℤ, Bool, true, false, not, ◌&&◌, cond, List, [], ◌∷◌, ◌++◌, map, filter, Option, Some, None, Ok, Err, if◌then◌else◌}
 use Rattle.std.proofs.Common.{int_lt, arith, option_map, subst}
-use Rattle.std.specs.declared.cmp.Ordering.{Ordering}
 use Rattle.std.specs.declared.cmp.Ordering.TheVariants.{Less, Equal, Greater}
 use Rattle.std.specs.Ordering.{int_cmp}
 use Rattle.std.specs.List.{last_or, slice_get, AllByRecursion}
@@ -11,7 +10,6 @@ use Rattle.hp_model.specs.Values.{Name, Value, integer, KeyedRow, Outcome, ◌>>
 use Rattle.hp_model.specs.Expressions.{less, greater, Expression, key_of, Environment, bound, as_boolean, value_of}
 use Rattle.hp_model.specs.ClassParts.{ClassPart, belongs, picked}
 use Rattle.hp_model.specs.Conditions.{Merge, merged, preferred}
-use Rattle.hp_model.specs.Firing.{boolean_value}
 use Rattle.hp_model.specs.State.{Objects, rows_of, class_keys}
 use Rattle.hp_value.specs.declared.row.KeyedRow.{KeyedRow as RustRow}
 use Rattle.hp_value.specs.Mapped.{keyed_row, keys_of}

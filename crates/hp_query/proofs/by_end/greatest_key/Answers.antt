@@ -1,4 +1,4 @@
-use Rattle.std.proofs.Common.{◌≡◌, sym, ap, ◌∙◌, subst, not, true, false, Some, ◌++◌, ◌∷◌, [], w64, rules, SFits}
+use Rattle.std.proofs.Common.{◌≡◌, sym, subst, true, Some, ◌++◌, ◌∷◌, [], w64, rules, SFits}
 use Rattle.std.proofs.lemmas.Int.{to_z-of_z}
 use Rattle.hp_model.specs.State.{class_keys}
 use Rattle.hp_value.specs.Mapped.{class_part}
