@@ -197,7 +197,8 @@ module _ (class : ℕ) (world : Objects) (rise : ObjectsRise world) (low high : 
       first_key [] e = cc
       first_key (r ∷ rs) e = let same : r ≡ row = cc in ap (λ q. q.key ∷ keys_of (map keyed_row rs)) same
 
-  pub greatest_found : reaches low end ≡ true → part ≡ key_part (Some end) high → (row : RustRow) (others : List RustRow) → rows ≡ others ++ row ∷ [] → IsGreatestIn low high row.key (class_keys class world)
+  pub greatest_found : reaches low end ≡ true → part ≡ key_part (Some end) high → (row : RustRow) (others : List RustRow) → rows ≡ others ++ row ∷ []
+      → IsGreatestIn low high row.key (class_keys class world)
   greatest_found fits are row others last =
       greatest_in low high end (class_keys class world) row.key fits (class_keys_rise class world rise)
       (ap (last_or None)
@@ -247,7 +248,8 @@ module _ (env : Environment) (x : Name) (predicate : Expression) (low high : Opt
       merged-key (preferred less) None r rs
       ∙ by (is_within low high r.key) (λ e. least_merged rs k (sorted_tail int_cmp r.key (keys_of rs) rise) (least.0, e)) least.1
     where
-      by : (b : Bool) → (kept low high (keys_of rs) ≡ k ∷ least.0 → merged (preferred less) env x predicate (key_of x) None rs ≡ Ok (Some (integer k))) → with_one b r.key (kept low high (keys_of rs)) ≡ k ∷ least.0
+      by : (b : Bool) → (kept low high (keys_of rs) ≡ k ∷ least.0 → merged (preferred less) env x predicate (key_of x) None rs ≡ Ok (Some (integer k)))
+          → with_one b r.key (kept low high (keys_of rs)) ≡ k ∷ least.0
           → (after (preferred less) b None r >>= λ next. merged (preferred less) env x predicate (key_of x) next rs) ≡ Ok (Some (integer k))
       by true later e =
           let same : r.key ≡ k = cc in
