@@ -1,7 +1,6 @@
 -- The least and the greatest key in a range, read in a part at one end of the class.
 use Rattle.std.proofs.Common.{◌≡◌, refl, sym, ap, ap₂, ◌∙◌, ℕ, ℤ, Bool, true, false, not, ◌&&◌, cond, List, [], ◌∷◌, ◌++◌, map, filter, Option, Some, None, Ok, Err, if◌then◌else◌}
 use Rattle.std.proofs.Common.{int_lt, arith, option_map, subst}
-use Rattle.std.specs.declared.cmp.Ordering.{Ordering}
 use Rattle.std.specs.declared.cmp.Ordering.TheVariants.{Less, Equal, Greater}
 use Rattle.std.specs.Ordering.{int_cmp}
 use Rattle.std.specs.List.{last_or, slice_get, AllByRecursion}
@@ -11,7 +10,6 @@ use Rattle.hp_model.specs.Values.{Name, Value, integer, KeyedRow, Outcome, ◌>>
 use Rattle.hp_model.specs.Expressions.{less, greater, Expression, key_of, Environment, bound, as_boolean, value_of}
 use Rattle.hp_model.specs.ClassParts.{ClassPart, belongs, picked}
 use Rattle.hp_model.specs.Conditions.{Merge, merged, preferred}
-use Rattle.hp_model.specs.Firing.{boolean_value}
 use Rattle.hp_model.specs.State.{Objects, rows_of, class_keys}
 use Rattle.hp_value.specs.declared.row.KeyedRow.{KeyedRow as RustRow}
 use Rattle.hp_value.specs.Mapped.{keyed_row, keys_of}
@@ -199,7 +197,8 @@ module _ (class : ℕ) (world : Objects) (rise : ObjectsRise world) (low high : 
       first_key [] e = cc
       first_key (r ∷ rs) e = let same : r ≡ row = cc in ap (λ q. q.key ∷ keys_of (map keyed_row rs)) same
 
-  pub greatest_found : reaches low end ≡ true → part ≡ key_part (Some end) high → (row : RustRow) (others : List RustRow) → rows ≡ others ++ row ∷ [] → IsGreatestIn low high row.key (class_keys class world)
+  pub greatest_found : reaches low end ≡ true → part ≡ key_part (Some end) high → (row : RustRow) (others : List RustRow) → rows ≡ others ++ row ∷ []
+      → IsGreatestIn low high row.key (class_keys class world)
   greatest_found fits are row others last =
       greatest_in low high end (class_keys class world) row.key fits (class_keys_rise class world rise)
       (ap (last_or None)
@@ -249,7 +248,8 @@ module _ (env : Environment) (x : Name) (predicate : Expression) (low high : Opt
       merged-key (preferred less) None r rs
       ∙ by (is_within low high r.key) (λ e. least_merged rs k (sorted_tail int_cmp r.key (keys_of rs) rise) (least.0, e)) least.1
     where
-      by : (b : Bool) → (kept low high (keys_of rs) ≡ k ∷ least.0 → merged (preferred less) env x predicate (key_of x) None rs ≡ Ok (Some (integer k))) → with_one b r.key (kept low high (keys_of rs)) ≡ k ∷ least.0
+      by : (b : Bool) → (kept low high (keys_of rs) ≡ k ∷ least.0 → merged (preferred less) env x predicate (key_of x) None rs ≡ Ok (Some (integer k)))
+          → with_one b r.key (kept low high (keys_of rs)) ≡ k ∷ least.0
           → (after (preferred less) b None r >>= λ next. merged (preferred less) env x predicate (key_of x) next rs) ≡ Ok (Some (integer k))
       by true later e =
           let same : r.key ≡ k = cc in

@@ -1,4 +1,4 @@
-use Rattle.std.proofs.Common.{◌≡◌, sym, ap, ◌∙◌, subst, not, true, false, Some, ◌++◌, ◌∷◌, [], w64, rules, SFits}
+use Rattle.std.proofs.Common.{◌≡◌, sym, subst, true, Some, ◌++◌, ◌∷◌, [], w64, rules, SFits}
 use Rattle.std.proofs.lemmas.Int.{to_z-of_z}
 use Rattle.hp_model.specs.State.{class_keys}
 use Rattle.hp_value.specs.Mapped.{class_part}
@@ -15,4 +15,5 @@ returns-in-Some-pop-clause-key g c = λ world rise allowed.
     let last : c.in-Some-2.rows.items ≡ c.pop.new.self.items ++ row ∷ [] = search rules in
     let in_range : SFits w64 row.key = search rules in
     subst (λ k. IsGreatestIn c.args.range.now.low c.args.range.now.high k (class_keys c.args.class world)) (sym (to_z-of_z w64 row.key in_range))
-    (greatest_found c.args.class world rise c.args.range.now.low c.args.range.now.high c.in-Some.likely (class_part c.part_between-back.result) c.in-Some-2.rows.items (listed world rise allowed) fits part row c.pop.new.self.items last)
+    (greatest_found c.args.class world rise c.args.range.now.low c.args.range.now.high c.in-Some.likely (class_part c.part_between-back.result)
+    c.in-Some-2.rows.items (listed world rise allowed) fits part row c.pop.new.self.items last)

@@ -1,4 +1,4 @@
-use Rattle.std.proofs.Common.{◌≡◌, sym, ap, ◌∙◌, Ok, rules, w64, to_z, of_z, FitsSigned}
+use Rattle.std.proofs.Common.{◌≡◌, sym, ap, ◌∙◌, Ok, rules, w64, FitsSigned}
 use Rattle.std.proofs.lemmas.Int.{to_z-of_z}
 use Rattle.std.proofs.lemmas.Option.{IfSome_then}
 use Rattle.hp_model.specs.Values.{integer}

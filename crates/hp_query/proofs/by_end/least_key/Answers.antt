@@ -1,5 +1,4 @@
-use Rattle.std.proofs.Common.{◌≡◌, sym, ap, ◌∙◌, subst, not, true, false, Some, w64, rules, SFits}
-use Rattle.std.specs.Option.{option_copied}
+use Rattle.std.proofs.Common.{◌≡◌, sym, subst, true, Some, w64, rules, SFits}
 use Rattle.std.specs.List.{slice_get}
 use Rattle.std.proofs.lemmas.Int.{to_z-of_z}
 use Rattle.hp_model.specs.State.{class_keys}
@@ -17,4 +16,5 @@ returns-in-Some-first-clause-key g c = λ world rise allowed.
     let first : slice_get c.in-Some-2.rows.items 0 ≡ Some row = search rules in
     let in_range : SFits w64 row.key = search rules in
     subst (λ k. IsLeastIn c.args.range.now.low c.args.range.now.high k (class_keys c.args.class world)) (sym (to_z-of_z w64 row.key in_range))
-    (least_found c.args.class world rise c.args.range.now.low c.args.range.now.high c.in-Some.likely (class_part c.part_between-front.result) c.in-Some-2.rows.items (listed world rise allowed) fits part row first)
+    (least_found c.args.class world rise c.args.range.now.low c.args.range.now.high c.in-Some.likely (class_part c.part_between-front.result)
+    c.in-Some-2.rows.items (listed world rise allowed) fits part row first)

@@ -1,4 +1,4 @@
-use Rattle.std.proofs.Common.{◌≡◌, ℕ, true, Ok, subst, sym, ap, ◌∙◌, rules, string_bytes}
+use Rattle.std.proofs.Common.{◌≡◌, ℕ, true, Ok, subst, sym, ap, ◌∙◌, string_bytes}
 use Rattle.hp_model.specs.State.{rows_of}
 use Rattle.hp_model.specs.Conditions as model
 use Rattle.hp_value.specs.Mapped.{Meets, environment, expression}

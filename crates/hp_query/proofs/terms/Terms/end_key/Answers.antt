@@ -1,4 +1,4 @@
-use Rattle.std.proofs.Common.{◌≡◌, sym, ap, ◌∙◌, subst, not, true, false, IsTrue, Ok, Some, None, rules}
+use Rattle.std.proofs.Common.{◌≡◌, sym, ◌∙◌, None, rules}
 use Rattle.std.proofs.lemmas.Option.{IfSome_then}
 use Rattle.std.proofs.lemmas.Result.{IfOk-weaker}
 use Rattle.hp_model.specs.Expressions.{key_of, less, greater}
