@@ -245,6 +245,15 @@ def over(aggregate: Form) -> Optional[Over]:
     return Over(*aggregate[1:]) if is_over_rows(aggregate) else None
 
 
+def needs_no_row(aggregate: Form) -> bool:
+    """Whether an aggregate over rows looks at no row: the number of a class's objects, or their least or greatest
+    key."""
+    rows = over(aggregate)
+    if rows is None or rows.predicate is not True:
+        return False
+    return rows.term is None or aggregate[0] in ("least", "greatest") and rows.term == ["key", rows.name]
+
+
 def is_next(aggregate: Form) -> bool:
     return isinstance(aggregate, list) and aggregate[0] == "next"
 

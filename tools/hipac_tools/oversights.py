@@ -78,7 +78,8 @@ def _scans(rulebase: RuleBase, kinds: Kinds) -> Iterator[str]:
         for entry in rule.entries:
             if isinstance(entry, Let):
                 yield from (f"rule {rule.name}, {found}" for found in _scanning_let(entry.name, entry.aggregate, kinds))
-            elif not asks_part(entry.name, entry.predicate, kinds[entry.class_name]):
+            elif not (entry.is_no and entry.predicate is True
+                      or asks_part(entry.name, entry.predicate, kinds[entry.class_name])):
                 what = "no" if entry.is_no else "query"
                 yield f"rule {rule.name}, {what} {entry.name}: all of {entry.class_name}"
         for found in _scanning(rule.action, kinds):
@@ -100,5 +101,7 @@ def _scanning(body: list[Form], kinds: Kinds) -> Iterator[str]:
 
 def _scanning_let(name: str, aggregate: Form, kinds: Kinds) -> Iterator[str]:
     over = language.over(aggregate)
-    if over is not None and not asks_part(over.name, over.predicate, kinds[over.class_name]):
+    if over is None or language.needs_no_row(aggregate):
+        return
+    if not asks_part(over.name, over.predicate, kinds[over.class_name]):
         yield f"let {name}: all of {over.class_name}"

@@ -323,6 +323,20 @@ class Oversights(unittest.TestCase):
                 self.assertEqual(built([rule("r", ["at", 1], [])], [["clock", 2], ["tx", each]]).scans,
                                  ["unit 2, for each q: all of c"] if scans else [])
 
+    def test_what_looks_at_no_row_of_its_class(self) -> None:
+        key, value = ["key", "x"], ["of", "x", "f"]
+        for aggregate, scans in [
+                (["count", "x", "c", True], False), (["least", "x", "c", True, key], False),
+                (["greatest", "x", "c", True, key], False), (["greatest", "x", "c", [">", key, 3], key], False),
+                (["count", "x", "c", ["=", 1, 1]], True), (["sum", "x", "c", True, key], True),
+                (["least", "x", "c", True, value], True), (["next", "c"], False)]:
+            with self.subTest(aggregate=aggregate):
+                rules = [rule("r", SIGNAL_S, [], queries=[["let", "n", aggregate]])]
+                self.assertEqual(built(rules, [], version=4).scans, ["rule r, let n: all of c"] if scans else [])
+        for predicate, scans in (True, []), (["=", 1, 1], ["rule r, no x: all of c"]):
+            rules = [rule("r", SIGNAL_S, [], queries=[["no", "x", "c", predicate]])]
+            self.assertEqual(built(rules, [], version=4).scans, scans)
+
     def test_a_boolean_has_no_part_of_its_own(self) -> None:
         for kind, scans in ("text", []), ("bool", ["rule r, query q: all of d"]):
             rules = [rule("r", SIGNAL_S, [], queries=[["q", "d", ["=", ["of", "q", "f"], ["new", 0, "f"]]]])]
