@@ -104,7 +104,7 @@ fn own_writes_count(rt: HostRuntime) -> Result<(), Fail> {
     write_and_count(&rt, rt.alloc(), &mut view)?;
     let (reads, _) = view.into_parts();
     assert_eq!(&rt; reads.len(), 4);
-    assert_eq!(&rt; numbers(rt.alloc(), &reads)?.as_slice(), &[3]);
+    assert_eq!(&rt; numbers(rt.alloc(), &reads)?.as_slice(), [3].as_slice());
     Ok(())
 }
 
@@ -121,7 +121,12 @@ fn where_the_view_writes_what_it_did_not_read_the_keys_are_read(
     Ok(())
 }
 
-fn change_beneath(rt: &impl Abort, alloc: Global, view: &mut View, reads: &Reads) -> Result<(), Fail> {
+fn change_beneath(
+    rt: &impl Abort,
+    alloc: Global,
+    view: &mut View,
+    reads: &Reads,
+) -> Result<(), Fail> {
     assert!(rt; holds(reads, view));
 
     // An update is no conflict, nor is a creation with a deletion.

@@ -274,12 +274,16 @@ counts_over base other class ((c, v) ∷ es) n agree p q = more c agree (counts_
     more : (d : Cell) → ((key : ℤ) → is_some (changes ((d, v) ∷ es) (object_cell class key)) ≡ true → base (object_cell class key) ≡ other (object_cell class key))
         → ((m : ℕ) × IsCount (over base (changes es)) class m × IsCount (over other (changes es)) class m)
         → (m : ℕ) × IsCount (over base (changes ((d, v) ∷ es))) class m × IsCount (over other (changes ((d, v) ∷ es))) class m
-    more (rule_cell r) at so_far =
-        (so_far.0, with base (rule_cell r) so_far.0 (other_count (over base (changes es)) class (rule_cell r) v so_far.0 refl so_far.1),
-        with other (rule_cell r) so_far.0 (other_count (over other (changes es)) class (rule_cell r) v so_far.0 refl so_far.2))
-    more (detector_cell r) at so_far =
-        (so_far.0, with base (detector_cell r) so_far.0 (other_count (over base (changes es)) class (detector_cell r) v so_far.0 refl so_far.1),
-        with other (detector_cell r) so_far.0 (other_count (over other (changes es)) class (detector_cell r) v so_far.0 refl so_far.2))
+    more (rule_cell r) at so_far = (
+      so_far.0,
+      with base (rule_cell r) so_far.0 (other_count (over base (changes es)) class (rule_cell r) v so_far.0 refl so_far.1),
+      with other (rule_cell r) so_far.0 (other_count (over other (changes es)) class (rule_cell r) v so_far.0 refl so_far.2),
+    )
+    more (detector_cell r) at so_far = (
+      so_far.0,
+      with base (detector_cell r) so_far.0 (other_count (over base (changes es)) class (detector_cell r) v so_far.0 refl so_far.1),
+      with other (detector_cell r) so_far.0 (other_count (over other (changes es)) class (detector_cell r) v so_far.0 refl so_far.2),
+    )
     more (object_cell of key) at so_far = by (class == of) refl
       where
         Result : ℕ → Type 0
@@ -289,18 +293,22 @@ counts_over base other class ((c, v) ∷ es) n agree p q = more c agree (counts_
         agreed d is at =
             let m = so_far.0 + one_if (is_some v) - one_if (is_some (over base (changes es) (object_cell class key))) in
             let here : base (object_cell class key) ≡ other (object_cell class key) =
-            at key (ap (λ b. is_some (if b then Some v else changes es (object_cell class key))) (ap (λ e. same_cell (object_cell e key) (object_cell class key)) is ∙ same_itself class key)) in
-            (m, with base (object_cell class key) m (count_set (over base (changes es)) class key v so_far.0 m so_far.1 refl),
-            with other (object_cell class key) m
-            (count_set (over other (changes es)) class key v so_far.0 m so_far.2 (ap (λ o. so_far.0 + one_if (is_some v) - one_if (is_some (changed o (changes es (object_cell class key))))) here)))
+            at key (ap (λ b. is_some (if b then Some v else changes es (object_cell class key))) (ap (λ e. same_cell (object_cell e key) (object_cell class key)) is ∙ same_itself class key)) in (
+              m,
+              with base (object_cell class key) m (count_set (over base (changes es)) class key v so_far.0 m so_far.1 refl),
+              with other (object_cell class key) m
+                  (count_set (over other (changes es)) class key v so_far.0 m so_far.2 (ap (λ o. so_far.0 + one_if (is_some v) - one_if (is_some (changed o (changes es (object_cell class key))))) here)),
+            )
 
         by : (b : Bool) → (class == of) ≡ b → Result of
         by true is =
             let one : class ≡ of = (Decides-eqb class of).0 is in
             subst Result one (agreed of (sym one) at)
-        by false is =
-            (so_far.0, with base (object_cell of key) so_far.0 (other_count (over base (changes es)) class (object_cell of key) v so_far.0 is so_far.1),
-            with other (object_cell of key) so_far.0 (other_count (over other (changes es)) class (object_cell of key) v so_far.0 is so_far.2))
+        by false is = (
+          so_far.0,
+          with base (object_cell of key) so_far.0 (other_count (over base (changes es)) class (object_cell of key) v so_far.0 is so_far.1),
+          with other (object_cell of key) so_far.0 (other_count (over other (changes es)) class (object_cell of key) v so_far.0 is so_far.2),
+        )
 
 pub count_over_same : {base other : Cells} {class n total : ℕ} (es : Entries)
     → ((key : ℤ) → is_some (changes es (object_cell class key)) ≡ true → base (object_cell class key) ≡ other (object_cell class key)) → IsCount base class n → IsCount other class n

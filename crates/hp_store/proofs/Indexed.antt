@@ -134,7 +134,9 @@ still_in f before after key old new left place from to kept k v stands same = by
   where
     by : (o : Option Place) → place_at f k v ≡ o → MatchOption o ⊤ (Stands before) → MatchOption o ⊤ (Stands after)
     by None e s = tt
-    by (Some p) e s =
-        (kept p s.0 (λ leaves.
-        let here : k ≡ key = sym (key_of f k v p e) ∙ key_of f key old p (sym from ∙ leaves) in
-        to ∙ ap₂ (place_at f) (sym here) (sym (same here)) ∙ e), s.1)
+    by (Some p) e s = (
+      kept p s.0 (λ leaves.
+          let here : k ≡ key = sym (key_of f k v p e) ∙ key_of f key old p (sym from ∙ leaves) in
+          to ∙ ap₂ (place_at f) (sym here) (sym (same here)) ∙ e),
+      s.1,
+    )

@@ -8,8 +8,7 @@ use Rattle.hp_store.proofs.snapshot.Snapshot.has_count_over.Goals as goal
 
 pub returns : goal.returns
 returns c =
-    let same = Decides-eqb c.number_over.result c.args.count in
-    (
+    let same = Decides-eqb c.number_over.result c.args.count in (
       λ equal. subst (IsCount (over (cells_in c.args.self.now) (changes c.args.writes.now)) c.args.class) (same.0 equal) c.number_over.ensures,
       λ is. same.1 (one_count c.number_over.ensures is),
     )

@@ -29,7 +29,7 @@ returns-then-not-has_read_written-clause-reads c =
     on_ok c.read_keys.result (λ reads. record {
       either = inr (
         writes_unread c.args.class c.self.view_is
-        (ap (λ (u : Seeing). all_read u.reads (class_entries c.args.class u.writes)) c.self.view_is ∙ sym c.has_read_written.ensures ∙ c.if-not-has_read_written.true),
+            (ap (λ (u : Seeing). all_read u.reads (class_entries c.args.class u.writes)) c.self.view_is ∙ sym c.has_read_written.ensures ∙ c.if-not-has_read_written.true),
         reads,
       );
     }) c.read_keys.ensures.reads
