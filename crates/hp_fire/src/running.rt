@@ -54,7 +54,9 @@ impl<R: Threads + Sync> Engine<'_, R> {
 
     /// Fires the tasks of a signal as siblings, in a transaction of depth `depth`. With several tasks and threads, and
     /// enough work, workers try tasks ahead of their turn.
+    // Inlined, its temporaries would be cleared for each signal that fires a single task, too.
     #[cycle(fire)]
+    #[inline(never)]
     fn group(&self, view: &mut View, tasks: &[Task], depth: u8) -> Result<GroupOutcome, AllocError>
         requires { All (λ t. t.depth ≡ depth + 1) tasks.now }
         ensures { IfOk result (SiblingsFire self.now.lib.now true tasks.now view.old view.new) }

@@ -126,7 +126,8 @@ impl<R: Threads + Sync> Engine<'_, R> {
     }
 
     // Most kinds of statements have functions of their own, which keeps the stack frame of a level of statements small:
-    // a frame holds the temporaries of all its arms and clears them on entry, whichever arm runs.
+    // a frame holds the temporaries of all its arms and clears them on entry, whichever arm runs. The larger ones of the
+    // rarer kinds are never inlined, and nor is a group of firings (`group`).
 
     /// Runs a statement `if`.
     #[cycle(fire)]
@@ -153,6 +154,7 @@ impl<R: Threads + Sync> Engine<'_, R> {
 
     /// Runs a statement `each`.
     #[cycle(fire)]
+    #[inline(never)]
     fn each_found(
         &self,
         view: &mut View,
@@ -176,6 +178,7 @@ impl<R: Threads + Sync> Engine<'_, R> {
 
     /// Runs a statement `with`.
     #[cycle(fire)]
+    #[inline(never)]
     fn with_object(
         &self,
         view: &mut View,
@@ -201,6 +204,7 @@ impl<R: Threads + Sync> Engine<'_, R> {
 
     /// Runs a statement `let`. Its value is found on the view as it then is, before the body runs.
     #[cycle(fire)]
+    #[inline(never)]
     fn with_let(
         &self,
         view: &mut View,
