@@ -1,0 +1,6 @@
+pub mod Chains
+pub mod Contents
+pub mod Lexing
+pub mod Listing
+pub mod Numbers
+pub mod Words

@@ -1,0 +1,9 @@
+pub mod Mapped
+pub mod Words
+pub mod Rows
+pub mod Operands
+pub mod Joints
+pub mod Scripts
+pub mod Lists
+pub mod Lexemes
+pub mod Places

@@ -1,0 +1,36 @@
+//! Scripts as text that people write: a reader.
+#![tactic(auto)]
+
+mod body;
+mod class;
+mod error;
+mod event;
+mod event_parts;
+mod expression;
+mod fault;
+mod item;
+mod lexeme;
+mod lexer;
+mod lists;
+mod literal;
+mod mark;
+mod node;
+mod operand;
+mod parts;
+mod place;
+mod reading;
+mod rows;
+mod rule;
+mod script;
+mod statement;
+mod symbol;
+mod token;
+mod tokens;
+mod values;
+mod word;
+
+pub use error::ReadError;
+pub use node::{Node, ScriptNode};
+pub use place::{Place, place_at};
+pub use reading::{read_line, read_text};
+pub use values::{script_value, value_of};

@@ -1,0 +1,4 @@
+//! Tests of the notation: texts that are read, and places of faults.
+
+mod faults;
+mod reading;
