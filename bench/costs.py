@@ -7,20 +7,19 @@ from dataclasses import dataclass
 from typing import Optional
 
 import desk
-from scripts import ACCOUNT, GO, add, create, deferred, has_key, immediate, installs, lines, on_go, script
-from workloads import richest
+from scripts import ACCOUNT, GO, Sql, add, create, deferred, has_key, immediate, installs, on_go, script
+from workloads import behind_false, richest
 
 
 @dataclass
 class Case:
-    """Both scripts, and the same in SQL if sqlite3 has something like it."""
+    """Both scripts, and the whole in SQL if sqlite3 has something like it."""
 
     size: int
     firings: int
     without: str
     whole: str
-    sql_without: Optional[str] = None
-    sql: Optional[str] = None
+    sql: Optional[Sql] = None
 
 
 # ---- an order desk
@@ -54,13 +53,14 @@ def desk_orders(size, orders):
     return [(n, n * 104729 % size, n * 7919 % size, n % 4 + 1) for n in range(orders)]
 
 
-def desk_script(size, orders):
+def desk_script(size, orders, is_idle=False):
     begin = installs(desk_rules())
     begin += [["create", "customer", k, [["most", 3000], ["owed", 0]]] for k in range(size)]
     begin += [["create", "item", k, [["stock", 40], ["price", k % 50 + 1]]] for k in range(size)]
     given = [["create", "orders", n, [["customer", c], ["item", i], ["qty", q]]]
              for n, c, i, q in desk_orders(size, orders)]
-    return script([CUSTOMERS, ITEMS, ORDERS], desk_rules(), [["tx", begin]] + [["tx", [each]] for each in given])
+    bodies = [behind_false([each]) if is_idle else [each] for each in given]
+    return script([CUSTOMERS, ITEMS, ORDERS], desk_rules(), [["tx", begin]] + [["tx", body] for body in bodies])
 
 
 DESK_SQL = """create table customer(k integer primary key, most integer, owed integer);
@@ -83,18 +83,16 @@ DESK_RESULT = ["select 'emit '||v from report;", "select * from customer;", "sel
 def desk_sql(size, orders):
     rows = [f"insert into customer values({k},3000,0);" for k in range(size)]
     rows += [f"insert into item values({k},40,{k % 50 + 1});" for k in range(size)]
-    given = [f"insert into orders values({n},{c},{i},{q});" for n, c, i, q in desk_orders(size, orders)]
-    return lines(DESK_SQL, ["begin;"], rows, ["commit;"], given, DESK_RESULT)
+    return Sql([*DESK_SQL, "begin;", *rows, "commit;"], "insert into orders values(?,?,?,?);",
+               desk_orders(size, orders), DESK_RESULT, False, "insert into orders select ?,?,?,? where 0;")
 
 
 def order_desk(size, orders=1000):
-    scripts = desk_script(size, 0), desk_script(size, orders)
-    return Case(size, orders, *scripts, desk_sql(size, 0), desk_sql(size, orders))
+    return Case(size, orders, desk_script(size, 0), desk_script(size, orders), desk_sql(size, orders))
 
 
 def order_desk_of_version_4(size, orders=1000):
-    scripts = desk.desk_script(size, 0), desk.desk_script(size, orders)
-    return Case(size, orders, *scripts, desk.desk_sql(size, 0), desk.desk_sql(size, orders))
+    return Case(size, orders, desk.desk_script(size, 0), desk.desk_script(size, orders), desk.desk_sql(size, orders))
 
 
 # ---- conditions on one key, or on one value of a field
@@ -129,12 +127,9 @@ def condition(name, size, firings=2000):
     body = [["tx", signals[n : n + at_once]] for n in range(0, firings, at_once)]
     first = OWNED_SQL + [TRIGGER.format(trigger), "begin;"]
     first += [f"insert into acct values({k},{k % 97 + 1},{k // 5});" for k in range(size)] + ["commit;"]
-    given = [f"insert into go values({key});" for key in keys]
-    if at_once > 1:
-        given = ["begin;"] + given + ["commit;"]
     end = ["select 'emit '||v from report;", "select * from acct;"]
-    return Case(size, firings, script([OWNED], [rule], begin), script([OWNED], [rule], begin + body),
-                lines(first, end), lines(first, given, end))
+    sql = Sql(first, "insert into go values(?);", [(key,) for key in keys], end, at_once > 1)
+    return Case(size, firings, script([OWNED], [rule], begin), script([OWNED], [rule], begin + body), sql)
 
 
 # ---- a sequence of which many first parts wait

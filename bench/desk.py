@@ -4,7 +4,7 @@ in triggers with `not exists`, `count(*)`, `sum()` and `raise(rollback, message)
 
 import json
 
-from scripts import has_key, installs, lines
+from scripts import Sql, has_key, installs
 
 CUSTOMERS = ["customer", [["most", "int"]]]
 ITEMS = ["item", [["stock", "int"], ["price", "int"]]]
@@ -93,6 +93,6 @@ DESK_RESULT = ["select 'emit '||v from report;", "select * from customer;", "sel
 def desk_sql(size, orders):
     rows = [f"insert into customer values({k},{MOST_OWED});" for k in range(size)]
     rows += [f"insert into item values({k},{STOCK},{k % 50 + 1});" for k in range(size)]
-    given = [f"insert into orders(customer,item,qty,amount,at) values({c},{i},{q},{a},0);"
-             for c, i, q, a in desk_orders(size, orders)]
-    return lines(DESK_SQL, ["begin;"], rows, ["commit;"], given, DESK_RESULT)
+    return Sql([*DESK_SQL, "begin;", *rows, "commit;"],
+               "insert into orders(customer,item,qty,amount,at) values(?,?,?,?,0);", desk_orders(size, orders),
+               DESK_RESULT, False)

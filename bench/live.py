@@ -23,7 +23,7 @@ import sys
 import tempfile
 import time
 
-from bench import SQLITE, heading
+from measuring import SQLITE, heading
 from scripts import ACCOUNT, add, create, immediate, installs, script
 
 ECHO = r"""

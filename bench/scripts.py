@@ -1,6 +1,7 @@
 """Helpers for making scripts, shared by the workloads."""
 
 import json
+from dataclasses import dataclass
 
 ACCOUNT = ["acct", [["bal", "int"]]]
 GO = ["signal", "go", []]
@@ -47,6 +48,26 @@ def has_key(row, expression):
     return ["=", ["key", row], expression]
 
 
-def lines(*parts):
-    """SQL, one statement for each line."""
-    return "\n".join(line for part in parts for line in part) + "\n"
+@dataclass
+class Sql:
+    """The same in SQL: statements to begin with, one that runs for each of many rows, and queries for the end."""
+
+    begin: list
+    # A `?` stands for a value of the row.
+    statement: str
+    rows: list
+    end: list
+    # Whether all rows are one transaction. Otherwise each is one.
+    is_one: bool
+    # The same statement with a test that is false.
+    idle: str = ""
+
+    def whole(self):
+        """What the shell runs."""
+        return self.text(self.statement)
+
+    def text(self, statement=None):
+        """What the shell runs with this statement, or with no row at all."""
+        given = [statement.replace("?", "{}").format(*row) for row in self.rows] if statement else []
+        given = ["begin;", *given, "commit;"] if self.is_one and given else given
+        return "\n".join([*self.begin, *given, *self.end]) + "\n"

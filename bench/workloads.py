@@ -1,6 +1,6 @@
 """Workloads of many firings: firings per second, and the gain of more workers."""
 
-from scripts import ACCOUNT, GO, add, create, immediate, installs, lines, on_go, script
+from scripts import ACCOUNT, GO, Sql, add, create, immediate, installs, on_go, script
 
 
 def richest(objects):
@@ -59,14 +59,20 @@ def conflict_of_scans(siblings=64, objects=400, rounds=12):
     return script([ACCOUNT], rules, items), siblings * rounds
 
 
-def single_firings(updates=16000):
+def behind_false(body):
+    """The same statements where none runs."""
+    return [["if", False, body, []]]
+
+
+def single_firings(updates=16000, is_idle=False):
     """A long list of updates, each of which triggers one rule that writes another object."""
     change = ["-", ["new", 0, "bal"], ["old", 0, "bal"]]
     rule = immediate("note", ["update", "acct"], [], [add("seen", "sum", 1, change)])
     classes = [ACCOUNT, ["seen", [["sum", "int"]]]]
     begin = installs([rule]) + [create(1, 0), ["create", "seen", 1, [["sum", 0]]]]
     body = [["update", "acct", 1, [["bal", n]]] for n in range(updates)]
-    return script(classes, [rule], [["tx", begin], ["tx", body]]), updates
+    items = [["tx", begin], ["tx", behind_false(body) if is_idle else body]]
+    return script(classes, [rule], items), updates
 
 
 def single_firings_sql(updates=16000):
@@ -74,17 +80,18 @@ def single_firings_sql(updates=16000):
              "create table seen(id integer primary key, sum integer);",
              "create trigger note after update on acct begin "
              "update seen set sum = sum + new.bal - old.bal where id = 1; end;",
-             "insert into acct values(1, 0);", "insert into seen values(1, 0);", "begin;"]
-    body = [f"update acct set bal = {n} where id = 1;" for n in range(updates)]
-    return lines(begin, body, ["commit;", "select id, bal from acct;", "select id, sum from seen;"])
+             "insert into acct values(1, 0);", "insert into seen values(1, 0);"]
+    update = "update acct set bal = ? where id = 1{};"
+    return Sql(begin, update.format(""), [(n,) for n in range(updates)],
+               ["select id, bal from acct;", "select id, sum from seen;"], True, update.format(" and 0"))
 
 
-def deep_chains(depth=15, chains=2000):
+def deep_chains(depth=15, chains=2000, is_idle=False):
     """Updates each of which sets off a chain of firings, one inside the other."""
     next_up = ["update", "acct", 1, [["bal", ["+", ["new", 0, "bal"], 1]]]]
     rule = immediate("up", ["update", "acct"], [], [["if", ["<", ["new", 0, "bal"], depth], [next_up], []]])
     body = [["update", "acct", 1, [["bal", 1]]] for _ in range(chains)]
-    items = [["tx", installs([rule]) + [create(1, 0)]], ["tx", body]]
+    items = [["tx", installs([rule]) + [create(1, 0)]], ["tx", behind_false(body) if is_idle else body]]
     return script([ACCOUNT], [rule], items, depth=16), depth * chains
 
 
@@ -93,9 +100,9 @@ def deep_chains_sql(depth=15, chains=2000):
              "create table acct(id integer primary key, bal integer);",
              f"create trigger up after update on acct when new.bal < {depth} begin "
              "update acct set bal = new.bal + 1 where id = 1; end;",
-             "insert into acct values(1, 0);", "begin;"]
-    body = ["update acct set bal = 1 where id = 1;" for _ in range(chains)]
-    return lines(begin, body, ["commit;", "select id, bal from acct;"])
+             "insert into acct values(1, 0);"]
+    update = "update acct set bal = ? where id = 1{};"
+    return Sql(begin, update.format(""), [(1,)] * chains, ["select id, bal from acct;"], True, update.format(" and 0"))
 
 
 WORKLOADS = [

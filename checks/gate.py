@@ -6,6 +6,7 @@
 The last line is 'N passed, M failed'.
 """
 
+import glob
 import os
 import signal
 import subprocess
@@ -73,11 +74,48 @@ case $1 in
 esac
 """
 
-# How many pass in the tree: two in each script and one for each program that is made; each folder of tests has one
-# test, and their layout is one more.
-FOLDERS = ("low_tests", "app_tests")
-QUICK = 2 * (len(SCRIPTS) - 1) + 3 + len(FOLDERS) + 1
+# The unit tests of this repository: the path below tests/ of each file, without its end. The fake rt takes each for one
+# test.
+UNIT_TESTS = sorted(path[len(os.path.join(TOP, "tests", "")) : -len(".rs")]
+                    for path in glob.glob(os.path.join(TOP, "tests", "*", "*.rs")) if not path.endswith("/lib.rs"))
+FOLDERS = sorted({name.split("/")[0] for name in UNIT_TESTS})
+
+# How many pass in the tree: two in each script and one for each program that is made; the unit tests, one of app_tests,
+# and their layout.
+QUICK = 2 * (len(SCRIPTS) - 1) + 3 + len(UNIT_TESTS) + 2
 PROVED = QUICK + 7 + 2 * 4
+
+# The folders of tests in Python: the part of ./test that runs them, its script, and the program that it needs.
+PYTHON_TESTS = {
+    "tools/tests": ("tools", "tools/tests/run.py", 1),
+    "clients/python/tests": ("client", "clients/python/tests/run.py", 1),
+    "examples/orders": ("client", "clients/python/tests/run.py", 1),
+    "editors/tests": ("editors", "editors/tests/run.py", 0),
+}
+
+# A test that passes and one that fails; and what the scripts of PYTHON_TESTS use, where it isn't in the tree.
+TWO_TESTS = """import unittest
+
+
+class Some(unittest.TestCase):
+    def test_passes(self):
+        self.assertEqual(1, 1)
+
+    def test_fails(self):
+        self.assertEqual(1, 2)
+"""
+USED = {
+    "tools/hipac_tools/__init__.py": "",
+    "tools/hipac_tools/program.py": """from types import SimpleNamespace
+
+
+def run(script, words):
+    return SimpleNamespace(status=0, output="final\\nend\\n", errors="")
+""",
+    "clients/python/hipac_live.py": 'PROGRAM = ("true",)\n',
+    "clients/python/tests/__init__.py": "",
+    "editors/tests/__init__.py": "",
+}
 
 
 class Tree:
@@ -97,12 +135,13 @@ class Tree:
         self.write("HANDLES", "Handles allowed: none.\n")
         self.write("crates/low/src/lib.rt", "//! low\n")
         self.write("crates/app/src/main.rt", "//! app\n")
-        for name in FOLDERS:
-            self.write(f"tests/{name}/lib.rs", "//! Tests.\n\nmod first;\n")
-            self.write(f"tests/{name}/first.rs", "//! Tests.\n")
+        for name in [*UNIT_TESTS, *(f"{folder}/lib" for folder in FOLDERS)]:
+            self.write(f"tests/{name}.rs", text_of(os.path.join(TOP, "tests", f"{name}.rs")))
+        self.write("tests/app_tests/lib.rs", "//! Tests.\n\nmod first;\n")
+        self.write("tests/app_tests/first.rs", "//! Tests.\n")
         rt = os.path.join(room, "bin", "rt")
         write(rt, FAKE_RT.replace("@NOTES@", self.notes), 0o755)
-        for name in ("apt-get", "chromedriver", "dot", "mypy", "pgrep", "pyflakes3", "pycodestyle"):
+        for name in ("apt-get", "chromedriver", "dot", "mypy", "pgrep", "pyflakes3", "pycodestyle", "vim"):
             write(os.path.join(room, "bin", name), "#!/bin/sh\n", 0o755)
         for name in ("jsonschema", "selenium"):
             write(os.path.join(room, "modules", f"{name}.py"), "")
@@ -167,9 +206,24 @@ def proves_all(tree):
 
 def catches_tests(tree):
     """A unit test that fails in any folder of tests is caught and shown, with its own file."""
-    for name in FOLDERS:
-        tree.note("broken", f"{name}/first")
-        expect_failure(tree, ["./test"], (QUICK - 1, 1), f"    tests/{name}/first.rs:1:1: it doesn't hold")
+    tree.note("broken", "app_tests/first")
+    expect_failure(tree, ["./test"], (QUICK - 1, 1), "    tests/app_tests/first.rs:1:1: it doesn't hold")
+    for folder in FOLDERS:
+        name = next(name for name in UNIT_TESTS if name.startswith(f"{folder}/"))
+        tree.note("broken", name)
+        counts = len(UNIT_TESTS) + 1, 1
+        expect_failure(tree, ["./test", "unit_tests"], counts, f"    tests/{name}.rs:1:1: it doesn't hold")
+
+
+def catches_python_tests(tree):
+    """A test in Python that fails in any folder of them is caught and shown, with its class."""
+    for path, text in USED.items():
+        tree.write(path, text)
+    for folder, (part, runs, programs) in PYTHON_TESTS.items():
+        tree.write(runs, text_of(os.path.join(TOP, runs)), 0o755)
+        tree.write(f"{folder}/test_two.py", TWO_TESTS)
+        expect_failure(tree, ["./test", part], (programs + 1, 1), "FAIL: test_fails (")
+        os.remove(os.path.join(tree.top, folder, "test_two.py"))
 
 
 def catches_the_dead(tree):
@@ -255,6 +309,7 @@ CHECKS = (
     counts_all,
     proves_all,
     catches_tests,
+    catches_python_tests,
     catches_the_dead,
     counts_unittests,
     catches_missing_programs,

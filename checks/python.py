@@ -27,9 +27,15 @@ COMMANDS = {
 # What mypy looks at, each with the folders that its imports are found in.
 GROUPS = {
     "scripts": (["build", "test", "tools/*.py", "checks/*.py", "bench/*.py"], ["tools", "checks", "bench"]),
+    "tools": (["tools/hipac_tools/*.py", "tools/hipac_tools/checking/*.py"], ["tools"]),
     "tests of the tools": (["tools/tests/*.py"], ["tools"]),
+    "client": (["clients/python/*.py"], ["clients/python"]),
+    "order desk": (["examples/orders/desk.py", "examples/orders/page.py"], ["clients/python", "examples/orders"]),
 }
 MYPY = ["mypy", "--python-version=3.9", "--ignore-missing-imports", "--follow-imports=silent", "--scripts-are-modules"]
+
+# The groups in which each function says its types.
+TYPED = ("tools", "client", "order desk")
 
 
 def scripts():
@@ -58,8 +64,9 @@ def typed(group):
     """Mypy must find nothing in a group."""
     patterns, folders = GROUPS[group]
     paths = [path for pattern in patterns for path in sorted(glob.glob(os.path.join(TOP, pattern)))]
+    strict = ["--disallow-untyped-defs"] if group in TYPED else []
     with tempfile.TemporaryDirectory(prefix="mypy-") as cache:
-        look([*MYPY, f"--cache-dir={cache}", *paths], MYPYPATH=os.pathsep.join(folders))
+        look([*MYPY, *strict, f"--cache-dir={cache}", *paths], MYPYPATH=os.pathsep.join(folders))
 
 
 def main():

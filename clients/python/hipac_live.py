@@ -36,7 +36,9 @@ import time
 from collections import deque
 from dataclasses import dataclass, field
 from pathlib import Path
-from typing import Any, Dict, Iterable, Iterator, List, Mapping, NoReturn, Optional, Sequence, Tuple, Union
+from typing import (
+    IO, Any, Callable, Dict, Iterable, Iterator, List, Mapping, NoReturn, Optional, Sequence, Tuple, TypeVar, Union,
+)
 
 PROGRAM = (os.environ.get("HIPAC_LIVE") or str(Path(__file__).resolve().parent.parent.parent / "hipac-live"),)
 """The words that start the program: $HIPAC_LIVE where that is set, else the repository's launcher."""
@@ -369,16 +371,16 @@ def _ending(text: str) -> Ending:
     return Ending(cause, *rule[:1], *map(_value, rule[1:]))
 
 
-def _fire(*parts: Optional[str]) -> Fire:
-    rule, mode, unsatisfied, fault, cause, satisfied, later, end = parts
-    node = Fire(rule, mode, unsatisfied or fault or satisfied, later=later is not None)
+def _fire(rule: str, mode: str, *parts: Optional[str]) -> Fire:
+    unsatisfied, fault, cause, satisfied, later, end = parts
+    node = Fire(rule, mode, unsatisfied or fault or satisfied or "", later=later is not None)
     node.fault = _ending(cause) if cause else None
     node.action = _ending(end) if end else None
     return node
 
 
 # What each line of a tree becomes.
-_NODES = (
+_NODES: Tuple[Tuple["re.Pattern[str]", Callable[..., Node]], ...] = (
     (_WRITE, lambda verb, name, key, fields: ObjectOperation(verb, name, int(key), _fields(fields))),
     (_DELETE, lambda verb, name, key: ObjectOperation(verb, name, int(key))),
     (_ON_RULE, RuleOperation),
@@ -605,13 +607,16 @@ def _snapshot(script: Mapping[str, Any], state: State, time: int) -> List[bytes]
     creates = [["create", it.class_name, it.key, [list(pair) for pair in it.fields.items()]] for it in state.objects]
     known = [rule[0] for rule in script["rules"]]
     # In this order, and in one transaction, the definitions of a snapshot restore the rules.
-    operations = {"absent": [], "enabled": ["install"], "disabled": ["install", "disable"]}
+    operations: Dict[str, List[str]] = {"absent": [], "enabled": ["install"], "disabled": ["install", "disable"]}
     rules = [[word, name] for name in known for word in operations[state.rules.get(name, "absent")]]
     items = [*_moves(script["rules"], time), *_transactions(creates), ["tx", rules]]
     whole = _line({**script, "items": [*items, *script["items"]]})
     if len(whole) <= _MOST_BYTES:
         return [whole]
     return [_line({**script, "items": []}), *map(_line, [*items, *script["items"]])]
+
+
+_SomeJournal = TypeVar("_SomeJournal", bound="Journal")
 
 
 class Journal:
@@ -697,11 +702,18 @@ class Journal:
     def close(self) -> None:
         self._file.close()
 
-    def __enter__(self) -> "Journal":
+    def __enter__(self: _SomeJournal) -> _SomeJournal:
         return self
 
     def __exit__(self, *_: object) -> None:
         self.close()
+
+
+def _pipe(stream: Optional[IO[bytes]]) -> IO[bytes]:
+    """One end of a pipe to a process that was started with it."""
+    if stream is None:
+        raise ValueError("the process was started without this pipe")
+    return stream
 
 
 class _Program:
@@ -716,27 +728,30 @@ class _Program:
         # A session of its own: an interrupt from the keyboard is for the client, which then ends the program.
         self._process = subprocess.Popen(words, stdin=pipe, stdout=pipe, stderr=pipe, start_new_session=True)
         self._errors: "deque[str]" = deque(maxlen=_KEPT_ERRORS)
-        self._listener = threading.Thread(target=self._listen, name="hipac_live standard error", daemon=True)
+        self._to, self._from = _pipe(self._process.stdin), _pipe(self._process.stdout)
+        words_of = _pipe(self._process.stderr)
+        self._listener = threading.Thread(target=self._listen, args=[words_of], name="hipac_live standard error",
+                                          daemon=True)
         self._listener.start()
 
     @property
     def pid(self) -> int:
         return self._process.pid
 
-    def _listen(self) -> None:
-        with self._process.stderr as stream:
+    def _listen(self, errors: IO[bytes]) -> None:
+        with errors as stream:
             for raw in iter(lambda: stream.readline(_LONGEST_ERROR), b""):
                 line = raw.decode("utf-8", "replace")
                 self._errors.append(line)
                 _LOG.warning("%s", line.rstrip("\n"))
 
     def send(self, line: bytes) -> None:
-        self._process.stdin.write(line + b"\n")
-        self._process.stdin.flush()
+        self._to.write(line + b"\n")
+        self._to.flush()
 
     def read(self) -> Optional[str]:
         """The next line without its line feed, or None where no whole line comes any more."""
-        raw = self._process.stdout.readline()
+        raw = self._from.readline()
         try:
             return raw[:-1].decode("utf-8") if raw.endswith(b"\n") else None
         except UnicodeDecodeError:
@@ -751,13 +766,13 @@ class _Program:
     def end(self) -> Tuple[int, str]:
         """Ends the input, and waits for the process: its status, and what it said."""
         with contextlib.suppress(OSError):
-            self._process.stdin.close()
+            self._to.close()
         try:
             self._process.wait(_STOP_LIMIT)
         except subprocess.TimeoutExpired:
             self.kill()
             self._process.wait()
-        self._process.stdout.close()
+        self._from.close()
         self._listener.join(_ERRORS_LIMIT)
         return self._process.returncode, "".join(self._errors)
 
@@ -782,7 +797,8 @@ class RuleBase:
         value = _script_value(script)
         self._script = value
         self._script_line = _line(value)
-        self._tree, self._timeout, self._journal = tree, timeout, None
+        self._tree, self._timeout = tree, timeout
+        self._journal: Optional[Journal] = None
         self._lock = threading.Lock()
         self._ended: Optional[ProgramEnded] = None
         self.units = 0
@@ -816,11 +832,12 @@ class RuleBase:
         try:
             lines = kept.lines()
             first = next(lines, None)
-            if first is None and script is None:
-                raise JournalFault(f"{kept.path}: the journal is empty, and no script is given")
             if first is not None and script is not None and _script_value(first) != _script_value(script):
                 raise JournalFault(f"{kept.path}: the journal begins with another script than the one given")
-            base = cls(script if first is None else first, **options)
+            begun = script if first is None else first
+            if begun is None:
+                raise JournalFault(f"{kept.path}: the journal is empty, and no script is given")
+            base = cls(begun, **options)
             if first is None:
                 kept.append(base._script_line)
             else:

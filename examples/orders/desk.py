@@ -125,7 +125,9 @@ def news(units: Iterable[Unit]) -> List[str]:
 def end_of(units: List[Unit]) -> str:
     """The last line of an answer."""
     ending = next((it.ending for it in units if not it.committed), None)
-    return "done" if ending is None else f"no: {ending.message or REASONS.get(ending.cause, ending)}"
+    if ending is None:
+        return "done"
+    return f"no: {ending.message or REASONS.get(ending.cause or '', str(ending))}"
 
 
 def reason_of(refused: Refused, word: str, base: RuleBase) -> str:

@@ -11,7 +11,7 @@ from collections import deque
 from dataclasses import dataclass
 from html import escape
 from pathlib import Path
-from typing import TYPE_CHECKING, Deque, Dict, List, Sequence, Tuple
+from typing import TYPE_CHECKING, Any, Deque, Dict, List, Sequence, Tuple
 
 if TYPE_CHECKING:
     from desk import Desk
@@ -68,7 +68,7 @@ def products(state: "State") -> str:
 
 def orders(state: "State") -> str:
     """The orders of each state, the newest first."""
-    names = {it.key: str(it["name"]) for it in state.all("product")}
+    names: Dict[Any, str] = {it.key: str(it["name"]) for it in state.all("product")}
     parts = []
     for word, steps in STATES.items():
         found = [it for it in reversed(state.all("order")) if it["state"] == word]
@@ -119,7 +119,7 @@ class PageServer(http.server.ThreadingHTTPServer):
     daemon_threads = True
 
     def __init__(self, desk: "Desk"):
-        host, port = desk.server_address[:2]
+        host, port = str(desk.server_address[0]), desk.server_address[1]
         super().__init__((host, port + 1), Visitor)
         self.desk = desk
         self.told: Deque[Report] = deque(maxlen=MOST_REPORTS)

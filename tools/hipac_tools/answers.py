@@ -87,7 +87,7 @@ def _silences(account: Account, unit: Unit, rule: str, most: float) -> Iterator[
         shortfalls = []
         if past.status == pasts.ENABLED and not too_deep:
             shortfalls = [_shortfall(heard, number, lack, most) for lack in pasts.lacks(event, past.kept, signal)]
-        yield Silence(signal, past, pasts.mentions(event, signal.primitive), too_deep, shortfalls)
+        yield Silence(signal, past, pasts.mentions(event, signal.heard), too_deep, shortfalls)
 
 
 def _shortfall(heard: List[pasts.Hearing], number: int, lack: Lack, most: float) -> Shortfall:

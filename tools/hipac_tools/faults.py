@@ -3,7 +3,7 @@
 from __future__ import annotations
 
 import sys
-from typing import Iterator, List, Optional, Tuple
+from typing import Iterator, List, Optional, Set, Tuple
 
 from . import reasons
 from .account import Account, NoAccount, account_of
@@ -49,7 +49,9 @@ def list_of_faults(account: Account) -> str:
     lines = Lines(WIDTH, account.places)
     if account.doubt is not None:
         lines.say(0, f"{account.doubt}: only what the report itself tells is said here.")
-    number, units, silent = 0, set(), set()
+    number = 0
+    units: Set[int] = set()
+    silent: Set[str] = set()
     for unit, transaction, fault in all_faults(account):
         if transaction is not None:
             lines.say(0, head_of(unit, transaction))

@@ -65,8 +65,7 @@ def program_path() -> str:
 
 def answers_to(content: bytes) -> Iterator[List[str]]:
     """The answers to lines with their trees, each a list of lines."""
-    how = {"input": content, "stdout": subprocess.PIPE, "stderr": subprocess.PIPE, "check": False}
-    ended = subprocess.run([program_path(), "--tree"], **how)
+    ended = subprocess.run([program_path(), "--tree"], input=content, capture_output=True, check=False)
     if ended.returncode not in (DONE, REFUSED):
         raise NoJournal(f"the program failed: {ended.stderr.decode('utf-8', 'replace').strip()}", FAILED)
     answer: List[str] = []

@@ -22,6 +22,13 @@ class Signal:
     triggered: List[str] = field(default_factory=list)
     number: int = 0
 
+    @property
+    def heard(self) -> Primitive:
+        """What rules hear. There is none of the statement `fire`, which no rule hears."""
+        if self.primitive is None:
+            raise ValueError("no rule hears of a statement `fire`")
+        return self.primitive
+
     def __str__(self) -> str:
         return str(self.primitive) if self.primitive is not None else "a statement `fire`"
 

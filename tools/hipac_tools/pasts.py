@@ -81,7 +81,7 @@ class Pending:
 
 def matches(pattern: Form, primitive: Primitive) -> bool:
     """Whether a simple event matches what was signalled."""
-    if primitive.kind == "time":
+    if primitive.moment is not None:
         return primitive.moment in moments_of(pattern, primitive.moment - 1, primitive.moment)
     return primitive.kind == pattern[0] and (primitive.kind == "commit" or primitive.name == pattern[1])
 
@@ -107,12 +107,12 @@ def step(event: Form, kept: Any, signal: Signal) -> Step:
     """What is kept after one more signal, and the event's occurrence at it, if there is one."""
     word = event[0]
     if word not in COMPOSITE:
-        return None, Occurrence((signal,), 1) if matches(event, signal.primitive) else None
+        return None, Occurrence((signal,), 1) if matches(event, signal.heard) else None
     left_kept, left = step(event[1], kept[0], signal)
     right_kept, right = step(event[2], kept[1], signal)
     if word == "or":
         return (left_kept, right_kept), left if left is not None else right
-    own, occurrence = (_sequence if word == "seq" else _closure)(kept[2], left, right)
+    own, occurrence = _sequence(kept[2], left, right) if word == "seq" else _closure(kept[2], left, right)
     return (left_kept, right_kept, own), occurrence
 
 
@@ -152,7 +152,9 @@ class Hearing:
 
     @property
     def within(self) -> Any:
-        return self.signal.within if self.signal is not None else self.change.note.parent
+        if self.signal is not None:
+            return self.signal.within
+        return self.change.note.parent if self.change is not None else None
 
 
 @dataclass(frozen=True)
@@ -206,32 +208,32 @@ def candidates(heard: List[Hearing], number: int, lack: Lack) -> Iterator[Candid
     follower: Any = None
     takers: dict[int, Signal] = {}
     for hearing in reversed(heard[:number]):
-        undoing = aborted_before(hearing.within, around)
-        if hearing.change is not None:
+        undoing, signal = aborted_before(hearing.within, around), hearing.signal
+        if signal is None:
             if undoing is None:
                 follower = hearing.change
             continue
-        first, ended, taken = _at(hearing, lack)
+        first, ended, taken = _at(hearing.past, signal, lack)
         if ended and undoing is None and lack.event[0] == "closure":
-            follower = hearing.signal
+            follower = signal
         if first is not None:
             yield _fate(hearing, first, undoing, follower, takers.get(first.signals[-1].number))
         if taken is not None and undoing is None:
-            takers[taken.signals[-1].number] = hearing.signal
+            takers[taken.signals[-1].number] = signal
 
 
-def _at(hearing: Hearing, lack: Lack) -> Tuple[Optional[Occurrence], bool, Optional[Occurrence]]:
-    """The first event's occurrence at a hearing, whether the last one occurs, and which occurrence a sequence takes."""
+def _at(past: Past, signal: Signal, lack: Lack) -> Tuple[Optional[Occurrence], bool, Optional[Occurrence]]:
+    """The first event's occurrence at a signal, whether the last one occurs, and which occurrence a sequence takes."""
     first, last = lack.event[1:]
-    if hearing.past.status != ENABLED:
-        is_told = has_one_part(first) and mentions(first, hearing.signal.primitive)
-        return Occurrence((hearing.signal,), 1) if is_told else None, False, None
-    kept = hearing.past.kept
+    if past.status != ENABLED:
+        is_told = has_one_part(first) and mentions(first, signal.heard)
+        return Occurrence((signal,), 1) if is_told else None, False, None
+    kept = past.kept
     for arm in lack.at:
         kept = kept[arm - 1]
-    ended = step(last, kept[1], hearing.signal)[1] is not None
+    ended = step(last, kept[1], signal)[1] is not None
     taken = kept[2].oldest if ended and lack.event[0] == "seq" else None
-    return step(first, kept[0], hearing.signal)[1], ended, taken
+    return step(first, kept[0], signal)[1], ended, taken
 
 
 def _fate(hearing: Hearing, first: Occurrence, undoing: Any, follower: Any, taker: Optional[Signal]) -> Candidate:

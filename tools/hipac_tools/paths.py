@@ -9,7 +9,7 @@ Targets = Mapping[str, Iterable[str]]
 def shortest_way(targets: Targets, start: str, goals: Collection[str]) -> tuple[str, ...] | None:
     """The shortest path of at least one step from a node to one of the goals, both ends included."""
     ways: dict[str, tuple[str, ...]] = {}
-    queue = [(start,)]
+    queue: list[tuple[str, ...]] = [(start,)]
     for way in queue:
         for target in targets.get(way[-1], ()):
             if target not in ways:

@@ -8,7 +8,7 @@ from __future__ import annotations
 
 import re
 from dataclasses import dataclass, field
-from typing import Optional
+from typing import Any, Optional
 
 MOST_LEVELS = 127
 
@@ -34,7 +34,8 @@ FOREIGN_WORDS = {
 class Node:
     """A value with its position: `text[start:end]` is how it is written."""
 
-    value: object
+    value: Any
+    """As `json.loads` gives it."""
     start: int
     end: int
     items: list[Node] = field(default_factory=list)
@@ -103,7 +104,8 @@ class _Reader:
         self.offset = 0
 
     def skip_space(self) -> None:
-        self.offset = SPACE.match(self.text, self.offset).end()
+        space = SPACE.match(self.text, self.offset)
+        self.offset = space.end() if space else self.offset
 
     def peek(self) -> str:
         return self.text[self.offset:self.offset + 1]
@@ -122,10 +124,11 @@ class _Reader:
             if level >= MOST_LEVELS:
                 raise self.fault(f"more than {MOST_LEVELS} lists and objects lie in one another")
             return self.list_node(level) if first == "[" else self.object_node(level)
-        if NUMBER_LIKE.match(first):
-            return self.number_node()
-        if WORD.match(first):
-            return self.literal_node()
+        number, word = NUMBER_LIKE.match(self.text, self.offset), WORD.match(self.text, self.offset)
+        if number:
+            return self.number_node(number.group())
+        if word:
+            return self.literal_node(word.group())
         raise self.no_value()
 
     def no_value(self) -> NotJson:
@@ -143,8 +146,7 @@ class _Reader:
             return self.fault(f"a value is expected here, and `{first}` stands here")
         return self.fault("no JSON value begins like this")
 
-    def literal_node(self) -> Node:
-        word = WORD.match(self.text, self.offset).group()
+    def literal_node(self, word: str) -> Node:
         if word not in LITERALS:
             meant = FOREIGN_WORDS.get(word)
             hint = f"did you mean `{meant}`?" if meant else f'a text stands in double quotes: "{shortened(word)}"'
@@ -152,8 +154,8 @@ class _Reader:
         start, self.offset = self.offset, self.offset + len(word)
         return Node(LITERALS[word], start, self.offset)
 
-    def number_node(self) -> Node:
-        start, written = self.offset, NUMBER_LIKE.match(self.text, self.offset).group()
+    def number_node(self, written: str) -> Node:
+        start = self.offset
         parts = NUMBER.fullmatch(written)
         if parts is None:
             raise self.fault(f"`{shortened(written)}` is no JSON number", number_hint(written), len(written))
@@ -188,7 +190,8 @@ class _Reader:
             return self.escape()
         if letter in ("", "\n", "\r"):
             self.offset = start
-            end = SPACE_AT_LINE_END.search(self.text, start).start()
+            found = SPACE_AT_LINE_END.search(self.text, start)
+            end = found.start() if found else len(self.text)
             hint = 'write " at its end; a line break in a text is \\n'
             raise self.fault("this text isn't closed in its line", hint, end - start)
         hint = "write \\t" if letter == "\t" else f"write \\u{ord(letter):04x}"

@@ -118,7 +118,7 @@ def rule_head(rule: Rule) -> str:
 
 def condition_lines(rule: Rule, one_part: bool) -> list[str]:
     """One line for each entry of the condition."""
-    lines = []
+    lines: list[str] = []
     for entry in rule.entries:
         lead = "and " if lines else ""
         if isinstance(entry, scripts.Let):

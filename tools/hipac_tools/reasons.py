@@ -185,7 +185,7 @@ class Teller:
     def placed_deed(self, signal: Signal, unit: Optional[int]) -> str:
         """What was signalled, and where; with its unit, if that isn't the one that is spoken of."""
         number = unit_of(signal.within)
-        return self.deed(signal.primitive) + ("" if number == unit else f" in unit {number}") + at(signal.path)
+        return self.deed(signal.heard) + ("" if number == unit else f" in unit {number}") + at(signal.path)
 
     def trigger(self, signal: Optional[Signal], occurrence: Optional[Occurrence] = None) -> str:
         """What triggered a rule, as the end of a sentence:

@@ -165,7 +165,7 @@ class Reader:
         if place.node.value[0] == "/":
             quotients = [quotient(one, other) for one in (left.least, left.most) for other in divisors] + [0]
             return Value(INT, max(min(quotients), LEAST), min(max(quotients), GREATEST))
-        most = max(map(abs, divisors)) - 1
+        most = max(abs(one) for one in divisors) - 1
         return Value(INT, max(-most, min(left.least, 0)), min(most, max(left.most, 0)))
 
     # Rows and occurrences

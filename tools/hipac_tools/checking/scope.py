@@ -67,13 +67,18 @@ class Gathered:
     signalled: set[str] = field(default_factory=set)
     installed: set[str] = field(default_factory=set)
 
-    def go_on(self, read: Callable[[], Result], otherwise: Optional[Result] = None) -> Optional[Result]:
+    def go_on(self, read: Callable[[], Result]) -> Optional[Result]:
         """Reads a part of the script. A fault in it is kept, and the reading goes on behind that part."""
         try:
             return read()
         except Refused as refusal:
             self.keep(refusal.fault)
-            return otherwise
+            return None
+
+    def go_on_with(self, read: Callable[[], Result], otherwise: Result) -> Result:
+        """The same with what a faulty part counts as."""
+        found = self.go_on(read)
+        return otherwise if found is None else found
 
     def keep(self, fault: Fault) -> None:
         """Keeps a fault; what may only follow from an earlier one is left out."""

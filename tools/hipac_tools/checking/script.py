@@ -62,7 +62,7 @@ def read_script(root: Node, is_live: bool = False) -> Script:
 def read_parts(place: Place, gathered: Gathered, is_live: bool) -> Script:
     """Reads all parts in the order of checks, and then looks for advice."""
     check_members(place)
-    version = gathered.go_on(lambda: read_version(place.member("version")), VERSIONS[-1])
+    version = gathered.go_on_with(lambda: read_version(place.member("version")), VERSIONS[-1])
     if "depth" in place.node.members:
         gathered.go_on(lambda: read_depth(place.member("depth")))
     for key in place.node.doubled:
@@ -157,10 +157,11 @@ def declared(place: Place, one: Declaration, names: dict[str, Place], gathered: 
         else:
             names.setdefault(name, place.item(0))
         return None
-    name = gathered.go_on(lambda: new_name_at(parts[0], one.what, one.noun, names))
+    first = parts[0]
+    name = gathered.go_on(lambda: new_name_at(first, one.what, one.noun, names))
     if name is not None:
-        names[name] = parts[0]
-    elif not isinstance(parts[0].node.value, str) or parts[0].node.value not in names:
+        names[name] = first
+    elif not isinstance(first.node.value, str) or first.node.value not in names:
         gathered.is_doubtful = True
     return parts
 
@@ -197,10 +198,14 @@ def read_fields(place: Place, gathered: Gathered) -> dict[str, str]:
     for field_place in declarations(place, "the fields of a class", "fields [name, kind]", FIELDS, gathered):
         known = len(places)
         parts = declared(field_place, A_FIELD, places, gathered, outside=place)
-        kind = gathered.go_on(lambda: word_at(parts[1], "a kind", KINDS, KIND_HABITS), KINDS[0]) if parts else KINDS[0]
+        kind = read_kind(parts[1], gathered) if parts else KINDS[0]
         if len(places) > known:
             kinds[list(places)[-1]] = kind
     return kinds
+
+
+def read_kind(place: Place, gathered: Gathered) -> str:
+    return gathered.go_on_with(lambda: word_at(place, "a kind", KINDS, KIND_HABITS), KINDS[0])
 
 
 # ---- rules
@@ -236,7 +241,7 @@ def read_rule(parts: list[Place], scope: Scope, moments: Moments, version_place:
     _, event, event_mode, entries, action_mode, action, *closing = parts
     gathered, version = scope.gathered, scope.forms.version
     gathered.is_rule_doubtful = False
-    is_event = gathered.go_on(lambda: read_event(event, scope, moments) or True, False)
+    is_event = gathered.go_on_with(lambda: is_event_read(event, scope, moments), False)
     gathered.go_on(lambda: read_mode(event_mode, version_place, version))
     asking = replace(scope, shapes=shapes(event.node.value) if is_event else None)
     acting = gathered.go_on(lambda: read_condition(entries, asking))
@@ -246,6 +251,12 @@ def read_rule(parts: list[Place], scope: Scope, moments: Moments, version_place:
     gathered.is_rule_doubtful = False
     for place in closing:
         gathered.go_on(lambda: read_closing(place))
+
+
+def is_event_read(place: Place, scope: Scope, moments: Moments) -> bool:
+    """Reads an event. That is so once it is read without a fault."""
+    read_event(place, scope, moments)
+    return True
 
 
 def read_mode(place: Place, version_place: Place, version: int) -> None:
@@ -346,7 +357,8 @@ class Clock:
 def read_items(place: Place, scope: Scope, moments: Moments) -> int:
     """Transactions and moves of the clock, which begins at 0 and doesn't go back."""
     clock = Clock()
-    items = scope.gathered.go_on(lambda: list_at(place, "`items`", "items [\"tx\", body] and [\"clock\", t]"), [])
+    what = "items [\"tx\", body] and [\"clock\", t]"
+    items: list[Place] = scope.gathered.go_on_with(lambda: list_at(place, "`items`", what), [])
     for item in up_to_bare(items):
         scope.gathered.go_on(lambda: read_item(item, scope, moments, clock))
     return len(items)
