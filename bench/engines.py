@@ -2,8 +2,8 @@
 
 A workload is three scripts: the whole, the one without its firings, and an idle one, whose statements stand behind
 `if false`. The whole less the one without is what a firing costs, with its part of the reading. The whole less the idle
-one is what the engine alone takes for it. The idle form of a prepared statement has a test that is false. sqlite3's
-shell has none, since such a test changes how the statement is compiled.
+one is what the engine alone takes for it. The idle form of a prepared statement finds no row to update, or the row that
+it is to insert. sqlite3's shell has no idle form, since it takes longest to compile statements.
 """
 
 import os

@@ -59,7 +59,7 @@ class Sql:
     end: list
     # Whether all rows are one transaction. Otherwise each is one.
     is_one: bool
-    # The same statement with a test that is false.
+    # One that is as long and finds no row to update, or the row that it is to insert.
     idle: str = ""
 
     def whole(self):

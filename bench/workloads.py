@@ -81,9 +81,9 @@ def single_firings_sql(updates=16000):
              "create trigger note after update on acct begin "
              "update seen set sum = sum + new.bal - old.bal where id = 1; end;",
              "insert into acct values(1, 0);", "insert into seen values(1, 0);"]
-    update = "update acct set bal = ? where id = 1{};"
-    return Sql(begin, update.format(""), [(n,) for n in range(updates)],
-               ["select id, bal from acct;", "select id, sum from seen;"], True, update.format(" and 0"))
+    update = "update acct set bal = ? where id = {};"
+    return Sql(begin, update.format(1), [(n,) for n in range(updates)],
+               ["select id, bal from acct;", "select id, sum from seen;"], True, update.format(-1))
 
 
 def deep_chains(depth=15, chains=2000, is_idle=False):
@@ -101,8 +101,8 @@ def deep_chains_sql(depth=15, chains=2000):
              f"create trigger up after update on acct when new.bal < {depth} begin "
              "update acct set bal = new.bal + 1 where id = 1; end;",
              "insert into acct values(1, 0);"]
-    update = "update acct set bal = ? where id = 1{};"
-    return Sql(begin, update.format(""), [(1,)] * chains, ["select id, bal from acct;"], True, update.format(" and 0"))
+    update = "update acct set bal = ? where id = {};"
+    return Sql(begin, update.format(1), [(1,)] * chains, ["select id, bal from acct;"], True, update.format(-1))
 
 
 WORKLOADS = [
