@@ -333,9 +333,9 @@ class Oversights(unittest.TestCase):
             with self.subTest(aggregate=aggregate):
                 rules = [rule("r", SIGNAL_S, [], queries=[["let", "n", aggregate]])]
                 self.assertEqual(built(rules, [], version=4).scans, ["rule r, let n: all of c"] if scans else [])
-        for predicate, scans in (True, []), (["=", 1, 1], ["rule r, no x: all of c"]):
+        for predicate, found in (True, []), (["=", 1, 1], ["rule r, no x: all of c"]):
             rules = [rule("r", SIGNAL_S, [], queries=[["no", "x", "c", predicate]])]
-            self.assertEqual(built(rules, [], version=4).scans, scans)
+            self.assertEqual(built(rules, [], version=4).scans, found)
 
     def test_a_boolean_has_no_part_of_its_own(self) -> None:
         for kind, scans in ("text", []), ("bool", ["rule r, query q: all of d"]):
