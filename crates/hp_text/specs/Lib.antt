@@ -7,3 +7,4 @@ pub mod Scripts
 pub mod Lists
 pub mod Lexemes
 pub mod Places
+pub mod Steps

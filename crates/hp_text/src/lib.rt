@@ -17,6 +17,7 @@ mod mark;
 mod node;
 mod operand;
 mod parts;
+mod paths;
 mod place;
 mod reading;
 mod rows;
@@ -31,6 +32,7 @@ mod word;
 
 pub use error::ReadError;
 pub use node::{Node, ScriptNode};
+pub use paths::{Step, value_place};
 pub use place::{Place, place_at};
 pub use reading::{read_line, read_text};
 pub use values::{script_value, value_of};

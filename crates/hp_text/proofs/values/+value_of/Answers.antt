@@ -1,4 +1,4 @@
-use Rattle.std.proofs.Common.{◌≡◌, refl, sym, ap, ◌∙◌, ℕ, map, List as Items, [], ◌∷◌}
+use Rattle.std.proofs.Common.{◌≡◌, refl, sym, ap, ◌∙◌, map, List, [], ◌∷◌}
 use Rattle.std.specs.Global.{Vec}
 use Rattle.std.proofs.lemmas.List.{map-id}
 use Rattle.std.proofs.lemmas.Iterator.Adapters.{YieldsList-from_vec}
@@ -11,18 +11,13 @@ use Rattle.serde_json.specs.declared.value.Value.TheVariants.{Array, rolls-Array
 use Rattle.serde_json.specs.declared.value.Value.TheOpen.{Value-F}
 use Rattle.serde_json.specs.declared.value.Value.TheFolds.{fold-roll-Value}
 use Rattle.hp_text.specs.declared.node.Node.{Node}
-use Rattle.hp_text.specs.declared.node.Node.TheVariants.{List, rolls-List}
-use Rattle.hp_text.specs.declared.node.Node.TheOpen.{Node-F}
-use Rattle.hp_text.specs.declared.node.Node.TheFolds.{fold-roll-Node}
-use Rattle.hp_text.specs.Mapped.{node_view, node_step}
+use Rattle.hp_text.specs.Mapped.{node_view}
+use Rattle.hp_text.proofs.Nodes.{list_view}
 use Rattle.hp_text.proofs.values.+value_of.Goals as goal
 
-same_items : (ns : Items Node) → items_of (map (λ n. T.data_of (node_view n)) ns) ≡ T.items_of (T.nodes (map node_view ns))
+same_items : (ns : List Node) → items_of (map (λ n. T.data_of (node_view n)) ns) ≡ T.items_of (T.nodes (map node_view ns))
 same_items [] = refl
 same_items (n ∷ ns) = ap (item (T.data_of (node_view n))) (same_items ns)
-
-list_view : (at : ℕ) (ns : Vec Node) → node_view (List at ns) ≡ T.list at (T.nodes (map node_view ns.items))
-list_view at ns = ap node_view (sym (rolls-List at ns)) ∙ fold-roll-Node T.Node node_step (Node-F.List at ns)
 
 array_view : (vs : Vec Value) → view (Array vs) ≡ array (items_of (map view vs.items))
 array_view vs = ap view (sym (rolls-Array vs)) ∙ fold-roll-Value Data view_step (Value-F.Array vs)
