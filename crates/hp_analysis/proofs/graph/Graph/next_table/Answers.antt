@@ -1,7 +1,7 @@
 use Rattle.std.proofs.Common.{arith, ◌≡◌, ap, ◌∙◌, suc, ◌+◌, subst, map, Bool, List}
 use Rattle.std.specs.Prelude.{IfOk}
 use Rattle.std.specs.Global.{Vec}
-use Rattle.hp_rule.specs.Libraries as libraries
+use Rattle.hp_analysis.specs.Graphs.{seen}
 use Rattle.hp_analysis.specs.Sets.{is_within, targets}
 use Rattle.hp_analysis.specs.Tables.{within}
 use Rattle.hp_analysis.proofs.Within.{table_next, each_of}
@@ -11,7 +11,7 @@ use Rattle.hp_analysis.proofs.graph.Graph.next_table.Goals as goal
 pub returns : goal.returns
 returns c =
     let self = c.args.self.now in
-    let library = libraries.library self.triggers.library.now in
+    let library = seen self.triggers in
     let next : suc c.args.k ≡ c.args.k + 1 = omega arith in
     let same =
     ap (λ sets. map (λ (set : Vec Bool). is_within c.args.table.now set.items) sets) c.deref.ensures.value
