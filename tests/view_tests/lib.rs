@@ -3,6 +3,7 @@
 
 mod attempts;
 mod boards;
+mod counts;
 mod fixtures;
 mod greatest;
 mod lists;

@@ -5,13 +5,13 @@ use Rattle.hp_model.specs.Rules.{Library}
 use Rattle.hp_model.specs.Tree.{Task}
 use Rattle.hp_model.specs.Values.{KeyedRow}
 use Rattle.hp_model.specs.ClassParts.{ClassPart}
-use Rattle.hp_model.specs.Cells.{Cells, cells, Changes, object_cell, belongs_in, over, Read, cell_read, keys_read, greatest_read, objects_read, part_read, ReadHolds, ReadsHold, Holds, AreKeys, IsGreatestKey, AreObjects, ArePart}
+use Rattle.hp_model.specs.Cells.{Cells, cells, Changes, object_cell, belongs_in, over, Read, cell_read, keys_read, greatest_read, count_read, objects_read, part_read, ReadHolds, ReadsHold, Holds, AreKeys, IsGreatestKey, IsCount, AreObjects, ArePart}
 use Rattle.hp_model.specs.Firing.{fire_task}
 use Rattle.hp_model.specs.Soundness.{firing_answer, Attempt}
 use Rattle.hp_model.proofs.BridgesCells.{stacked, over-over, Holds-front}
 use Rattle.hp_store.specs.Changes.{Entries, changes}
 use Rattle.hp_store.specs.Stack.{cells_in}
-use Rattle.hp_view.specs.Seeing.{Seeing, written, now_in, Shows, ShowsKeys, ShowsGreatest, ShowsObjects, ShowsPart, ReadsKeys, ReadsGreatestAlone, DeletesGreatest, ReadsGreatest, ReadsPart, IsSame, TakesIn, OnlyReads, ReadsMore, GoesOn, Restores, undone}
+use Rattle.hp_view.specs.Seeing.{Seeing, written, now_in, Shows, ShowsKeys, ShowsGreatest, ShowsCount, ShowsObjects, ShowsPart, ReadsKeys, ReadsGreatestAlone, DeletesGreatest, ReadsGreatest, ReadsCountAlone, WritesUnread, ReadsCount, ReadsPart, IsSame, TakesIn, OnlyReads, ReadsMore, GoesOn, Restores, undone}
 use Rattle.hp_view.specs.Looks.{only_reads_then}
 use Rattle.hp_view.proofs.Views.{GoesOn-then}
 use Rattle.hp_value.specs.declared.cell.Cell.{Cell as RustCell}
@@ -45,6 +45,9 @@ again_keys old new n keys shows = λ told base held. (shows keys told).everywher
 
 pub again_greatest : (old new : Seeing) (n : ℕ) (greatest : Option ℤ) → ((g : Option ℤ) → IsGreatestKey (now_in old) n g → ShowsGreatest new n g) → IsReadAgain old new (greatest_read n greatest)
 again_greatest old new n greatest shows = λ told base held. (shows greatest told).everywhere base held
+
+pub again_count : (old new : Seeing) (n count : ℕ) → ((m : ℕ) → IsCount (now_in old) n m → ShowsCount new n m) → IsReadAgain old new (count_read n count)
+again_count old new n count shows = λ told base held. (shows count told).everywhere base held
 
 pub again_objects : (old new : Seeing) (n : ℕ) (objects : List KeyedRow) → ((os : List KeyedRow) → AreObjects (now_in old) n os → ShowsObjects new n os) → IsReadAgain old new (objects_read n objects)
 again_objects old new n objects shows = λ told base held. (shows objects told).everywhere base held
@@ -128,11 +131,20 @@ adds_greatest P {old} {new} {n} alone instead reads =
     (λ (r : DeletesGreatest old n × ReadsKeys old new n). adds_keys P (instead r.0) r.1)
     reads.either
 
+-- a number of objects that is read adds its read, or the keys
+pub adds_count : (P : Read → Type 0) {old new : Seeing} {n : ℕ} → ((count : ℕ) → P (count_read n count)) → (WritesUnread old n → (keys : List ℤ) → P (keys_read n keys)) → ReadsCount old new n → AddsReads P old.reads new.reads
+adds_count P {old} {new} {n} alone instead reads =
+    ⊎_elim
+    (λ (r : ReadsCountAlone old new n). subst (AddsReads P old.reads) (sym (ap (λ (v : Seeing). v.reads) r.count.2)) (adds_noted P old.reads (count_read n r.count.0) (alone r.count.0)))
+    (λ (r : WritesUnread old n × ReadsKeys old new n). adds_keys P (instead r.0) r.1)
+    reads.either
+
 -- a read of the class may be added for a part of it
 pub class_for_part : (layer : Changes) (n : ℕ) (p : ClassPart) (objects : List KeyedRow) (r : Read) → IsOfClass layer n r → IsFor layer (part_read n p objects) r
 class_for_part layer n p objects (cell_read q value) fits = fits
 class_for_part layer n p objects (keys_read m keys) fits = fits
 class_for_part layer n p objects (greatest_read m found) fits = fits
+class_for_part layer n p objects (count_read m found) fits = fits
 class_for_part layer n p objects (objects_read m found) fits = fits
 class_for_part layer n p objects (part_read m q found) fits = absurd fits
 

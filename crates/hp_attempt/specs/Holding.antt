@@ -1,19 +1,21 @@
 -- Reads that hold, and the first that doesn't.
-use Rattle.std.specs.Prelude.{◌≡◌, ℤ, List, [], ◌∷◌, ◌++◌, Some, None, ◌⊎◌}
-use Rattle.hp_model.specs.Cells.{Cells, object_cell, Changes, over, Read, cell_read, keys_read, greatest_read, objects_read, part_read, ReadHolds, Holds}
+use Rattle.std.specs.Prelude.{◌≡◌, ℤ, true, List, [], ◌∷◌, ◌++◌, Some, None, is_some, ◌⊎◌}
+use Rattle.hp_model.specs.Cells.{Cells, object_cell, Changes, over, Read, cell_read, keys_read, greatest_read, count_read, objects_read, part_read, ReadHolds, Holds}
 use Rattle.hp_value.specs.Mapped.{cell}
 use Rattle.hp_view.specs.declared.reads.Seen.{Seen}
-use Rattle.hp_view.specs.declared.reads.Seen.TheVariants.{Cell as OfCell, Keys as OfKeys, Greatest as OfGreatest, Part as OfPart}
+use Rattle.hp_view.specs.declared.reads.Seen.TheVariants.{Cell as OfCell, Keys as OfKeys, Greatest as OfGreatest, Count as OfCount, Part as OfPart}
 use Rattle.hp_store.specs.Changes.{Entries}
 use Rattle.hp_view.specs.Adding.{AddsReads, IsOfClass}
 use Rattle.hp_view.specs.Seeing.{Seeing, beneath, written, now_in, OnlyReads, TakesIn}
 
--- a read of this cell, of this class's keys, alone or with the rows, of its greatest key, or of a part of it
+-- a read of this cell, of this class's keys, alone or with the rows, of its greatest key, of the number of its objects,
+-- or of a part of it
 abbrev pub IsReadOf : Seen → Read → Type 0
 IsReadOf (OfCell q) (cell_read c value) = c ≡ cell q
 IsReadOf (OfKeys n) (keys_read class keys) = class ≡ n
 IsReadOf (OfKeys n) (objects_read class objects) = class ≡ n
 IsReadOf (OfGreatest n) (greatest_read class greatest) = class ≡ n
+IsReadOf (OfCount n) (count_read class count) = class ≡ n
 IsReadOf (OfPart n number) (part_read class part objects) = class ≡ n
 IsReadOf seen r = ⊥
 
@@ -38,7 +40,8 @@ pub record Covers (v : Seeing) (reads : List Read) : Type 0 where
 -- ---- the reads that settling adds
 
 -- a read that may be added for one that an attempt made: one of the same. Where the view's writes delete an object with
--- the greatest key, it reads the class's keys; where it can't read a part alone, it reads the class
+-- the greatest key, it reads the class's keys; so it may for the number of objects, where the writes name one; where it
+-- can't read a part alone, it reads the class
 abbrev pub IsFor : Changes → (tried : Read) → Read → Type 0
 IsFor layer (cell_read q value) (cell_read c found) = (c ≡ q) × (layer q ≡ None)
 IsFor layer (cell_read q value) r = ⊥
@@ -47,6 +50,9 @@ IsFor layer (keys_read n keys) r = ⊥
 IsFor layer (greatest_read n greatest) (greatest_read m found) = m ≡ n
 IsFor layer (greatest_read n greatest) (keys_read m found) = (m ≡ n) × (key : ℤ) × (layer (object_cell n key) ≡ Some None)
 IsFor layer (greatest_read n greatest) r = ⊥
+IsFor layer (count_read n count) (count_read m found) = m ≡ n
+IsFor layer (count_read n count) (keys_read m found) = (m ≡ n) × (key : ℤ) × (is_some (layer (object_cell n key)) ≡ true)
+IsFor layer (count_read n count) r = ⊥
 IsFor layer (objects_read n objects) r = IsOfClass layer n r
 IsFor layer (part_read n part objects) (part_read m p found) = (m ≡ n) × (p ≡ part)
 IsFor layer (part_read n part objects) r = IsOfClass layer n r

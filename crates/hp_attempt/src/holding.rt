@@ -12,8 +12,8 @@ use hp_value::ClassNo;
 use hp_view::{Found, Reads, Seen, View};
 
 /// Whether all reads hold in a view's cells: each cell has the value or the absence that was found, each class the
-/// keys, or the greatest key, or the objects with their rows where it was read as a whole, and each part of a class its
-/// objects with their rows.
+/// keys, or the greatest key, or the number of objects, or the objects with their rows where it was read as a whole, and
+/// each part of a class its objects with their rows.
 ///
 /// Nothing is recorded or allocated.
 pub fn holds(reads: &Reads, view: &View) -> bool
@@ -45,6 +45,7 @@ fn read_holds(view: &View, seen: &Seen, found: &Found) -> bool
         Seen::Cell(cell) => are_same(view.peek(*cell), found.value()),
         Seen::Keys(class) => class_read_holds(view, *class, found),
         Seen::Greatest(class) => view.has_greatest_key(*class, found.greatest()),
+        Seen::Count(class) => view.has_count(*class, found.count()),
         Seen::Part(class, _) => view.has_part(*class, &found.part(), found.objects()),
     }
 }
@@ -58,6 +59,7 @@ fn class_read_holds(view: &View, class: ClassNo, found: &Found) -> bool
         Found::Keys(keys) => view.has_keys(class, keys),
         Found::Value(_) => view.has_keys(class, &[]),
         Found::Greatest(_) => view.has_keys(class, &[]),
+        Found::Count(_) => view.has_keys(class, &[]),
         Found::Part(_) => view.has_keys(class, &[]),
     }
 }

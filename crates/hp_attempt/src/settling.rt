@@ -126,6 +126,7 @@ fn read_again(alloc: Global, view: &mut View, seen: &Seen, found: &Found) -> Res
         Seen::Cell(cell) => view.read(*cell),
         Seen::Keys(class) => read_class_again(alloc, view, *class, found),
         Seen::Greatest(class) => view.read_greatest_key(alloc, *class),
+        Seen::Count(class) => view.read_class_count(alloc, *class),
         Seen::Part(class, _) => read_part_again(alloc, view, *class, found),
     }
 }
@@ -147,6 +148,7 @@ fn read_class_again(
         Found::Keys(_) => view.read_keys(alloc, class),
         Found::Value(_) => view.read_keys(alloc, class),
         Found::Greatest(_) => view.read_keys(alloc, class),
+        Found::Count(_) => view.read_keys(alloc, class),
         Found::Part(_) => view.read_keys(alloc, class),
     }
 }

@@ -1,5 +1,5 @@
 -- The cells of a state, layers of changes over cells, and the reads that hold in cells.
-use Rattle.std.specs.Prelude.{◌≡◌, ℕ, ℤ, int_lt, Bool, true, false, ◌&&◌, ◌==◌, List, [], ◌∷◌, map, All, Option, Some, None, option_map, is_some, Ok, if◌then◌else◌}
+use Rattle.std.specs.Prelude.{◌≡◌, ℕ, ℤ, int_lt, Bool, true, false, ◌&&◌, ◌==◌, List, [], ◌∷◌, map, length, All, Option, Some, None, option_map, is_some, Ok, if◌then◌else◌}
 use Rattle.std.specs.Ordering.{int_eq, int_cmp}
 use Rattle.std.specs.List.{list_any}
 use Rattle.std.specs.List.Sorted.{IsStrictlySortedBy}
@@ -107,12 +107,19 @@ pub record IsGreatestKey (base : Cells) (class : ℕ) (greatest : Option ℤ) : 
   pub there : is_there base class greatest ≡ true
   pub above : (key : ℤ) → is_above greatest key ≡ true → is_some (base (object_cell class key)) ≡ false
 
--- a read: a cell with its value or its absence, a class with its keys, with its greatest key, or with all of its
--- objects, or a part of a class with the part's objects
+-- the number of a class's objects: that of their keys
+pub record IsCount (base : Cells) (class count : ℕ) : Type 0 where
+  pub keys : List ℤ
+  pub are : AreKeys base class keys
+  pub number : length keys ≡ count
+
+-- a read: a cell with its value or its absence, a class with its keys, with its greatest key, with the number of its
+-- objects, or with all of its objects, or a part of a class with the part's objects
 pub data Read : Type 0 where
   cell_read : Cell → Option CellValue → Read
   keys_read : (class : ℕ) → List ℤ → Read
   greatest_read : (class : ℕ) → Option ℤ → Read
+  count_read : (class count : ℕ) → Read
   objects_read : (class : ℕ) → List KeyedRow → Read
   part_read : (class : ℕ) → ClassPart → List KeyedRow → Read
 
@@ -121,6 +128,7 @@ abbrev pub ReadHolds : Cells → Read → Type 0
 ReadHolds base (cell_read cell value) = base cell ≡ value
 ReadHolds base (keys_read class keys) = AreKeys base class keys
 ReadHolds base (greatest_read class greatest) = IsGreatestKey base class greatest
+ReadHolds base (count_read class count) = IsCount base class count
 ReadHolds base (objects_read class objects) = AreObjects base class objects
 ReadHolds base (part_read class p objects) = ArePart base class p objects
 
@@ -129,6 +137,6 @@ ReadsHold base [] = Unit {0}
 ReadsHold base (r ∷ rs) = ReadHolds base r × ReadsHold base rs
 
 -- the reads hold in these cells: each recorded cell has the recorded value or absence, each recorded class the recorded
--- keys, greatest key or objects, each recorded part of a class the recorded objects
+-- keys, greatest key, number of objects or objects, each recorded part of a class the recorded objects
 pub record Holds (base : Cells) (reads : List Read) : Type 0 where
   pub each : ReadsHold base reads

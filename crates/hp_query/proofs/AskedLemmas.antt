@@ -12,7 +12,7 @@ use lib.Pointwise.{bytes_decides}
 use Rattle.hp_model.specs.Values.{Name, Value, integer, boolean, text, KeyedRow, Outcome, ◌>>=◌}
 use Rattle.hp_model.specs.Expressions.{Expression, Comparison, equal, unequal, less, at_most, greater, at_least, both, compared, Environment, bound, as_boolean, field_in, is_equal, is_below, compare, value_of}
 use Rattle.hp_model.specs.ClassParts.{Attribute, key_attribute, field_attribute, attribute_of, lies_within}
-use Rattle.hp_query.specs.Parts.{AsksForPart, expression_of, turned, low_bound, high_bound}
+use Rattle.hp_query.specs.Parts.{AsksForPart, Compares, expression_of, turned, low_bound, high_bound}
 use Rattle.hp_query.proofs.ByKeyLemmas.{value_stays, no_more, own_row}
 
 -- ---- two values that are in order aren't in the other order, and aren't equal
@@ -125,28 +125,36 @@ own_attribute env x (field_attribute f) r = ap (λ (o : Outcome KeyedRow). o >>=
 abbrev compared_outcomes : Comparison → Outcome Value → Outcome Value → Outcome Bool
 compared_outcomes op o p = (o >>= λ v. p >>= λ w. compare op v w >>= λ t. Ok (boolean t)) >>= λ v. as_boolean v
 
-as_told : {o : Outcome Bool} → o ≡ Ok false → ((o >>= λ t. Ok (boolean t)) >>= λ u. as_boolean u) ≡ Ok false
-as_told is = ap (λ (o : Outcome Bool). (o >>= λ t. Ok (boolean t)) >>= λ u. as_boolean u) is
+unwrapped : (o : Outcome Bool) → ((o >>= λ t. Ok (boolean t)) >>= λ u. as_boolean u) ≡ o
+unwrapped (Ok t) = refl
+unwrapped (Err c) = refl
 
-left_outside : (op : Comparison) (o : Outcome Value) (v : Value) → (o >>= λ w. lies_within (low_bound op v) (high_bound op v) w) ≡ Ok false → compared_outcomes op o (Ok v) ≡ Ok false
-left_outside op (Ok w) v isnt = as_told (outside_false op v w isnt)
-left_outside op (Err c) v isnt = cc
+left_compared : (op : Comparison) (o : Outcome Value) (v : Value) → compared_outcomes op o (Ok v) ≡ (o >>= λ w. compare op w v)
+left_compared op (Ok w) v = unwrapped (compare op w v)
+left_compared op (Err c) v = refl
 
-right_outside : (op : Comparison) (o : Outcome Value) (v : Value) → (o >>= λ w. lies_within (low_bound (turned op) v) (high_bound (turned op) v) w) ≡ Ok false → compared_outcomes op (Ok v) o ≡ Ok false
-right_outside op (Ok w) v isnt = as_told (compare_turned op v w ∙ outside_false (turned op) v w isnt)
-right_outside op (Err c) v isnt = cc
+right_compared : (op : Comparison) (o : Outcome Value) (v : Value) → compared_outcomes op (Ok v) o ≡ (o >>= λ w. compare (turned op) w v)
+right_compared op (Ok w) v = unwrapped (compare op v w) ∙ compare_turned op v w
+right_compared op (Err c) v = refl
 
-pub asks_left : (x : Name) (op : Comparison) (a : Attribute) (b : Expression) → AsksForPart x (compared op (expression_of x a) b) a op b
-asks_left x op a b = record {
-  asks = λ env c v free is. record {
-    outside = λ r isnt. ap₂ (compared_outcomes op) (own_attribute env x a r) ((value_stays env x r c free b).so v is) ∙ left_outside op (attribute_of a r) v isnt;
-  };
+pub compares_left : (x : Name) (op : Comparison) (a : Attribute) (b : Expression) → Compares x (compared op (expression_of x a) b) a op b
+compares_left x op a b = record {
+  compares = λ env c v free is r. ap₂ (compared_outcomes op) (own_attribute env x a r) ((value_stays env x r c free b).so v is) ∙ left_compared op (attribute_of a r) v;
 }
 
-pub asks_right : (x : Name) (op : Comparison) (a : Attribute) (b : Expression) → AsksForPart x (compared op b (expression_of x a)) a (turned op) b
-asks_right x op a b = record {
-  asks = λ env c v free is. record {
-    outside = λ r isnt. ap₂ (compared_outcomes op) ((value_stays env x r c free b).so v is) (own_attribute env x a r) ∙ right_outside op (attribute_of a r) v isnt;
+pub compares_right : (x : Name) (op : Comparison) (a : Attribute) (b : Expression) → Compares x (compared op b (expression_of x a)) a (turned op) b
+compares_right x op a b = record {
+  compares = λ env c v free is r. ap₂ (compared_outcomes op) ((value_stays env x r c free b).so v is) (own_attribute env x a r) ∙ right_compared op (attribute_of a r) v;
+}
+
+compared_outside : (op : Comparison) (o : Outcome Value) (v : Value) → (o >>= λ w. lies_within (low_bound op v) (high_bound op v) w) ≡ Ok false → (o >>= λ w. compare op w v) ≡ Ok false
+compared_outside op (Ok w) v isnt = outside_false op v w isnt
+compared_outside op (Err c) v isnt = cc
+
+pub asks_by : (x : Name) (predicate : Expression) (a : Attribute) (op : Comparison) (wanted : Expression) → Compares x predicate a op wanted → AsksForPart x predicate a op wanted
+asks_by x predicate a op wanted is = record {
+  asks = λ env c v free value. record {
+    outside = λ r isnt. is.compares env c v free value r ∙ compared_outside op (attribute_of a r) v isnt;
   };
 }
 

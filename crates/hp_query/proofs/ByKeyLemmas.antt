@@ -85,7 +85,7 @@ module _ (env : Environment) (x : Name) (r : KeyedRow) (c : Cause) (free : row_n
 pub own_row : (env : Environment) (x : Name) (r : KeyedRow) → row_named (bound x r env) x ≡ Ok r
 own_row env x r = ap (λ b. or_cause (cond b (Some r) (lookup (bytes_eq x) env.rows)) wrong_kind) ((bytes_decides x x).1 refl)
 
-own_key : (env : Environment) (x : Name) (r : KeyedRow) → value_of (bound x r env) (key_of x) ≡ Ok (integer r.key)
+pub own_key : (env : Environment) (x : Name) (r : KeyedRow) → value_of (bound x r env) (key_of x) ≡ Ok (integer r.key)
 own_key env x r =
     ap (λ (o : Outcome KeyedRow). o >>= λ q. Ok (integer q.key)) (own_row env x r)
 

@@ -1,13 +1,14 @@
 -- Which rows are the candidates for a predicate, and that they are enough for answers and for aggregates.
-use Rattle.std.proofs.Common.{◌≡◌, refl, sym, ap, ◌∙◌, ℕ, ℤ, Bool, true, false, cond, List, [], ◌∷◌, filter, Ok, Err, if◌then◌else◌, int_eq, Option}
-use Rattle.hp_model.specs.Values.{Name, Value, Row, KeyedRow, Outcome, ◌>>=◌}
-use Rattle.hp_model.specs.Expressions.{Expression, Environment}
+use Rattle.std.proofs.Common.{◌≡◌, refl, sym, ap, ◌∙◌, ℕ, ℤ, Bool, true, false, cond, List, [], ◌∷◌, length, filter, Ok, Err, if◌then◌else◌, int_eq, Option}
+use Rattle.std.proofs.lemmas.List.{length-map}
+use Rattle.hp_model.specs.Values.{Name, Value, boolean, Row, KeyedRow, Outcome, ◌>>=◌}
+use Rattle.hp_model.specs.Expressions.{Expression, constant, Environment}
 use Rattle.hp_model.specs.Conditions.{selected, Merge, merged}
 use Rattle.hp_model.specs.ClassParts.{ClassPart, belongs, picked}
-use Rattle.hp_model.specs.State.{Objects, find_object, rows_of}
+use Rattle.hp_model.specs.State.{Objects, find_object, rows_of, class_keys}
 use Rattle.hp_model.proofs.BridgesAggregates.{merged_kept}
 use Rattle.hp_query.specs.ByKey.{IsFalseElsewhere}
-use Rattle.hp_query.specs.Candidates.{AreCandidates}
+use Rattle.hp_query.specs.Candidates.{AreCandidates, counted}
 use Rattle.hp_query.specs.Looks.{ObjectsRise}
 use Rattle.hp_query.specs.Parts.{IsFalseOutside}
 use Rattle.hp_query.proofs.ByKeyLemmas.{of_hits}
@@ -37,6 +38,16 @@ one_picked (Err c) rest r others hits h e = cc
 picked_kept : (p : ClassPart) (rows hits : List KeyedRow) → picked p rows ≡ Ok hits → hits ≡ filter (λ r. is_in (belongs p r)) rows
 picked_kept p [] hits e = let same : [] ≡ hits = cc in sym same
 picked_kept p (r ∷ rs) hits e = one_picked (belongs p r) (picked p rs) r (filter (λ s. is_in (belongs p s)) rs) hits (λ more is. picked_kept p rs more is) e
+
+-- ---- a predicate that is always true
+
+all_selected : (env : Environment) (x : Name) (rows : List KeyedRow) → selected env x (constant (boolean true)) rows ≡ Ok rows
+all_selected env x [] = refl
+all_selected env x (r ∷ rs) = ap (λ (o : Outcome (List KeyedRow)). o >>= λ rest. Ok (r ∷ rest)) (all_selected env x rs)
+
+pub all_counted : (env : Environment) (x : Name) (class : ℕ) (world : Objects) → counted (selected env x (constant (boolean true)) (rows_of class world)) ≡ Ok (length (class_keys class world))
+all_counted env x class world =
+    ap counted (all_selected env x (rows_of class world)) ∙ ap Ok (sym (length-map (rows_of class world) (λ (r : KeyedRow). r.key)))
 
 module _ (env : Environment) (x : Name) (predicate : Expression) where
   -- ---- which rows are candidates

@@ -9,4 +9,4 @@ pub mod PartLemmas
 pub mod AskedLemmas
 mod CandidateLemmas
 mod TermLemmas
-pub mod Told
+mod EndLemmas

@@ -1,10 +1,8 @@
 -- The verdict on a condition, one entry after another.
-use Rattle.std.proofs.Common.{◌≡◌, ℕ, ◌==◌, true, false, true≢false, suc, ◌+◌, ◌<◌, ◌≤◌, length, get_or, drop, add-one, List, [], ◌∷◌, ◌++◌}
+use Rattle.std.proofs.Common.{◌≡◌, ℕ, suc, ◌+◌, ◌<◌, ◌≤◌, length, get_or, drop, add-one, List, [], ◌∷◌, ◌++◌}
 use Rattle.std.proofs.Common.{map, Option, Some, None, Ok, Err, refl, sym, ap, ◌∙◌, append-nil, append_assoc, subst}
 use Rattle.std.proofs.Math.Seq.{drop-cons}
 use Rattle.std.proofs.Math.ListN.{drop_of_length-le}
-use Rattle.std.proofs.lemmas.Bool.{eqb-true, eq-eqb}
-use Rattle.std.proofs.lemmas.List.{nil_from_length}
 use Rattle.hp_model.specs.Values.{Name, NamedValues, Value, KeyedRow, Cause, Outcome}
 use Rattle.hp_model.specs.Expressions.{Environment, bound, holding}
 use Rattle.hp_model.specs.State.{Objects}
@@ -17,14 +15,6 @@ use Rattle.hp_query.specs.Findings.{joined}
 
 pub split_at : {A : Type 0} (xs : List A) (i : ℕ) (x : A) → i < length xs → x ≡ get_or xs i x → drop i xs ≡ x ∷ drop (i + 1) xs
 split_at xs i x within is = rw add-one (drop-cons xs i x within ∙ ap (λ y. y ∷ drop (suc i) xs) (sym is))
-
--- what `is_empty` tells of a list
-pub is_nothing : {A : Type 0} (xs : List A) (n : ℕ) → n ≡ length xs → (n == 0) ≡ true → xs ≡ []
-is_nothing xs n len is = nil_from_length xs (sym len ∙ eqb-true n 0 is)
-
-pub is_something : {A B : Type 0} (f : A → B) (xs : List A) (n : ℕ) → n ≡ length xs → (n == 0) ≡ false → map f xs ≡ [] → ⊥
-is_something f [] n len is none = true≢false (sym (eq-eqb n 0 len) ∙ is)
-is_something f (x ∷ xs) n len is none = cc
 
 -- ---- the environment after what was found
 

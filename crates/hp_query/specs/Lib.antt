@@ -1,6 +1,7 @@
 pub mod ByKey
 pub mod Candidates
 pub mod Findings
+pub mod KeyRanges
 pub mod Looks
 pub mod Mapped
 pub mod Plain

@@ -1,8 +1,8 @@
 -- Predicates that are false of all rows outside a part of their class.
 use Rattle.std.specs.Prelude.{◌≡◌, false, Option, Some, None, Ok, Err}
-use Rattle.hp_model.specs.Values.{Name, Value, KeyedRow, Cause}
-use Rattle.hp_model.specs.Expressions.{Comparison, equal, unequal, less, at_most, greater, at_least, Expression, field_of, key_of, Environment, bound, row_named, value_of}
-use Rattle.hp_model.specs.ClassParts.{Attribute, key_attribute, field_attribute, ClassPart, belongs}
+use Rattle.hp_model.specs.Values.{Name, Value, KeyedRow, Cause, ◌>>=◌}
+use Rattle.hp_model.specs.Expressions.{Comparison, equal, unequal, less, at_most, greater, at_least, Expression, field_of, key_of, Environment, bound, row_named, compare, value_of}
+use Rattle.hp_model.specs.ClassParts.{Attribute, key_attribute, field_attribute, attribute_of, ClassPart, belongs}
 use Rattle.hp_model.specs.Firing.{boolean_value}
 
 -- for each object outside the part the predicate is false, without a fault
@@ -28,6 +28,10 @@ high_bound at_least v = None
 
 abbrev pub part_compared : Attribute → Comparison → Value → ClassPart
 part_compared a op v = record { attribute = a; low = low_bound op v; high = high_bound op v }
+
+-- the predicate is a comparison of the row's attribute with the expression, wherever the name has no meaning yet
+pub record Compares (x : Name) (predicate : Expression) (a : Attribute) (op : Comparison) (wanted : Expression) : Type 0 where
+  pub compares : (env : Environment) (c : Cause) (v : Value) → row_named env x ≡ Err c → value_of env wanted ≡ Ok v → (r : KeyedRow) → boolean_value (bound x r env) predicate ≡ (attribute_of a r >>= λ w. compare op w v)
 
 -- the predicate begins by comparing the row's attribute with the expression: wherever the name has no meaning yet, the
 -- predicate is false outside the part for the expression's value

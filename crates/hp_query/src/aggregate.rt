@@ -8,9 +8,10 @@ ghost use Rattle.hp_value.specs.Mapped.{Meets, environment, expression, value, o
 ghost use Rattle.hp_query.specs.Looks.{ObjectsRise, AsksEach, aggregate_classes};
 ghost use Rattle.hp_query.specs.Mapped as mapped;
 
+use crate::by_end::is_key_in_range;
 use crate::candidates::Asked;
 use crate::look::Look;
-use crate::query::{Query, count_answer};
+use crate::query::{Query, count_answer, is_always_true};
 use crate::terms::{Merge, Terms};
 use hp_value::{Arithmetic, Cause, ClassNo, Comparison, Env, Expr, Halt, Key, Value};
 use std::alloc::Global;
@@ -47,6 +48,24 @@ pub enum Aggregate {
     Next(ClassNo),
     /// The value of an expression.
     Single(Box<Expr>),
+}
+
+impl Aggregate {
+    /// The query whose class is looked at row by row: over many rows that costs what the class is large. `None` if there
+    /// is none: the look counts all objects of a class, a key is read at one end of its range, and `Next` and `Single`
+    /// have no query. No answer depends on it.
+    pub fn scanned(&self) -> Option<&Query> {
+        match self {
+            Aggregate::Count(rows) if is_always_true(&rows.predicate) => None,
+            Aggregate::Least { rows, term } | Aggregate::Greatest { rows, term }
+                if is_key_in_range(rows.name.as_str(), &rows.predicate, term) => { None }
+            Aggregate::Count(rows)
+            | Aggregate::Sum { rows, .. }
+            | Aggregate::Least { rows, .. }
+            | Aggregate::Greatest { rows, .. } => Some(rows),
+            Aggregate::Next(_) | Aggregate::Single(_) => None,
+        }
+    }
 }
 
 impl PartialEq for Aggregate {

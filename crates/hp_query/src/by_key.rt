@@ -1,9 +1,10 @@
 //! Predicates that begin with a test of the key.
 
-ghost use Rattle.std.specs.Prelude.{IsTrue, IfOk, IfSome, ◌≡◌};
+ghost use Rattle.std.specs.Prelude.{IsTrue, IfOk, IfSome, ◌≡◌, is_some, option_map};
 ghost use Rattle.hp_model.specs.Expressions.{compared, equal, key_of};
 ghost use Rattle.hp_value.specs.Mapped.{environment, expression};
-ghost use Rattle.hp_query.specs.ByKey.{IsFalseElsewhere, AsksFor};
+ghost use Rattle.hp_query.specs.ByKey.{IsFalseElsewhere, AsksFor, first_test, key_asked, key_equated};
+ghost use Rattle.hp_query.specs.ByKey as by_key;
 
 use hp_value::{Comparison, Env, Expr, Halt, Key, Value};
 use std::alloc::{AllocError, Global};
@@ -19,7 +20,9 @@ pub(crate) fn asked_key(
     predicate: &Expr,
     env: &Env,
 ) -> Result<Option<Key>, AllocError>
-    ensures { IfOk result (λ asked. IfSome asked (λ key.
+    ensures key { IfOk result (λ asked.
+        asked ≡ key_asked (environment env.now) name.now (expression predicate.now)) }
+    ensures elsewhere { IfOk result (λ asked. IfSome asked (λ key.
         IsFalseElsewhere (environment env.now) name.now (expression predicate.now) key)) }
 {
     let Some(wanted) = wanted_key(name, predicate) else {
@@ -38,13 +41,18 @@ pub(crate) fn asked_key(
 
 /// Whether a predicate begins by comparing the key. A query then mostly looks at one row, whatever the size of the
 /// class.
-pub(crate) fn asks_key(name: &str, predicate: &Expr) -> bool {
+pub(crate) fn asks_key(name: &str, predicate: &Expr) -> bool
+    ensures { result ≡ is_some (key_equated name.now (first_test (expression predicate.now))) }
+{
     wanted_key(name, predicate).is_some()
 }
 
 // The expression with which a predicate compares the key of the row of this name, if it begins so.
 fn wanted_key<'e>(name: &str, predicate: &'e Expr) -> Option<&'e Expr>
-    ensures { IfSome result (λ wanted. AsksFor name.now (expression predicate.now) (expression wanted.now)) }
+    ensures wanted { option_map (λ wanted. expression wanted.now) result
+        ≡ key_equated name.now (first_test (expression predicate.now)) }
+    ensures asks { IfSome result (λ wanted.
+        AsksFor name.now (expression predicate.now) (expression wanted.now)) }
 {
     match predicate {
         Expr::And(first, _) => wanted_key(name, first),
@@ -55,7 +63,9 @@ fn wanted_key<'e>(name: &str, predicate: &'e Expr) -> Option<&'e Expr>
 
 // The other side of an equation, if one side is the key of the row of this name.
 fn other_side<'e>(name: &str, a: &'e Expr, b: &'e Expr) -> Option<&'e Expr>
-    ensures { IfSome result (λ wanted.
+    ensures side { option_map (λ wanted. expression wanted.now) result
+        ≡ by_key.other_side name.now (expression a.now) (expression b.now) }
+    ensures asks { IfSome result (λ wanted.
         AsksFor name.now (compared equal (expression a.now) (expression b.now)) (expression wanted.now)) }
 {
     if is_key_of(name, a) {
@@ -67,9 +77,10 @@ fn other_side<'e>(name: &str, a: &'e Expr, b: &'e Expr) -> Option<&'e Expr>
     None
 }
 
-// Whether an expression is the key of the row of this name.
-fn is_key_of(name: &str, expr: &Expr) -> bool
-    ensures { IsTrue result → expression expr.now ≡ key_of name.now }
+/// Whether an expression is the key of the row of this name.
+pub(crate) fn is_key_of(name: &str, expr: &Expr) -> bool
+    ensures test { result ≡ by_key.is_key_of name.now (expression expr.now) }
+    ensures told { IsTrue result → expression expr.now ≡ key_of name.now }
 {
     match expr {
         Expr::KeyOf { variable } => variable.as_str() == name,

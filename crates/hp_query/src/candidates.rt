@@ -1,9 +1,9 @@
 //! The rows of a class for which a predicate can be true.
 
-ghost use Rattle.std.specs.Prelude.{◌≡◌, map, string_bytes, IfOk, IfSome};
+ghost use Rattle.std.specs.Prelude.{◌≡◌, ℤ, Some, map, string_bytes, IfOk, IfSome};
 ghost use Rattle.hp_model.specs.State.{Objects, rows_of};
 ghost use Rattle.hp_value.specs.Mapped.{keyed_row, environment, expression};
-ghost use Rattle.hp_query.specs.ByKey.{IsFalseElsewhere};
+ghost use Rattle.hp_query.specs.ByKey.{IsFalseElsewhere, key_asked};
 ghost use Rattle.hp_query.specs.Candidates.{AreCandidates};
 ghost use Rattle.hp_query.specs.Looks.{ObjectsRise};
 ghost use Rattle.hp_query.specs.declared.candidates.Candidates.TheVariants.{One};
@@ -83,6 +83,9 @@ pub(crate) fn find_candidates<L: Look>(
 ) -> Result<Candidates, AllocError>
     ensures goes_on { L.goes_on look.old look.new }
     ensures asks { L.asks asked.now.class look.old look.new }
+    ensures asks_row { (key : ℤ)
+        → key_asked (environment asked.now.env.now) asked.now.name.now (expression asked.now.predicate.now) ≡ Some key
+        → L.asks_row asked.now.class key look.old look.new }
     ensures narrows { (world : Objects) → L.allows look.new world → L.allows look.old world }
     ensures rows { IfOk result (λ found. (world : Objects) → ObjectsRise world → L.allows look.new world
         → AreCandidates (environment asked.now.env.now) asked.now.name.now (expression asked.now.predicate.now)
@@ -108,6 +111,7 @@ fn row_at<L: Look>(
         (expression asked.now.predicate.now) key }
     ensures goes_on { L.goes_on look.old look.new }
     ensures asks { L.asks asked.now.class look.old look.new }
+    ensures asks_row { L.asks_row asked.now.class key look.old look.new }
     ensures narrows { (world : Objects) → L.allows look.new world → L.allows look.old world }
     ensures row { IfOk result (λ found. (world : Objects) → ObjectsRise world → L.allows look.new world
         → AreCandidates (environment asked.now.env.now) asked.now.name.now (expression asked.now.predicate.now)

@@ -1,4 +1,4 @@
-//! Queries over objects, and conditions made of them.
+//! Queries over objects, aggregates of their rows, and conditions made of both.
 //!
 //! A query is answered over any [`Look`]: a plain ordered map of objects, or a view that records its reads. An answer
 //! holds in each world that the look allows after the call.
@@ -7,6 +7,7 @@
 #![tactic(auto)]
 
 mod aggregate;
+mod by_end;
 mod by_key;
 mod candidates;
 mod collect;

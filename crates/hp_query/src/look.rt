@@ -1,8 +1,9 @@
 //! What a query reads.
 
-ghost use Rattle.std.specs.Prelude.{◌≡◌, ℕ, Ok, None, IfOk, IfSome};
+ghost use Rattle.std.specs.Prelude.{◌≡◌, ℕ, ℤ, length, Ok, None, IfOk, IfSome};
 ghost use Rattle.std.specs.List.{last_or};
 ghost use Rattle.hp_model.specs.State.{Objects, find_object, rows_of, class_keys};
+ghost use Rattle.hp_model.specs.ClassParts as parts;
 ghost use Rattle.hp_model.specs.ClassParts.{picked};
 ghost use Rattle.hp_value.specs.Mapped.{class_part};
 ghost use Rattle.hp_query.specs.Looks.{ObjectsRise};
@@ -29,10 +30,17 @@ pub trait Look {
     // what a question about a class may do to the look; for a view: it reads nothing of another class
     ghost asks: { ℕ → Self → Self → Type 0 };
 
+    // what a question about the object with a key may do to the look; for a view: it reads that object alone
+    ghost asks_row: { ℕ → ℤ → Self → Self → Type 0 };
+
+    // what a question about a part of a class may do to the look; for a view: it reads that part alone
+    ghost asks_part: { ℕ → parts.ClassPart → Self → Self → Type 0 };
+
     /// The row of the object with this key in this class, or `None` if there is no such object.
     fn row(&mut self, alloc: Global, class: ClassNo, key: Key) -> Result<Option<Row>, AllocError>
         ensures goes_on { goes_on self.old self.new }
         ensures asks { asks class self.old self.new }
+        ensures asks_row { asks_row class key self.old self.new }
         ensures found { IfOk result (λ found. (world : Objects) →
             ObjectsRise world → allows self.new world → found ≡ find_object world class key) };
 
@@ -42,6 +50,13 @@ pub trait Look {
         ensures asks { asks class self.old self.new }
         ensures listed { IfOk result (λ keys. (world : Objects) →
             ObjectsRise world → allows self.new world → keys.items ≡ class_keys class world) };
+
+    /// The number of a class's objects.
+    fn count(&mut self, alloc: Global, class: ClassNo) -> Result<usize, AllocError>
+        ensures goes_on { goes_on self.old self.new }
+        ensures asks { asks class self.old self.new }
+        ensures counted { IfOk result (λ n. (world : Objects) →
+            ObjectsRise world → allows self.new world → n ≡ length (class_keys class world)) };
 
     /// The greatest key of a class's objects; `None` if the class has none.
     fn greatest_key(&mut self, alloc: Global, class: ClassNo) -> Result<Option<Key>, AllocError>
@@ -72,9 +87,18 @@ pub trait Look {
     ) -> Result<Option<Vec<KeyedRow>>, AllocError>
         ensures goes_on { goes_on self.old self.new }
         ensures asks { asks class self.old self.new }
+        ensures asks_part { asks_part class (class_part part.now) self.old self.new }
         ensures listed { IfOk result (λ found. IfSome found (λ objects. (world : Objects) →
             ObjectsRise world → allows self.new world →
             picked (class_part part.now) (rows_of class world) ≡ Ok (keyed_rows objects))) };
+
+    /// The least key of a class's objects from a lower bound on, as the look sees it now. `None` if there is none, or if
+    /// the look doesn't know. This is a hint of where to ask, and no answer: no read is recorded, and nothing depends
+    /// on it.
+    fn likely_least(&self, class: ClassNo, low: Option<Key>) -> Option<Key>;
+
+    /// The greatest key of a class's objects up to an upper bound, in the same way.
+    fn likely_greatest(&self, class: ClassNo, high: Option<Key>) -> Option<Key>;
 
     ghost goes_on_same: { (look : Self) → goes_on look look };
 
@@ -85,6 +109,8 @@ pub trait Look {
 
     ghost asks_then: { (class : ℕ) → (first second third : Self) → asks class first second →
         asks class second third → asks class first third };
+
+    ghost asks_row_same: { (class : ℕ) → (key : ℤ) → (look : Self) → asks_row class key look look };
 
     // a later state of the look allows no world that an earlier one didn't
     ghost narrows: { (first second : Self) → goes_on first second → (world : Objects) → allows second world →

@@ -3,7 +3,7 @@
 ghost use Rattle.std.specs.Prelude.{◌≡◌, IfOk, IfSome};
 ghost use Rattle.hp_model.specs.Expressions.{compared};
 ghost use Rattle.hp_value.specs.Mapped.{attribute, class_part, comparison, environment, expression, value};
-ghost use Rattle.hp_query.specs.Parts.{IsFalseOutside, AsksForPart, expression_of};
+ghost use Rattle.hp_query.specs.Parts.{IsFalseOutside, AsksForPart, Compares, expression_of};
 ghost use Rattle.hp_query.specs.Parts.{low_bound, high_bound, part_compared, turned};
 
 use hp_value::{Attribute, Bounds, ClassPart, Comparison, Env, Expr, Halt, Value};
@@ -99,12 +99,15 @@ pub fn asked_field<'e>(name: &str, predicate: &'e Expr) -> Option<&'e str> {
     }
 }
 
-// A comparison with an attribute of the row on its left side.
+/// A comparison with an attribute of the row on its left side.
 #[derive(Clone, Copy)]
-struct Compared<'e> {
-    attribute: Attribute<'e>,
-    comparison: Comparison,
-    other: &'e Expr,
+pub(crate) struct Compared<'e> {
+    /// The attribute.
+    pub(crate) attribute: Attribute<'e>,
+    /// The comparison.
+    pub(crate) comparison: Comparison,
+    /// Its right side.
+    pub(crate) other: &'e Expr,
 }
 
 // The comparison by which a predicate begins, if it is one of an attribute of the row of this name.
@@ -121,15 +124,15 @@ fn compared_attribute<'e>(name: &str, predicate: &'e Expr) -> Option<Compared<'e
     }
 }
 
-// The same for a comparison with these two sides.
-fn compared_side<'e>(
+/// The comparison with these two sides, if one of them is an attribute of the row of this name.
+pub(crate) fn compared_side<'e>(
     name: &str,
     compares: Comparison,
     a: &'e Expr,
     b: &'e Expr,
 ) -> Option<Compared<'e>>
     ensures { IfSome result (λ c.
-        AsksForPart name.now (compared (comparison compares) (expression a.now) (expression b.now))
+        Compares name.now (compared (comparison compares) (expression a.now) (expression b.now))
         (attribute c.attribute) (comparison c.comparison) (expression c.other.now)) }
 {
     if let Some(attribute) = own_attribute(name, a) {

@@ -103,6 +103,10 @@ impl Look for PlainObjects {
 
     ghost asks = { λ class before after. after ≡ before };
 
+    ghost asks_row = { λ class key before after. after ≡ before };
+
+    ghost asks_part = { λ class part before after. after ≡ before };
+
     ghost goes_on_same = { λ look. refl };
 
     ghost goes_on_then = { λ first second third one two. two ∙ one };
@@ -110,6 +114,8 @@ impl Look for PlainObjects {
     ghost asks_same = { λ class look. refl };
 
     ghost asks_then = { λ class first second third one two. two ∙ one };
+
+    ghost asks_row_same = { λ class key look. refl };
 
     ghost narrows = { λ first second on world is. is ∙ on };
 
@@ -126,6 +132,11 @@ impl Look for PlainObjects {
             keys.push(name.key)?;
         }
         Ok(keys)
+    }
+
+    fn count(&mut self, alloc: Global, class: ClassNo) -> Result<usize, AllocError> {
+        let keys = Look::keys(self, alloc, class)?;
+        Ok(keys.len())
     }
 
     fn greatest_key(&mut self, alloc: Global, class: ClassNo) -> Result<Option<Key>, AllocError> {
@@ -151,6 +162,15 @@ impl Look for PlainObjects {
         part: &ClassPart<'_>,
     ) -> Result<Option<Vec<KeyedRow>>, AllocError> {
         Ok(None)
+    }
+
+    // It finds no parts, so a hint would serve nothing.
+    fn likely_least(&self, class: ClassNo, low: Option<Key>) -> Option<Key> {
+        None
+    }
+
+    fn likely_greatest(&self, class: ClassNo, high: Option<Key>) -> Option<Key> {
+        None
     }
 }
 

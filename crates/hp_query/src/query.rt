@@ -1,11 +1,13 @@
 //! Queries and their answers.
 
-ghost use Rattle.std.specs.Prelude.{map};
-ghost use Rattle.hp_model.specs.Expressions.{bound};
+ghost use Rattle.std.specs.Prelude.{◌≡◌, ℤ, IsTrue, Some, is_some, string_bytes, true, map};
+ghost use Rattle.hp_model.specs.Expressions.{bound, constant};
+ghost use Rattle.hp_model.specs.Values.{boolean};
 ghost use Rattle.hp_model.specs.State.{Objects};
 ghost use Rattle.hp_model.specs.Firing.{boolean_value};
 ghost use Rattle.hp_model.specs.Conditions as model;
 ghost use Rattle.hp_value.specs.Mapped.{Meets, keyed_row, environment, expression};
+ghost use Rattle.hp_query.specs.ByKey.{first_test, key_asked, key_equated};
 ghost use Rattle.hp_query.specs.Candidates.{counted};
 ghost use Rattle.hp_query.specs.Looks.{ObjectsRise};
 ghost use Rattle.hp_query.specs.Mapped as mapped;
@@ -15,7 +17,7 @@ use crate::by_key::asks_key;
 use crate::candidates::{Asked, find_candidates};
 use crate::look::Look;
 use crate::part::asked_field;
-use hp_value::{ClassNo, Env, Expr, Halt, KeyedRow};
+use hp_value::{ClassNo, Env, Expr, Halt, KeyedRow, Value};
 use std::alloc::{AllocError, Global};
 
 /// A query: the rows of a class for which a predicate is true. HiPAC's conditions are lists of queries.
@@ -32,7 +34,10 @@ pub struct Query {
 impl Query {
     /// Whether the predicate begins by comparing the key. The query then mostly looks at one row, whatever the size of
     /// its class. No answer depends on it.
-    pub fn asks_key(&self) -> bool {
+    pub fn asks_key(&self) -> bool
+        ensures { let asked = mapped.query self.now in
+            result ≡ is_some (key_equated asked.name (first_test asked.predicate)) }
+    {
         asks_key(self.name.as_str(), &self.predicate)
     }
 
@@ -55,6 +60,9 @@ pub fn answer<L: Look>(
 ) -> Result<Vec<KeyedRow>, Halt>
     ensures goes_on { L.goes_on look.old look.new }
     ensures asks { L.asks query.now.class look.old look.new }
+    ensures asks_row { let asked = mapped.query query.now in
+        (key : ℤ) → key_asked (environment env.now) asked.name asked.predicate ≡ Some key
+        → L.asks_row asked.class key look.old look.new }
     ensures narrows { (world : Objects) → L.allows look.new world → L.allows look.old world }
     ensures answer { let asked = mapped.query query.now in
         (world : Objects) → ObjectsRise world → L.allows look.new world
@@ -84,6 +92,8 @@ pub fn selected_rows<L: Look>(
 ) -> Result<Vec<KeyedRow>, Halt>
     ensures goes_on { L.goes_on look.old look.new }
     ensures asks { L.asks class look.old look.new }
+    ensures asks_row { (key : ℤ) → key_asked (environment env.now) name.now (expression predicate.now) ≡ Some key
+        → L.asks_row class key look.old look.new }
     ensures narrows { (world : Objects) → L.allows look.new world → L.allows look.old world }
     ensures answer { (world : Objects) → ObjectsRise world → L.allows look.new world
         → Meets keyed_rows result (model.answer (environment env.now) name.now class (expression predicate.now) world) }
@@ -98,7 +108,8 @@ pub fn selected_rows<L: Look>(
     selected(alloc, &asked, found.rows())
 }
 
-/// The number of rows of a query's answer. It makes no list of them.
+/// The number of rows of a query's answer. It makes no list of them. If every object of the class is in the answer, the
+/// look counts them.
 ///
 /// The errors are those of [`answer`].
 pub(crate) fn count_answer<L: Look>(
@@ -115,9 +126,22 @@ pub(crate) fn count_answer<L: Look>(
         → Meets (λ n. n) result
         (counted (model.answer (environment env.now) asked.name asked.class asked.predicate world)) }
 {
+    if is_always_true(&query.predicate) {
+        return Ok(look.count(alloc, query.class)?);
+    }
     let asked = Asked::new(query, env);
     let found = find_candidates(alloc, &asked, look)?;
     count_selected(alloc, &asked, found.rows())
+}
+
+/// Whether a predicate is the constant `true`.
+pub(crate) fn is_always_true(predicate: &Expr) -> bool
+    ensures { IsTrue result → expression predicate.now ≡ constant (boolean true) }
+{
+    match predicate {
+        Expr::Constant(constant) => matches!(constant.value(), Value::Bool(true)),
+        _ => false,
+    }
 }
 
 /// The number of the given objects for which a predicate is true.

@@ -1,18 +1,21 @@
 //! Terms of aggregates: expressions over the rows of an answer, merged one after another.
 
-ghost use Rattle.std.specs.Prelude.{◌≡◌, [], ◌∷◌, None, map, option_map};
+ghost use Rattle.std.specs.Prelude.{◌≡◌, [], ◌∷◌, Ok, Some, None, IfOk, IfSome, map, option_map};
 ghost use Rattle.hp_model.specs.State.{Objects, rows_of};
+ghost use Rattle.hp_model.specs.Values.{integer};
 ghost use Rattle.hp_model.specs.Conditions as model;
 ghost use Rattle.hp_value.specs.Mapped as mapped;
 ghost use Rattle.hp_value.specs.Mapped.{Meets, environment, expression, keyed_row, outcome, value};
 ghost use Rattle.hp_query.specs.Looks.{ObjectsRise};
 ghost use Rattle.hp_query.specs.Mapped.{merge};
 
+use crate::by_end::{greatest_key, key_range, least_key};
+use crate::by_key::is_key_of;
 use crate::candidates::{Asked, find_candidates};
 use crate::look::Look;
 use crate::query::is_selected;
-use hp_value::{Arithmetic, Cause, Comparison, Expr, Halt, KeyedRow, Value};
-use std::alloc::Global;
+use hp_value::{Arithmetic, Cause, Comparison, Expr, Halt, Key, KeyedRow, Value};
+use std::alloc::{AllocError, Global};
 
 /// How a term's value goes into what the terms before it gave.
 #[derive(Clone, Copy)]
@@ -83,8 +86,51 @@ impl Terms<'_> {
     /// The terms of the class's rows, merged in key order; `None` if there are none.
     ///
     /// For each row the predicate is first, then the term, then their merging, and the first fault on this way is the
-    /// fault. After an error the look may allow fewer worlds, and nothing else has changed.
+    /// fault. The least or the greatest key of the class, or of a range of its keys, is read at one end, if the look
+    /// finds it there. After an error the look may allow fewer worlds, and nothing else has changed.
     pub(crate) fn merged<L: Look>(&self, alloc: Global, look: &mut L) -> Result<Option<Value>, Halt>
+        ensures goes_on { L.goes_on look.old look.new }
+        ensures asks { L.asks self.now.asked.class look.old look.new }
+        ensures narrows { (world : Objects) → L.allows look.new world → L.allows look.old world }
+        ensures value { let asked = self.now.asked in
+            (world : Objects) → ObjectsRise world → L.allows look.new world
+            → Meets (option_map value) result
+            (model.merged (merge self.now.merge) (environment asked.env.now) asked.name.now
+            (expression asked.predicate.now) (expression self.now.term.now) None (rows_of asked.class world)) }
+    {
+        if let Some(key) = self.end_key(alloc, look)? {
+            return Ok(Some(Value::Int(key)));
+        }
+        self.merged_candidates(alloc, look)
+    }
+
+    // The least or the greatest key, where that is what is asked for, and it is found at the end of its range.
+    fn end_key<L: Look>(&self, alloc: Global, look: &mut L) -> Result<Option<Key>, AllocError>
+        ensures goes_on { L.goes_on look.old look.new }
+        ensures asks { L.asks self.now.asked.class look.old look.new }
+        ensures narrows { (world : Objects) → L.allows look.new world → L.allows look.old world }
+        ensures key { let asked = self.now.asked in
+            IfOk result (λ found. IfSome found (λ key. (world : Objects) → ObjectsRise world → L.allows look.new world
+            → Ok (Some (integer key)) ≡ model.merged (merge self.now.merge) (environment asked.env.now) asked.name.now
+            (expression asked.predicate.now) (expression self.now.term.now) None (rows_of asked.class world))) }
+    {
+        if !is_key_of(self.asked.name, self.term) {
+            return Ok(None);
+        }
+        let Some(range) = key_range(alloc, &self.asked)? else {
+            return Ok(None);
+        };
+        match self.merge {
+            Merge::Preferred(Comparison::Less) => least_key(alloc, self.asked.class, &range, look),
+            Merge::Preferred(Comparison::Greater) => {
+                greatest_key(alloc, self.asked.class, &range, look)
+            }
+            _ => Ok(None),
+        }
+    }
+
+    // The terms of the rows for which the predicate can be true, merged.
+    fn merged_candidates<L: Look>(&self, alloc: Global, look: &mut L) -> Result<Option<Value>, Halt>
         ensures goes_on { L.goes_on look.old look.new }
         ensures asks { L.asks self.now.asked.class look.old look.new }
         ensures narrows { (world : Objects) → L.allows look.new world → L.allows look.old world }

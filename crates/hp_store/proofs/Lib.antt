@@ -18,3 +18,4 @@ pub mod Picked
 pub mod Placed
 pub mod Indexed
 pub mod Noted
+pub mod Counted

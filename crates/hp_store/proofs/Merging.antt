@@ -121,7 +121,7 @@ has_after : Bool → Option (Option CellValue) → Bool
 has_after before None = before
 has_after before (Some x) = is_some x
 
-apart_keys : (q k : ℤ) → int_cmp q k ≡ Less → int_eq k q ≡ false
+pub apart_keys : (q k : ℤ) → int_cmp q k ≡ Less → int_eq k q ≡ false
 apart_keys q k less = int_eq_equiv.symm k q ∙ sym (int_at q k) ∙ ap is_eq less
 
 absent_key : (q k : ℤ) → IsTrue (is_le (int_cmp q k)) → (es : Entries) → AboveKeys k es → at_key q es ≡ None

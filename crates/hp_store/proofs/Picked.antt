@@ -1,6 +1,6 @@
 -- The objects of a part, found among some keys.
-use Rattle.std.proofs.Common.{◌≡◌, refl, ap, ap₂, sym, ◌∙◌, subst, ℕ, ◌<◌, ◌+◌, ℤ, pos, Bool, true, false, ◌||◌, List, [], ◌∷◌, ◌++◌, length, drop, get_or, append_assoc, Option, Some, None, int_eq, Result, Ok}
-use Rattle.std.specs.Prelude.{All, IfOk}
+use Rattle.std.proofs.Common.{◌≡◌, refl, ap, ap₂, sym, ◌∙◌, subst, ℕ, ◌<◌, ◌+◌, ℤ, pos, Bool, true, false, ◌||◌, List, [], ◌∷◌, ◌++◌, length, drop, get_or, append_assoc, Option, Some, None, int_eq, Result, Ok, Err}
+use Rattle.std.specs.Prelude.{All, IfOk, option_map}
 use Rattle.std.specs.Ordering.{is_eq, int_cmp}
 use Rattle.std.specs.declared.cmp.Ordering.TheVariants.{Less}
 use Rattle.std.specs.List.{AllByRecursion, dedup}
@@ -13,11 +13,15 @@ use Rattle.std.proofs.lemmas.List.Folds.{list_any-append}
 use Rattle.std.proofs.lemmas.List.Kept.{Contains-dedup, IsStrictlySortedBy-dedup}
 use Rattle.std.proofs.lemmas.List.Sorted.{Contains-permutation}
 use Rattle.std.proofs.lemmas.Map.Views.{Contains-from_any, list_any-from_Contains}
-use Rattle.hp_model.specs.Values.{Row, KeyedRow}
-use Rattle.hp_model.specs.ClassParts.{ClassPart}
+use Rattle.hp_model.specs.Values.{Row, KeyedRow, Cause, integer}
+use Rattle.hp_model.specs.ClassParts.{ClassPart, belongs, lies_within}
 use Rattle.hp_model.specs.Cells.{object_cell, Cells, belongs_in, ArePart}
-use Rattle.hp_value.specs.Mapped.{keys_of}
-use Rattle.hp_store.specs.Parts.{Covers, is_among, IsMember, with_member}
+use Rattle.hp_value.specs.declared.class_part.Attribute.{Attribute}
+use Rattle.hp_value.specs.declared.class_part.Attribute.TheVariants.{Key, Field}
+use Rattle.hp_value.specs.declared.class_part.Bounds.{Bounds}
+use Rattle.hp_value.specs.declared.class_part.Bounds.TheVariants.{Numbers, Texts}
+use Rattle.hp_value.specs.Mapped.{keys_of, attribute, low, high}
+use Rattle.hp_store.specs.Parts.{Covers, is_among, compares_keys, IsMember, with_member}
 use Rattle.hp_store.proofs.Cells.{int_at}
 use Rattle.hp_store.proofs.Agreed.{IsShown, shown_at}
 
@@ -61,6 +65,21 @@ sorted_kept keys sorted new moved is key out = by (is_among keys key) refl
     by : (b : Bool) → is_among keys key ≡ b → is_among keys key ≡ false
     by true among = absurd (cc (sym (there among) ∙ out))
     by false among = among
+
+-- ---- a part by keys
+
+no_fault : (l h : Option ℤ) (k : ℤ) (c : Cause) → lies_within (option_map integer l) (option_map integer h) (integer k) ≡ Err c → ⊥
+no_fault None None k c e = cc
+no_fault None (Some h) k c e = cc
+no_fault (Some l) None k c e = cc
+no_fault (Some l) (Some h) k c e = cc
+
+-- each object can be compared with its bounds
+pub keys_compare : (a : Attribute) (b : Bounds) (r : KeyedRow) (c : Cause) → compares_keys a b ≡ true → Err c ≡ belongs (record { attribute = attribute a; low = low b; high = high b }) r → ⊥
+keys_compare Key (Numbers l h) r c is e = no_fault l h r.key c (sym e)
+keys_compare Key (Texts l h) r c is e = cc
+keys_compare (Field f) (Numbers l h) r c is e = cc
+keys_compare (Field f) (Texts l h) r c is e = cc
 
 -- ---- one object after the other
 

@@ -170,3 +170,9 @@ abbrev pub left_below : Option ℤ → ℕ
 left_below None = 2 ^ 64 + 1
 left_below (Some (pos n)) = 2 ^ 63 + n
 left_below (Some (negsuc n)) = 2 ^ 63 - 1 - n
+
+-- a bound on how many lie above it
+abbrev pub left_above : Option ℤ → ℕ
+left_above None = 2 ^ 64 + 1
+left_above (Some (pos n)) = 2 ^ 63 - 1 - n
+left_above (Some (negsuc n)) = 2 ^ 63 + n

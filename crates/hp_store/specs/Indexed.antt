@@ -1,5 +1,5 @@
 -- Indexes of fields.
-use Rattle.std.specs.Prelude.{◌≡◌, ℤ, true, Bool, ⊤, List, All, Option, MatchOption, IsTrue, string_bytes, if◌then◌else◌}
+use Rattle.std.specs.Prelude.{◌≡◌, ℤ, true, false, Bool, ⊤, List, All, Option, Some, MatchOption, IsTrue, string_bytes, if◌then◌else◌}
 use Rattle.std.specs.BTreeMap.Range.{range_contains}
 use Rattle.std.specs.BTreeSet.{BTreeSet, contains}
 use Rattle.hp_model.specs.Values.{fits_64}
@@ -19,6 +19,10 @@ Stands places p = (contains place_cmp places p ≡ true) × IsTrue (fits_64 (key
 -- what an object's cell holds has its place in an index, if it is a row
 abbrev pub IsIn : Index → ℤ → Option CellValue → Type 0
 IsIn index key v = MatchOption (place_at (string_bytes index.field) key v) ⊤ (Stands index.places)
+
+-- an old place isn't in an index, unless it is the new one, too
+abbrev pub HasLeft : BTreeSet Place → (old new : Option Place) → Type 0
+HasLeft places old new = (p : Place) → old ≡ Some p → (new ≡ Some p → ⊥) → contains place_cmp places p ≡ false
 
 -- so it is with each object of the class
 abbrev pub IsComplete : Cells → Index → Type 0

@@ -1,5 +1,6 @@
 pub mod Changes
 pub mod Codes
+pub mod Counts
 pub mod Greatest
 pub mod Indexed
 pub mod Kept

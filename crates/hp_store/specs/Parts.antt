@@ -9,6 +9,11 @@ use Rattle.hp_model.specs.Values.{Row, Outcome, KeyedRow}
 use Rattle.hp_model.specs.ClassParts.{ClassPart, belongs}
 use Rattle.hp_model.specs.Cells.{CellValue as Value, object_cell, row_value, Cells, belongs_in}
 use Rattle.hp_value.specs.Same.{row_same}
+use Rattle.hp_value.specs.declared.class_part.ClassPart.{ClassPart as RustPart}
+use Rattle.hp_value.specs.declared.class_part.Attribute.{Attribute}
+use Rattle.hp_value.specs.declared.class_part.Attribute.TheVariants.{Key}
+use Rattle.hp_value.specs.declared.class_part.Bounds.{Bounds}
+use Rattle.hp_value.specs.declared.class_part.Bounds.TheVariants.{Numbers}
 use Rattle.hp_value.specs.declared.cell.Cell.{Cell}
 use Rattle.hp_value.specs.declared.cell.Cell.TheVariants.{Object}
 use Rattle.hp_store.specs.declared.value.CellValue.{CellValue}
@@ -28,6 +33,14 @@ keys_left Nothing = []
 keys_left (OfTable es) = map (λ (e : ℤ × CellValue). e.0) es
 keys_left (OfIndex ps) = map key_at ps
 keys_left (OfLayer es) = object_keys es
+
+-- whether a part is one by keys
+abbrev pub compares_keys : Attribute → Bounds → Bool
+compares_keys Key (Numbers low high) = true
+compares_keys a b = false
+
+abbrev pub is_of_keys : RustPart → Bool
+is_of_keys p = compares_keys p.attribute p.bounds
 
 -- a bound that is included, if there is one
 abbrev pub bound_of : {K : Type 0} → Option K → Bound K

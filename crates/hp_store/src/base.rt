@@ -31,16 +31,16 @@ pub(crate) struct Base {
 }
 
 impl Base {
-    ghost use Rattle.std.specs.Prelude.{◌≡◌, ℤ, true, false, [], None, IfOk, OnOk, OnErr};
-    ghost use Rattle.std.specs.Prelude.{IfSome, MatchOption, option_map, if◌then◌else◌};
+    ghost use Rattle.std.specs.Prelude.{◌≡◌, ◌<◌, ◌^◌, ℤ, true, false, [], None, IfOk, OnOk, OnErr};
+    ghost use Rattle.std.specs.Prelude.{IfSome, IsTrue, MatchOption, option_map, if◌then◌else◌};
     ghost use Rattle.hp_store.specs.Tables.{table_at};
-    ghost use Rattle.hp_model.specs.Cells.{Cell as ModelCell, object_cell, AreKeys, over, same_cell, is_above};
+    ghost use Rattle.hp_model.specs.Cells.{Cell as ModelCell, object_cell, AreKeys, IsCount, over, same_cell, is_above};
     ghost use Rattle.hp_value.specs.Mapped as mapped;
     ghost use Rattle.hp_store.specs.Changes.{changes};
     ghost use Rattle.hp_store.specs.Greatest.{is_below};
     ghost use Rattle.hp_store.specs.Indexed.{IsComplete, AreComplete};
     ghost use Rattle.hp_store.specs.Mapped as here;
-    ghost use Rattle.hp_store.specs.Parts.{keys_left, is_among, lies_between, Covers};
+    ghost use Rattle.hp_store.specs.Parts.{keys_left, is_among, is_of_keys, lies_between, Covers};
     ghost use Rattle.hp_store.specs.Tables.{tables, base_cells};
 
     /// Empty cells.
@@ -103,6 +103,17 @@ impl Base {
         }
     }
 
+    /// The number of a class's objects.
+    pub(crate) fn count(&self, class: ClassNo) -> usize
+        ensures count { IsCount (base_cells self.now) class result }
+        ensures few { result < 2 ^ 63 }
+    {
+        match self.table(class) {
+            Some(table) => table.len(),
+            None => 0,
+        }
+    }
+
     /// Keys of a class among which all objects of a part are: those of an index, if there is one of the part's field,
     /// and else those up to the part's bounds, if it is one by keys.
     pub(crate) fn candidates(&self, class: ClassNo, part: &ClassPart<'_>) -> Candidates<'_>
@@ -124,7 +135,9 @@ impl Base {
     }
 
     /// Whether these keys are found without a look at the whole class.
-    pub(crate) fn finds(&self, class: ClassNo, part: &ClassPart<'_>) -> bool {
+    pub(crate) fn finds(&self, class: ClassNo, part: &ClassPart<'_>) -> bool
+        ensures { is_of_keys part.now ≡ true → IsTrue result }
+    {
         match (part.attribute, part.bounds) {
             (Attribute::Key, Bounds::Numbers(_, _)) => true,
             _ => indexed(&self.indexes, class, part).is_some(),

@@ -1,7 +1,7 @@
 //! The greatest key of a class.
 
 ghost use Rattle.std.specs.Prelude.{◌≡◌, ℤ, ◌⊎◌, true, false, IfSome, is_some};
-ghost use Rattle.hp_model.specs.Cells.{IsGreatestKey, is_above, object_cell, over};
+ghost use Rattle.hp_model.specs.Cells.{IsGreatestKey, is_above, is_there, object_cell, over};
 ghost use Rattle.hp_store.specs.Changes.{changes, changes_in};
 ghost use Rattle.hp_store.specs.Greatest.{is_below, NamesNone};
 ghost use Rattle.hp_store.specs.Stack.{cells_in};
@@ -27,7 +27,21 @@ impl Snapshot {
     pub fn greatest_key_over(&self, writes: &Layer, class: ClassNo) -> Option<Key>
         ensures { IsGreatestKey (over (cells_in self.now) (changes writes.now)) class result }
     {
-        let mut bound = None;
+        self.greatest_below(writes, class, None)
+    }
+
+    // The greatest key below a bound of a class's objects under the writes.
+    pub(crate) fn greatest_below(
+        &self,
+        writes: &Layer,
+        class: ClassNo,
+        below: Option<Key>,
+    ) -> Option<Key>
+        ensures there { is_there (over (cells_in self.now) (changes writes.now)) class result ≡ true }
+        ensures above { (key : ℤ) → is_below below key ≡ true → is_above result key ≡ true →
+            is_some (over (cells_in self.now) (changes writes.now) (object_cell class key)) ≡ false }
+    {
+        let mut bound = below;
         while let Some(key) = self.named_below(writes, class, bound) {
             if self.holds(writes, Cell::Object(class, key)) {
                 return Some(key);

@@ -8,10 +8,10 @@ ghost use Rattle.std.specs.Map.{lookup};
 ghost use Rattle.std.specs.Ordering.{int_cmp};
 ghost use Rattle.hp_model.specs.Cells.{CellValue as Held, Cells, object_cell};
 ghost use Rattle.hp_value.specs.Mapped as mapped;
-ghost use Rattle.hp_store.specs.Indexed.{is_between, Stands, IsIn, IsComplete, AreComplete, with_value};
+ghost use Rattle.hp_store.specs.Indexed.{is_between, Stands, IsIn, HasLeft, IsComplete, AreComplete, with_value};
 ghost use Rattle.hp_store.specs.Mapped.{cell_value};
 ghost use Rattle.hp_store.specs.Parts.{keys_left, is_among, Covers};
-ghost use Rattle.hp_store.specs.Places.{place_cmp, key_at, is_other};
+ghost use Rattle.hp_store.specs.Places.{place_cmp, key_at, place_at, is_other};
 
 use crate::candidates::{Candidates, included};
 use crate::place::{Place, are_crossed, place_bounds, place_in};
@@ -111,6 +111,9 @@ impl Index {
         ensures kept { IsTrue result → (k : ℤ) (v : Option Held) → IsIn self.old k v →
             (k ≡ key → v ≡ option_map (λ x. cell_value x.now) new.entry) → IsIn self.new k v }
         ensures entered { IsTrue result → IsIn self.new key (option_map (λ x. cell_value x.now) new.entry) }
+        ensures left { IsTrue result → HasLeft self.new.places
+            (place_at (string_bytes self.old.field) key (option_map (λ x. cell_value x.now) old.entry))
+            (place_at (string_bytes self.old.field) key (option_map (λ x. cell_value x.now) new.entry)) }
     {
         if !self.enter(key, new) {
             return false;
@@ -205,8 +208,9 @@ fn add(places: &mut BTreeSet<Place>, place: Option<Place>) -> bool
 
 // Takes out a place, unless it is the new one, too.
 fn leave(places: &mut BTreeSet<Place>, old: Option<Place>, new: Option<Place>)
-    ensures { (p : Place) → contains place_cmp places.old p ≡ true → (old ≡ Some p → new ≡ Some p) →
+    ensures kept { (p : Place) → contains place_cmp places.old p ≡ true → (old ≡ Some p → new ≡ Some p) →
         contains place_cmp places.new p ≡ true }
+    ensures left { HasLeft places.new old new }
 {
     if let Some(place) = old {
         if new != Some(place) {

@@ -57,7 +57,7 @@ impl Model for Layer {
 }
 
 impl Layer {
-    ghost use Rattle.std.specs.Prelude.{◌≡◌, ◌↔◌, [], Some, None, IsTrue, IsSome, IsOk};
+    ghost use Rattle.std.specs.Prelude.{◌≡◌, ◌<◌, ◌^◌, ◌↔◌, [], Some, None, IsTrue, IsSome, IsOk};
     ghost use Rattle.std.specs.Prelude.{IfOk, OnOk, OnErr, map, option_map, length};
     ghost use Rattle.std.specs.Option.{option_or};
     ghost use Rattle.hp_model.specs.Cells.{Cell as ModelCell, object_cell, with_change};
@@ -77,7 +77,8 @@ impl Layer {
 
     /// How many cells the layer names.
     pub fn len(&self) -> usize
-        ensures { result ≡ length self.now }
+        ensures number { result ≡ length self.now }
+        ensures few { result < 2 ^ 63 }
     {
         self.changes.len()
     }
@@ -236,8 +237,8 @@ impl Layer {
     ghost use Rattle.hp_store.specs.Mapped.{entry};
     ghost use Rattle.hp_store.specs.Parts.{keys_left, no_cells, is_among, Covers};
 
-    // The changes of a class's objects, by their keys.
-    pub(crate) fn of_class(&self, class: ClassNo) -> Range<'_, Cell, Option<CellValue>>
+    /// The changes of a class's objects, by their keys.
+    pub fn of_class(&self, class: ClassNo) -> Range<'_, Cell, Option<CellValue>>
         ensures entries { map entry result ≡ class_entries class self.now }
         ensures rise { KeysRise (class_entries class self.now) }
         ensures fit { KeysFit (class_entries class self.now) }

@@ -5,10 +5,12 @@
 
 mod base;
 mod candidates;
+mod counting;
 mod greatest;
 mod index;
 mod kept;
 mod layer;
+mod likely;
 mod parts;
 mod place;
 mod shared;

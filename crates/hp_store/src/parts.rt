@@ -1,6 +1,7 @@
 //! Parts of classes in a snapshot.
 
-ghost use Rattle.std.specs.Prelude.{◌≡◌, ◌↔◌, ◌++◌, ℤ, true, false, map, IsTrue, IfOk, IfSome, OnOk, option_map};
+ghost use Rattle.std.specs.Prelude.{◌≡◌, ◌↔◌, ◌++◌, ℤ, true, false, map, IsTrue, IsSome, IsOk};
+ghost use Rattle.std.specs.Prelude.{IfOk, IfSome, OnOk, option_map};
 ghost use Rattle.std.specs.List.{list_all};
 ghost use Rattle.std.specs.List.Sorted.{IsStrictlySortedBy};
 ghost use Rattle.std.specs.Ordering.{int_cmp};
@@ -9,7 +10,7 @@ ghost use Rattle.hp_value.specs.Mapped as mapped;
 ghost use Rattle.hp_value.specs.Mapped.{keys_of, outcome};
 ghost use Rattle.hp_store.specs.Changes.{changes, changes_in};
 ghost use Rattle.hp_store.specs.Mapped as here;
-ghost use Rattle.hp_store.specs.Parts.{keys_left, Covers, agrees_at, is_shown, is_among, no_cells};
+ghost use Rattle.hp_store.specs.Parts.{keys_left, Covers, agrees_at, is_of_keys, is_shown, is_among, no_cells};
 ghost use Rattle.hp_store.specs.Parts.{IsMember, with_member};
 ghost use Rattle.hp_store.specs.Stack.{cells_in};
 
@@ -23,7 +24,7 @@ use std::alloc::{AllocError, Global};
 
 impl Snapshot {
     /// The objects of a part of a class with their rows, by rising keys. None where they can't be found without a look
-    /// at all objects of the class, or where an object can't be compared with the part's bounds.
+    /// at all objects of the class, or where an object can't be compared with the part's bounds. A part by keys is found.
     ///
     /// An error means that memory ran out.
     pub fn part(
@@ -32,8 +33,9 @@ impl Snapshot {
         class: ClassNo,
         part: &ClassPart<'_>,
     ) -> Result<Option<Vec<KeyedRow>>, AllocError>
-        ensures { IfOk result (λ found. IfSome found (λ objects.
+        ensures part { IfOk result (λ found. IfSome found (λ objects.
             ArePart (cells_in self.now) class (mapped.class_part part.now) (map mapped.keyed_row objects.items))) }
+        ensures found { is_of_keys part.now ≡ true → IfOk result (λ found. IsSome found) }
     {
         self.part_over(alloc, &Layer::new(alloc), class, part)
     }
@@ -46,9 +48,10 @@ impl Snapshot {
         class: ClassNo,
         part: &ClassPart<'_>,
     ) -> Result<Option<Vec<KeyedRow>>, AllocError>
-        ensures { IfOk result (λ found. IfSome found (λ objects.
+        ensures part { IfOk result (λ found. IfSome found (λ objects.
             ArePart (over (cells_in self.now) (changes writes.now)) class (mapped.class_part part.now)
             (map mapped.keyed_row objects.items))) }
+        ensures found { is_of_keys part.now ≡ true → IfOk result (λ found. IsSome found) }
     {
         if !self.base.finds(class, part) {
             return Ok(None);
@@ -111,9 +114,10 @@ impl Snapshot {
         requires rise { IsStrictlySortedBy int_cmp keys.now }
         requires covers { Covers (is_among keys.now) (mapped.class_part part.now) class
             (over (cells_in self.now) (changes writes.now)) }
-        ensures { IfOk result (λ found. IfSome found (λ objects.
+        ensures part { IfOk result (λ found. IfSome found (λ objects.
             ArePart (over (cells_in self.now) (changes writes.now)) class (mapped.class_part part.now)
             (map mapped.keyed_row objects.items))) }
+        ensures found { is_of_keys part.now ≡ true → IfOk result (λ found. IsSome found) }
     {
         let mut objects = Vec::new(alloc);
         for key in keys {
@@ -134,9 +138,10 @@ impl Snapshot {
         part: &ClassPart<'_>,
         key: Key,
     ) -> Result<Result<Option<Row>, Cause>, AllocError>
-        ensures { IfOk result (λ tested. IfOk tested (λ member.
+        ensures member { IfOk result (λ tested. IfOk tested (λ member.
             IsMember (mapped.class_part part.now) key
             (over (cells_in self.now) (changes writes.now) (object_cell class key)) member)) }
+        ensures compares { is_of_keys part.now ≡ true → IfOk result (λ tested. IsOk tested) }
     {
         let Some(CellValue::Row(row)) = self.under(writes, Cell::Object(class, key)) else {
             return Ok(Ok(None));

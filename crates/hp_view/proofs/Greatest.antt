@@ -8,7 +8,7 @@ use Rattle.std.specs.List.Sorted.{IsStrictlySortedBy}
 use Rattle.std.proofs.lemmas.Bool.Decides.{Decides-eqb, Decides-int_eq}
 use Rattle.std.proofs.lemmas.Cmp.{int_cmp_total, tied_itself}
 use Rattle.std.proofs.lemmas.Map.Lookups.{exact_signed}
-use Rattle.hp_model.specs.Cells.{CellValue, Cells, Changes, object_cell, changed, over, is_above, is_there, Read, cell_read, keys_read, greatest_read, objects_read, part_read, ReadsHold, Holds, AreKeys, IsGreatestKey}
+use Rattle.hp_model.specs.Cells.{CellValue, Cells, Changes, object_cell, changed, over, is_above, is_there, Read, cell_read, keys_read, greatest_read, count_read, objects_read, part_read, ReadsHold, Holds, AreKeys, IsGreatestKey}
 use Rattle.hp_model.proofs.BridgesCells.{Holds-last}
 use Rattle.hp_view.specs.Seeing.{Seeing, beneath, written, now_in, reads_greatest, keys_were_read, greatest_was_read, noted, OnlyReads, ReadsKeys, DeletesGreatest, ReadsGreatest, ShowsGreatest}
 use Rattle.hp_view.proofs.Reading.{keys_again, keys_noted, noted-again, noted_only, noted_held}
@@ -161,6 +161,7 @@ greatest_again : (B C : Cells) (class : ℕ) (greatest : Option ℤ) (reads : Li
 greatest_again B C class greatest [] b c is h = absurd (true≢false (sym h))
 greatest_again B C class greatest (cell_read q value ∷ rs) b c is h = greatest_again B C class greatest rs b.1 c.1 is h
 greatest_again B C class greatest (keys_read n keys ∷ rs) b c is h = greatest_again B C class greatest rs b.1 c.1 is h
+greatest_again B C class greatest (count_read n count ∷ rs) b c is h = greatest_again B C class greatest rs b.1 c.1 is h
 greatest_again B C class greatest (objects_read n objects ∷ rs) b c is h = greatest_again B C class greatest rs b.1 c.1 is h
 greatest_again B C class greatest (part_read n part objects ∷ rs) b c is h = greatest_again B C class greatest rs b.1 c.1 is h
 greatest_again B C class greatest (greatest_read n found ∷ rs) b c is h = by (class == n) refl h (greatest_again B C class greatest rs b.1 c.1 is)

@@ -9,3 +9,4 @@ mod Wholes
 pub mod Adding
 mod PartsRead
 pub mod Views
+pub mod Counting

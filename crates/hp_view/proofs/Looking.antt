@@ -1,5 +1,5 @@
 -- What a view shows to a query.
-use Rattle.std.proofs.Common.{◌≡◌, refl, ap, sym, ◌∙◌, ℕ, ℤ, List, slice_index_or, Option, Some, None, is_some, Ok}
+use Rattle.std.proofs.Common.{◌≡◌, refl, ap, sym, ◌∙◌, ℕ, ℤ, List, length, slice_index_or, Option, Some, None, is_some, Ok}
 use Rattle.std.specs.Prelude.{option_map}
 use Rattle.std.specs.List.{last_or}
 use Rattle.hp_model.specs.Values.{Row, KeyedRow}
@@ -8,7 +8,9 @@ use Rattle.hp_model.specs.State.{Objects, find_object, rows_of}
 use Rattle.hp_model.specs.Cells.{row_value, over, AreKeys, AreObjects}
 use Rattle.hp_model.proofs.BridgesKeys.{ObjectsRise, class_keys, has_keys, rising_keys, keys_are_class_keys, rows_found}
 use Rattle.hp_value.specs.Mapped.{keys_of}
-use Rattle.hp_view.specs.Seeing.{Seeing, written, ShowsKeys, ShowsGreatest, ShowsObjects, ShowsPart}
+use Rattle.hp_view.specs.Seeing.{Seeing, written, ShowsKeys, ShowsGreatest, ShowsCount, ShowsObjects, ShowsPart}
+use Rattle.hp_store.proofs.Counted.{one_count}
+use Rattle.hp_view.proofs.Counting.{keys_count}
 use Rattle.hp_view.proofs.Greatest.{one_greatest, keys_greatest}
 use Rattle.hp_view.proofs.Wholes.{same_rows}
 use Rattle.hp_view.specs.Looks.{Allows}
@@ -44,4 +46,11 @@ pub greatest_shown : {v : Seeing} {class : ℕ} {greatest : Option ℤ} → Show
 greatest_shown {v} {class} {greatest} shows world rise allowed =
     one_greatest (shows.everywhere allowed.base allowed.held)
     (keys_greatest (over allowed.base (written v)) class (class_keys class world)
+    (record { rise = rising_keys class world rise; has = λ key. has_keys class key world ∙ sym (ap is_some (allowed.objects class key) ∙ some_row (find_object world class key)) }))
+
+-- a number of objects that was read is that of the class's keys in each world
+pub count_shown : {v : Seeing} {class count : ℕ} → ShowsCount v class count → (world : Objects) → ObjectsRise world → Allows v world → count ≡ length (class_keys class world)
+count_shown {v} {class} {count} shows world rise allowed =
+    one_count (shows.everywhere allowed.base allowed.held)
+    (keys_count
     (record { rise = rising_keys class world rise; has = λ key. has_keys class key world ∙ sym (ap is_some (allowed.objects class key) ∙ some_row (find_object world class key)) }))

@@ -16,9 +16,9 @@ use Rattle.hp_value.specs.declared.objects.ObjectList.{ObjectList}
 use Rattle.hp_value.specs.declared.cell.Cell.TheVariants.{Object, Rule, Detector}
 use Rattle.hp_value.specs.Mapped.{cell}
 use Rattle.hp_view.specs.declared.reads.Seen.{Seen}
-use Rattle.hp_view.specs.declared.reads.Seen.TheVariants.{Cell as OfCell, Keys as OfKeys, Greatest as OfGreatest, Part as OfPart}
+use Rattle.hp_view.specs.declared.reads.Seen.TheVariants.{Cell as OfCell, Keys as OfKeys, Greatest as OfGreatest, Count as OfCount, Part as OfPart}
 use Rattle.hp_view.specs.declared.reads.Found.{Found}
-use Rattle.hp_view.specs.declared.reads.Found.TheVariants.{Value, Keys, Greatest, Objects, Part}
+use Rattle.hp_view.specs.declared.reads.Found.TheVariants.{Value, Keys, Greatest, Count, Objects, Part}
 use Rattle.hp_view.specs.declared.reads.PartState.{PartState}
 use Rattle.hp_view.specs.declared.reads.PartState.TheVariants.{WasRead, IsTaken}
 use Rattle.hp_view.specs.contracts.reads.SeenPartialEq.TheImpl as seeing
@@ -42,33 +42,51 @@ told_apart (OfCell (Detector m)) (OfCell (Detector o), found) n = refl
 told_apart (OfCell q) (OfKeys class, Value v) n = refl
 told_apart (OfCell q) (OfKeys class, Keys keys) n = refl
 told_apart (OfCell q) (OfKeys class, Greatest key) n = refl
+told_apart (OfCell q) (OfKeys class, Count count) n = refl
 told_apart (OfCell q) (OfKeys class, Objects objects) n = refl
 told_apart (OfCell q) (OfKeys class, Part part) n = refl
 told_apart (OfCell q) (OfGreatest class, found) n = refl
+told_apart (OfCell q) (OfCount class, found) n = refl
 told_apart (OfCell q) (OfPart class m, found) n = refl
 told_apart (OfKeys class) (OfCell q, found) n = refl
 told_apart (OfKeys class) (OfKeys m, Value v) n = refl
 told_apart (OfKeys class) (OfKeys m, Keys keys) n = refl
 told_apart (OfKeys class) (OfKeys m, Greatest key) n = refl
+told_apart (OfKeys class) (OfKeys m, Count count) n = refl
 told_apart (OfKeys class) (OfKeys m, Objects objects) n = refl
 told_apart (OfKeys class) (OfKeys m, Part part) n = refl
 told_apart (OfKeys class) (OfGreatest m, found) n = refl
+told_apart (OfKeys class) (OfCount m, found) n = refl
 told_apart (OfKeys class) (OfPart m o, found) n = refl
 told_apart (OfGreatest class) (OfCell q, found) n = refl
 told_apart (OfGreatest class) (OfKeys m, Value v) n = refl
 told_apart (OfGreatest class) (OfKeys m, Keys keys) n = refl
 told_apart (OfGreatest class) (OfKeys m, Greatest key) n = refl
+told_apart (OfGreatest class) (OfKeys m, Count count) n = refl
 told_apart (OfGreatest class) (OfKeys m, Objects objects) n = refl
 told_apart (OfGreatest class) (OfKeys m, Part part) n = refl
 told_apart (OfGreatest class) (OfGreatest m, found) n = refl
+told_apart (OfGreatest class) (OfCount m, found) n = refl
 told_apart (OfGreatest class) (OfPart m o, found) n = refl
+told_apart (OfCount class) (OfCell q, found) n = refl
+told_apart (OfCount class) (OfKeys m, Value v) n = refl
+told_apart (OfCount class) (OfKeys m, Keys keys) n = refl
+told_apart (OfCount class) (OfKeys m, Greatest key) n = refl
+told_apart (OfCount class) (OfKeys m, Count count) n = refl
+told_apart (OfCount class) (OfKeys m, Objects objects) n = refl
+told_apart (OfCount class) (OfKeys m, Part part) n = refl
+told_apart (OfCount class) (OfGreatest m, found) n = refl
+told_apart (OfCount class) (OfCount m, found) n = refl
+told_apart (OfCount class) (OfPart m o, found) n = refl
 told_apart (OfPart class m) (OfCell q, found) n = refl
 told_apart (OfPart class m) (OfKeys d, Value v) n = refl
 told_apart (OfPart class m) (OfKeys d, Keys keys) n = refl
 told_apart (OfPart class m) (OfKeys d, Greatest key) n = refl
+told_apart (OfPart class m) (OfKeys d, Count count) n = refl
 told_apart (OfPart class m) (OfKeys d, Objects objects) n = refl
 told_apart (OfPart class m) (OfKeys d, Part part) n = refl
 told_apart (OfPart class m) (OfGreatest d, found) n = refl
+told_apart (OfPart class m) (OfCount d, found) n = refl
 told_apart (OfPart class m) (OfPart d o, found) n = ap (λ k. class == d && m == k) n
 
 some_or : (b : Bool) (found : Found) (rest : Option Found) → is_some (cond b (Some found) rest) ≡ (b || is_some rest)
@@ -87,6 +105,7 @@ class_told : (base : Cells) (class : ℕ) (found : Found) → ReadHolds base (cl
 class_told base class (Value v) told = told
 class_told base class (Keys keys) told = told
 class_told base class (Greatest key) told = told
+class_told base class (Count count) told = told
 class_told base class (Objects objects) told = told.keys
 class_told base class (Part part) told = told
 
@@ -95,6 +114,7 @@ pub told_keys : (class : ℕ) (found : Found) (base : Cells) (es : List (Seen ×
 told_keys class found base [] h told = cc
 told_keys class found base ((OfCell q, other) ∷ es) h told = told_keys class found base es h told.1
 told_keys class found base ((OfGreatest n, other) ∷ es) h told = told_keys class found base es h told.1
+told_keys class found base ((OfCount n, other) ∷ es) h told = told_keys class found base es h told.1
 told_keys class found base ((OfPart n m, other) ∷ es) h told = told_keys class found base es h told.1
 told_keys class found base ((OfKeys n, other) ∷ es) h told = by (class == n) refl h (λ g. told_keys class found base es g told.1)
   where
@@ -109,6 +129,7 @@ pub told_objects : (class : ℕ) (objects : Arc ObjectList Global) (base : Cells
 told_objects class objects base [] h told = cc
 told_objects class objects base ((OfCell q, other) ∷ es) h told = told_objects class objects base es h told.1
 told_objects class objects base ((OfGreatest n, other) ∷ es) h told = told_objects class objects base es h told.1
+told_objects class objects base ((OfCount n, other) ∷ es) h told = told_objects class objects base es h told.1
 told_objects class objects base ((OfPart n m, other) ∷ es) h told = told_objects class objects base es h told.1
 told_objects class objects base ((OfKeys n, other) ∷ es) h told = by (class == n) refl h (λ g. told_objects class objects base es g told.1)
   where
@@ -123,6 +144,7 @@ pub told_value : (q : Cell) (found : Found) (base : Cells) (es : List (Seen × F
 told_value q found base [] h told = cc
 told_value q found base ((OfKeys n, other) ∷ es) h told = told_value q found base es h told.1
 told_value q found base ((OfGreatest n, other) ∷ es) h told = told_value q found base es h told.1
+told_value q found base ((OfCount n, other) ∷ es) h told = told_value q found base es h told.1
 told_value q found base ((OfPart n m, other) ∷ es) h told = told_value q found base es h told.1
 told_value q found base ((OfCell p, other) ∷ es) h told = by (seeing.ghosts.eq (OfCell q) (OfCell p)) refl h (λ g. told_value q found base es g told.1)
   where
@@ -153,10 +175,12 @@ pub whole_recorded : (class : ℕ) (es : List (Seen × Found)) → is_whole (loo
 whole_recorded class [] = refl
 whole_recorded class ((OfCell q, other) ∷ es) = whole_recorded class es
 whole_recorded class ((OfGreatest n, other) ∷ es) = whole_recorded class es
+whole_recorded class ((OfCount n, other) ∷ es) = whole_recorded class es
 whole_recorded class ((OfPart n m, other) ∷ es) = whole_recorded class es
 whole_recorded class ((OfKeys n, Value v) ∷ es) = whole_or (class == n) (Value v) (lookup (seeing.ghosts.eq (OfKeys class)) es) ∙ ap (cond (class == n) false) (whole_recorded class es)
 whole_recorded class ((OfKeys n, Keys keys) ∷ es) = whole_or (class == n) (Keys keys) (lookup (seeing.ghosts.eq (OfKeys class)) es) ∙ ap (cond (class == n) false) (whole_recorded class es)
 whole_recorded class ((OfKeys n, Greatest key) ∷ es) = whole_or (class == n) (Greatest key) (lookup (seeing.ghosts.eq (OfKeys class)) es) ∙ ap (cond (class == n) false) (whole_recorded class es)
+whole_recorded class ((OfKeys n, Count count) ∷ es) = whole_or (class == n) (Count count) (lookup (seeing.ghosts.eq (OfKeys class)) es) ∙ ap (cond (class == n) false) (whole_recorded class es)
 whole_recorded class ((OfKeys n, Objects objects) ∷ es) = whole_or (class == n) (Objects objects) (lookup (seeing.ghosts.eq (OfKeys class)) es) ∙ ap (cond (class == n) true) (whole_recorded class es)
 whole_recorded class ((OfKeys n, Part part) ∷ es) = whole_or (class == n) (Part part) (lookup (seeing.ghosts.eq (OfKeys class)) es) ∙ ap (cond (class == n) false) (whole_recorded class es)
 
@@ -184,9 +208,11 @@ told_number class n found ((OfCell q, other) ∷ es) h = told_number class n fou
 told_number class n found ((OfKeys d, Value v) ∷ es) h = told_number class n found es h
 told_number class n found ((OfKeys d, Keys keys) ∷ es) h = told_number class n found es h
 told_number class n found ((OfKeys d, Greatest key) ∷ es) h = told_number class n found es h
+told_number class n found ((OfKeys d, Count count) ∷ es) h = told_number class n found es h
 told_number class n found ((OfKeys d, Objects objects) ∷ es) h = told_number class n found es h
 told_number class n found ((OfKeys d, Part part) ∷ es) h = told_number class n found es h
 told_number class n found ((OfGreatest d, other) ∷ es) h = told_number class n found es h
+told_number class n found ((OfCount d, other) ∷ es) h = told_number class n found es h
 told_number class n found ((OfPart d m, other) ∷ es) h = by (class == d) (n == m) refl h (λ g. told_number class n found es g)
   where
     by : (b c : Bool) → (class == d) ≡ b → cond (b && c) (Some other) (lookup (seeing.ghosts.eq (OfPart class n)) es) ≡ Some found
@@ -218,3 +244,7 @@ seen_same is copied = sym copied ∙ ap option_copied is
 
 pub seen_none : {A : Type 0} {r : Option (Bor A)} {found : Option A} → r ≡ None → option_copied r ≡ found → found ≡ None
 seen_none is copied = sym copied ∙ ap option_copied is
+
+pub copied_some : {A : Type 0} (r : Option (Bor A)) → is_some r ≡ is_some (option_copied r)
+copied_some None = refl
+copied_some (Some a) = refl

@@ -5,7 +5,7 @@ use Rattle.std.proofs.lemmas.Bool.Decides.{Decides-eqb}
 use Rattle.std.proofs.lemmas.Cmp.{nat_eq_equiv}
 use Rattle.hp_model.specs.Values.{KeyedRow, Outcome}
 use Rattle.hp_model.specs.ClassParts.{ClassPart}
-use Rattle.hp_model.specs.Cells.{Cells, Read, cell_read, keys_read, greatest_read, objects_read, part_read, ReadsHold, Holds, ArePart}
+use Rattle.hp_model.specs.Cells.{Cells, Read, cell_read, keys_read, greatest_read, count_read, objects_read, part_read, ReadsHold, Holds, ArePart}
 use Rattle.hp_model.proofs.BridgesCells.{Holds-last}
 use Rattle.hp_model.proofs.BridgesKeys.{same_keys}
 use Rattle.hp_value.specs.Mapped.{keys_of}
@@ -33,6 +33,7 @@ number_too : (class : ℕ) (p : ClassPart) (r : Read) → reads_part class p r �
 number_too class p (cell_read q value) h = cc
 number_too class p (keys_read n keys) h = cc
 number_too class p (greatest_read n greatest) h = cc
+number_too class p (count_read n count) h = cc
 number_too class p (objects_read n objects) h = cc
 number_too class p (part_read n q objects) h =
     let both = and_parts (class == n) (same_part p q) h in
@@ -57,6 +58,7 @@ part_told C class p [] c h = absurd (true≢false (sym h))
 part_told C class p (cell_read q value ∷ rs) c h = part_told C class p rs c.1 h
 part_told C class p (keys_read n keys ∷ rs) c h = part_told C class p rs c.1 h
 part_told C class p (greatest_read n greatest ∷ rs) c h = part_told C class p rs c.1 h
+part_told C class p (count_read n count ∷ rs) c h = part_told C class p rs c.1 h
 part_told C class p (objects_read n objects ∷ rs) c h = part_told C class p rs c.1 h
 part_told C class p (part_read n q objects ∷ rs) c h = by (class == n && same_part p q) refl h (part_told C class p rs c.1)
   where
@@ -72,6 +74,7 @@ part_again B C class p hits [] b c are h = absurd (true≢false (sym h))
 part_again B C class p hits (cell_read q value ∷ rs) b c are h = part_again B C class p hits rs b.1 c.1 are h
 part_again B C class p hits (keys_read n keys ∷ rs) b c are h = part_again B C class p hits rs b.1 c.1 are h
 part_again B C class p hits (greatest_read n greatest ∷ rs) b c are h = part_again B C class p hits rs b.1 c.1 are h
+part_again B C class p hits (count_read n count ∷ rs) b c are h = part_again B C class p hits rs b.1 c.1 are h
 part_again B C class p hits (objects_read n objects ∷ rs) b c are h = part_again B C class p hits rs b.1 c.1 are h
 part_again B C class p hits (part_read n q objects ∷ rs) b c are h = by (class == n && same_part p q) refl h (part_again B C class p hits rs b.1 c.1 are)
   where

@@ -3,7 +3,7 @@ use Rattle.std.proofs.Common.{◌≡◌, refl, sym, ap, ◌∙◌, subst, ℕ, �
 use Rattle.std.specs.Prelude.{IfSome, option_map}
 use Rattle.std.specs.List.{list_any}
 use Rattle.std.proofs.lemmas.Bool.Decides.{Decides-eqb}
-use Rattle.hp_model.specs.Cells.{Cell, CellValue, Cells, Changes, object_cell, rule_cell, detector_cell, changed, over, same_cell, Read, cell_read, keys_read, greatest_read, objects_read, part_read, ReadHolds, ReadsHold, Holds, AreKeys, AreObjects}
+use Rattle.hp_model.specs.Cells.{Cell, CellValue, Cells, Changes, object_cell, rule_cell, detector_cell, changed, over, same_cell, Read, cell_read, keys_read, greatest_read, count_read, objects_read, part_read, ReadHolds, ReadsHold, Holds, AreKeys, AreObjects}
 use Rattle.hp_model.proofs.BridgesCells.{exact_cell, Holds-push, Holds-last}
 use Rattle.hp_model.proofs.BridgesKeys.{one_list}
 use Rattle.hp_value.specs.Mapped.{keys_of}
@@ -39,7 +39,7 @@ noted-again reads r e = ap (λ b. if b then reads else reads ++ r ∷ []) e
 -- ---- the same wherever the reads hold
 
 -- a cell that was read by itself
-itself_again : (B C : Cells) (cell : Cell) (reads : List Read) → ReadsHold B reads → ReadsHold C reads → list_any (reads_cell cell) reads ≡ true → B cell ≡ C cell
+pub itself_again : (B C : Cells) (cell : Cell) (reads : List Read) → ReadsHold B reads → ReadsHold C reads → list_any (reads_cell cell) reads ≡ true → B cell ≡ C cell
 itself_again B C cell [] b c h = absurd (true≢false (sym h))
 itself_again B C cell (cell_read q value ∷ rs) b c h = by (same_cell cell q) refl h (itself_again B C cell rs b.1 c.1)
   where
@@ -48,6 +48,7 @@ itself_again B C cell (cell_read q value ∷ rs) b c h = by (same_cell cell q) r
     by false e h rest = rest h
 itself_again B C cell (keys_read class keys ∷ rs) b c h = itself_again B C cell rs b.1 c.1 h
 itself_again B C cell (greatest_read class greatest ∷ rs) b c h = itself_again B C cell rs b.1 c.1 h
+itself_again B C cell (count_read class count ∷ rs) b c h = itself_again B C cell rs b.1 c.1 h
 itself_again B C cell (objects_read class objects ∷ rs) b c h = itself_again B C cell rs b.1 c.1 h
 itself_again B C cell (part_read class part objects ∷ rs) b c h = itself_again B C cell rs b.1 c.1 h
 
@@ -61,6 +62,7 @@ row_again B C class key (keys_read n keys ∷ rs) b c h = by (class == n) h (row
     by true h rest = absurd (true≢false (sym h))
     by false h rest = rest h
 row_again B C class key (greatest_read n greatest ∷ rs) b c h = row_again B C class key rs b.1 c.1 h
+row_again B C class key (count_read n count ∷ rs) b c h = row_again B C class key rs b.1 c.1 h
 row_again B C class key (objects_read n objects ∷ rs) b c h = by (class == n) refl h (row_again B C class key rs b.1 c.1)
   where
     by : (t : Bool) → (class == n) ≡ t → (if t then true else class_was_read rs class) ≡ true → (class_was_read rs class ≡ true → B (object_cell class key) ≡ C (object_cell class key)) → B (object_cell class key) ≡ C (object_cell class key)
@@ -93,6 +95,7 @@ keys_again B C class keys (keys_read n found ∷ rs) b c are h = by (class == n)
         subst (AreKeys B class) (one_list (subst (λ k. AreKeys C k found) here c.0) are) (subst (λ k. AreKeys B k found) here b.0)
     by false e h rest = rest h
 keys_again B C class keys (greatest_read n greatest ∷ rs) b c are h = keys_again B C class keys rs b.1 c.1 are h
+keys_again B C class keys (count_read n count ∷ rs) b c are h = keys_again B C class keys rs b.1 c.1 are h
 keys_again B C class keys (objects_read n found ∷ rs) b c are h = by (class == n) refl h (keys_again B C class keys rs b.1 c.1 are)
   where
     by : (t : Bool) → (class == n) ≡ t → (t || keys_were_read rs class) ≡ true → (keys_were_read rs class ≡ true → AreKeys B class keys) → AreKeys B class keys

@@ -1,8 +1,9 @@
 -- Reads that a call adds.
-use Rattle.std.specs.Prelude.{◌≡◌, ℕ, List, [], ◌∷◌, ◌++◌, None}
+use Rattle.std.specs.Prelude.{◌≡◌, ℕ, ℤ, List, [], ◌∷◌, ◌++◌, None}
 use Rattle.std.proofs.Common.{ap, ◌∙◌, append-nil, append_assoc, sym}
 use Rattle.std.specs.List.{AllByRecursion}
-use Rattle.hp_model.specs.Cells.{object_cell, rule_cell, detector_cell, Changes, Read, cell_read, keys_read, greatest_read, objects_read, part_read}
+use Rattle.hp_model.specs.ClassParts.{ClassPart}
+use Rattle.hp_model.specs.Cells.{object_cell, rule_cell, detector_cell, Changes, Read, cell_read, keys_read, greatest_read, count_read, objects_read, part_read}
 
 -- the reads are those before and others, each of which P allows
 pub record AddsReads (P : Read → Type 0) (before after : List Read) : Type 0 where
@@ -17,14 +18,26 @@ IsOfClass layer class (cell_read (rule_cell n) value) = ⊥
 IsOfClass layer class (cell_read (detector_cell n) value) = ⊥
 IsOfClass layer class (keys_read n keys) = n ≡ class
 IsOfClass layer class (greatest_read n greatest) = ⊥
+IsOfClass layer class (count_read n count) = ⊥
 IsOfClass layer class (objects_read n objects) = n ≡ class
 IsOfClass layer class (part_read n part objects) = ⊥
 
--- the same, or of a part of the class or its greatest key
+-- the same, or of a part of the class, of its greatest key or of the number of its objects
 abbrev pub IsOfClassOrPart : Changes → ℕ → Read → Type 0
 IsOfClassOrPart layer class (part_read n part objects) = n ≡ class
 IsOfClassOrPart layer class (greatest_read n greatest) = n ≡ class
+IsOfClassOrPart layer class (count_read n count) = n ≡ class
 IsOfClassOrPart layer class r = IsOfClass layer class r
+
+-- a read of this object's cell, which no write covers
+abbrev pub IsOfRow : Changes → ℕ → ℤ → Read → Type 0
+IsOfRow layer class key (cell_read (object_cell n k) value) = (n ≡ class) × (k ≡ key) × (layer (object_cell n k) ≡ None)
+IsOfRow layer class key r = ⊥
+
+-- a read of this part of the class
+abbrev pub IsOfPart : ℕ → ClassPart → Read → Type 0
+IsOfPart class part (part_read n p objects) = (n ≡ class) × (p ≡ part)
+IsOfPart class part r = ⊥
 
 -- ---- one call after another
 

@@ -1,5 +1,6 @@
 pub mod Adding
 pub mod Codes
+pub mod Counts
 pub mod Keeping
 pub mod Looks
 pub mod Mapped

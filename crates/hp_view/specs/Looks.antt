@@ -1,10 +1,11 @@
 -- The objects that a view may show to a query.
 use Rattle.std.specs.Prelude.{◌≡◌, refl, ℕ, ℤ, [], ◌++◌, option_map}
 use Rattle.std.proofs.Common.{sym, ap, ◌∙◌, subst, append-nil, append_assoc}
+use Rattle.hp_model.specs.ClassParts.{ClassPart}
 use Rattle.hp_model.specs.State.{Objects, find_object}
 use Rattle.hp_model.specs.Cells.{Cells, object_cell, row_value, over, Holds}
 use Rattle.hp_model.proofs.BridgesCells.{Holds-front}
-use Rattle.hp_view.specs.Adding.{AddsReads, IsOfClassOrPart, adds_none, adds_then}
+use Rattle.hp_view.specs.Adding.{AddsReads, IsOfClassOrPart, IsOfRow, IsOfPart, adds_none, adds_then}
 use Rattle.hp_view.specs.Seeing.{Seeing, written, OnlyReads}
 use Rattle.hp_store.specs.Changes.{changes}
 
@@ -18,6 +19,16 @@ pub record Allows (v : Seeing) (world : Objects) : Type 0 where
 pub record AsksOf (class : ℕ) (old new : Seeing) : Type 0 where
   pub only : OnlyReads old new
   pub adds : AddsReads (IsOfClassOrPart (written old) class) old.reads new.reads
+
+-- a question about one object adds a read of its cell, and no other
+pub record AsksRow (class : ℕ) (key : ℤ) (old new : Seeing) : Type 0 where
+  pub only : OnlyReads old new
+  pub adds : AddsReads (IsOfRow (written old) class key) old.reads new.reads
+
+-- a question about a part of a class adds a read of this part, and no other
+pub record AsksPart (class : ℕ) (part : ClassPart) (old new : Seeing) : Type 0 where
+  pub only : OnlyReads old new
+  pub adds : AddsReads (IsOfPart class part) old.reads new.reads
 
 -- ---- the laws of a look
 
@@ -47,3 +58,6 @@ asks_then class first second third one two = record {
   only = only_reads_then first second third one.only two.only;
   adds = adds_then one.adds (subst (λ es. AddsReads (IsOfClassOrPart (changes es) class) second.reads third.reads) one.only.writes two.adds);
 }
+
+pub asks_row_same : (class : ℕ) (key : ℤ) (v : Seeing) → AsksRow class key v v
+asks_row_same class key v = record { only = only_reads_same v; adds = adds_none (IsOfRow (written v) class key) refl }

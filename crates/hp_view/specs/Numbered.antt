@@ -4,19 +4,20 @@ use Rattle.hp_model.specs.ClassParts.{ClassPart}
 use Rattle.hp_model.specs.Cells.{Read}
 use Rattle.hp_value.specs.Mapped.{cell}
 use Rattle.hp_view.specs.declared.reads.Seen.{Seen}
-use Rattle.hp_view.specs.declared.reads.Seen.TheVariants.{Cell, Keys, Greatest, Part}
+use Rattle.hp_view.specs.declared.reads.Seen.TheVariants.{Cell, Keys, Greatest, Count, Part}
 use Rattle.hp_view.specs.declared.reads.Found.{Found}
 use Rattle.hp_view.specs.declared.reads.PartState.{PartState}
 use Rattle.hp_view.specs.declared.reads.PartState.TheVariants.{WasRead, IsFree, IsTaken}
 use Rattle.hp_view.specs.Parts.{number_of}
 use Rattle.hp_view.specs.Mapped.{part_found}
-use Rattle.hp_view.specs.Seeing.{reads_cell, reads_keys, reads_greatest, reads_number, part_was_read, number_was_read}
+use Rattle.hp_view.specs.Seeing.{reads_cell, reads_keys, reads_greatest, reads_count, reads_number, part_was_read, number_was_read}
 
 -- a part stands under its number
 abbrev pub IsNumbered : Seen × Found → Type 0
 IsNumbered (Cell q, found) = Unit {0}
 IsNumbered (Keys class, found) = Unit {0}
 IsNumbered (Greatest class, found) = Unit {0}
+IsNumbered (Count class, found) = Unit {0}
 IsNumbered (Part class n, found) = n ≡ number_of (part_found found)
 
 abbrev pub AreNumbered : List (Seen × Found) → Type 0
@@ -28,6 +29,7 @@ abbrev pub is_read_of : Seen → Read → Bool
 is_read_of (Cell q) = reads_cell (cell q)
 is_read_of (Keys class) = reads_keys class
 is_read_of (Greatest class) = reads_greatest class
+is_read_of (Count class) = reads_count class
 is_read_of (Part class n) = reads_number class n
 
 -- what a part's state says

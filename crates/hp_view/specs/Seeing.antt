@@ -1,9 +1,9 @@
 -- What a view is to a contract.
-use Rattle.std.specs.Prelude.{◌≡◌, ℕ, ℤ, ◌≤◌, ◌==◌, length, Bool, true, false, ◌&&◌, ◌||◌, ◌⊎◌, List, [], ◌∷◌, ◌++◌, Option, Some, None, IsSome, drop, take, if◌then◌else◌}
+use Rattle.std.specs.Prelude.{◌≡◌, ℕ, ℤ, ◌≤◌, ◌==◌, length, Bool, true, false, ◌&&◌, ◌||◌, ◌⊎◌, List, [], ◌∷◌, ◌++◌, Option, Some, None, IsSome, is_some, drop, take, if◌then◌else◌}
 use Rattle.std.specs.List.{list_any}
 use Rattle.hp_model.specs.Values.{KeyedRow}
 use Rattle.hp_model.specs.ClassParts.{ClassPart}
-use Rattle.hp_model.specs.Cells.{Cell, object_cell, rule_cell, detector_cell, CellValue, Cells, Changes, over, same_cell, with_change, Read, cell_read, keys_read, greatest_read, objects_read, part_read, Holds, AreKeys, IsGreatestKey, AreObjects, ArePart}
+use Rattle.hp_model.specs.Cells.{Cell, object_cell, rule_cell, detector_cell, CellValue, Cells, Changes, over, same_cell, with_change, Read, cell_read, keys_read, greatest_read, count_read, objects_read, part_read, Holds, AreKeys, IsGreatestKey, IsCount, AreObjects, ArePart}
 use Rattle.hp_model.proofs.BridgesCells.{stacked}
 use Rattle.hp_store.specs.Changes.{Entries, changes}
 use Rattle.hp_store.specs.Stack.{Stack, cells_in}
@@ -55,11 +55,12 @@ pub record CanGoBack (before : Undo) (earlier : Changes) (after : Undo) (later :
 
 -- ---- reads
 
--- a read of this cell, one of this class's keys, alone or with the rows, one of its greatest key, and one of this part
--- of the class
+-- a read of this cell, one of this class's keys, alone or with the rows, one of its greatest key, one of the number of
+-- its objects, and one of this part of the class
 abbrev pub reads_cell : Cell → Read → Bool
 reads_cell cell (cell_read q value) = same_cell cell q
 reads_cell cell (keys_read class keys) = false
+reads_cell cell (count_read class count) = false
 reads_cell cell (greatest_read class greatest) = false
 reads_cell cell (objects_read class objects) = false
 reads_cell cell (part_read class part objects) = false
@@ -67,6 +68,7 @@ reads_cell cell (part_read class part objects) = false
 abbrev pub reads_keys : ℕ → Read → Bool
 reads_keys class (cell_read q value) = false
 reads_keys class (keys_read n keys) = class == n
+reads_keys class (count_read n count) = false
 reads_keys class (greatest_read n greatest) = false
 reads_keys class (objects_read n objects) = class == n
 reads_keys class (part_read n part objects) = false
@@ -74,13 +76,23 @@ reads_keys class (part_read n part objects) = false
 abbrev pub reads_greatest : ℕ → Read → Bool
 reads_greatest class (cell_read q value) = false
 reads_greatest class (keys_read n keys) = false
+reads_greatest class (count_read n count) = false
 reads_greatest class (greatest_read n greatest) = class == n
 reads_greatest class (objects_read n objects) = false
 reads_greatest class (part_read n part objects) = false
 
+abbrev pub reads_count : ℕ → Read → Bool
+reads_count class (cell_read q value) = false
+reads_count class (keys_read n keys) = false
+reads_count class (greatest_read n greatest) = false
+reads_count class (count_read n count) = class == n
+reads_count class (objects_read n objects) = false
+reads_count class (part_read n part objects) = false
+
 abbrev pub reads_part : ℕ → ClassPart → Read → Bool
 reads_part class part (cell_read q value) = false
 reads_part class part (keys_read n keys) = false
+reads_part class part (count_read n count) = false
 reads_part class part (greatest_read n greatest) = false
 reads_part class part (objects_read n objects) = false
 reads_part class part (part_read n q objects) = class == n && same_part part q
@@ -89,6 +101,7 @@ reads_part class part (part_read n q objects) = class == n && same_part part q
 abbrev pub reads_number : ℕ → (number : ℕ) → Read → Bool
 reads_number class number (cell_read q value) = false
 reads_number class number (keys_read n keys) = false
+reads_number class number (count_read n count) = false
 reads_number class number (greatest_read n greatest) = false
 reads_number class number (objects_read n objects) = false
 reads_number class number (part_read n q objects) = class == n && number == number_of q
@@ -99,6 +112,7 @@ class_was_read [] class = false
 class_was_read (cell_read q value ∷ reads) class = class_was_read reads class
 class_was_read (keys_read n keys ∷ reads) class = if class == n then false else class_was_read reads class
 class_was_read (greatest_read n greatest ∷ reads) class = class_was_read reads class
+class_was_read (count_read n count ∷ reads) class = class_was_read reads class
 class_was_read (objects_read n objects ∷ reads) class = if class == n then true else class_was_read reads class
 class_was_read (part_read n part objects ∷ reads) class = class_was_read reads class
 
@@ -119,6 +133,10 @@ keys_were_read reads class = list_any (reads_keys class) reads
 abbrev pub greatest_was_read : List Read → ℕ → Bool
 greatest_was_read reads class = list_any (reads_greatest class) reads || keys_were_read reads class
 
+-- the number of a class's objects by itself, or with the class's keys
+abbrev pub count_was_read : List Read → ℕ → Bool
+count_was_read reads class = list_any (reads_count class) reads || keys_were_read reads class
+
 abbrev pub part_was_read : List Read → ℕ → ClassPart → Bool
 part_was_read reads class part = list_any (reads_part class part) reads
 
@@ -129,6 +147,7 @@ abbrev pub was_read : List Read → Read → Bool
 was_read reads (cell_read cell value) = cell_was_read reads cell
 was_read reads (keys_read class keys) = keys_were_read reads class
 was_read reads (greatest_read class greatest) = greatest_was_read reads class
+was_read reads (count_read class count) = count_was_read reads class
 was_read reads (objects_read class objects) = keys_were_read reads class
 was_read reads (part_read class part objects) = part_was_read reads class part
 
@@ -164,6 +183,10 @@ pub record ShowsKeys (v : Seeing) (class : ℕ) (keys : List ℤ) : Type 0 where
 -- the same of its greatest key
 pub record ShowsGreatest (v : Seeing) (class : ℕ) (greatest : Option ℤ) : Type 0 where
   pub everywhere : (base : Cells) → Holds base v.reads → IsGreatestKey (over base (written v)) class greatest
+
+-- the same of the number of its objects
+pub record ShowsCount (v : Seeing) (class count : ℕ) : Type 0 where
+  pub everywhere : (base : Cells) → Holds base v.reads → IsCount (over base (written v)) class count
 
 -- the same of a class's objects
 pub record ShowsObjects (v : Seeing) (class : ℕ) (objects : List KeyedRow) : Type 0 where
@@ -252,6 +275,18 @@ pub record DeletesGreatest (v : Seeing) (class : ℕ) : Type 0 where
 -- only the greatest key of a class is read; where the writes delete its object, only the keys are
 pub record ReadsGreatest (old new : Seeing) (class : ℕ) : Type 0 where
   pub either : ReadsGreatestAlone old new class ⊎ (DeletesGreatest old class × ReadsKeys old new class)
+
+-- only the number of a class's objects is read, as it stands beneath the writes
+pub record ReadsCountAlone (old new : Seeing) (class : ℕ) : Type 0 where
+  pub count : (count : ℕ) × (IsCount (beneath old) class count) × (new ≡ record old { reads = noted old.reads (count_read class count) })
+
+-- the writes name an object of a class whose cell wasn't read by itself, so it isn't known whether it is there beneath
+pub record WritesUnread (v : Seeing) (class : ℕ) : Type 0 where
+  pub object : (key : ℤ) × (is_some (written v (object_cell class key)) ≡ true) × (list_any (reads_cell (object_cell class key)) v.reads ≡ false)
+
+-- only the number of a class's objects is read; where the writes name one that wasn't read, only the keys are
+pub record ReadsCount (old new : Seeing) (class : ℕ) : Type 0 where
+  pub either : ReadsCountAlone old new class ⊎ (WritesUnread old class × ReadsKeys old new class)
 
 -- only a part of a class is read, as it stands beneath the writes
 pub record ReadsPart (old new : Seeing) (class : ℕ) (part : ClassPart) : Type 0 where

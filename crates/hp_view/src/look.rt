@@ -10,7 +10,7 @@ use std::sync::Arc;
 impl Look for View {
     ghost use Rattle.hp_view.specs.Seeing.{OnlyReads};
     ghost use Rattle.hp_view.specs.Looks.{Allows, only_reads_same, only_reads_then, reads_narrow};
-    ghost use Rattle.hp_view.specs.Looks.{AsksOf, asks_same, asks_then};
+    ghost use Rattle.hp_view.specs.Looks.{AsksOf, AsksRow, AsksPart, asks_same, asks_then, asks_row_same};
 
     // the objects of the cells where the view's reads hold, under the view's writes
     ghost allows = { Allows };
@@ -20,6 +20,12 @@ impl Look for View {
     // of the class or of its parts, and where the view's own writes cover an object, not of its cell
     ghost asks = { AsksOf };
 
+    // of the object's cell, unless the view's own writes cover it
+    ghost asks_row = { AsksRow };
+
+    // of the part alone
+    ghost asks_part = { AsksPart };
+
     ghost goes_on_same = { only_reads_same };
 
     ghost goes_on_then = { only_reads_then };
@@ -27,6 +33,8 @@ impl Look for View {
     ghost asks_same = { asks_same };
 
     ghost asks_then = { asks_then };
+
+    ghost asks_row_same = { asks_row_same };
 
     ghost narrows = { reads_narrow };
 
@@ -40,6 +48,11 @@ impl Look for View {
     fn keys(&mut self, alloc: Global, class: ClassNo) -> Result<Vec<Key>, AllocError> {
         let keys = View::keys(self, alloc, class)?;
         Ok(keys)
+    }
+
+    fn count(&mut self, alloc: Global, class: ClassNo) -> Result<usize, AllocError> {
+        let count = View::count(self, alloc, class)?;
+        Ok(count)
     }
 
     fn greatest_key(&mut self, alloc: Global, class: ClassNo) -> Result<Option<Key>, AllocError> {
@@ -65,5 +78,13 @@ impl Look for View {
         self.keep_index(alloc, class, part);
         let objects = View::part(self, alloc, class, part)?;
         Ok(objects)
+    }
+
+    fn likely_least(&self, class: ClassNo, low: Option<Key>) -> Option<Key> {
+        View::likely_least(self, class, low)
+    }
+
+    fn likely_greatest(&self, class: ClassNo, high: Option<Key>) -> Option<Key> {
+        View::likely_greatest(self, class, high)
     }
 }

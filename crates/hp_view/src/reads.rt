@@ -27,6 +27,8 @@ pub enum Seen {
     Keys(ClassNo),
     /// The greatest key of a class's objects.
     Greatest(ClassNo),
+    /// The number of a class's objects.
+    Count(ClassNo),
     /// A part of a class, by a number that is computed of it: `Found` has the part itself.
     Part(ClassNo, u64),
 }
@@ -40,6 +42,8 @@ pub enum Found {
     Keys(Vec<Key>),
     /// A class's greatest key. None if the class has no object.
     Greatest(Option<Key>),
+    /// The number of a class's objects.
+    Count(usize),
     /// All objects of a class with their rows, by rising keys. Others may share the list.
     Objects(Arc<ObjectList>),
     /// A part of a class with its objects. They stand elsewhere, so that what is found in a cell takes little room.
@@ -51,7 +55,7 @@ impl Found {
     ghost use Rattle.hp_store.specs.Mapped.{cell_value};
     ghost use Rattle.std.specs.Prelude.{map};
     ghost use Rattle.hp_value.specs.Mapped.{class_part, keyed_row};
-    ghost use Rattle.hp_view.specs.Mapped.{value_found, keys_found, greatest_found};
+    ghost use Rattle.hp_view.specs.Mapped.{value_found, keys_found, greatest_found, count_found};
     ghost use Rattle.hp_view.specs.Mapped.{part_found, objects_found, found_whole};
 
     /// The value that was found in a cell. In a class none is found.
@@ -60,7 +64,11 @@ impl Found {
     {
         match self {
             Found::Value(value) => value.as_ref(),
-            Found::Keys(_) | Found::Greatest(_) | Found::Objects(_) | Found::Part(_) => None,
+            Found::Keys(_)
+            | Found::Greatest(_)
+            | Found::Count(_)
+            | Found::Objects(_)
+            | Found::Part(_) => None,
         }
     }
 
@@ -69,7 +77,7 @@ impl Found {
         ensures { result.now ≡ keys_found self.now }
     {
         match self {
-            Found::Value(_) | Found::Greatest(_) | Found::Part(_) => &[],
+            Found::Value(_) | Found::Greatest(_) | Found::Count(_) | Found::Part(_) => &[],
             Found::Keys(keys) => keys,
             Found::Objects(objects) => objects.keys(),
         }
@@ -81,7 +89,25 @@ impl Found {
     {
         match self {
             Found::Greatest(greatest) => *greatest,
-            Found::Value(_) | Found::Keys(_) | Found::Objects(_) | Found::Part(_) => None,
+            Found::Value(_)
+            | Found::Keys(_)
+            | Found::Count(_)
+            | Found::Objects(_)
+            | Found::Part(_) => None,
+        }
+    }
+
+    /// The number of objects that was found in a class. Elsewhere it is 0.
+    pub fn count(&self) -> usize
+        ensures { result ≡ count_found self.now }
+    {
+        match self {
+            Found::Count(count) => *count,
+            Found::Value(_)
+            | Found::Keys(_)
+            | Found::Greatest(_)
+            | Found::Objects(_)
+            | Found::Part(_) => 0,
         }
     }
 
@@ -91,7 +117,11 @@ impl Found {
     {
         match self {
             Found::Part(found) => found.part(),
-            Found::Value(_) | Found::Keys(_) | Found::Greatest(_) | Found::Objects(_) => ClassPart {
+            Found::Value(_)
+            | Found::Keys(_)
+            | Found::Greatest(_)
+            | Found::Count(_)
+            | Found::Objects(_) => ClassPart {
                 attribute: Attribute::Key,
                 bounds: Bounds::Numbers(None, None),
             },
@@ -104,7 +134,11 @@ impl Found {
     {
         match self {
             Found::Objects(_) => true,
-            Found::Value(_) | Found::Keys(_) | Found::Greatest(_) | Found::Part(_) => false,
+            Found::Value(_)
+            | Found::Keys(_)
+            | Found::Greatest(_)
+            | Found::Count(_)
+            | Found::Part(_) => false,
         }
     }
 
@@ -114,7 +148,11 @@ impl Found {
     {
         match self {
             Found::Part(found) => found.objects(),
-            Found::Value(_) | Found::Keys(_) | Found::Greatest(_) | Found::Objects(_) => &[],
+            Found::Value(_)
+            | Found::Keys(_)
+            | Found::Greatest(_)
+            | Found::Count(_)
+            | Found::Objects(_) => &[],
         }
     }
 }
@@ -132,7 +170,7 @@ pub(crate) enum PartState {
 
 /// What was read of a snapshot, in the order of the first reads: each cell with the value or the absence that was
 /// found, each class with its keys, or with all of its objects where it was read as a whole, or with its greatest key,
-/// each part of a class with its objects.
+/// or with the number of its objects, each part of a class with its objects.
 #[derive(Debug, Drop)]
 pub struct Reads {
     entries: IndexMap<Seen, Found>,
@@ -157,17 +195,17 @@ impl Model for Reads {
 }
 
 impl Reads {
-    ghost use Rattle.std.specs.Prelude.{◌≡◌, ◌↔◌, true, false, [], Some, IsTrue, IsSome, IsOk, IfOk, IfSome};
-    ghost use Rattle.std.specs.Prelude.{OnOk, OnErr, is_some, map, option_map, length, take};
+    ghost use Rattle.std.specs.Prelude.{◌≡◌, ◌↔◌, true, false, [], Some, IsTrue, IsSome, IsNone, IsOk, IfOk};
+    ghost use Rattle.std.specs.Prelude.{IfSome, OnOk, OnErr, is_some, map, option_map, length, take};
     ghost use Rattle.hp_model.specs.Cells.{Cells, AreKeys, AreObjects, Holds, cell_read};
-    ghost use Rattle.hp_model.specs.Cells.{keys_read, greatest_read, objects_read, part_read};
+    ghost use Rattle.hp_model.specs.Cells.{keys_read, greatest_read, count_read, objects_read, part_read};
     ghost use Rattle.hp_value.specs.Mapped as mapped;
     ghost use Rattle.hp_store.specs.Mapped.{cell_value};
     ghost use Rattle.hp_view.specs.Mapped.{read, value_found};
     ghost use Rattle.hp_view.specs.Numbered.{IsStateOf};
     ghost use Rattle.hp_view.specs.Parts.{number_of};
     ghost use Rattle.hp_view.specs.Seeing.{noted, class_was_read, row_was_read};
-    ghost use Rattle.hp_view.specs.Seeing.{cell_was_read, keys_were_read, greatest_was_read};
+    ghost use Rattle.hp_view.specs.Seeing.{cell_was_read, keys_were_read, greatest_was_read, count_was_read, reads_cell};
     ghost use Rattle.hp_view.specs.Seeing.{number_was_read};
 
     /// No reads.
@@ -230,6 +268,7 @@ impl Reads {
     /// All objects that were found in a class, if it was read as a whole.
     pub(crate) fn objects(&self, class: ClassNo) -> Option<&Arc<ObjectList>>
         ensures known { IsSome result → keys_were_read self.now class ≡ true }
+        ensures none { IsNone result → class_was_read self.now class ≡ false }
         ensures held { IfSome result (λ objects. (base : Cells) → Holds base self.now →
             AreObjects base class objects.now.value) }
     {
@@ -241,7 +280,8 @@ impl Reads {
 
     /// What was found in a cell, if it was read by itself.
     pub(crate) fn in_cell(&self, cell: Cell) -> Option<&Found>
-        ensures { IfSome result (λ found. (base : Cells) → Holds base self.now →
+        ensures known { is_some result ≡ list_any (reads_cell (mapped.cell cell)) self.now }
+        ensures held { IfSome result (λ found. (base : Cells) → Holds base self.now →
             value_found found.now ≡ base (mapped.cell cell)) }
     {
         self.entries.get(&Seen::Cell(cell))
@@ -330,6 +370,22 @@ impl Reads {
         let seen = Seen::Greatest(class);
         if !self.entries.contains_key(&seen) {
             note(&mut self.entries, seen, Found::Greatest(greatest))?;
+        }
+        Ok(())
+    }
+
+    /// Notes what number of objects was found in a class whose keys weren't read before, unless one is noted.
+    ///
+    /// An error means that memory ran out; the reads are then as before. Where one is noted, nothing is allocated.
+    pub(crate) fn note_count(&mut self, class: ClassNo, count: usize) -> Result<(), AllocError>
+        requires { keys_were_read self.old class ≡ false }
+        ensures ok { OnOk result (self.new ≡ noted self.old (count_read class count)) }
+        ensures err { OnErr result (self.new ≡ self.old) }
+        ensures again { IsTrue (count_was_read self.old class) → IsOk result }
+    {
+        let seen = Seen::Count(class);
+        if !self.entries.contains_key(&seen) {
+            note(&mut self.entries, seen, Found::Count(count))?;
         }
         Ok(())
     }

@@ -4,18 +4,24 @@ ghost use Rattle.std.specs.Prelude.{◌≡◌, ◌↔◌, ℕ, ℤ, List, All, O
 ghost use Rattle.std.specs.Prelude.{is_some, MatchOption, IsTrue, IsOk, IsSome, IfOk, IfSome, IfNone, OnOk, OnErr, option_map};
 ghost use Rattle.std.specs.List.{list_all};
 ghost use Rattle.hp_model.specs.Values as model;
-ghost use Rattle.hp_model.specs.Cells.{Cells, AreKeys, IsGreatestKey, AreObjects, ArePart, Holds, object_cell};
+ghost use Rattle.hp_model.specs.Cells.{Cells, AreKeys, IsGreatestKey, IsCount, AreObjects, ArePart, Holds, object_cell};
 ghost use Rattle.hp_model.specs.Cells.{objects_read, over, is_above};
 ghost use Rattle.hp_value.specs.Mapped as mapped;
+ghost use Rattle.hp_store.specs.Changes.{class_entries};
 ghost use Rattle.hp_store.specs.Mapped.{cell_value};
+ghost use Rattle.hp_store.specs.Kept.{HoldsOther};
+ghost use Rattle.hp_store.specs.Parts.{is_of_keys, no_cells};
 ghost use Rattle.hp_store.specs.Stack.{cells_in};
 ghost use Rattle.hp_view.specs.Adding.{AddsReads, IsOfClass};
 ghost use Rattle.hp_view.specs.Keeping.{KeepsObject};
+ghost use Rattle.hp_view.specs.Counts.{all_read};
 ghost use Rattle.hp_view.specs.Seeing.{Seeing as Seen, beneath, written, now_in, noted, read_cell, row_was_read};
 ghost use Rattle.hp_view.specs.Seeing.{cell_was_read, keys_were_read, Writes, TakesIn, IsSame, GoesBack, GoesOn};
 ghost use Rattle.hp_view.specs.Seeing.{Restores, OnlyReads, Shows, ShowsKeys, ShowsObjects, ShowsPart, ReadsKeys};
-ghost use Rattle.hp_view.specs.Seeing.{ReadsPart, ReadsGreatest, ShowsGreatest};
-ghost use Rattle.hp_view.specs.Wholes.{is_row};
+ghost use Rattle.hp_view.specs.Parts.{number_of};
+ghost use Rattle.hp_view.specs.Seeing.{ReadsPart, ReadsGreatest, ShowsGreatest, ReadsCount, ShowsCount};
+ghost use Rattle.hp_view.specs.Seeing.{part_was_read, number_was_read};
+ghost use Rattle.hp_view.specs.Wholes.{is_row, LacksList, HasNoList, ReadsWhole};
 
 use crate::reads::{PartState, Reads};
 use crate::undo::{Replaced, take_back, write, write_all};
@@ -357,6 +363,86 @@ impl View {
 }
 
 impl View {
+    /// Reads the number of a class's objects, which is then the one that `has_count` takes.
+    ///
+    /// It is recorded as it stands beneath the view's own writes, unless it or the class's keys were read before: then
+    /// it takes no memory. Where the writes name an object whose cell wasn't read by itself, the keys are read. An
+    /// error means that memory ran out; the view is then as before.
+    pub fn read_class_count(&mut self, alloc: Global, class: ClassNo) -> Result<(), AllocError>
+        ensures reads { OnOk result (ReadsCount self.old self.new class) }
+        ensures err { OnErr result (self.new ≡ self.old) }
+        ensures shows { OnOk result ((count : ℕ) → IsCount (now_in self.old) class count →
+            ShowsCount self.new class count) }
+        ensures only { OnlyReads self.old self.new }
+        ensures goes_on { GoesOn self.old self.new }
+        ensures so_it_was { OnOk result (Holds (beneath self.new) self.new.reads) }
+    {
+        if self.reads.keys(class).is_some() {
+            return Ok(());
+        }
+        if !self.has_read_written(class) {
+            return self.read_keys(alloc, class);
+        }
+        let beneath = self.base.count(class)?;
+        self.reads.note_count(class, beneath)?;
+        Ok(())
+    }
+
+    /// The number of a class's objects.
+    ///
+    /// It is read as `read_class_count` reads it. The time goes with the changes of the class's objects in the view's
+    /// own writes and in the snapshot's layers, and not with the class. An error means that memory ran out; the view is
+    /// then as before.
+    pub fn count(&mut self, alloc: Global, class: ClassNo) -> Result<usize, AllocError>
+        ensures reads { OnOk result (ReadsCount self.old self.new class) }
+        ensures err { OnErr result (self.new ≡ self.old) }
+        ensures shows { IfOk result (ShowsCount self.new class) }
+        ensures only { OnlyReads self.old self.new }
+        ensures goes_on { GoesOn self.old self.new }
+        ensures so_it_was { OnOk result (Holds (beneath self.new) self.new.reads) }
+    {
+        let count = self.base.count_over(&self.writes, class)?;
+        self.read_class_count(alloc, class)?;
+        Ok(count)
+    }
+
+    // Whether the cell of each of a class's objects that the view's own writes name was read by itself.
+    fn has_read_written(&self, class: ClassNo) -> bool
+        ensures { result ≡ all_read self.now.reads (class_entries class self.now.writes) }
+    {
+        for (cell, _) in self.writes.of_class(class) {
+            if self.reads.in_cell(*cell).is_none() {
+                return false;
+            }
+        }
+        true
+    }
+
+    /// Whether a class has this number of objects. Nothing is recorded or allocated.
+    pub fn has_count(&self, class: ClassNo, count: usize) -> bool
+        ensures { IsTrue result ↔ IsCount (now_in self.now) class count }
+    {
+        self.base.has_count_over(&self.writes, class, count)
+    }
+}
+
+impl View {
+    /// The least key from a low bound on, or of all where there is none, of a class's objects. None if there is no such
+    /// object. It is a hint: nothing is recorded or allocated, and so no answer may depend on it.
+    ///
+    /// The time goes with the logarithm of the number of cells, for this key and each one below it, down to the bound,
+    /// that the view's own writes or earlier layers removed.
+    pub fn likely_least(&self, class: ClassNo, low: Option<Key>) -> Option<Key> {
+        self.base.likely_least(&self.writes, class, low)
+    }
+
+    /// The greatest key up to a high bound, or of all where there is none, likewise.
+    pub fn likely_greatest(&self, class: ClassNo, high: Option<Key>) -> Option<Key> {
+        self.base.likely_greatest(&self.writes, class, high)
+    }
+}
+
+impl View {
     /// All objects of a class with their rows, by rising keys. None where the view's own writes name one of them, or
     /// where the class's keys were read alone.
     ///
@@ -396,6 +482,7 @@ impl View {
         class: ClassNo,
     ) -> Result<Option<Arc<ObjectList>>, AllocError>
         ensures reads { AddsReads (IsOfClass (written self.old) class) self.old.reads self.new.reads }
+        ensures none { IfOk result (λ found. IfNone found (HasNoList self.old class)) }
         ensures shows { IfOk result (λ found. IfSome found (λ objects. ShowsObjects self.new class objects.value)) }
         ensures only { OnlyReads self.old self.new }
         ensures goes_on { GoesOn self.old self.new }
@@ -416,8 +503,10 @@ impl View {
         class: ClassNo,
         under: Arc<ObjectList>,
     ) -> Result<Option<Arc<ObjectList>>, AllocError>
-        ensures { IfOk result (λ found. IfSome found (λ objects. (base : Cells) → AreObjects base class under.value →
-            AreObjects (over base (written self.now)) class objects.value)) }
+        ensures objects { IfOk result (λ found. IfSome found (λ objects. (base : Cells) →
+            AreObjects base class under.value → AreObjects (over base (written self.now)) class objects.value)) }
+        ensures none { IfOk result (λ found. IfNone found
+            ((key : ℤ) × HoldsOther (over no_cells (written self.now) (object_cell class key)))) }
     {
         if !self.writes.names_objects_of(class) {
             return Ok(Some(under));
@@ -438,6 +527,7 @@ impl View {
         ensures reads { IfOk result (λ found. IfSome found (λ objects.
             self.new ≡ record self.old { reads = noted self.old.reads (objects_read class objects.value) })) }
         ensures none { IfOk result (λ found. IfNone found (self.new ≡ self.old)) }
+        ensures lacks { IfOk result (λ found. IfNone found (LacksList self.old class)) }
         ensures err { OnErr result (self.new ≡ self.old) }
         ensures held { IfOk result (λ found. IfSome found (λ objects. (base : Cells) → Holds base self.new.reads →
             AreObjects base class objects.value)) }
@@ -465,6 +555,7 @@ impl View {
     /// An error means that memory ran out; some of it may have been read.
     pub fn read_objects(&mut self, alloc: Global, class: ClassNo) -> Result<(), AllocError>
         ensures reads { AddsReads (IsOfClass (written self.old) class) self.old.reads self.new.reads }
+        ensures whole { OnOk result ((LacksList self.old class → ⊥) → ReadsWhole self.old self.new class) }
         ensures cells { OnOk result ((key : ℤ) →
             Shows self.new (object_cell class key) (now_in self.old (object_cell class key))) }
         ensures shows { OnOk result ((objects : List model.KeyedRow) → AreObjects (now_in self.old) class objects →
@@ -521,6 +612,10 @@ impl View {
         ensures shows { IfOk result (λ is_read. is_read ≡ true → (objects : List model.KeyedRow) →
             ArePart (now_in self.old) class (mapped.class_part part.now) objects →
             ShowsPart self.new class (mapped.class_part part.now) objects) }
+        ensures again { IsTrue (part_was_read self.old.reads class (mapped.class_part part.now)) → IsOk result }
+        ensures found { is_of_keys part.now ≡ true →
+            number_was_read self.old.reads class (number_of (mapped.class_part part.now)) ≡ false →
+            IfOk result (λ is_read. is_read ≡ true) }
         ensures only { OnlyReads self.old self.new }
         ensures goes_on { GoesOn self.old self.new }
         ensures so_it_was { OnOk result (Holds (beneath self.new) self.new.reads) }
@@ -554,6 +649,9 @@ impl View {
         ensures err { OnErr result (self.new ≡ self.old) }
         ensures shows { IfOk result (λ found. IfSome found (λ objects.
             ShowsPart self.new class (mapped.class_part part.now) (map mapped.keyed_row objects.items))) }
+        ensures found { is_of_keys part.now ≡ true →
+            number_was_read self.old.reads class (number_of (mapped.class_part part.now)) ≡ false →
+            IfOk result (λ found. IsSome found) }
         ensures only { OnlyReads self.old self.new }
         ensures goes_on { GoesOn self.old self.new }
         ensures so_it_was { OnOk result (Holds (beneath self.new) self.new.reads) }

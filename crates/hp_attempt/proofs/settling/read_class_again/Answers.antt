@@ -36,6 +36,13 @@ returns-in-Greatest-clause-again c =
     (again_keys c.args.view.now c.read_keys-in-Greatest.new.self c.args.class [] shows))
     c.read_keys-in-Greatest.ensures.shows
 
+pub returns-in-Count-clause-again : goal.returns-in-Count-clause-again
+returns-in-Count-clause-again c =
+    where_ok c.read_keys-in-Count.result
+    (λ shows. subst (λ f. IsReadAgain c.args.view.now c.read_keys-in-Count.new.self (class_read c.args.class f)) (sym c.in-Count.is)
+    (again_keys c.args.view.now c.read_keys-in-Count.new.self c.args.class [] shows))
+    c.read_keys-in-Count.ensures.shows
+
 pub returns-in-Part-clause-again : goal.returns-in-Part-clause-again
 returns-in-Part-clause-again c =
     where_ok c.read_keys-in-Part.result
@@ -67,6 +74,13 @@ returns-in-Greatest-clause-reads c =
     let r = keys_read c.args.class [] in
     subst (λ f. AddsReads (IsFor w (class_read c.args.class f)) c.args.view.now.reads c.read_keys-in-Greatest.new.self.reads) (sym c.in-Greatest.is)
     (either_way c.read_keys-in-Greatest.result (adds_keys (IsFor w r) (λ keys. refl)) (λ (same : c.read_keys-in-Greatest.new.self ≡ c.args.view.now). adds_none (IsFor w r) (ap (λ (v : Seeing). v.reads) same)) c.read_keys-in-Greatest.ensures.reads c.read_keys-in-Greatest.ensures.err)
+
+pub returns-in-Count-clause-reads : goal.returns-in-Count-clause-reads
+returns-in-Count-clause-reads c =
+    let w = written c.args.view.now in
+    let r = keys_read c.args.class [] in
+    subst (λ f. AddsReads (IsFor w (class_read c.args.class f)) c.args.view.now.reads c.read_keys-in-Count.new.self.reads) (sym c.in-Count.is)
+    (either_way c.read_keys-in-Count.result (adds_keys (IsFor w r) (λ keys. refl)) (λ (same : c.read_keys-in-Count.new.self ≡ c.args.view.now). adds_none (IsFor w r) (ap (λ (v : Seeing). v.reads) same)) c.read_keys-in-Count.ensures.reads c.read_keys-in-Count.ensures.err)
 
 pub returns-in-Part-clause-reads : goal.returns-in-Part-clause-reads
 returns-in-Part-clause-reads c =

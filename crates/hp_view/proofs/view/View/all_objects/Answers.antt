@@ -6,4 +6,4 @@ use Rattle.hp_view.proofs.view.View.all_objects.Goals as goal
 pub returns-clause-shows : goal.returns-clause-shows
 returns-clause-shows c =
     let held = told_some (λ objects. (base : Cells) → Holds base c.whole_beneath.new.self.reads → AreObjects base c.args.class objects.value) c.in-Some.is c.in_ok-under.ensures.held in
-    told_map c.in_ok-objects.objects (λ objects over_them. shows_over c.args.class c.in-Some.under.value objects.value held over_them) c.in_ok-objects.ensures
+    told_map c.in_ok-objects.objects (λ objects over_them. shows_over c.args.class c.in-Some.under.value objects.value held over_them) c.in_ok-objects.ensures.objects

@@ -15,6 +15,6 @@ pub returns-then-branch-clause-shows : goal.returns-then-branch-clause-shows
 returns-then-branch-clause-shows c =
     let p = class_part c.args.part.now in
     let objects = map keyed_row c.in-Some.objects.items in
-    let are = told_some (λ objects. ArePart (over (cells_in c.self.inside.base) (changes c.deref.result.now)) c.args.class p (map keyed_row objects.items)) c.in-Some.is c.in_ok-objects.ensures in
+    let are = told_some (λ objects. ArePart (over (cells_in c.self.inside.base) (changes c.deref.result.now)) c.args.class p (map keyed_row objects.items)) c.in-Some.is c.in_ok-objects.ensures.part in
     c.in_ok-read_part.ensures.shows c.if-branch.true objects
     (subst (λ u. ArePart (now_in u) c.args.class p objects) c.self.view_is (subst (λ es. ArePart (over (cells_in c.self.inside.base) (changes es)) c.args.class p objects) c.deref.ensures are))

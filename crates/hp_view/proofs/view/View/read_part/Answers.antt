@@ -32,7 +32,7 @@ first_read : (c : goal.In_ok-note_part) → PartRead (the_view c.self.inside) c.
 first_read c =
     let p = class_part c.args.part.now in
     part_is_read c.args.class p (map keyed_row c.in-Some.objects.items) c.note_part.new.self c.self.view_is c.self.invariant.held
-    (told_some (λ objects. ArePart (cells_in c.self.inside.base) c.args.class p (map keyed_row objects.items)) c.in-Some.is c.in_ok-objects.ensures) c.in_ok-note_part.ensures.ok
+    (told_some (λ objects. ArePart (cells_in c.self.inside.base) c.args.class p (map keyed_row objects.items)) c.in-Some.is c.in_ok-objects.ensures.part) c.in_ok-note_part.ensures.ok
 
 pub invariant_of-self-2 : goal.invariant_of-self-2
 invariant_of-self-2 c = record { held = (first_read c).held; covered = c.self.invariant.covered }

@@ -3,7 +3,7 @@ use Rattle.hp_model.specs.Conditions as model
 use Rattle.hp_value.specs.Mapped.{Meets, environment, expression, value}
 use Rattle.hp_query.specs.Mapped.{merge}
 use Rattle.hp_query.proofs.CandidateLemmas.{merged_of}
-use Rattle.hp_query.proofs.terms.Terms.merged.Goals as goal
+use Rattle.hp_query.proofs.terms.Terms.merged_candidates.Goals as goal
 
 pub returns-clause-value : goal.returns-clause-value
 returns-clause-value g c = λ world rise allowed.
