@@ -11,7 +11,7 @@ ghost use Rattle.hp_analysis.specs.Openings as openings;
 ghost use Rattle.hp_analysis.specs.Checking as model;
 
 use crate::shown::{Path, Why};
-use hp_analysis::{KindFinding, Opening, has, opening};
+use hp_analysis::{KindFinding, Opening, has, opening_of};
 use hp_rule::Rule;
 use std::alloc::AllocError;
 use std::fmt::Write;
@@ -87,7 +87,7 @@ fn put_opening(out: &mut String, number: usize, guard: &Rule) -> Result<(), Allo
     ensures { OnOk result (Gains out.old out.new
         (model.opening_line number (rule guard.now) (guards.opening (rule guard.now)))) }
 {
-    let Some(opening) = opening(guard) else {
+    let Some(opening) = opening_of(guard) else {
         return Ok(());
     };
     let part = part_of(opening);

@@ -1,4 +1,5 @@
 pub mod Known
+pub mod First
 pub mod Guarding
 pub mod Measuring
 pub mod Only

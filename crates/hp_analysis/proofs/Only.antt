@@ -1,7 +1,9 @@
 -- A library in which the rules outside a set do nothing.
-use Rattle.std.proofs.Common.{◌≡◌, refl, ap, ap₂, ℕ, suc, List, [], ◌∷◌, length, map, Bool, true}
+use Rattle.std.proofs.Common.{◌≡◌, refl, ap, ap₂, ℕ, suc, List, [], ◌∷◌, length, map, Bool, true, false}
 use Rattle.hp_model.specs.Rules.{Rule, Library}
-use Rattle.hp_model.specs.Idle.{idle_from}
+use Rattle.std.specs.Prelude.{if◌then◌else◌}
+use Rattle.hp_model.specs.Chains.{may_detach}
+use Rattle.hp_model.specs.Idle.{idle_rule, idle_from}
 use Rattle.hp_analysis.specs.Reached.{has}
 use Rattle.hp_analysis.specs.Installed.{with_only, rule_in}
 
@@ -28,3 +30,11 @@ from_all classes n (r ∷ rs) = ap (λ xs. r ∷ xs) (from_all classes (suc n) r
 -- a set that has a place for no rule has all rules
 pub only_all : (library : Library) → with_only [] library ≡ library
 only_all library = ap (λ (rules : List Rule). record { classes = library.classes; rules = rules; depth_limit = library.depth_limit }) (from_all (length library.classes) 0 library.rules)
+
+-- a rule's modes stay
+pub rule_detaches : (set : List Bool) (classes n : ℕ) (r : Rule) → may_detach (rule_in set classes n r) ≡ may_detach r
+rule_detaches set classes n r = by (has set n)
+  where
+    by : (b : Bool) → may_detach (if b then r else idle_rule classes r) ≡ may_detach r
+    by true = refl
+    by false = refl

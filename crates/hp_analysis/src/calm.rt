@@ -229,6 +229,13 @@ fn is_operation_calm(key: &Expr, pairs: &[Assignment]) -> bool
     is_calm(key) && are_values_calm(pairs)
 }
 
+/// Whether both are true.
+fn both(first: bool, second: bool) -> bool
+    ensures { result ≡ (first && second) }
+{
+    first && second
+}
+
 /// Whether a statement is calm; of a `sub` the body that follows its abort.
 #[cycle(calm)]
 fn is_statement_calm(s: &Stmt) -> bool
@@ -245,18 +252,32 @@ fn is_statement_calm(s: &Stmt) -> bool
             condition,
             then_body,
             else_body,
-        } => is_calm(condition) && is_body_calm(then_body) && is_body_calm(else_body),
+        } => {
+            let first = is_body_calm(then_body);
+            let second = is_body_calm(else_body);
+            let bodies = both(first, second);
+            both(is_calm(condition), bodies)
+        }
         Stmt::Each {
             predicate, body, ..
-        } => is_calm(predicate) && is_body_calm(body),
+        } => {
+            let inside = is_body_calm(body);
+            both(is_calm(predicate), inside)
+        }
         Stmt::For { body, .. } => is_body_calm(body),
-        Stmt::With { key, body, .. } => is_calm(key) && is_body_calm(body),
+        Stmt::With { key, body, .. } => {
+            let inside = is_body_calm(body);
+            both(is_calm(key), inside)
+        }
         Stmt::Sub { otherwise, .. } => is_body_calm(otherwise),
         Stmt::Let {
             aggregate: computed,
             body,
             ..
-        } => is_aggregate_calm(computed) && is_body_calm(body),
+        } => {
+            let inside = is_body_calm(body);
+            both(is_aggregate_calm(computed), inside)
+        }
         Stmt::Veto(Some(message)) => is_calm(message),
         Stmt::Veto(None) | Stmt::Abort | Stmt::OnRule { .. } | Stmt::Fire(_) => true,
     }

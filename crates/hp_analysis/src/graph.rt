@@ -38,8 +38,9 @@ impl<'a> Graph<'a> {
         library: &'a Library,
         present: Vec<bool>,
     ) -> Result<Graph<'a>, AllocError>
-        ensures { IfOk result (λ graph.
+        ensures seen { IfOk result (λ graph.
             seen graph.triggers ≡ with_only present.items (libraries.library library.now)) }
+        ensures present { IfOk result (λ graph. graph.triggers.present.items ≡ present.items) }
     {
         let triggers = Triggers::of(alloc, library, present)?;
         let after = triggers.targets(alloc)?;

@@ -19,7 +19,7 @@ mod sets;
 mod triggers;
 
 pub use graph::Graph;
-pub use guards::{Opening, have_no_opening, opening};
+pub use guards::{Opening, have_no_opening, opening_of};
 pub use installs::installed;
 pub use kinds::check::{check_library, check_unit, is_kinded, is_library_kinded, is_unit_kinded};
 pub use kinds::declaration::Declaration;

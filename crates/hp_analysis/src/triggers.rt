@@ -46,7 +46,8 @@ impl<'a> Triggers<'a> {
         library: &'a Library,
         present: Vec<bool>,
     ) -> Result<Triggers<'a>, AllocError>
-        ensures { IfOk result (λ t. seen t ≡ with_only present.items (libraries.library library.now)) }
+        ensures seen { IfOk result (λ t. seen t ≡ with_only present.items (libraries.library library.now)) }
+        ensures present { IfOk result (λ t. t.present.items ≡ present.items) }
     {
         let listeners = listeners_of(alloc, library, &present)?;
         Ok(Triggers {

@@ -59,6 +59,23 @@ fn first_in_units(
     Ok(None)
 }
 
+/// The first finding in the rules and the units.
+fn find_first(
+    alloc: Global,
+    library: &Library,
+    declaration: &Declaration,
+    units: &[Unit],
+) -> Result<Option<KindFinding>, AllocError>
+    ensures { IfOk result (λ found. option_map kind_finding found ≡ model.first_finding
+        (libraries.library library.now) (declared declaration.now) (map unit units.now)) }
+{
+    let checked = check_library(alloc, library, declaration);
+    match found_in(None, checked)? {
+        Some(found) => Ok(Some(found)),
+        None => first_in_units(alloc, library, declaration, units),
+    }
+}
+
 /// The first finding of kinds in the rules and the units of a script, in this order.
 ///
 /// There is none exactly if the script is kinded (`is_kinded` says what that promises). An error means that memory ran
@@ -74,9 +91,5 @@ pub fn first_finding(
     ensures judges { IfOk result (λ found. is_none found
         ≡ script_kinded (libraries.library library.now) (declared declaration.now) (map unit units.now)) }
 {
-    let checked = check_library(alloc, library, declaration);
-    match found_in(None, checked)? {
-        Some(found) => Ok(Some(found)),
-        None => first_in_units(alloc, library, declaration, units),
-    }
+    find_first(alloc, library, declaration, units)
 }

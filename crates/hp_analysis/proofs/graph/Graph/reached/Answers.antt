@@ -1,4 +1,5 @@
-use Rattle.std.proofs.Common.{rules, ◌≡◌, ap, ◌∙◌, map}
+use Rattle.std.proofs.Common.{rules, ◌≡◌, ap, ◌∙◌, map, length, Bool}
+use Rattle.std.specs.Global.{Vec}
 use Rattle.hp_model.specs.Chains.{unit_triggers}
 use Rattle.hp_rule.specs.Mapped.{unit}
 use Rattle.hp_analysis.specs.Sets.{no_rules, targets, gathered}
@@ -12,7 +13,7 @@ returns c =
     let self = c.args.self.now in
     let library = seen self.triggers in
     let units = map unit c.args.units.now in
-    let start = c.in_ok-set.set.items in
-    let is : start ≡ gathered (unit_triggers library) units (no_rules library) = search rules in
-    let ends : c.spread.new.set.items ≡ closure _ _ start = c.spread.ensures in
-    ?
+    let set = c.in_ok-set.set.items in
+    let is : set ≡ gathered (unit_triggers library) units (no_rules library) = search rules in
+    let after_is = ap (map (λ (s : Vec Bool). s.items)) c.deref.ensures.value ∙ self.edges in
+    spread_is library (map (targets library) library.rules) (unit_triggers library) units set c.spread.new.set.items is (c.spread.ensures ∙ ap (λ after. closure (length set) after set) after_is)
