@@ -2,6 +2,7 @@
 
 mod aggregates;
 mod detectors;
+mod ends;
 mod expressions;
 mod fixtures;
 mod parts;

@@ -26,6 +26,10 @@ impl Look for Parts {
 
     ghost asks = { λ class before after. ⊤ };
 
+    ghost asks_row = { λ class key before after. ⊤ };
+
+    ghost asks_part = { λ class part before after. ⊤ };
+
     ghost goes_on_same = { λ look. tt };
 
     ghost goes_on_then = { λ first second third one two. tt };
@@ -33,6 +37,8 @@ impl Look for Parts {
     ghost asks_same = { λ class look. tt };
 
     ghost asks_then = { λ class first second third one two. tt };
+
+    ghost asks_row_same = { λ class key look. tt };
 
     ghost narrows = { λ first second on world is. is };
 
@@ -42,6 +48,10 @@ impl Look for Parts {
 
     fn keys(&mut self, alloc: Global, class: ClassNo) -> Result<Vec<Key>, AllocError> {
         Look::keys(&mut self.objects, alloc, class)
+    }
+
+    fn count(&mut self, alloc: Global, class: ClassNo) -> Result<usize, AllocError> {
+        Look::count(&mut self.objects, alloc, class)
     }
 
     fn greatest_key(&mut self, alloc: Global, class: ClassNo) -> Result<Option<Key>, AllocError> {
@@ -74,6 +84,14 @@ impl Look for Parts {
         }
         self.found = Some(found.len());
         Ok(Some(found))
+    }
+
+    fn likely_least(&self, class: ClassNo, low: Option<Key>) -> Option<Key> {
+        None
+    }
+
+    fn likely_greatest(&self, class: ClassNo, high: Option<Key>) -> Option<Key> {
+        None
     }
 }
 

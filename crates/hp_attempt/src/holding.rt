@@ -12,8 +12,8 @@ use hp_value::ClassNo;
 use hp_view::{Found, Reads, Seen, View};
 
 /// Whether all reads hold in a view's cells: each cell has the value or the absence that was found, each class the
-/// keys, or the greatest key, or the number of objects, or the objects with their rows where it was read as a whole, and
-/// each part of a class its objects with their rows.
+/// keys, or the greatest key, or the number of objects, or the objects with their rows where it was read as a whole,
+/// and each part of a class its objects with their rows.
 ///
 /// Nothing is recorded or allocated.
 pub fn holds(reads: &Reads, view: &View) -> bool

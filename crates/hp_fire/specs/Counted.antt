@@ -1,9 +1,10 @@
 -- A view that counts the rows that a query looks at: it shows what the view shows.
-use Rattle.std.specs.Prelude.{◌≡◌, refl, ℕ}
+use Rattle.std.specs.Prelude.{◌≡◌, refl, ℕ, ℤ}
 use Rattle.std.proofs.Common.{◌∙◌}
 use Rattle.hp_model.specs.State.{Objects}
+use Rattle.hp_model.specs.ClassParts.{ClassPart}
 use Rattle.hp_view.specs.Seeing.{OnlyReads}
-use Rattle.hp_view.specs.Looks.{Allows, AsksOf, asks_same, asks_then, only_reads_same, only_reads_then, reads_narrow}
+use Rattle.hp_view.specs.Looks.{Allows, AsksOf, AsksRow, AsksPart, asks_same, asks_then, asks_row_same, only_reads_same, only_reads_then, reads_narrow}
 use Rattle.hp_fire.specs.declared.counting.Counting.{Counting}
 
 abbrev pub AllowsCounted : Counting → Objects → Type 0
@@ -17,6 +18,16 @@ pub record OnlyCounts (a b : Counting) : Type 0 where
 -- a question about a class does to the view what it does to any
 abbrev pub AsksCounted : ℕ → Counting → Counting → Type 0
 AsksCounted class a b = AsksOf class a.view.now b.view.now
+
+-- so does a question about one object, or about a part of a class
+abbrev pub AsksRowCounted : ℕ → ℤ → Counting → Counting → Type 0
+AsksRowCounted class key a b = AsksRow class key a.view.now b.view.now
+
+abbrev pub AsksPartCounted : ℕ → ClassPart → Counting → Counting → Type 0
+AsksPartCounted class part a b = AsksPart class part a.view.now b.view.now
+
+pub asks_row_counted_same : (class : ℕ) (key : ℤ) (c : Counting) → AsksRowCounted class key c c
+asks_row_counted_same class key c = asks_row_same class key c.view.now
 
 pub asks_counted_same : (class : ℕ) (c : Counting) → AsksCounted class c c
 asks_counted_same class c = asks_same class c.view.now

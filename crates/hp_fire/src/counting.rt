@@ -50,7 +50,7 @@ impl<'a> Counting<'a> {
         effort.add(self.rows.saturating_mul(operators.saturating_add(ROW)));
     }
 
-    fn count(&mut self, rows: usize)
+    fn count_rows(&mut self, rows: usize)
         ensures same { self.new.view.ghost_name ≡ self.old.view.ghost_name }
         ensures now { self.new.view.now ≡ self.old.view.now }
     {
@@ -92,12 +92,17 @@ fn operators(expr: &Expr) -> u64 {
 impl Look for Counting<'_> {
     ghost use Rattle.hp_fire.specs.Counted.{AllowsCounted, OnlyCounts, counts_same, counts_then, counts_narrow};
     ghost use Rattle.hp_fire.specs.Counted.{AsksCounted, asks_counted_same, asks_counted_then};
+    ghost use Rattle.hp_fire.specs.Counted.{AsksRowCounted, AsksPartCounted, asks_row_counted_same};
 
     ghost allows = { AllowsCounted };
 
     ghost goes_on = { OnlyCounts };
 
     ghost asks = { AsksCounted };
+
+    ghost asks_row = { AsksRowCounted };
+
+    ghost asks_part = { AsksPartCounted };
 
     ghost goes_on_same = { counts_same };
 
@@ -107,17 +112,24 @@ impl Look for Counting<'_> {
 
     ghost asks_then = { asks_counted_then };
 
+    ghost asks_row_same = { asks_row_counted_same };
+
     ghost narrows = { counts_narrow };
 
     fn row(&mut self, alloc: Global, class: ClassNo, key: Key) -> Result<Option<Row>, AllocError> {
-        self.count(1);
+        self.count_rows(1);
         Look::row(self.view, alloc, class, key)
     }
 
     fn keys(&mut self, alloc: Global, class: ClassNo) -> Result<Vec<Key>, AllocError> {
         let keys = Look::keys(self.view, alloc, class)?;
-        self.count(keys.len());
+        self.count_rows(keys.len());
         Ok(keys)
+    }
+
+    fn count(&mut self, alloc: Global, class: ClassNo) -> Result<usize, AllocError> {
+        self.count_rows(1);
+        Look::count(self.view, alloc, class)
     }
 
     fn objects(
@@ -127,7 +139,7 @@ impl Look for Counting<'_> {
     ) -> Result<Option<Arc<ObjectList>>, AllocError> {
         let objects = Look::objects(self.view, alloc, class)?;
         if let Some(objects) = &objects {
-            self.count(objects.rows().len());
+            self.count_rows(objects.rows().len());
         }
         Ok(objects)
     }
@@ -140,13 +152,21 @@ impl Look for Counting<'_> {
     ) -> Result<Option<Vec<KeyedRow>>, AllocError> {
         let objects = Look::part(self.view, alloc, class, part)?;
         if let Some(objects) = &objects {
-            self.count(objects.len());
+            self.count_rows(objects.len());
         }
         Ok(objects)
     }
 
     fn greatest_key(&mut self, alloc: Global, class: ClassNo) -> Result<Option<Key>, AllocError> {
-        self.count(1);
+        self.count_rows(1);
         Look::greatest_key(self.view, alloc, class)
+    }
+
+    fn likely_least(&self, class: ClassNo, low: Option<Key>) -> Option<Key> {
+        Look::likely_least(&*self.view, class, low)
+    }
+
+    fn likely_greatest(&self, class: ClassNo, high: Option<Key>) -> Option<Key> {
+        Look::likely_greatest(&*self.view, class, high)
     }
 }

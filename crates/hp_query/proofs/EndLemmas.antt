@@ -1,5 +1,6 @@
 -- The least and the greatest key in a range, read in a part at one end of the class.
-use Rattle.std.proofs.Common.{◌≡◌, refl, sym, ap, ap₂, ◌∙◌, ℕ, ℤ, Bool, true, false, not, ◌&&◌, cond, List, [], ◌∷◌, ◌++◌, map, filter, Option, Some, None, Ok, Err, if◌then◌else◌, int_lt, arith, option_map, subst}
+use Rattle.std.proofs.Common.{◌≡◌, refl, sym, ap, ap₂, ◌∙◌, ℕ, ℤ, Bool, true, false, not, ◌&&◌, cond, List, [], ◌∷◌, ◌++◌, map, filter, Option, Some, None, Ok, Err, if◌then◌else◌}
+use Rattle.std.proofs.Common.{int_lt, arith, option_map, subst}
 use Rattle.std.specs.declared.cmp.Ordering.{Ordering}
 use Rattle.std.specs.declared.cmp.Ordering.TheVariants.{Less, Equal, Greater}
 use Rattle.std.specs.Ordering.{int_cmp}
@@ -41,6 +42,14 @@ above_head k ks rise = are_above k ks (sorted_head int_cmp k ks rise)
 
 -- ---- the part of the keys
 
+-- the keys in a range
+abbrev kept : (low high : Option ℤ) → List ℤ → List ℤ
+kept low high keys = filter (is_within low high) keys
+
+-- one more key, if it is kept
+abbrev with_one : Bool → ℤ → List ℤ → List ℤ
+with_one b key keys = cond b (key ∷ keys) keys
+
 both_true : (b c : Bool) → (b && c) ≡ true → (b ≡ true) × (c ≡ true)
 both_true true c h = (refl, h)
 both_true false c h = cc
@@ -52,16 +61,16 @@ belongs_within (Some l) None r = refl
 belongs_within (Some l) (Some h) r = refl
 
 one_picked : (b : Bool) (rest : Outcome (List KeyedRow)) (r : KeyedRow) (keys : List ℤ) (hits : List KeyedRow) → ((more : List KeyedRow) → rest ≡ Ok more → keys_of more ≡ keys)
-    → (rest >>= λ more. Ok (if b then r ∷ more else more)) ≡ Ok hits → keys_of hits ≡ cond b (r.key ∷ keys) keys
+    → (rest >>= λ more. Ok (if b then r ∷ more else more)) ≡ Ok hits → keys_of hits ≡ with_one b r.key keys
 one_picked true (Ok more) r keys hits h e = let same : r ∷ more ≡ hits = cc in ap keys_of (sym same) ∙ ap (λ ks. r.key ∷ ks) (h more refl)
 one_picked false (Ok more) r keys hits h e = let same : more ≡ hits = cc in ap keys_of (sym same) ∙ h more refl
 one_picked b (Err c) r keys hits h e = cc
 
 -- the keys of the objects in the part
-picked_keys : (low high : Option ℤ) (rows hits : List KeyedRow) → picked (key_part low high) rows ≡ Ok hits → keys_of hits ≡ filter (is_within low high) (keys_of rows)
+picked_keys : (low high : Option ℤ) (rows hits : List KeyedRow) → picked (key_part low high) rows ≡ Ok hits → keys_of hits ≡ kept low high (keys_of rows)
 picked_keys low high [] hits e = let same : [] ≡ hits = cc in ap keys_of (sym same)
 picked_keys low high (r ∷ rs) hits e =
-    one_picked (is_within low high r.key) (picked (key_part low high) rs) r (filter (is_within low high) (keys_of rs)) hits (λ more is. picked_keys low high rs more is)
+    one_picked (is_within low high r.key) (picked (key_part low high) rs) r (kept low high (keys_of rs)) hits (λ more is. picked_keys low high rs more is)
     (sym (ap (λ (o : Outcome Bool). o >>= λ keep. picked (key_part low high) rs >>= λ more. Ok (if keep then r ∷ more else more)) (belongs_within low high r)) ∙ e)
 
 -- ---- the least
@@ -71,7 +80,7 @@ kept_head : (P : ℤ → Type 0) (keep : ℤ → Bool) (keys : List ℤ) (k : �
 kept_head P keep [] k ks all is = cc
 kept_head P keep (j ∷ js) k ks all is = by (keep j) refl (λ e. kept_head P keep js k ks all.1 e) is
   where
-    by : (b : Bool) → keep j ≡ b → (filter keep js ≡ k ∷ ks → (keep k ≡ true) × P k) → cond b (j ∷ filter keep js) (filter keep js) ≡ k ∷ ks → (keep k ≡ true) × P k
+    by : (b : Bool) → keep j ≡ b → (filter keep js ≡ k ∷ ks → (keep k ≡ true) × P k) → with_one b j (filter keep js) ≡ k ∷ ks → (keep k ≡ true) × P k
     by true here later e = let same : j ≡ k = cc in (ap keep (sym same) ∙ here, subst P same all.0)
     by false here later e = later e
 
@@ -111,19 +120,19 @@ within_more low (Some high) end k fits is =
     let both = both_true (reaches low k) (not (int_lt end k)) is in
     ap₂ (λ a b. a && b) both.0 (ap not (up_to_end high end k (not_true (int_lt high end) fits) (not_true (int_lt end k) both.1)))
 
-least_in : (low high : Option ℤ) (end : ℤ) (keys : List ℤ) (k : ℤ) (ks : List ℤ) → stays_below high end ≡ true → IsStrictlySortedBy int_cmp keys → filter (is_within low (Some end)) keys ≡ k ∷ ks
+least_in : (low high : Option ℤ) (end : ℤ) (keys : List ℤ) (k : ℤ) (ks : List ℤ) → stays_below high end ≡ true → IsStrictlySortedBy int_cmp keys → kept low (Some end) keys ≡ k ∷ ks
     → IsLeastIn low high k keys
 least_in low high end [] k ks fits rise is = cc
 least_in low high end (j ∷ js) k ks fits rise is = by (is_within low (Some end) j) refl (λ e. least_in low high end js k ks fits (sorted_tail int_cmp j js rise) e) is
   where
-    by : (b : Bool) → is_within low (Some end) j ≡ b → (filter (is_within low (Some end)) js ≡ k ∷ ks → IsLeastIn low high k js) → cond b (j ∷ filter (is_within low (Some end)) js) (filter (is_within low (Some end)) js) ≡ k ∷ ks → IsLeastIn low high k (j ∷ js)
+    by : (b : Bool) → is_within low (Some end) j ≡ b → (kept low (Some end) js ≡ k ∷ ks → IsLeastIn low high k js) → with_one b j (kept low (Some end) js) ≡ k ∷ ks → IsLeastIn low high k (j ∷ js)
     by true here later e =
         let same : j ≡ k = cc in
-        (filter (is_within low high) js, ap (λ b. cond b (j ∷ filter (is_within low high) js) (filter (is_within low high) js)) (within_more low high end j fits here) ∙ ap (λ n. n ∷ filter (is_within low high) js) same)
+        (kept low high js, ap (λ b. with_one b j (kept low high js)) (within_more low high end j fits here) ∙ ap (λ n. n ∷ kept low high js) same)
     by false here later e =
         let head = kept_head (λ l. int_lt j l ≡ true) (is_within low (Some end)) js k ks (above_head j js rise) e in
         let rest = later e in
-        (rest.0, ap (λ b. cond b (j ∷ filter (is_within low high) js) (filter (is_within low high) js)) (not_within low high end j k here head.0 head.1) ∙ rest.1)
+        (rest.0, ap (λ b. with_one b j (kept low high js)) (not_within low high end j k here head.0 head.1) ∙ rest.1)
 
 -- ---- the greatest
 
@@ -140,37 +149,43 @@ same_from (Some low) high start j fits from =
     above : (low start j : ℤ) → int_lt start low ≡ false → int_lt j start ≡ false → int_lt j low ≡ false
     above low start j p q = up_to_end j start low q p
 
-same_kept : (low high : Option ℤ) (start j : ℤ) (keys : List ℤ) → reaches low start ≡ true → int_lt j start ≡ false → AreAbove j keys → filter (is_within low high) keys ≡ filter (is_within (Some start) high) keys
+same_kept : (low high : Option ℤ) (start j : ℤ) (keys : List ℤ) → reaches low start ≡ true → int_lt j start ≡ false → AreAbove j keys → kept low high keys ≡ kept (Some start) high keys
 same_kept low high start j [] fits from above = refl
 same_kept low high start j (k ∷ ks) fits from above =
     ap₂ (λ b ls. cond b (k ∷ ls) ls) (same_from low high start k fits (above_start start j k from above.0)) (same_kept low high start j ks fits from above.1)
 
-last_in : (low high : Option ℤ) (start : ℤ) (d : Option ℤ) (keys : List ℤ) (k : ℤ) → reaches low start ≡ true → IsStrictlySortedBy int_cmp keys → last_or None (filter (is_within (Some start) high) keys) ≡ Some k
-    → last_or d (filter (is_within low high) keys) ≡ Some k
+-- the last key of the back is the last one in the range
+abbrev LastIsKept : (low high : Option ℤ) (start k : ℤ) (d : Option ℤ) → List ℤ → Type 0
+LastIsKept low high start k d keys = last_or None (kept (Some start) high keys) ≡ Some k → last_or d (kept low high keys) ≡ Some k
+
+last_in : (low high : Option ℤ) (start : ℤ) (d : Option ℤ) (keys : List ℤ) (k : ℤ) → reaches low start ≡ true → IsStrictlySortedBy int_cmp keys → last_or None (kept (Some start) high keys) ≡ Some k
+    → last_or d (kept low high keys) ≡ Some k
 last_in low high start d [] k fits rise is = cc
 last_in low high start d (j ∷ js) k fits rise is = by (λ c later. last_in low high start c js k fits (sorted_tail int_cmp j js rise) later) (int_lt j start) refl
   where
-    wider : ((c : Option ℤ) → last_or None (filter (is_within (Some start) high) js) ≡ Some k → last_or c (filter (is_within low high) js) ≡ Some k) → (b : Bool) → last_or None (filter (is_within (Some start) high) js) ≡ Some k → last_or d (cond b (j ∷ filter (is_within low high) js) (filter (is_within low high) js)) ≡ Some k
+    wider : ((c : Option ℤ) → LastIsKept low high start k c js) → (b : Bool) → last_or None (kept (Some start) high js) ≡ Some k
+        → last_or d (with_one b j (kept low high js)) ≡ Some k
     wider next true later = next (Some j) later
     wider next false later = next d later
 
-    by : ((c : Option ℤ) → last_or None (filter (is_within (Some start) high) js) ≡ Some k → last_or c (filter (is_within low high) js) ≡ Some k) → (b : Bool) → int_lt j start ≡ b → last_or d (filter (is_within low high) (j ∷ js)) ≡ Some k
+    by : ((c : Option ℤ) → LastIsKept low high start k c js) → (b : Bool) → int_lt j start ≡ b → last_or d (kept low high (j ∷ js)) ≡ Some k
     by next true below =
         let out : is_within (Some start) high j ≡ false = ap (λ b. not b && stays_below high j) below in
         wider next (is_within low high j)
-        (sym (ap (λ b. last_or None (cond b (j ∷ filter (is_within (Some start) high) js) (filter (is_within (Some start) high) js))) out) ∙ is)
+        (sym (ap (λ b. last_or None (with_one b j (kept (Some start) high js))) out) ∙ is)
     by next false from =
-        let same : filter (is_within low high) (j ∷ js) ≡ filter (is_within (Some start) high) (j ∷ js) =
+        let same : kept low high (j ∷ js) ≡ kept (Some start) high (j ∷ js) =
         ap₂ (λ b ls. cond b (j ∷ ls) ls) (same_from low high start j fits from) (same_kept low high start j js fits from (above_head j js rise)) in
-        ap (last_or d) same ∙ last_some d (filter (is_within (Some start) high) (j ∷ js)) k is
+        ap (last_or d) same ∙ last_some d (kept (Some start) high (j ∷ js)) k is
 
-greatest_in : (low high : Option ℤ) (start : ℤ) (keys : List ℤ) (k : ℤ) → reaches low start ≡ true → IsStrictlySortedBy int_cmp keys → last_or None (filter (is_within (Some start) high) keys) ≡ Some k
+greatest_in : (low high : Option ℤ) (start : ℤ) (keys : List ℤ) (k : ℤ) → reaches low start ≡ true → IsStrictlySortedBy int_cmp keys → last_or None (kept (Some start) high keys) ≡ Some k
     → IsGreatestIn low high k keys
 greatest_in low high start keys k fits rise is = last_in low high start None keys k fits rise is
 
 -- ---- what a part at one end tells of the class
 
-module _ (class : ℕ) (world : Objects) (rise : ObjectsRise world) (low high : Option ℤ) (end : ℤ) (part : ClassPart) (rows : List RustRow) (picks : picked part (rows_of class world) ≡ Ok (map keyed_row rows)) where
+module _ (class : ℕ) (world : Objects) (rise : ObjectsRise world) (low high : Option ℤ) (end : ℤ) (part : ClassPart) (rows : List RustRow)
+    (picks : picked part (rows_of class world) ≡ Ok (map keyed_row rows)) where
   pub least_found : stays_below high end ≡ true → part ≡ key_part low (Some end) → (row : RustRow) → slice_get rows 0 ≡ Some row → IsLeastIn low high row.key (class_keys class world)
   least_found fits are row first =
       least_in low high end (class_keys class world) row.key (keys_of (map keyed_row (drop_first rows))) fits (class_keys_rise class world rise)
@@ -234,7 +249,7 @@ module _ (env : Environment) (x : Name) (predicate : Expression) (low high : Opt
       merged-key (preferred less) None r rs
       ∙ by (is_within low high r.key) (λ e. least_merged rs k (sorted_tail int_cmp r.key (keys_of rs) rise) (least.0, e)) least.1
     where
-      by : (b : Bool) → (filter (is_within low high) (keys_of rs) ≡ k ∷ least.0 → merged (preferred less) env x predicate (key_of x) None rs ≡ Ok (Some (integer k))) → cond b (r.key ∷ filter (is_within low high) (keys_of rs)) (filter (is_within low high) (keys_of rs)) ≡ k ∷ least.0
+      by : (b : Bool) → (kept low high (keys_of rs) ≡ k ∷ least.0 → merged (preferred less) env x predicate (key_of x) None rs ≡ Ok (Some (integer k))) → with_one b r.key (kept low high (keys_of rs)) ≡ k ∷ least.0
           → (after (preferred less) b None r >>= λ next. merged (preferred less) env x predicate (key_of x) next rs) ≡ Ok (Some (integer k))
       by true later e =
           let same : r.key ≡ k = cc in
@@ -250,8 +265,12 @@ module _ (env : Environment) (x : Name) (predicate : Expression) (low high : Opt
   is_below-tail None k ks below = tt
   is_below-tail (Some j) k ks below = below.1
 
+  -- with the keys so far, the rows give the greatest key in the range
+  abbrev IsGreatestOf : Option ℤ → List KeyedRow → Type 0
+  IsGreatestOf so_far rows = merged (preferred greater) env x predicate (key_of x) (option_map integer so_far) rows ≡ Ok (option_map integer (last_or so_far (kept low high (keys_of rows))))
+
   greatest_of : (so_far : Option ℤ) (rows : List KeyedRow) → IsBelow so_far (keys_of rows) → IsStrictlySortedBy int_cmp (keys_of rows)
-      → merged (preferred greater) env x predicate (key_of x) (option_map integer so_far) rows ≡ Ok (option_map integer (last_or so_far (filter (is_within low high) (keys_of rows))))
+      → IsGreatestOf so_far rows
   greatest_of so_far [] below rise = refl
   greatest_of so_far (r ∷ rs) below rise =
       merged-key (preferred greater) (option_map integer so_far) r rs
@@ -264,9 +283,9 @@ module _ (env : Environment) (x : Name) (predicate : Expression) (low high : Opt
       taken None below = refl
       taken (Some j) below = ap (λ c. Ok (Some (if c then integer r.key else integer j))) below.0
 
-      by : (b : Bool) → merged (preferred greater) env x predicate (key_of x) (option_map integer (Some r.key)) rs ≡ Ok (option_map integer (last_or (Some r.key) (filter (is_within low high) (keys_of rs)))) → merged (preferred greater) env x predicate (key_of x) (option_map integer so_far) rs ≡ Ok (option_map integer (last_or so_far (filter (is_within low high) (keys_of rs))))
+      by : (b : Bool) → IsGreatestOf (Some r.key) rs → IsGreatestOf so_far rs
           → (after (preferred greater) b (option_map integer so_far) r >>= λ next. merged (preferred greater) env x predicate (key_of x) next rs)
-          ≡ Ok (option_map integer (last_or so_far (cond b (r.key ∷ filter (is_within low high) (keys_of rs)) (filter (is_within low high) (keys_of rs)))))
+          ≡ Ok (option_map integer (last_or so_far (with_one b r.key (kept low high (keys_of rs)))))
       by true with_key without =
           ap (λ (o : Outcome (Option Value)). o >>= λ next. merged (preferred greater) env x predicate (key_of x) next rs) (taken so_far below) ∙ with_key
       by false with_key without = without

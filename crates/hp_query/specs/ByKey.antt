@@ -44,7 +44,7 @@ value_wanted env None = None
 value_wanted env (Some wanted) = integer_in (value_of env wanted)
 
 -- an expression is evaluated for all rows at once only where the name has no meaning yet
-abbrev pub if_free : {A : Type 0} → Outcome A → Option ℤ → Option ℤ
+abbrev pub if_free : {A : Type 0} → Outcome KeyedRow → Option A → Option A
 if_free (Ok r) asked = None
 if_free (Err c) asked = asked
 

@@ -4,9 +4,13 @@ use Rattle.std.specs.Global.{Vec}
 use Rattle.hp_model.specs.Values as V
 use Rattle.hp_model.specs.Rules as R
 use Rattle.hp_model.specs.Conditions as C
+use Rattle.hp_model.specs.ClassParts as P
 use Rattle.hp_value.specs.declared.row.KeyedRow.{KeyedRow}
-use Rattle.hp_value.specs.Mapped.{comparison, keyed_row, expression, cause, answer, answers, named_value, named_values}
+use Rattle.hp_value.specs.Mapped.{attribute, comparison, value, keyed_row, expression, cause, answer, answers, named_value, named_values}
 use Rattle.hp_query.specs.declared.query.Query.{Query}
+use Rattle.hp_query.specs.Parts.{AttributeTest, part_compared}
+use Rattle.hp_query.specs.declared.part.Compared.{Compared}
+use Rattle.hp_query.specs.declared.part.AskedPart.{AskedPart}
 use Rattle.hp_query.specs.declared.candidates.Candidates.{Candidates}
 use Rattle.hp_query.specs.declared.candidates.Candidates.TheVariants as K
 use Rattle.hp_query.specs.declared.aggregate.Aggregate.{Aggregate}
@@ -39,6 +43,12 @@ entry (E.Let x a) = R.let_entry (string_bytes x) (aggregate a)
 
 abbrev pub keyed_rows : Vec KeyedRow → List V.KeyedRow
 keyed_rows rows = map keyed_row rows.items
+
+abbrev pub attribute_test : Compared → AttributeTest
+attribute_test c = record { attribute = attribute c.attribute; comparison = comparison c.comparison; other = expression c.other.now }
+
+abbrev pub asked_part : AskedPart → P.ClassPart
+asked_part a = part_compared (attribute a.attribute) (comparison a.comparison) (value a.value)
 
 abbrev pub candidate_rows : Candidates → List V.KeyedRow
 candidate_rows (K.One None) = []

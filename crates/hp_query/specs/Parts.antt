@@ -1,9 +1,11 @@
 -- Predicates that are false of all rows outside a part of their class.
-use Rattle.std.specs.Prelude.{◌≡◌, false, Option, Some, None, Ok, Err}
-use Rattle.hp_model.specs.Values.{Name, Value, KeyedRow, Cause, ◌>>=◌}
-use Rattle.hp_model.specs.Expressions.{Comparison, equal, unequal, less, at_most, greater, at_least, Expression, field_of, key_of, Environment, bound, row_named, compare, value_of}
+use Rattle.std.specs.Prelude.{◌≡◌, false, Option, Some, None, Ok, Err, if◌then◌else◌, bytes_eq}
+use Rattle.std.specs.Option.{option_and_then}
+use Rattle.hp_model.specs.Values.{Name, Value, KeyedRow, Cause, Outcome, ◌>>=◌}
+use Rattle.hp_model.specs.Expressions.{Comparison, equal, unequal, less, at_most, greater, at_least, Expression, compared, field_of, key_of, Environment, bound, row_named, compare, value_of}
 use Rattle.hp_model.specs.ClassParts.{Attribute, key_attribute, field_attribute, attribute_of, ClassPart, belongs}
 use Rattle.hp_model.specs.Firing.{boolean_value}
+use Rattle.hp_query.specs.ByKey.{first_test, if_free}
 
 -- for each object outside the part the predicate is false, without a fault
 pub record IsFalseOutside (env : Environment) (x : Name) (predicate : Expression) (p : ClassPart) : Type 0 where
@@ -51,3 +53,46 @@ turned less = greater
 turned at_most = at_least
 turned greater = less
 turned at_least = at_most
+
+-- ---- which predicates ask for a part
+
+-- the attribute of the row of this name that an expression is, if it is one
+abbrev pub own_attribute : Name → Expression → Option Attribute
+own_attribute x (key_of y) = if bytes_eq y x then Some key_attribute else None
+own_attribute x (field_of y f) = if bytes_eq y x then Some (field_attribute f) else None
+own_attribute x e = None
+
+-- a comparison with an attribute of the row on its left side
+pub record AttributeTest : Type 0 where
+  pub attribute : Attribute
+  pub comparison : Comparison
+  pub other : Expression
+
+abbrev pub either_side : Comparison → (a b : Expression) → (left right : Option Attribute) → Option AttributeTest
+either_side op a b (Some own) right = Some (record { attribute = own; comparison = op; other = b })
+either_side op a b None (Some own) = Some (record { attribute = own; comparison = turned op; other = a })
+either_side op a b None None = None
+
+-- the comparison of an attribute of the row of this name that a test is, if it is one; `unequal` asks for no part
+abbrev pub attribute_tested : Name → Expression → Option AttributeTest
+attribute_tested x (compared unequal a b) = None
+attribute_tested x (compared op a b) = either_side op a b (own_attribute x a) (own_attribute x b)
+attribute_tested x e = None
+
+abbrev pub field_in_attribute : Attribute → Option Name
+field_in_attribute key_attribute = None
+field_in_attribute (field_attribute f) = Some f
+
+-- the field whose index serves a query with this predicate: its first test compares it
+abbrev pub field_asked : Name → Expression → Option Name
+field_asked x predicate = option_and_then (λ (t : AttributeTest). field_in_attribute t.attribute) (attribute_tested x (first_test predicate))
+
+-- the part that a test asks for, by the value of its other side
+abbrev pub part_for : Attribute → Comparison → Outcome Value → Option ClassPart
+part_for a op (Ok v) = Some (part_compared a op v)
+part_for a op (Err c) = None
+
+-- the part that a predicate begins by asking for: its first test compares an attribute of its row with an expression
+-- that has a value and doesn't depend on the row
+abbrev pub part_asked : Environment → Name → Expression → Option ClassPart
+part_asked env x predicate = if_free (row_named env x) (option_and_then (λ (t : AttributeTest). part_for t.attribute t.comparison (value_of env t.other)) (attribute_tested x (first_test predicate)))

@@ -51,9 +51,8 @@ pub enum Aggregate {
 }
 
 impl Aggregate {
-    /// The query whose class is looked at row by row: over many rows that costs what the class is large. `None` if there
-    /// is none: the look counts all objects of a class, a key is read at one end of its range, and `Next` and `Single`
-    /// have no query. No answer depends on it.
+    /// The query whose class is looked at row by row, if there is one. The look counts all objects of a class, a key is
+    /// read at one end of its range, and `Next` and `Single` have no query. No answer depends on it.
     pub fn scanned(&self) -> Option<&Query> {
         match self {
             Aggregate::Count(rows) if is_always_true(&rows.predicate) => None,

@@ -5,7 +5,8 @@ ghost use Rattle.hp_model.specs.ClassParts.{key_attribute};
 ghost use Rattle.hp_model.specs.State.{Objects, class_keys};
 ghost use Rattle.hp_model.specs.Values.{integer};
 ghost use Rattle.hp_value.specs.Mapped.{class_part, comparison, environment, expression};
-ghost use Rattle.hp_query.specs.KeyRanges.{Meaning, IsTrueWithin, IsLeastIn, IsGreatestIn, key_part, stays_below, reaches};
+ghost use Rattle.hp_query.specs.KeyRanges.{Meaning, IsTrueWithin, IsLeastIn, IsGreatestIn};
+ghost use Rattle.hp_query.specs.KeyRanges.{key_part, stays_below, reaches};
 ghost use Rattle.hp_query.specs.Looks.{ObjectsRise};
 ghost use Rattle.hp_query.specs.Parts.{Compares};
 

@@ -92,9 +92,9 @@ pub trait Look {
             ObjectsRise world → allows self.new world →
             picked (class_part part.now) (rows_of class world) ≡ Ok (keyed_rows objects))) };
 
-    /// The least key of a class's objects from a lower bound on, as the look sees it now. `None` if there is none, or if
-    /// the look doesn't know. This is a hint of where to ask, and no answer: no read is recorded, and nothing depends
-    /// on it.
+    /// The least key of a class's objects from a lower bound on, as the look sees it now. `None` if there is none, or
+    /// if the look doesn't know. This is a hint of where to ask, and no answer: no read is recorded, and nothing
+    /// depends on it.
     fn likely_least(&self, class: ClassNo, low: Option<Key>) -> Option<Key>;
 
     /// The greatest key of a class's objects up to an upper bound, in the same way.

@@ -1,9 +1,14 @@
 //! Predicates that begin by asking for a part of a class.
 
-ghost use Rattle.std.specs.Prelude.{◌≡◌, IfOk, IfSome};
+ghost use Rattle.std.specs.Prelude.{◌≡◌, IfOk, IfSome, option_map};
+ghost use Rattle.std.specs.Option.{option_copied};
 ghost use Rattle.hp_model.specs.Expressions.{compared};
 ghost use Rattle.hp_value.specs.Mapped.{attribute, class_part, comparison, environment, expression, value};
 ghost use Rattle.hp_query.specs.Parts.{IsFalseOutside, AsksForPart, Compares, expression_of};
+ghost use Rattle.hp_query.specs.ByKey.{first_test};
+ghost use Rattle.hp_query.specs.Mapped as mapped;
+ghost use Rattle.hp_query.specs.Parts as parts;
+ghost use Rattle.hp_query.specs.Parts.{either_side, attribute_tested, field_asked, part_asked};
 ghost use Rattle.hp_query.specs.Parts.{low_bound, high_bound, part_compared, turned};
 
 use hp_value::{Attribute, Bounds, ClassPart, Comparison, Env, Expr, Halt, Value};
@@ -67,7 +72,9 @@ pub(crate) fn asked_part<'e>(
     predicate: &'e Expr,
     env: &Env,
 ) -> Result<Option<AskedPart<'e>>, AllocError>
-    ensures { IfOk result (λ asked. IfSome asked (λ a.
+    ensures part { IfOk result (λ asked. option_map mapped.asked_part asked
+        ≡ part_asked (environment env.now) name.now (expression predicate.now)) }
+    ensures outside { IfOk result (λ asked. IfSome asked (λ a.
         IsFalseOutside (environment env.now) name.now (expression predicate.now)
         (part_compared (attribute a.attribute) (comparison a.comparison) (value a.value)))) }
 {
@@ -92,7 +99,9 @@ pub(crate) fn asked_part<'e>(
 /// The field whose index finds the rows for which a predicate can be true: the predicate begins by comparing this field
 /// of its row with an expression that doesn't depend on the row. With an index of the field a query costs what it
 /// finds. No answer depends on it.
-pub fn asked_field<'e>(name: &str, predicate: &'e Expr) -> Option<&'e str> {
+pub fn asked_field<'e>(name: &str, predicate: &'e Expr) -> Option<&'e str>
+    ensures { option_copied result ≡ field_asked name.now (expression predicate.now) }
+{
     match compared_attribute(name, predicate)?.attribute {
         Attribute::Field(field) => Some(field),
         Attribute::Key => None,
@@ -112,7 +121,9 @@ pub(crate) struct Compared<'e> {
 
 // The comparison by which a predicate begins, if it is one of an attribute of the row of this name.
 fn compared_attribute<'e>(name: &str, predicate: &'e Expr) -> Option<Compared<'e>>
-    ensures { IfSome result (λ c.
+    ensures tested { option_map mapped.attribute_test result
+        ≡ attribute_tested name.now (first_test (expression predicate.now)) }
+    ensures asks { IfSome result (λ c.
         AsksForPart name.now (expression predicate.now) (attribute c.attribute) (comparison c.comparison)
         (expression c.other.now)) }
 {
@@ -131,7 +142,10 @@ pub(crate) fn compared_side<'e>(
     a: &'e Expr,
     b: &'e Expr,
 ) -> Option<Compared<'e>>
-    ensures { IfSome result (λ c.
+    ensures side { option_map mapped.attribute_test result
+        ≡ either_side (comparison compares) (expression a.now) (expression b.now)
+        (parts.own_attribute name.now (expression a.now)) (parts.own_attribute name.now (expression b.now)) }
+    ensures compares { IfSome result (λ c.
         Compares name.now (compared (comparison compares) (expression a.now) (expression b.now))
         (attribute c.attribute) (comparison c.comparison) (expression c.other.now)) }
 {
@@ -152,7 +166,8 @@ pub(crate) fn compared_side<'e>(
 
 // The attribute of the row of this name that an expression is, if it is one.
 fn own_attribute<'e>(name: &str, expr: &'e Expr) -> Option<Attribute<'e>>
-    ensures { IfSome result (λ a. expression expr.now ≡ expression_of name.now (attribute a)) }
+    ensures own { option_map attribute result ≡ parts.own_attribute name.now (expression expr.now) }
+    ensures told { IfSome result (λ a. expression expr.now ≡ expression_of name.now (attribute a)) }
 {
     match expr {
         Expr::KeyOf { variable } if variable.as_str() == name => Some(Attribute::Key),

@@ -1,6 +1,7 @@
 //! Queries and their answers.
 
 ghost use Rattle.std.specs.Prelude.{◌≡◌, ℤ, IsTrue, Some, is_some, string_bytes, true, map};
+ghost use Rattle.std.specs.Option.{option_copied};
 ghost use Rattle.hp_model.specs.Expressions.{bound, constant};
 ghost use Rattle.hp_model.specs.Values.{boolean};
 ghost use Rattle.hp_model.specs.State.{Objects};
@@ -11,6 +12,7 @@ ghost use Rattle.hp_query.specs.ByKey.{first_test, key_asked, key_equated};
 ghost use Rattle.hp_query.specs.Candidates.{counted};
 ghost use Rattle.hp_query.specs.Looks.{ObjectsRise};
 ghost use Rattle.hp_query.specs.Mapped as mapped;
+ghost use Rattle.hp_query.specs.Parts.{field_asked};
 ghost use Rattle.hp_query.specs.Mapped.{keyed_rows};
 
 use crate::by_key::asks_key;
@@ -42,7 +44,10 @@ impl Query {
     }
 
     /// The field whose index serves the query ([`asked_field`]). No answer depends on it.
-    pub fn asked_field(&self) -> Option<&str> {
+    pub fn asked_field(&self) -> Option<&str>
+        ensures { let asked = mapped.query self.now in
+            option_copied result ≡ field_asked asked.name asked.predicate }
+    {
         asked_field(self.name.as_str(), &self.predicate)
     }
 }

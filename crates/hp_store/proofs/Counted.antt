@@ -1,6 +1,6 @@
 -- The number of a class's objects: there is one of it, and what a change of a cell makes of it.
-use Rattle.std.proofs.Common.{◌≡◌, refl, ap, ap₂, sym, ◌∙◌, subst, ℕ, suc, ◌+◌, ◌-◌, ◌≤◌, ℤ, Bool, true, false, true≢false, ◌&&◌, ◌||◌, cond, List, [], ◌∷◌, ◌++◌, map, length, Option, Some, None, is_some, int_eq, arith}
-use Rattle.std.specs.Prelude.{◌==◌, filter, if◌then◌else◌}
+use Rattle.std.proofs.Common.{◌≡◌, refl, ap, ap₂, sym, ◌∙◌, subst, ℕ, suc, ◌+◌, ◌-◌, ◌≤◌, ℤ, Bool, true, false, true≢false, ◌&&◌, ◌||◌, cond, List, [], ◌∷◌, ◌++◌, map, length, Option, Some, None, is_some, int_eq, Result, Ok, Err, arith}
+use Rattle.std.specs.Prelude.{◌==◌, filter, IfOk, if◌then◌else◌}
 use Rattle.std.specs.declared.cmp.Ordering.{Ordering}
 use Rattle.std.specs.declared.cmp.Ordering.TheVariants.{Less, Equal, Greater}
 use Rattle.std.specs.Ordering.{is_eq, is_lt, is_gt, int_cmp}
@@ -308,3 +308,8 @@ pub count_over_same : {base other : Cells} {class n total : ℕ} (es : Entries)
 count_over_same {base} {other} {class} {n} {total} es agree p q is =
     let both = counts_over base other class es n agree p q in
     subst (IsCount (over base (changes es)) class) (one_count both.2 is) both.1
+
+-- a number that fits into an answer
+pub sized_count : {E : Type 0} {base : Cells} {class number : ℕ} (r : Result ℕ E) → IfOk r (λ count. count ≡ number) → IsCount base class number → IfOk r (IsCount base class)
+sized_count {E} {base} {class} (Ok count) is p = subst (IsCount base class) (sym is) p
+sized_count (Err e) is p = tt

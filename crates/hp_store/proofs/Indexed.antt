@@ -1,10 +1,10 @@
 -- Indexes of fields.
-use Rattle.std.proofs.Common.{◌≡◌, refl, ap, sym, ◌∙◌, subst, ℕ, ℤ, Bool, true, false, cond, List, [], ◌∷◌, Option, Some, None, IsTrue, is_some, ◌++◌, append_assoc, Ok, Bor}
+use Rattle.std.proofs.Common.{◌≡◌, refl, ap, ap₂, sym, ◌∙◌, subst, ℕ, ℤ, Bool, true, false, cond, List, [], ◌∷◌, Option, Some, None, IsTrue, is_some, ◌++◌, append_assoc, Ok, Bor}
 use Rattle.std.specs.Prelude.{option_map, MatchOption, ⊤, string_bytes, if◌then◌else◌}
 use Rattle.std.specs.Map.{lookup}
 use Rattle.std.specs.Ordering.{int_cmp}
 use Rattle.std.specs.BTreeMap.{is_at}
-use Rattle.std.specs.BTreeSet.{contains}
+use Rattle.std.specs.BTreeSet.{BTreeSet, contains}
 use Rattle.std.proofs.lemmas.Bool.Decides.{Decides-int_eq}
 use Rattle.hp_model.specs.Values as V
 use Rattle.hp_model.specs.Values.{Name, Outcome, fits_64, ◌>>=◌}
@@ -115,3 +115,26 @@ complete_set b new after cell change given r is shown kept step renewed all =
 -- the same base, shared
 pub complete_shared : (b new : Base) → new ≡ b → AreComplete (base_cells b) b.indexes.items → AreComplete (base_cells new) new.indexes.items
 complete_shared b new is all = subst (λ (x : Base). AreComplete (base_cells x) x.indexes.items) (sym is) all
+
+-- ---- an old place that leaves
+
+key_of : (f : Name) (key : ℤ) (v : Option CellValue) (p : Place) → place_at f key v ≡ Some p → key_at p ≡ key
+key_of f key (Some (row_value row)) p e =
+    let same : place_of key (field_in row f) ≡ p = cc in
+    ap key_at (sym same) ∙ key_of_place key (field_in row f)
+key_of f key (Some (C.status_value s)) p e = cc
+key_of f key (Some (C.knowledge_value k)) p e = cc
+key_of f key None p e = cc
+
+-- other objects stay in the index, and so does the new value of the object
+pub still_in : (f : Name) (before after : BTreeSet Place) (key : ℤ) (old new : Option CellValue) (left place : Option Place) → left ≡ place_at f key old → place ≡ place_at f key new
+    → ((p : Place) → contains place_cmp before p ≡ true → (left ≡ Some p → place ≡ Some p) → contains place_cmp after p ≡ true) → (k : ℤ) (v : Option CellValue)
+    → MatchOption (place_at f k v) ⊤ (Stands before) → (k ≡ key → v ≡ new) → MatchOption (place_at f k v) ⊤ (Stands after)
+still_in f before after key old new left place from to kept k v stands same = by (place_at f k v) refl stands
+  where
+    by : (o : Option Place) → place_at f k v ≡ o → MatchOption o ⊤ (Stands before) → MatchOption o ⊤ (Stands after)
+    by None e s = tt
+    by (Some p) e s =
+        (kept p s.0 (λ leaves.
+        let here : k ≡ key = sym (key_of f k v p e) ∙ key_of f key old p (sym from ∙ leaves) in
+        to ∙ ap₂ (place_at f) (sym here) (sym (same here)) ∙ e), s.1)

@@ -24,7 +24,8 @@ use std::alloc::{AllocError, Global};
 
 impl Snapshot {
     /// The objects of a part of a class with their rows, by rising keys. None where they can't be found without a look
-    /// at all objects of the class, or where an object can't be compared with the part's bounds. A part by keys is found.
+    /// at all objects of the class, or where an object can't be compared with the part's bounds. A part by keys is
+    /// found.
     ///
     /// An error means that memory ran out.
     pub fn part(

@@ -64,7 +64,7 @@ rest_true false b h = absurd (true≢false (sym h))
 
 pub each_read : (reads : List Read) (class : ℕ) (es : Entries) → all_read reads (class_entries class es) ≡ true → (key : ℤ) → is_some (changes es (object_cell class key)) ≡ true → list_any (reads_cell (object_cell class key)) reads ≡ true
 each_read reads class [] all key named = absurd (true≢false (sym named))
-each_read reads class ((c, v) ∷ es) all key named = by (same_cell c (object_cell class key)) refl
+each_read reads class ((c, v) ∷ es) all key named = by (same_cell c (object_cell class key)) refl (each_read reads class es)
   where
     of : same_cell c (object_cell class key) ≡ true → is_of_class class c ≡ true
     of is = ap (is_of_class class) (exact_cell c (object_cell class key) is) ∙ (Decides-eqb class class).1 refl
@@ -73,18 +73,20 @@ each_read reads class ((c, v) ∷ es) all key named = by (same_cell c (object_ce
     rest true all = rest_true (list_any (reads_cell c) reads) (all_read reads (class_entries class es)) all
     rest false all = all
 
-    by : (b : Bool) → same_cell c (object_cell class key) ≡ b → list_any (reads_cell (object_cell class key)) reads ≡ true
-    by true is =
+    by : (b : Bool) → same_cell c (object_cell class key) ≡ b
+        → (all_read reads (class_entries class es) ≡ true → (k : ℤ) → is_some (changes es (object_cell class k)) ≡ true → list_any (reads_cell (object_cell class k)) reads ≡ true)
+        → list_any (reads_cell (object_cell class key)) reads ≡ true
+    by true is next =
         subst (λ d. list_any (reads_cell d) reads ≡ true) (exact_cell c (object_cell class key) is)
         (first_true (list_any (reads_cell c) reads) (all_read reads (class_entries class es)) (ap (λ b. all_read reads (cond b ((c, v) ∷ class_entries class es) (class_entries class es))) (sym (of is)) ∙ all))
-    by false is = each_read reads class es (rest (is_of_class class c) all) key (sym (ap (λ b. is_some (if b then Some v else changes es (object_cell class key))) is) ∙ named)
+    by false is next = next (rest (is_of_class class c) all) key (sym (ap (λ b. is_some (if b then Some v else changes es (object_cell class key))) is) ∙ named)
 
 abbrev Unread : List Read → ℕ → Entries → Type 0
 Unread reads class es = (key : ℤ) × (is_some (changes es (object_cell class key)) ≡ true) × (list_any (reads_cell (object_cell class key)) reads ≡ false)
 
 one_unread : (reads : List Read) (class : ℕ) (es : Entries) → all_read reads (class_entries class es) ≡ false → Unread reads class es
 one_unread reads class [] none = absurd (true≢false none)
-one_unread reads class ((c, v) ∷ es) none = by (is_of_class class c) refl none
+one_unread reads class ((c, v) ∷ es) none = by (is_of_class class c) refl none (one_unread reads class es)
   where
     later : (b : Bool) (o : Option (Option CellValue)) → is_some o ≡ true → is_some (if b then Some v else o) ≡ true
     later true o e = refl
@@ -104,12 +106,13 @@ one_unread reads class ((c, v) ∷ es) none = by (is_of_class class c) refl none
     at (rule_cell n) is out = absurd (true≢false (sym is))
     at (detector_cell n) is out = absurd (true≢false (sym is))
 
-    by : (b : Bool) → is_of_class class c ≡ b → all_read reads (cond b ((c, v) ∷ class_entries class es) (class_entries class es)) ≡ false → Unread reads class ((c, v) ∷ es)
-    by false is none = among (one_unread reads class es none)
-    by true is none = first (list_any (reads_cell c) reads) refl none
+    by : (b : Bool) → is_of_class class c ≡ b → all_read reads (cond b ((c, v) ∷ class_entries class es) (class_entries class es)) ≡ false
+        → (all_read reads (class_entries class es) ≡ false → Unread reads class es) → Unread reads class ((c, v) ∷ es)
+    by false is none next = among (next none)
+    by true is none next = first (list_any (reads_cell c) reads) refl none
       where
         first : (b : Bool) → list_any (reads_cell c) reads ≡ b → (b && all_read reads (class_entries class es)) ≡ false → Unread reads class ((c, v) ∷ es)
-        first true e none = among (one_unread reads class es none)
+        first true e none = among (next none)
         first false e none = at c is e
 
 -- ---- a call of `read_class_count`, on a view whose fields make v

@@ -9,7 +9,7 @@ use Rattle.std.proofs.lemmas.Bool.Decides.{Decides-eqb}
 use Rattle.std.specs.declared.sync.Arc.{Arc}
 use Rattle.std.specs.declared.alloc.Global.{Global}
 use Rattle.hp_model.specs.ClassParts.{ClassPart}
-use Rattle.hp_model.specs.Cells.{Cells, ReadHolds, ReadsHold, Holds, AreKeys, AreObjects}
+use Rattle.hp_model.specs.Cells.{Cells, Read, ReadHolds, ReadsHold, Holds, AreKeys, AreObjects}
 use Rattle.hp_model.proofs.BridgesCells.{exact_cell}
 use Rattle.hp_value.specs.declared.cell.Cell.{Cell}
 use Rattle.hp_value.specs.declared.objects.ObjectList.{ObjectList}
@@ -24,8 +24,8 @@ use Rattle.hp_view.specs.declared.reads.PartState.TheVariants.{WasRead, IsTaken}
 use Rattle.hp_view.specs.contracts.reads.SeenPartialEq.TheImpl as seeing
 use Rattle.hp_view.specs.Mapped.{read, value_found, keys_found, part_found, found_whole, class_read}
 use Rattle.hp_view.specs.Numbered.{IsNumbered, AreNumbered, is_read_of, IsStateOf}
-use Rattle.hp_view.specs.Parts.{same_part}
-use Rattle.hp_view.specs.Seeing.{class_was_read, part_was_read}
+use Rattle.hp_view.specs.Parts.{same_part, number_of}
+use Rattle.hp_view.specs.Seeing.{class_was_read, part_was_read, number_was_read}
 use Rattle.hp_view.proofs.PartsApart.{same_part_itself, part_decides, either_true}
 
 -- where a look-up stops is where the read is one of what is looked up
@@ -227,12 +227,12 @@ told_number class n found ((OfPart d m, other) ∷ es) h = by (class == d) (n ==
 
 -- what a comparison with it says
 pub compared_state : (class n : ℕ) (found : Found) (part : ClassPart) (state : PartState) (es : List (Seen × Found)) → lookup (seeing.ghosts.eq (OfPart class n)) es ≡ Some found
-    → state ≡ cond (same_part (part_found found) part) WasRead IsTaken → IsStateOf (map read es) class part state
-compared_state class n found part state es h is = subst (IsStateOf (map read es) class part) (sym is) (by (same_part (part_found found) part) refl)
+    → number_was_read (map read es) class (number_of part) ≡ true → state ≡ cond (same_part (part_found found) part) WasRead IsTaken → IsStateOf (map read es) class part state
+compared_state class n found part state es h there is = subst (IsStateOf (map read es) class part) (sym is) (by (same_part (part_found found) part) refl)
   where
     by : (b : Bool) → same_part (part_found found) part ≡ b → IsStateOf (map read es) class part (cond b WasRead IsTaken)
     by true e = subst (λ p. part_was_read (map read es) class p ≡ true) ((part_decides (part_found found) part).0 e) (told_number class n found es h)
-    by false e = tt
+    by false e = there
 
 pub none_there : {A : Type 0} (o : Option A) → is_some o ≡ false → o ≡ None
 none_there None h = refl
@@ -248,3 +248,9 @@ seen_none is copied = sym copied ∙ ap option_copied is
 pub copied_some : {A : Type 0} (r : Option (Bor A)) → is_some r ≡ is_some (option_copied r)
 copied_some None = refl
 copied_some (Some a) = refl
+
+-- the objects that were found, read through their reference
+pub told_whole : {now : List Read} (class : ℕ) (found : Found) (es : List (Seen × Found)) (r : Option (Bor (Arc ObjectList Global))) → lookup (seeing.ghosts.eq (OfKeys class)) es ≡ Some found → IfSome r (λ objects. found ≡ Objects objects.now)
+    → map read es ≡ now → IfSome r (λ objects. (base : Cells) → Holds base now → AreObjects base class objects.now.value)
+told_whole class found es None there some is = tt
+told_whole class found es (Some objects) there some is = λ base held. told_objects class objects.now base es (there ∙ ap Some some) (subst (Holds base) (sym is) held).each

@@ -36,4 +36,4 @@ is_read_of (Part class n) = reads_number class n
 abbrev pub IsStateOf : List Read → ℕ → ClassPart → PartState → Type 0
 IsStateOf reads class part WasRead = part_was_read reads class part ≡ true
 IsStateOf reads class part IsFree = number_was_read reads class (number_of part) ≡ false
-IsStateOf reads class part IsTaken = Unit {0}
+IsStateOf reads class part IsTaken = number_was_read reads class (number_of part) ≡ true

@@ -51,7 +51,8 @@ pub enum Found {
 }
 
 impl Found {
-    ghost use Rattle.std.specs.Prelude.{option_map};
+    ghost use Rattle.std.specs.Prelude.{◌≡◌, false, IsNone, IfSome, option_map};
+    ghost use Rattle.hp_view.specs.declared.reads.Found.TheVariants.{Objects};
     ghost use Rattle.hp_store.specs.Mapped.{cell_value};
     ghost use Rattle.std.specs.Prelude.{map};
     ghost use Rattle.hp_value.specs.Mapped.{class_part, keyed_row};
@@ -125,6 +126,21 @@ impl Found {
                 attribute: Attribute::Key,
                 bounds: Bounds::Numbers(None, None),
             },
+        }
+    }
+
+    // All objects of a class, if they were found.
+    fn whole(&self) -> Option<&Arc<ObjectList>>
+        ensures none { IsNone result → found_whole self.now ≡ false }
+        ensures some { IfSome result (λ objects. self.now ≡ Objects objects.now) }
+    {
+        match self {
+            Found::Objects(objects) => Some(objects),
+            Found::Value(_)
+            | Found::Keys(_)
+            | Found::Greatest(_)
+            | Found::Count(_)
+            | Found::Part(_) => None,
         }
     }
 
@@ -205,7 +221,8 @@ impl Reads {
     ghost use Rattle.hp_view.specs.Numbered.{IsStateOf};
     ghost use Rattle.hp_view.specs.Parts.{number_of};
     ghost use Rattle.hp_view.specs.Seeing.{noted, class_was_read, row_was_read};
-    ghost use Rattle.hp_view.specs.Seeing.{cell_was_read, keys_were_read, greatest_was_read, count_was_read, reads_cell};
+    ghost use Rattle.hp_view.specs.Seeing.{cell_was_read, keys_were_read, greatest_was_read, count_was_read};
+    ghost use Rattle.hp_view.specs.Seeing.{reads_cell};
     ghost use Rattle.hp_view.specs.Seeing.{number_was_read};
 
     /// No reads.
@@ -273,8 +290,8 @@ impl Reads {
             AreObjects base class objects.now.value) }
     {
         match self.entries.get(&Seen::Keys(class)) {
-            Some(Found::Objects(objects)) => Some(objects),
-            _ => None,
+            Some(found) => found.whole(),
+            None => None,
         }
     }
 

@@ -2,7 +2,7 @@
 
 ghost use Rattle.std.specs.Prelude.{◌≡◌};
 
-use hp_query::{Aggregate, Entry, Query};
+use hp_query::{Entry, Query};
 use hp_rule::{Library, Task};
 use hp_store::Snapshot;
 use hp_value::ClassNo;
@@ -80,21 +80,10 @@ fn scans(query: &Query) -> bool {
     !query.asks_key() && query.asked_field().is_none()
 }
 
-// The query whose rows an entry looks at, if there is one.
+// The query whose rows an entry looks at one by one, if there is one.
 fn rows_of(entry: &Entry) -> Option<&Query> {
     match entry {
         Entry::Query(query) | Entry::No(query) => Some(query),
-        Entry::Let { name: _, aggregate } => rows_in(aggregate),
-    }
-}
-
-// The query over whose rows an aggregate goes, if there is one.
-fn rows_in(aggregate: &Aggregate) -> Option<&Query> {
-    match aggregate {
-        Aggregate::Count(rows)
-        | Aggregate::Sum { rows, .. }
-        | Aggregate::Least { rows, .. }
-        | Aggregate::Greatest { rows, .. } => Some(rows),
-        Aggregate::Next(_) | Aggregate::Single(_) => None,
+        Entry::Let { name: _, aggregate } => aggregate.scanned(),
     }
 }

@@ -2,5 +2,5 @@ use Rattle.std.proofs.Common.{sym}
 use Rattle.hp_value.specs.Mapped.{value, cause, environment}
 use Rattle.hp_query.proofs.part.asked_part.Goals as goal
 
-pub returns-in-Ok : goal.returns-in-Ok
-returns-in-Ok c = c.in-Some.ensures.asks (environment c.args.env.now) (cause c.in-Err.field-0) (value c.in-Ok.value) (sym c.in-Err.ensures) (sym c.in-Ok.ensures)
+pub returns-in-Ok-clause-outside : goal.returns-in-Ok-clause-outside
+returns-in-Ok-clause-outside c = c.in-Some.ensures.asks.asks (environment c.args.env.now) (cause c.in-Err.field-0) (value c.in-Ok.value) (sym c.in-Err.ensures) (sym c.in-Ok.ensures)

@@ -5,16 +5,16 @@ use Rattle.hp_query.specs.Parts.{Compares, expression_of, turned}
 use Rattle.hp_query.proofs.AskedLemmas.{compares_left, compares_right}
 use Rattle.hp_query.proofs.part.compared_side.Goals as goal
 
-pub returns-in-Some : goal.returns-in-Some
-returns-in-Some c =
+pub returns-in-Some-clause-compares : goal.returns-in-Some-clause-compares
+returns-in-Some-clause-compares c =
     let name = c.args.name.now in
     let op = comparison c.args.compares in
     let other = expression c.args.b.now in
     let own = attribute c.in-Some.attribute in
-    subst (λ e. Compares name (compared op e other) own op other) (sym c.in-Some.ensures) (compares_left name op own other)
+    subst (λ e. Compares name (compared op e other) own op other) (sym c.in-Some.ensures.told) (compares_left name op own other)
 
-pub returns : goal.returns
-returns c =
+pub returns-clause-compares : goal.returns-clause-compares
+returns-clause-compares c =
     let name = c.args.name.now in
     let op = comparison c.args.compares in
     let other = expression c.args.a.now in

@@ -10,4 +10,4 @@ returns-in-Some-in_cell c =
     c.value.ensures
     ∙ peeked (cell c.args.cell) (value_found c.in-Some-in_cell.found.now) c.self.view_is c.self.invariant.held
     (some_seen _ _ (c.get.ensures ∙ ap (λ es. changes es (cell c.args.cell)) c.deref.ensures) ∙ ap is_some c.in_default.is)
-    c.in-Some-in_cell.ensures
+    c.in-Some-in_cell.ensures.held

@@ -1,11 +1,12 @@
-use Rattle.std.proofs.Common.{subst, map}
+use Rattle.std.proofs.Common.{◌∙◌, ap, sym, subst, map, true≢false}
 use Rattle.hp_model.specs.Cells.{ArePart}
 use Rattle.hp_value.specs.Mapped.{class_part, keyed_row}
 use Rattle.hp_store.specs.Stack.{cells_in}
 use Rattle.hp_store.proofs.Wholes.{told_some}
-use Rattle.hp_view.specs.Seeing.{ReadsPart, ShowsPart}
+use Rattle.hp_view.specs.Parts.{number_of}
+use Rattle.hp_view.specs.Seeing.{Seeing, part_was_read, number_was_read, ReadsPart, ShowsPart}
 use Rattle.hp_view.specs.contracts.view.View.{the_view}
-use Rattle.hp_view.proofs.PartsRead.{PartRead, part_is_read, part_was_told}
+use Rattle.hp_view.proofs.PartsRead.{PartRead, part_is_read, part_was_told, free_unread}
 use Rattle.hp_view.proofs.Reading.{holds_from, GoesOn-only}
 use Rattle.hp_view.proofs.view.View.read_part.Goals as goal
 
@@ -51,3 +52,18 @@ returns-clause-goes_on c = GoesOn-only (first_read c).only
 
 pub returns-clause-so_it_was : goal.returns-clause-so_it_was
 returns-clause-so_it_was c = (first_read c).held
+
+pub returns-in-IsTaken-clause-found : goal.returns-in-IsTaken-clause-found
+returns-in-IsTaken-clause-found c = λ of free.
+    let n = number_of (class_part c.args.part.now) in
+    absurd (true≢false (sym c.in-IsTaken.ensures ∙ ap (λ (u : Seeing). number_was_read u.reads c.args.class n) c.self.view_is ∙ free))
+
+pub returns-in_err-objects-clause-again : goal.returns-in_err-objects-clause-again
+returns-in_err-objects-clause-again c = λ read.
+    let p = class_part c.args.part.now in
+    absurd (true≢false (sym read ∙ sym (ap (λ (u : Seeing). part_was_read u.reads c.args.class p) c.self.view_is) ∙ free_unread c.args.class p c.self.inside.reads c.in-IsFree.ensures))
+
+pub returns-in_err-note_part-clause-again : goal.returns-in_err-note_part-clause-again
+returns-in_err-note_part-clause-again c = λ read.
+    let p = class_part c.args.part.now in
+    absurd (true≢false (sym read ∙ sym (ap (λ (u : Seeing). part_was_read u.reads c.args.class p) c.self.view_is) ∙ free_unread c.args.class p c.self.inside.reads c.in-IsFree.ensures))
