@@ -3,6 +3,7 @@ use Rattle.std.proofs.Common.{◌≡◌, ℕ, ◌<◌, ◌≤◌, List, length, 
 use Rattle.std.proofs.lemmas.Bool.{cases_lt, lt-ltb}
 use Rattle.std.proofs.lemmas.List.{take_all, length-take-le}
 use Rattle.hp_model.specs.Values.{◌>>=◌}
+use Rattle.hp_model.specs.Kinds.{Declared}
 use Rattle.hp_model.specs.Cascade.{Script}
 use Rattle.hp_model.specs.Refusals.{Decoded, over_limit, size_limit}
 use Rattle.hp_model.specs.Decode.{json_at, decode, script_of}
@@ -23,8 +24,8 @@ cut most r input long =
 script_of_take : (input : List ℕ) → script_of (take 1048577 input) ≡ script_of input
 script_of_take input = cut 1048577 (Err (over_limit size_limit)) input (λ bytes h. too_long bytes (omega arith))
 
-pub output_of_take : (input : List ℕ) → check_output (take 1048577 input) ≡ check_output input
-output_of_take input = ap check_text (script_of_take input)
+pub output_of_take : (input : List ℕ) (d : Declared) → check_output (take 1048577 input) d ≡ check_output input d
+output_of_take input d = ap (λ r. check_text r d) (script_of_take input)
 
 pub status_of_take : (input : List ℕ) → status_of (take 1048577 input) ≡ status_of input
 status_of_take input = ap status_for (script_of_take input)

@@ -1,23 +1,26 @@
 //! A check, from the script's bytes to the bytes of its findings.
 
-ghost use Rattle.std.specs.Prelude.{◌≡◌, ◌≢◌, ◌↔◌, OnOk, IfOk, IfSome, map, take, true, false, string_bytes};
+ghost use Rattle.std.specs.Prelude.{◌≡◌, ◌≢◌, ◌↔◌, ◌&&◌, OnOk, IfOk, IfSome, map, take, true, false, string_bytes};
 ghost use Rattle.std.specs.Io.KnownBytes.{Appends};
 ghost use Rattle.hp_report.specs.Device.{Begins};
-ghost use Rattle.hp_script.specs.Mapped.{script as script_of_model};
-ghost use Rattle.hp_rule.specs.Libraries as libraries;
 ghost use Rattle.hp_report.specs.Text.{Gains};
+ghost use Rattle.hp_rule.specs.Libraries as libraries;
+ghost use Rattle.hp_rule.specs.Mapped.{unit};
 ghost use Rattle.hp_analysis.specs.Declarations.{declared};
+ghost use Rattle.hp_analysis.specs.Depths.{library_depth};
 ghost use Rattle.hp_analysis.specs.Graphs.{seen};
 ghost use Rattle.hp_analysis.specs.Installed.{with_installed};
-ghost use Rattle.hp_analysis.specs.Checking.{check_output, findings_text, verdicts_of, chain_lines, chain_by, IsChecked};
+ghost use Rattle.hp_analysis.specs.Tables.{script};
+ghost use Rattle.hp_analysis.specs.Witness.{library_chain};
+ghost use Rattle.hp_analysis.specs.Checking.{check_output, findings_text, verdicts_of, have_no_opening, chain_by, IsChecked};
 ghost use Rattle.hipac_check.specs.Ends.{status_of};
 
 use crate::lines::{put_chain, put_idles, put_kind, put_openings};
 use crate::verdicts::{put_depth, put_guards, put_kinds};
 use hp_analysis::{Declaration, Graph, first_finding, have_no_opening, infer};
 use hp_report::{Fault, ReadFault, Sink, Source, Status, read_up_to, write_text};
-use hp_rule::Library;
-use hp_script::{DecodeError, Script, decode, refusal_text};
+use hp_rule::{Library, Unit};
+use hp_script::{DecodeError, decode, refusal_text};
 use std::alloc::{AllocError, Global};
 
 /// The most bytes that are read: one more than a script may have is enough to refuse it.
@@ -91,7 +94,7 @@ fn answer_to(alloc: Global, input: &[u8]) -> Result<Answer, AllocError>
     match decode(alloc, input) {
         Ok(script) => {
             let declaration = infer(alloc, &script.library, &script.items)?.declaration;
-            let text = findings(alloc, &script, &declaration)?;
+            let text = findings(alloc, &script.library, &script.items, &declaration)?;
             Ok(Answer {
                 text,
                 status: Status::Reported,
@@ -123,31 +126,49 @@ fn respond<W: Sink>(alloc: Global, input: &[u8], writer: &mut W) -> Result<Statu
     Ok(answer.status)
 }
 
-/// The findings on a script, by what is declared of its signals.
-///
-/// An error means that memory ran out.
-fn findings(
-    alloc: Global,
-    script: &Script,
-    declaration: &Declaration,
-) -> Result<String, AllocError>
-    ensures { IfOk result (λ text. string_bytes text
-        ≡ findings_text (script_of_model script.now) (declared declaration.now)) }
+/// The depth of the chains of a library, for whatever transactions come.
+fn any_depth(alloc: Global, library: &Library) -> Result<Option<u8>, AllocError>
+    ensures { IfOk result (λ depth. depth ≡ library_depth (libraries.library library.now)) }
 {
-    let found = first_finding(alloc, &script.library, declaration, &script.items)?;
-    let graph = Graph::of_installed(alloc, &script.library, &script.items)?;
-    let own = graph.longest_chain_of(alloc, &script.items)?;
-    let mut text = String::new(alloc);
-    put_verdicts(alloc, &mut text, &script.library, found.is_none(), own)?;
-    put_kind(&mut text, found.as_ref())?;
-    put_links(alloc, &mut text, &graph, script, own)?;
-    put_openings(&mut text, script.library.rules())?;
-    let reached = graph.reached(alloc, &script.items)?;
-    put_idles(&mut text, graph.installed(), &reached, script.library.rules())?;
-    Ok(text)
+    let graph = Graph::of(alloc, library)?;
+    graph.longest_chain(alloc)
 }
 
-/// Adds the verdicts on a library: whether a script is kinded, and how deep its firings nest.
+/// A chain of any rules of a library that has more firings than may nest; empty if there is none.
+fn any_chain(alloc: Global, library: &Library) -> Result<Vec<usize>, AllocError>
+    ensures { IfOk result (λ chain. chain.items ≡ library_chain (libraries.library library.now)) }
+{
+    let graph = Graph::of(alloc, library)?;
+    graph.too_long(alloc)
+}
+
+/// A chain of more firings than may nest: one that the units begin, if there may be one, and else one of any rules.
+fn chain_by(
+    alloc: Global,
+    library: &Library,
+    units: &[Unit],
+    graph: &Graph<'_>,
+    own: Option<u8>,
+) -> Result<Vec<usize>, AllocError>
+    requires { seen graph.now.triggers
+        ≡ (with_installed (script (libraries.library library.now) (map unit units.now))).library }
+    ensures { IfOk result (λ chain. chain.items
+        ≡ chain_by (script (libraries.library library.now) (map unit units.now)) own) }
+{
+    match own {
+        None => graph.too_long_of(alloc, units),
+        Some(_) => any_chain(alloc, library),
+    }
+}
+
+/// Whether all values are used as what they are, and no guard of the library has an opening.
+fn is_closed(library: &Library, pass: bool) -> bool
+    ensures { result ≡ (pass && have_no_opening (libraries.library library.now).rules) }
+{
+    pass && have_no_opening(library.rules())
+}
+
+/// Adds the verdicts: whether all values are used as what they are, and how deep the units' own firings nest.
 fn put_verdicts(
     alloc: Global,
     text: &mut String,
@@ -155,31 +176,37 @@ fn put_verdicts(
     pass: bool,
     own: Option<u8>,
 ) -> Result<(), AllocError>
-    ensures { OnOk result (Gains text.old text.new
-        (verdicts_of (libraries.library library.now) pass own)) }
+    ensures { OnOk result (Gains text.old text.new (verdicts_of (libraries.library library.now) pass own)) }
 {
-    let any = Graph::of(alloc, library)?.longest_chain(alloc)?;
+    let any = any_depth(alloc, library)?;
     put_kinds(text, pass)?;
     put_depth(text, library.depth_limit(), any, own)?;
-    put_guards(text, pass && have_no_opening(library.rules()))
+    put_guards(text, is_closed(library, pass))?;
+    Ok(())
 }
 
-/// Adds the lines of a chain of more firings than may nest: one that the script's units begin, if there may be one, and
-/// else one of any rules.
-fn put_links(
+/// The findings on a script, by what is declared of its signals.
+///
+/// An error means that memory ran out.
+fn findings(
     alloc: Global,
-    text: &mut String,
-    graph: &Graph<'_>,
-    script: &Script,
-    own: Option<u8>,
-) -> Result<(), AllocError>
-    requires { seen graph.now.triggers ≡ (with_installed (script_of_model script.now)).library }
-    ensures { OnOk result (Gains text.old text.new
-        (chain_lines (script_of_model script.now).library.rules (chain_by (script_of_model script.now) own))) }
+    library: &Library,
+    units: &[Unit],
+    declaration: &Declaration,
+) -> Result<String, AllocError>
+    ensures { IfOk result (λ text. string_bytes text
+        ≡ findings_text (script (libraries.library library.now) (map unit units.now)) (declared declaration.now)) }
 {
-    let chain = match own {
-        None => graph.too_long_of(alloc, &script.items)?,
-        Some(_) => Graph::of(alloc, &script.library)?.too_long(alloc)?,
-    };
-    put_chain(text, script.library.rules(), &chain)
+    let found = first_finding(alloc, library, declaration, units)?;
+    let graph = Graph::of_installed(alloc, library, units)?;
+    let own = graph.longest_chain_of(alloc, units)?;
+    let chain = chain_by(alloc, library, units, &graph, own)?;
+    let reached = graph.reached(alloc, units)?;
+    let mut text = String::new(alloc);
+    put_verdicts(alloc, &mut text, library, found.is_none(), own)?;
+    put_kind(&mut text, &found)?;
+    put_chain(&mut text, library.rules(), &chain)?;
+    put_openings(&mut text, library.rules())?;
+    put_idles(&mut text, graph.installed(), &reached, library.rules())?;
+    Ok(text)
 }
