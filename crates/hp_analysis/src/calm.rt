@@ -259,7 +259,9 @@ fn is_statement_calm(s: &Stmt) -> bool
             both(is_calm(condition), bodies)
         }
         Stmt::Each {
-            predicate, body, ..
+            predicate,
+            body,
+            ..
         } => {
             let inside = is_body_calm(body);
             both(is_calm(predicate), inside)

@@ -73,11 +73,7 @@ fn mark_unit(begun: &Unit, set: &mut Vec<bool>)
 }
 
 /// The rules that the units may install themselves.
-fn installed_by(
-    alloc: Global,
-    library: &Library,
-    units: &[Unit],
-) -> Result<Vec<bool>, AllocError>
+fn installed_by(alloc: Global, library: &Library, units: &[Unit]) -> Result<Vec<bool>, AllocError>
     ensures { IfOk result (λ set. set.items ≡ gathered unit_installs (map unit units.now)
         (map (λ r. false) (libraries.library library.now).rules)) }
 {
@@ -106,11 +102,7 @@ fn installs(alloc: Global, library: &Library) -> Result<Vec<Vec<bool>>, AllocErr
 ///
 /// They are those that the units install, those that the actions of these install, and so on. The script does the same
 /// if the others do nothing (`laws::others_do_nothing`). An error means that memory ran out.
-pub fn installed(
-    alloc: Global,
-    library: &Library,
-    units: &[Unit],
-) -> Result<Vec<bool>, AllocError>
+pub fn installed(alloc: Global, library: &Library, units: &[Unit]) -> Result<Vec<bool>, AllocError>
     ensures { IfOk result (λ set. set.items ≡ installed (libraries.library library.now) (map unit units.now)) }
 {
     let mut set = installed_by(alloc, library, units)?;

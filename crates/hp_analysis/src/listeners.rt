@@ -12,9 +12,9 @@ ghost use Rattle.hp_rule.specs.RuleLists.{listed};
 ghost use Rattle.hp_analysis.specs.Listeners.{listed_by, pattern_ends, may_end, ending};
 ghost use Rattle.hp_analysis.specs.Installed.{with_only, rule_in};
 
+use crate::sets::has;
 use hp_detect::EventExpr;
 use hp_event::Pattern;
-use crate::sets::has;
 use hp_rule::{Library, Rule, RuleLists, Stmt, Subject, rule_number};
 use hp_value::{ClassNo, RuleNo};
 use std::alloc::{AllocError, Global};
