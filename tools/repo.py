@@ -54,6 +54,7 @@ COSTS = {
     "hp_live": 310,
     "hipac": 320,
     "hipac_live": 230,
+    "hipac_check": 150,
     "bank": 360,
 }
 # The cost of a crate that isn't in the table.

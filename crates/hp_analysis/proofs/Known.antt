@@ -11,7 +11,11 @@ use Rattle.hp_model.specs.Checked.{Scope, library_check, action_scope, Names, kn
 use Rattle.hp_model.specs.Chains.{completes, triggers_from, signal_triggers, statement_triggers, body_triggers, may_detach, rule_triggers}
 use Rattle.hp_rule.specs.WellNamed.{IsWellNamed, knows_expression, knows_class, knows_row, knows_event, knows_aggregate, knows_entries, knows_statement, knows_body, knows_rule}
 use Rattle.hp_rule.proofs.WellNamedLemmas.{library_is_well_named}
+use Rattle.hp_model.specs.Idle.{idle_rule, idle_from}
+use Rattle.hp_analysis.specs.Reached.{has}
+use Rattle.hp_analysis.specs.Installed.{rule_in, with_only}
 use Rattle.hp_analysis.proofs.Within.{knows_targets}
+use Rattle.hp_analysis.proofs.Only.{only_length}
 
 module _ (library : Library) where
   abbrev below : ℕ → Bool
@@ -86,3 +90,31 @@ module _ (library : Library) where
 
 pub targets_known : (library : Library) → library_check library ≡ Ok tt → list_all (knows_targets library) library.rules ≡ true
 targets_known library checked = rules_below library library.rules (library_is_well_named library checked).rules_know
+
+-- the same where the rules outside a set do nothing
+module _ (library : Library) (set : List Bool) where
+  abbrev only : Library
+  only = with_only set library
+
+  one_known : (n : ℕ) (r : Rule) → IsTrue (knows_rule library.classes (length library.rules) r) → IsTrue (knows_targets only (rule_in set (length library.classes) n r))
+  one_known n r h = by (has set n)
+    where
+      idle : Rule
+      idle = idle_rule (length library.classes) r
+
+      commit : (b : Bool) → IsTrue (list_all (below only) (if b then signal_triggers only commit_reached else []))
+      commit true = signal_below only commit_reached
+      commit false = refl
+
+      by : (b : Bool) → IsTrue (knows_targets only (if b then r else idle))
+      by true = rule_below only r (subst (λ count. IsTrue (knows_rule library.classes count r)) (sym (only_length set library)) h)
+      by false = commit (may_detach idle)
+
+  each_known : (n : ℕ) (rules : List Rule) → IsTrue (list_all (knows_rule library.classes (length library.rules)) rules) → IsTrue (list_all (knows_targets only) (idle_from (has set) (length library.classes) n rules))
+  each_known n [] h = refl
+  each_known n (r ∷ rs) h =
+      let parts = and_parts (knows_rule library.classes (length library.rules) r) (list_all (knows_rule library.classes (length library.rules)) rs) h in
+      and_from (knows_targets only (rule_in set (length library.classes) n r)) (list_all (knows_targets only) (idle_from (has set) (length library.classes) (suc n) rs)) (one_known n r parts.0) (each_known (suc n) rs parts.1)
+
+pub only_known : (library : Library) (set : List Bool) → library_check library ≡ Ok tt → list_all (knows_targets (with_only set library)) (with_only set library).rules ≡ true
+only_known library set checked = each_known library set 0 library.rules (library_is_well_named library checked).rules_know

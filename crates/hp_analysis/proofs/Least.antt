@@ -2,7 +2,7 @@
 use Rattle.std.proofs.Common.{arith, ◌≡◌, refl, sym, ap, ◌∙◌, subst, ℕ, zero, suc, ◌+◌, ◌<◌, ◌≤◌, Bool, true, false, nat_lt, Option, Some, None}
 use Rattle.std.specs.Prelude.{if◌then◌else◌, Result, Ok, Err, IfOk}
 use Rattle.std.proofs.lemmas.Bool.{ltb-true, ltb-false}
-use Rattle.hp_analysis.specs.Checking.{least_from, least}
+use Rattle.hp_analysis.specs.Depths.{least_from, least}
 use Rattle.hp_analysis.specs.Tables.{IsLeast}
 
 clash : {A : Type 0} {b : Bool} → b ≡ true → b ≡ false → A

@@ -1,4 +1,9 @@
 pub mod Known
+pub mod First
+pub mod Guarding
+pub mod Measuring
+pub mod Only
+pub mod Installing
 pub mod Least
 pub mod Marks
 pub mod Reaching

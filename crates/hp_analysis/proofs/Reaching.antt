@@ -10,7 +10,7 @@ use Rattle.hp_model.specs.State.{State}
 use Rattle.hp_model.specs.Cascade.{Unit, Transaction, transactions_of, run_unit}
 use Rattle.hp_model.specs.Chains.{rule_triggers, unit_triggers, IsClosed, IsTaskReached, FiresReached}
 use Rattle.hp_model.proofs.Reached.{others_never_fire}
-use Rattle.hp_analysis.specs.Sets.{marked, no_rules, targets, begun, outside_from, is_within}
+use Rattle.hp_analysis.specs.Sets.{marked, no_rules, targets, gathered, begun, outside_from, is_within}
 use Rattle.hp_analysis.specs.Reached.{has, united_from, leading_out, IsClosedSet, HasBegun, closure, reached, IsReached, ReachedIsLeast, UnreachedNeverFire}
 use Rattle.hp_analysis.proofs.Within.{within_set, within_marked, none_within, swap_and, marked_length}
 
@@ -171,33 +171,41 @@ module _ (library : Library) (set : List Bool) (count : length set ≡ length (n
   numbers_within : (ns : List ℕ) → is_within set (marked ns (no_rules library)) ≡ true → list_all (has set) ns ≡ true
   numbers_within ns h = (and_parts (list_all (has set) ns) (is_within set (no_rules library)) (sym (within_marked set ns (no_rules library) count) ∙ h)).0
 
-  closed_at : (k : ℕ) (rules : List Rule) (n : ℕ) → leading_out set k (map (targets library) rules) ≡ None → has set (k + n) ≡ true → list_all (has set) (rule_triggers library (slice_index_or rules n no_rule)) ≡ true
-  closed_at k [] n e h = refl
-  closed_at k (r ∷ rs) zero e h =
+  -- the rules that `leads` gives for each rule
+  abbrev led : (leads : Rule → List ℕ) → Rule → List Bool
+  led leads r = marked (leads r) (no_rules library)
+
+  closed_at : (leads : Rule → List ℕ) → leads no_rule ≡ [] → (k : ℕ) (rules : List Rule) (n : ℕ) → leading_out set k (map (led leads) rules) ≡ None → has set (k + n) ≡ true
+      → list_all (has set) (leads (slice_index_or rules n no_rule)) ≡ true
+  closed_at leads none k [] n e h = ap (list_all (has set)) none
+  closed_at leads none k (r ∷ rs) zero e h =
       let same : k + 0 ≡ k = omega arith in
-      numbers_within (rule_triggers library r) (by (has set k) (is_within set (targets library r)) (ap (has set) (sym same) ∙ h) e)
+      numbers_within (leads r) (by (has set k) (is_within set (led leads r)) (ap (has set) (sym same) ∙ h) e)
     where
-      by : (a b : Bool) → a ≡ true → (if (a && not b) then Some (targets library r) else leading_out set (suc k) (map (targets library) rs)) ≡ None → b ≡ true
+      by : (a b : Bool) → a ≡ true → (if (a && not b) then Some (led leads r) else leading_out set (suc k) (map (led leads) rs)) ≡ None → b ≡ true
       by true true one j = refl
       by true false one j = cc
       by false b one j = cc
-  closed_at k (r ∷ rs) (suc n) e h =
+  closed_at leads none k (r ∷ rs) (suc n) e h =
       let same : suc k + n ≡ k + suc n = omega arith in
-      closed_at (suc k) rs n (rest (has set k && not (is_within set (targets library r))) e) (ap (has set) same ∙ h)
+      closed_at leads none (suc k) rs n (rest (has set k && not (is_within set (led leads r))) e) (ap (has set) same ∙ h)
     where
-      rest : (b : Bool) → (if b then Some (targets library r) else leading_out set (suc k) (map (targets library) rs)) ≡ None → leading_out set (suc k) (map (targets library) rs) ≡ None
+      rest : (b : Bool) → (if b then Some (led leads r) else leading_out set (suc k) (map (led leads) rs)) ≡ None → leading_out set (suc k) (map (led leads) rs) ≡ None
       rest true j = cc
       rest false j = j
 
-  is_closed : IsClosedSet library set → IsClosed library (has set)
-  is_closed e n h = let same : 0 + n ≡ n = omega arith in closed_at 0 library.rules n e (ap (has set) same ∙ h)
+  pub all_closed : (leads : Rule → List ℕ) → leads no_rule ≡ [] → leading_out set 0 (map (led leads) library.rules) ≡ None → (n : ℕ) → has set n ≡ true → list_all (has set) (leads (rule_at library n)) ≡ true
+  all_closed leads none e n h = let same : 0 + n ≡ n = omega arith in closed_at leads none 0 library.rules n e (ap (has set) same ∙ h)
 
-  begun_each : (us : List Unit) (s : List Bool) → length set ≡ length s → is_within set (begun library us s) ≡ (list_all (λ u. list_all (has set) (unit_triggers library u)) us && is_within set s)
-  begun_each [] s e = refl
-  begun_each (u ∷ us) s e =
-      begun_each us (marked (unit_triggers library u) s) (e ∙ sym (marked_length (unit_triggers library u) s))
-      ∙ ap (λ b. list_all (λ v. list_all (has set) (unit_triggers library v)) us && b) (within_marked set (unit_triggers library u) s e)
-      ∙ swap_and (list_all (λ v. list_all (has set) (unit_triggers library v)) us) (list_all (has set) (unit_triggers library u)) (is_within set s)
+  is_closed : IsClosedSet library set → IsClosed library (has set)
+  is_closed e = all_closed (rule_triggers library) refl e
+
+  pub gathered_each : (of_unit : Unit → List ℕ) (us : List Unit) (s : List Bool) → length set ≡ length s → is_within set (gathered of_unit us s) ≡ (list_all (λ u. list_all (has set) (of_unit u)) us && is_within set s)
+  gathered_each of_unit [] s e = refl
+  gathered_each of_unit (u ∷ us) s e =
+      gathered_each of_unit us (marked (of_unit u) s) (e ∙ sym (marked_length (of_unit u) s))
+      ∙ ap (λ b. list_all (λ v. list_all (has set) (of_unit v)) us && b) (within_marked set (of_unit u) s e)
+      ∙ swap_and (list_all (λ v. list_all (has set) (of_unit v)) us) (list_all (has set) (of_unit u)) (is_within set s)
 
   never : IsClosedSet library set → (us : List Unit) → list_all (λ u. list_all (has set) (unit_triggers library u)) us ≡ true
       → AllByRecursion (λ u. (S : State) → AllByRecursion (λ (t : Transaction). IsTaskReached (has set) t.task × FiresReached (has set) t.items) (transactions_of (run_unit library u S))) us
@@ -213,9 +221,9 @@ missing_length [] = omega arith
 missing_length (true ∷ set) = let low = missing_length set in omega (arith, low)
 missing_length (false ∷ set) = let low = missing_length set in omega (arith, low)
 
-begun_length : (library : Library) (us : List Unit) (set : List Bool) → length (begun library us set) ≡ length set
-begun_length library [] set = refl
-begun_length library (u ∷ us) set = begun_length library us (marked (unit_triggers library u) set) ∙ marked_length (unit_triggers library u) set
+pub gathered_length : (of_unit : Unit → List ℕ) (us : List Unit) (set : List Bool) → length (gathered of_unit us set) ≡ length set
+gathered_length of_unit [] set = refl
+gathered_length of_unit (u ∷ us) set = gathered_length of_unit us (marked (of_unit u) set) ∙ marked_length (of_unit u) set
 
 within_itself : (set : List Bool) → is_within set set ≡ true
 within_itself set = by set 0 (λ i. let same : 0 + i ≡ i = omega arith in ap (has set) same)
@@ -279,25 +287,35 @@ pub closure_ends : (after : List (List Bool)) (steps : ℕ) (set : List Bool) �
 closure_ends after zero set is = refl
 closure_ends after (suc steps) set is = ap (λ o. option_map_or (λ t. closure steps after (united_from 0 t set)) o set) is
 
--- the closure so far is that of what the units trigger
-abbrev pub LeadsToReached : Library → List Unit → List Bool → Type 0
-LeadsToReached library units set = (length set ≡ length library.rules) × (closure (length set) (map (targets library) library.rules) set ≡ reached library units)
+-- the closure so far is that of the set at the start
+abbrev pub LeadsTo : (after : List (List Bool)) → (start set : List Bool) → Type 0
+LeadsTo after start set = closure (length set) after set ≡ closure (length start) after start
 
-pub reached_begins : (library : Library) (units : List Unit) (set : List Bool) → set ≡ begun library units (no_rules library) → LeadsToReached library units set
-reached_begins library units set is =
-    let after = map (targets library) library.rules in
-    let count : length set ≡ length library.rules = ap length is ∙ begun_length library units (no_rules library) ∙ length-map library.rules (λ (r : Rule). false) in
-    (count, ap (λ n. closure n after set) count ∙ ap (closure (length library.rules) after) is)
-
-pub reached_goes_on : (library : Library) (units : List Unit) (set triggered more : List Bool) → leading_out set 0 (map (targets library) library.rules) ≡ Some triggered → more ≡ united_from 0 triggered set
-    → LeadsToReached library units set → LeadsToReached library units more
-reached_goes_on library units set triggered more one is h =
-    let after = map (targets library) library.rules in
+pub goes_on : (after : List (List Bool)) (start set triggered more : List Bool) → leading_out set 0 after ≡ Some triggered → more ≡ united_from 0 triggered set → LeadsTo after start set → LeadsTo after start more
+goes_on after start set triggered more one is h =
     let count : length more ≡ length set = ap length is ∙ same_length triggered set in
-    (count ∙ h.0, ap (λ n. closure n after more) count ∙ ap (closure (length set) after) is ∙ sym (closure_more after set triggered one) ∙ h.1)
+    ap (λ n. closure n after more) count ∙ ap (closure (length set) after) is ∙ sym (closure_more after set triggered one) ∙ h
 
-pub reached_ends : (library : Library) (units : List Unit) (set : List Bool) → leading_out set 0 (map (targets library) library.rules) ≡ None → LeadsToReached library units set → set ≡ reached library units
-reached_ends library units set none h = sym (closure_ends (map (targets library) library.rules) (length set) set none) ∙ h.1
+pub ends : (after : List (List Bool)) (start set : List Bool) → leading_out set 0 after ≡ None → LeadsTo after start set → set ≡ closure (length start) after start
+ends after start set none h = sym (closure_ends after (length set) set none) ∙ h
+
+-- from what a function finds for each unit
+pub spread_is : (library : Library) (after : List (List Bool)) (of_unit : Unit → List ℕ) (us : List Unit) (set new : List Bool) → set ≡ gathered of_unit us (no_rules library) → new ≡ closure (length set) after set
+    → new ≡ closure (length library.rules) after (gathered of_unit us (no_rules library))
+spread_is library after of_unit us set new is ends_so =
+    let count : length set ≡ length library.rules = ap length is ∙ gathered_length of_unit us (no_rules library) ∙ length-map library.rules (λ (r : Rule). false) in
+    ends_so ∙ ap (λ n. closure n after set) count ∙ ap (closure (length library.rules) after) is
+
+-- it is closed, and has all of that
+pub spread_closed : (library : Library) (after : List (List Bool)) (of_unit : Unit → List ℕ) (us : List Unit) → let set = closure (length library.rules) after (gathered of_unit us (no_rules library)) in
+    (leading_out set 0 after ≡ None) × ((length set ≡ length (no_rules library)) × (is_within set (gathered of_unit us (no_rules library)) ≡ true))
+spread_closed library after of_unit us =
+    let start = gathered of_unit us (no_rules library) in
+    let count = gathered_length of_unit us (no_rules library) in
+    let few = missing_length start in
+    let rules : length (no_rules library) ≡ length library.rules = length-map library.rules (λ (r : Rule). false) in
+    closed_and_kept after (λ set. (length set ≡ length (no_rules library)) × (is_within set start ≡ true)) (λ set triggered is h. (same_length triggered set ∙ h.0, begun_stays set triggered start h.1)) (length library.rules) start
+    (omega (arith, few, count, rules)) (count, within_itself start)
 
 record IsOnTheWay (library : Library) (units : List Unit) (set : List Bool) : Type 0 where
   pub count : length set ≡ length (no_rules library)
@@ -316,7 +334,7 @@ stays_on library units set triggered is h = record {
 pub reached_is_least : ReachedIsLeast
 reached_is_least library units =
     let start = begun library units (no_rules library) in
-    let count = begun_length library units (no_rules library) in
+    let count = gathered_length (unit_triggers library) units (no_rules library) in
     let few = missing_length start in
     let rules : length (no_rules library) ≡ length library.rules = length-map library.rules (λ (r : Rule). false) in
     let end = closed_and_kept (map (targets library) library.rules) (IsOnTheWay library units) (stays_on library units) (length library.rules) start (omega (arith, few, count, rules))
@@ -328,4 +346,4 @@ unreached_never_fire library units =
     let set = reached library units in
     let h = reached_is_least library units in
     never library set h.count h.closed units
-    (and_parts (list_all (λ u. list_all (has set) (unit_triggers library u)) units) (is_within set (no_rules library)) (sym (begun_each library set h.count units (no_rules library) h.count) ∙ h.begun)).0
+    (and_parts (list_all (λ u. list_all (has set) (unit_triggers library u)) units) (is_within set (no_rules library)) (sym (gathered_each library set h.count (unit_triggers library) units (no_rules library) h.count) ∙ h.begun)).0

@@ -10,9 +10,10 @@ use Rattle.hp_model.specs.Chains.{rule_triggers, rule_within}
 use Rattle.hp_analysis.specs.Sets.{marked, no_rules, targets, outside_from, is_within}
 use Rattle.hp_analysis.specs.Reached.{has}
 use Rattle.hp_analysis.specs.Tables.{within}
-use Rattle.hp_analysis.specs.Witness.{chain_from, IsPath, IsPathOf, ChainIsPath}
+use Rattle.hp_analysis.specs.Witness.{chain_from, IsPath, IsPathOf, ChainIsPath, ChainIsPathAmong}
+use Rattle.hp_analysis.specs.Installed.{with_only}
 use Rattle.hp_analysis.proofs.Within.{knows_targets, rule_next}
-use Rattle.hp_analysis.proofs.Known.{targets_known}
+use Rattle.hp_analysis.proofs.Known.{targets_known, only_known}
 
 -- ---- the rules of a set
 
@@ -149,6 +150,9 @@ module _ (library : Library) (known : list_all (knows_targets library) library.r
 
 pub chain_is_path : ChainIsPath
 chain_is_path library checked more n h = is_path library (targets_known library checked) more n h
+
+pub chain_is_path_among : ChainIsPathAmong
+chain_is_path_among library set checked more n h = is_path (with_only set library) (only_known library set checked) more n h
 
 -- ---- steps of the program
 

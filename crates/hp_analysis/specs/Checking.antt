@@ -1,50 +1,83 @@
 -- What the program that checks rule bases writes about a script, without running it.
-use Rattle.std.specs.Prelude.{ℕ, zero, suc, nat_lt, Bool, ◌&&◌, List, [], ◌∷◌, ◌++◌, Option, Some, None, Result, Ok, Err, if◌then◌else◌, codes, decimal, flat_map}
-use Rattle.std.specs.List.{slice_index_or}
-use Rattle.hp_model.specs.Rules.{Rule, Library, no_rule}
+use Rattle.std.specs.Prelude.{ℕ, suc, Bool, true, false, ◌&&◌, List, [], ◌∷◌, ◌++◌, Option, Some, None, is_none, Result, Ok, Err, if◌then◌else◌, codes, decimal, flat_map}
+use Rattle.std.specs.List.{slice_index_or, list_all}
+use Rattle.hp_model.specs.Values.{Kind, integer_kind, boolean_kind, text_kind}
+use Rattle.hp_model.specs.Kinds.{Sort, only, any, Declared}
+use Rattle.hp_model.specs.Rules.{Rule, no_rule, Library}
 use Rattle.hp_model.specs.Cascade.{Script}
-use Rattle.hp_model.specs.Chains.{library_within, script_within}
-use Rattle.hp_model.specs.Report.{Bytes, line}
-use Rattle.hp_model.specs.Refusals.{to_member, to_item, Refusal}
+use Rattle.hp_model.specs.Report.{Bytes, words, line}
+use Rattle.hp_model.specs.Refusals.{Path, to_member, to_item, Refusal}
 use Rattle.hp_model.specs.Decode.{script_of}
 use Rattle.hp_model.specs.Output.{path_text, refusal_text}
+use Rattle.hp_analysis.specs.Depths.{library_depth, script_depth}
+use Rattle.hp_analysis.specs.Findings.{Wanted, of_kind, of_known_kind, of_ordered_kind, Reason, unsuited, no_occurrence, no_such_part, other_form, no_such_field, no_such_argument, too_few_arguments, unset_field, unknown_name, not_fired}
+use Rattle.hp_analysis.specs.FirstFinding.{KindFinding, first_finding}
+use Rattle.hp_analysis.specs.Guards.{Opening, by_condition, by_action, opening}
+use Rattle.hp_analysis.specs.Installed.{installed, with_installed}
 use Rattle.hp_analysis.specs.Reached.{has, reached}
 use Rattle.hp_analysis.specs.Witness.{library_chain, script_chain}
 
--- the least number from j on that passes the test, if one of these does
-abbrev pub least_from : (test : ℕ → Bool) → (j more : ℕ) → Option ℕ
-least_from test j zero = if test j then Some j else None
-least_from test j (suc more) = if test j then Some j else least_from test (suc j) more
+-- ---- verdicts
 
-abbrev pub least : (test : ℕ → Bool) → (most : ℕ) → Option ℕ
-least test most = least_from test 0 most
+abbrev pub kinds_line : (pass : Bool) → Bytes
+kinds_line true = line 0 (codes "kinds" ∷ codes "ok" ∷ [])
+kinds_line false = line 0 (codes "kinds" ∷ codes "unknown" ∷ [])
 
--- the number of firings of the library's longest chain, if no chain has more than may nest
-abbrev pub library_depth : Library → Option ℕ
-library_depth library = least (library_within library) library.depth_limit
-
--- the same for the chains that the script's units begin
-abbrev pub script_depth : Script → Option ℕ
-script_depth script = least (λ k. nat_lt 0 k && script_within k script) script.library.depth_limit
-
--- the verdict for whatever transactions come, or else for the script's own, or else none
+-- for whatever transactions come, or else for the script's own, or else none
 abbrev pub depth_line : (limit : ℕ) → (any own : Option ℕ) → Bytes
 depth_line limit (Some k) own = line 0 (codes "depth" ∷ decimal k ∷ codes "of" ∷ decimal limit ∷ [])
 depth_line limit None (Some k) = line 0 (codes "depth" ∷ decimal k ∷ codes "of" ∷ decimal limit ∷ codes "here" ∷ [])
 depth_line limit None None = line 0 (codes "depth" ∷ codes "unknown" ∷ [])
 
+abbrev pub guards_line : (closed : Bool) → Bytes
+guards_line true = line 0 (codes "guards" ∷ codes "closed" ∷ [])
+guards_line false = line 0 (codes "guards" ∷ codes "unknown" ∷ [])
+
+-- ---- the first finding of kinds
+
+abbrev pub kind_word : Kind → Bytes
+kind_word integer_kind = codes "int"
+kind_word boolean_kind = codes "bool"
+kind_word text_kind = codes "text"
+
+abbrev pub sort_word : Sort → Bytes
+sort_word (only k) = kind_word k
+sort_word any = codes "any"
+
+abbrev pub wanted_word : Wanted → Bytes
+wanted_word (of_kind k) = kind_word k
+wanted_word of_known_kind = codes "known"
+wanted_word of_ordered_kind = codes "ordered"
+
+abbrev pub reason_text : Reason → Bytes
+reason_text (unsuited wanted given) = words (codes "wanted" ∷ wanted_word wanted ∷ codes "given" ∷ sort_word given ∷ [])
+reason_text no_occurrence = codes "no_occurrence"
+reason_text no_such_part = codes "no_such_part"
+reason_text other_form = codes "other_form"
+reason_text no_such_field = codes "no_such_field"
+reason_text no_such_argument = codes "no_such_argument"
+reason_text too_few_arguments = codes "too_few_arguments"
+reason_text unset_field = codes "unset_field"
+reason_text unknown_name = codes "unknown_name"
+reason_text not_fired = codes "not_fired"
+
+-- the place is one in the script, or in the body of the unit of this number
+abbrev pub place_words : (unit : Option ℕ) → Path → List Bytes
+place_words None path = path_text path ∷ []
+place_words (Some n) path = codes "unit" ∷ decimal n ∷ path_text path ∷ []
+
+abbrev pub found_line : KindFinding → Bytes
+found_line f = line 0 (codes "kind" ∷ (place_words f.unit f.finding.path ++ reason_text f.finding.reason ∷ []))
+
+abbrev pub kind_lines : Option KindFinding → Bytes
+kind_lines None = []
+kind_lines (Some f) = found_line f
+
+-- ---- chains
+
 -- a rule by its path in the script and its name
 abbrev pub rule_words : ℕ → Rule → List Bytes
 rule_words n rule = path_text (to_member (codes "rules") ∷ to_item n ∷ []) ∷ rule.name ∷ []
-
--- a line for a rule that isn't in the set
-abbrev pub rule_line : (set : List Bool) → ℕ → Rule → Bytes
-rule_line set n rule = if has set n then [] else line 0 (codes "never" ∷ rule_words n rule)
-
--- the same for the rules from the n-th on
-abbrev pub never_lines : (set : List Bool) → ℕ → List Rule → Bytes
-never_lines set n [] = []
-never_lines set n (rule ∷ rules) = rule_line set n rule ++ never_lines set (suc n) rules
 
 -- the rules of a chain of more firings than may nest
 abbrev pub link_line : List Rule → ℕ → Bytes
@@ -53,22 +86,72 @@ link_line rules n = line 0 (codes "chain" ∷ rule_words n (slice_index_or rules
 abbrev pub chain_lines : List Rule → List ℕ → Bytes
 chain_lines rules ns = flat_map (link_line rules) ns
 
--- a chain that the script's units begin, if there may be one; else one of any rules
+-- a chain that the script's units begin, among the rules that it may install, if there may be one; else one of any rules
 abbrev pub chain_by : Script → (own : Option ℕ) → List ℕ
-chain_by script None = script_chain script.library script.units
+chain_by script None = let known = with_installed script in script_chain known.library known.units
 chain_by script (Some k) = library_chain script.library
 
--- the verdict, and a line for each finding
-abbrev pub findings_text : Script → Bytes
-findings_text script =
-    depth_line script.library.depth_limit (library_depth script.library) (script_depth script)
-    ++ (chain_lines script.library.rules (chain_by script (script_depth script))
-    ++ never_lines (reached script.library script.units) 0 script.library.rules)
+-- ---- guards
 
-abbrev pub check_text : Result Script Refusal → Bytes
-check_text (Err r) = refusal_text r
-check_text (Ok script) = findings_text script
+-- the part of a rule that may fail: the condition or the action, by its place in the rule
+abbrev pub part_of : Opening → ℕ
+part_of by_condition = 3
+part_of by_action = 5
+
+abbrev pub opening_line : ℕ → Rule → Option Opening → Bytes
+opening_line n rule None = []
+opening_line n rule (Some o) = line 0 (codes "open" ∷ path_text (to_member (codes "rules") ∷ to_item n ∷ to_item (part_of o) ∷ []) ∷ rule.name ∷ [])
+
+-- a line for each guard with an opening, from the n-th rule on
+abbrev pub opening_lines : ℕ → List Rule → Bytes
+opening_lines n [] = []
+opening_lines n (rule ∷ rules) = opening_line n rule (opening rule) ++ opening_lines (suc n) rules
+
+abbrev pub have_no_opening : List Rule → Bool
+have_no_opening rules = list_all (λ r. is_none (opening r)) rules
+
+-- ---- rules that do nothing
+
+-- a line for a rule that is never installed, or that is never reached
+abbrev pub idle_line : (present reached : List Bool) → ℕ → Rule → Bytes
+idle_line present reached n rule =
+    if has present n then (if has reached n then [] else line 0 (codes "never" ∷ rule_words n rule)) else line 0 (codes "uninstalled" ∷ rule_words n rule)
+
+-- the same for the rules from the n-th on
+abbrev pub idle_lines : (present reached : List Bool) → ℕ → List Rule → Bytes
+idle_lines present reached n [] = []
+idle_lines present reached n (rule ∷ rules) = idle_line present reached n rule ++ idle_lines present reached (suc n) rules
+
+-- ---- the whole text
+
+-- the verdicts on a library, where all uses of values pass or don't, and the script's own chains have this depth
+abbrev pub verdicts_of : Library → (pass : Bool) → (own : Option ℕ) → Bytes
+verdicts_of library pass own =
+    kinds_line pass ++ (depth_line library.depth_limit (library_depth library) own ++ guards_line (pass && have_no_opening library.rules))
+
+-- a line for each finding
+abbrev pub lines_text : Script → Option KindFinding → Bytes
+lines_text script found =
+    let rules = script.library.rules in
+    kind_lines found
+    ++ (chain_lines rules (chain_by script (script_depth (with_installed script)))
+    ++ (opening_lines 0 rules
+    ++ idle_lines (installed script.library script.units) (reached (with_installed script).library script.units) 0 rules))
+
+-- by what is declared of signals and of the rules that statements may fire
+abbrev pub findings_text : Script → Declared → Bytes
+findings_text script d =
+    let found = first_finding script.library d script.units in
+    verdicts_of script.library (is_none found) (script_depth (with_installed script)) ++ lines_text script found
+
+abbrev pub check_text : Result Script Refusal → Declared → Bytes
+check_text (Err r) d = refusal_text r
+check_text (Ok script) d = findings_text script d
 
 -- the findings on the script in these bytes, or the refusal's line
-abbrev pub check_output : Bytes → Bytes
-check_output bytes = check_text (script_of bytes)
+abbrev pub check_output : Bytes → Declared → Bytes
+check_output bytes d = check_text (script_of bytes) d
+
+-- what was written meets a demand on the text, for one declaration: the promises of the verdicts hold for each
+abbrev pub IsChecked : (Bytes → Type 0) → Bytes → Type 0
+IsChecked demand bytes = (d : Declared) × demand (check_output bytes d)

@@ -3,9 +3,17 @@ pub mod Sets
 pub mod Reached
 pub mod Tables
 pub mod Witness
+pub mod Depths
 pub mod Checking
+pub mod Installed
+pub mod Graphs
+pub mod Guards
+pub mod Openings
+pub mod Measures
 pub mod Declarations
 pub mod Findings
+pub mod FirstFinding
+pub mod FoundFirst
 pub mod KindLaws
 pub mod Kinded
 pub mod Parts

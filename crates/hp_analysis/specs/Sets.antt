@@ -5,6 +5,7 @@ use Rattle.hp_model.specs.Occurrences.{moment_reached}
 use Rattle.hp_model.specs.Rules.{Rule, Library}
 use Rattle.hp_model.specs.Cascade.{Unit, transaction, moment}
 use Rattle.hp_model.specs.Chains.{body_triggers, signal_triggers, rule_triggers, unit_triggers}
+use Rattle.hp_model.specs.Idle.{body_installs}
 
 -- the set with these rules too
 abbrev pub marked : List ℕ → List Bool → List Bool
@@ -18,15 +19,23 @@ no_rules library = map (λ (r : Rule). false) library.rules
 abbrev pub targets : Library → Rule → List Bool
 targets library rule = marked (rule_triggers library rule) (no_rules library)
 
+-- the rules that its action may install
+abbrev pub installs : Library → Rule → List Bool
+installs library rule = marked (body_installs rule.action) (no_rules library)
+
 -- the rules that a unit's own transaction may trigger before its commit event
 abbrev pub begun_by : Library → Unit → List ℕ
 begun_by library (transaction now body) = body_triggers library body
 begun_by library (moment t) = signal_triggers library (moment_reached t)
 
+-- the set with what a function finds for each of these units
+abbrev pub gathered : (Unit → List ℕ) → List Unit → List Bool → List Bool
+gathered of_unit [] set = set
+gathered of_unit (u ∷ us) set = gathered of_unit us (marked (of_unit u) set)
+
 -- the rules that these units' own transactions may trigger, and those of the set
 abbrev pub begun : Library → List Unit → List Bool → List Bool
-begun library [] set = set
-begun library (u ∷ us) set = begun library us (marked (unit_triggers library u) set)
+begun library us set = gathered (unit_triggers library) us set
 
 -- the first rule of the set, numbered from n, that isn't in the other one
 abbrev pub outside_from : (other : List Bool) → ℕ → (set : List Bool) → Option ℕ

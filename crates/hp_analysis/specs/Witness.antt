@@ -7,6 +7,7 @@ use Rattle.hp_model.specs.Cascade.{Unit}
 use Rattle.hp_model.specs.Checked.{library_check}
 use Rattle.hp_model.specs.Chains.{rule_triggers, rule_within}
 use Rattle.hp_analysis.specs.Sets.{no_rules, targets, begun, outside_from}
+use Rattle.hp_analysis.specs.Installed.{with_only}
 use Rattle.hp_analysis.specs.Tables.{within}
 
 -- the rule, and then always the first rule that it may trigger from which the rest of the chain goes on
@@ -38,3 +39,8 @@ IsPathOf library (n ∷ ns) = IsPath library n ns
 abbrev pub ChainIsPath : Type 0
 ChainIsPath = (library : Library) → library_check library ≡ Ok tt → (more n : ℕ) → rule_within library more (rule_at library n) ≡ false
     → IsPathOf library (chain_from library more n) × (length (chain_from library more n) ≡ more + 1)
+
+-- also in the library in which the rules outside a set do nothing
+abbrev pub ChainIsPathAmong : Type 0
+ChainIsPathAmong = (library : Library) (set : List Bool) → library_check library ≡ Ok tt → let among = with_only set library in (more n : ℕ) → rule_within among more (rule_at among n) ≡ false
+    → IsPathOf among (chain_from among more n) × (length (chain_from among more n) ≡ more + 1)

@@ -1,25 +1,25 @@
 //! Chains of more firings than may nest, as reasons why a library or a script isn't safe.
 
 use crate::graph::Graph;
-use crate::sets::{filled, first_outside};
+use crate::sets::first_outside;
 use hp_rule::Unit;
 use std::alloc::{AllocError, Global};
 
 impl Graph<'_> {
     ghost use Rattle.std.specs.Prelude.{◌≡◌, ◌++◌, IfOk, OnOk, map};
     ghost use Rattle.hp_model.specs.Rules.{rule_at};
-    ghost use Rattle.hp_rule.specs.Libraries as libraries;
     ghost use Rattle.hp_rule.specs.Mapped.{unit};
     ghost use Rattle.hp_analysis.specs.Sets.{targets, outside_from};
+    ghost use Rattle.hp_analysis.specs.Graphs.{seen};
     ghost use Rattle.hp_analysis.specs.Tables.{within};
     ghost use Rattle.hp_analysis.specs.Witness.{chain_from, chain_of, library_chain, script_chain};
 
     /// Which rules begin no chain of more than `most` firings.
     fn table(&self, alloc: Global, most: u8) -> Result<Vec<bool>, AllocError>
         ensures { IfOk result (λ table. table.items
-            ≡ within (libraries.library self.now.triggers.library.now) most) }
+            ≡ within (seen self.now.triggers) most) }
     {
-        let mut table = filled(alloc, self.triggers.library(), false)?;
+        let mut table = self.triggers.filled(alloc, false)?;
         for k in 0..most {
             table = self.next_table(alloc, k, &table)?;
         }
@@ -28,8 +28,8 @@ impl Graph<'_> {
 
     /// The first rule that a firing of this one may trigger and that isn't in the table.
     fn first_leading(&self, table: &[bool], number: usize) -> Option<usize>
-        ensures { result ≡ outside_from table.now 0 (targets (libraries.library self.now.triggers.library.now)
-            (rule_at (libraries.library self.now.triggers.library.now) number)) }
+        ensures { result ≡ outside_from table.now 0 (targets (seen self.now.triggers)
+            (rule_at (seen self.now.triggers) number)) }
     {
         if number < self.after.len() {
             return first_outside(table, &self.after[number]);
@@ -46,7 +46,7 @@ impl Graph<'_> {
         number: usize,
     ) -> Result<(), AllocError>
         ensures { OnOk result (chain.new.items
-            ≡ chain.old.items ++ chain_from (libraries.library self.now.triggers.library.now) more number) }
+            ≡ chain.old.items ++ chain_from (seen self.now.triggers) more number) }
     {
         chain.push(number)?;
         if more == 0 {
@@ -62,9 +62,9 @@ impl Graph<'_> {
     /// A chain of more firings than may nest that begins with a firing of one of the set; empty if there is none.
     fn chain_of(&self, alloc: Global, set: &[bool]) -> Result<Vec<usize>, AllocError>
         ensures { IfOk result (λ chain. chain.items
-            ≡ chain_of (libraries.library self.now.triggers.library.now) set.now) }
+            ≡ chain_of (seen self.now.triggers) set.now) }
     {
-        let limit = self.triggers.library().depth_limit();
+        let limit = self.triggers.depth_limit();
         let table = self.table(alloc, limit)?;
         let mut chain = Vec::new(alloc);
         if let Some(first) = first_outside(&table, set) {
@@ -78,16 +78,16 @@ impl Graph<'_> {
     /// Each rule may trigger the next one (`laws::chain_is_path`).
     pub fn too_long(&self, alloc: Global) -> Result<Vec<usize>, AllocError>
         ensures { IfOk result (λ chain. chain.items
-            ≡ library_chain (libraries.library self.now.triggers.library.now)) }
+            ≡ library_chain (seen self.now.triggers)) }
     {
-        let set = filled(alloc, self.triggers.library(), true)?;
+        let set = self.triggers.filled(alloc, true)?;
         self.chain_of(alloc, &set)
     }
 
     /// The same of a chain that one of these units begins.
     pub fn too_long_of(&self, alloc: Global, units: &[Unit]) -> Result<Vec<usize>, AllocError>
         ensures { IfOk result (λ chain. chain.items
-            ≡ script_chain (libraries.library self.now.triggers.library.now) (map unit units.now)) }
+            ≡ script_chain (seen self.now.triggers) (map unit units.now)) }
     {
         let set = self.begun(alloc, units)?;
         self.chain_of(alloc, &set)

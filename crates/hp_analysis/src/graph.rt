@@ -2,22 +2,24 @@
 
 ghost use Rattle.std.specs.Prelude.{◌≡◌, map, Bool};
 ghost use Rattle.std.specs.Global.{Vec};
-ghost use Rattle.hp_rule.specs.Libraries as libraries;
 ghost use Rattle.hp_analysis.specs.Sets.{targets};
+ghost use Rattle.hp_analysis.specs.Graphs.{seen};
 
-use crate::sets::{filled, is_within, leading_out, unite, within_each};
+use crate::installs::installed;
+use crate::sets::{is_within, spread, within_each};
 use crate::triggers::Triggers;
 use hp_rule::{Library, Unit};
 use std::alloc::{AllocError, Global};
 
-/// The triggering graph of a library: which rules a firing of each rule may trigger, whatever the state is.
+/// The triggering graph of a library, or of the rules that a script may ever install: which rules a firing of each
+/// rule may trigger, whatever the state is.
 #[derive(Debug, Drop)]
 pub struct Graph<'a> {
     pub(crate) triggers: Triggers<'a>,
     // For each rule the rules that a firing of it may trigger.
     pub(crate) after: Vec<Vec<bool>>,
     ghost edges: { map (λ (set : Vec Bool). set.items) after.items
-        ≡ map (targets (libraries.library triggers.library.now)) (libraries.library triggers.library.now).rules },
+        ≡ map (targets (seen triggers)) (seen triggers).rules },
 }
 
 impl<'a> Graph<'a> {
@@ -26,17 +28,56 @@ impl<'a> Graph<'a> {
     ghost use Rattle.hp_analysis.specs.Sets.{is_within, begun};
     ghost use Rattle.hp_analysis.specs.Tables.{within, IsLeast, script};
     ghost use Rattle.hp_analysis.specs.Reached.{reached};
-    ghost use Rattle.hp_analysis.specs.Checking.{library_depth, script_depth};
+    ghost use Rattle.hp_rule.specs.Libraries as libraries;
+    ghost use Rattle.hp_analysis.specs.Installed.{installed, with_only};
+    ghost use Rattle.hp_analysis.specs.Depths.{library_depth, script_depth};
+
+    /// The graph of a library in which the rules outside the set do nothing.
+    fn among(
+        alloc: Global,
+        library: &'a Library,
+        present: Vec<bool>,
+    ) -> Result<Graph<'a>, AllocError>
+        ensures seen { IfOk result (λ graph.
+            seen graph.triggers ≡ with_only present.items (libraries.library library.now)) }
+        ensures present { IfOk result (λ graph. graph.triggers.present.items ≡ present.items) }
+    {
+        let triggers = Triggers::of(alloc, library, present)?;
+        let after = triggers.targets(alloc)?;
+        Ok(Graph { triggers, after })
+    }
 
     /// The graph of a library.
     ///
     /// An error means that memory ran out.
     pub fn of(alloc: Global, library: &'a Library) -> Result<Graph<'a>, AllocError>
-        ensures { IfOk result (λ graph. graph.triggers.library.now ≡ library.now) }
+        ensures { IfOk result (λ graph. seen graph.triggers ≡ libraries.library library.now) }
     {
-        let triggers = Triggers::of(alloc, library)?;
-        let after = triggers.targets(alloc)?;
-        Ok(Graph { triggers, after })
+        Graph::among(alloc, library, Vec::new(alloc))
+    }
+
+    /// The graph of the rules that a script of these units may ever install: the other rules do nothing in it.
+    ///
+    /// The script does the same with this library (`laws::others_do_nothing`). An error means that memory ran out.
+    pub fn of_installed(
+        alloc: Global,
+        library: &'a Library,
+        units: &[Unit],
+    ) -> Result<Graph<'a>, AllocError>
+        ensures graph { IfOk result (λ graph. seen graph.triggers
+            ≡ with_only (installed (libraries.library library.now) (map unit units.now)) (libraries.library library.now)) }
+        ensures present { IfOk result (λ graph. graph.triggers.present.items
+            ≡ installed (libraries.library library.now) (map unit units.now)) }
+    {
+        let present = installed(alloc, library, units)?;
+        Graph::among(alloc, library, present)
+    }
+
+    /// The rules of the graph, by their numbers: those that may ever be installed. The others do nothing in it.
+    pub fn installed(&self) -> &[bool]
+        ensures { result.now ≡ self.now.triggers.present.items }
+    {
+        &self.triggers.present
     }
 
     /// Which rules begin no chain of more than k + 1 firings, by those that begin none of more than k.
@@ -46,8 +87,8 @@ impl<'a> Graph<'a> {
         k: u8,
         table: &[bool],
     ) -> Result<Vec<bool>, AllocError>
-        requires { table.now ≡ within (libraries.library self.now.triggers.library.now) k }
-        ensures { IfOk result (λ next. next.items ≡ within (libraries.library self.now.triggers.library.now) (k + 1)) }
+        requires { table.now ≡ within (seen self.now.triggers) k }
+        ensures { IfOk result (λ next. next.items ≡ within (seen self.now.triggers) (k + 1)) }
     {
         within_each(alloc, table, &self.after)
     }
@@ -56,12 +97,11 @@ impl<'a> Graph<'a> {
     /// more.
     fn depth_from(&self, alloc: Global, set: &[bool]) -> Result<Option<u8>, AllocError>
         ensures { IfOk result (IsLeast
-            (λ k. nat_lt 0 k && is_within (within (libraries.library self.now.triggers.library.now) k) set.now)
-            (libraries.library self.now.triggers.library.now).depth_limit) }
+            (λ k. nat_lt 0 k && is_within (within (seen self.now.triggers) k) set.now)
+            (seen self.now.triggers).depth_limit) }
     {
-        let library = self.triggers.library();
-        let mut table = filled(alloc, library, false)?;
-        for k in 0..library.depth_limit() {
+        let mut table = self.triggers.filled(alloc, false)?;
+        for k in 0..self.triggers.depth_limit() {
             table = self.next_table(alloc, k, &table)?;
             if is_within(&table, set) {
                 return Ok(Some(k + 1));
@@ -75,9 +115,9 @@ impl<'a> Graph<'a> {
     /// Then no script with this library meets the depth limit, whatever its transactions are
     /// (`hp_model::laws::chains`).
     pub fn longest_chain(&self, alloc: Global) -> Result<Option<u8>, AllocError>
-        ensures { IfOk result (λ depth. depth ≡ library_depth (libraries.library self.now.triggers.library.now)) }
+        ensures { IfOk result (λ depth. depth ≡ library_depth (seen self.now.triggers)) }
     {
-        let set = filled(alloc, self.triggers.library(), true)?;
+        let set = self.triggers.filled(alloc, true)?;
         self.depth_from(alloc, &set)
     }
 
@@ -87,7 +127,7 @@ impl<'a> Graph<'a> {
     /// Then a script of these units doesn't meet the depth limit (`hp_model::laws::chains`).
     pub fn longest_chain_of(&self, alloc: Global, units: &[Unit]) -> Result<Option<u8>, AllocError>
         ensures { IfOk result (λ depth. depth
-            ≡ script_depth (script (libraries.library self.now.triggers.library.now) (map unit units.now))) }
+            ≡ script_depth (script (seen self.now.triggers) (map unit units.now))) }
     {
         let set = self.begun(alloc, units)?;
         self.depth_from(alloc, &set)
@@ -95,10 +135,10 @@ impl<'a> Graph<'a> {
 
     /// The rules that the units' own transactions may trigger.
     pub(crate) fn begun(&self, alloc: Global, units: &[Unit]) -> Result<Vec<bool>, AllocError>
-        ensures { IfOk result (λ set. set.items ≡ begun (libraries.library self.now.triggers.library.now)
-            (map unit units.now) (map (λ r. false) (libraries.library self.now.triggers.library.now).rules)) }
+        ensures { IfOk result (λ set. set.items ≡ begun (seen self.now.triggers)
+            (map unit units.now) (map (λ r. false) (seen self.now.triggers).rules)) }
     {
-        let mut set = filled(alloc, self.triggers.library(), false)?;
+        let mut set = self.triggers.filled(alloc, false)?;
         for unit in units {
             self.triggers.mark_unit(unit, &mut set);
         }
@@ -110,12 +150,10 @@ impl<'a> Graph<'a> {
     /// A script of these units fires no other rule (`laws::unreached_never_fire`).
     pub fn reached(&self, alloc: Global, units: &[Unit]) -> Result<Vec<bool>, AllocError>
         ensures { IfOk result (λ set. set.items
-            ≡ reached (libraries.library self.now.triggers.library.now) (map unit units.now)) }
+            ≡ reached (seen self.now.triggers) (map unit units.now)) }
     {
         let mut set = self.begun(alloc, units)?;
-        while let Some(triggered) = leading_out(&set, &self.after) {
-            unite(&mut set, triggered);
-        }
+        spread(&mut set, &self.after);
         Ok(set)
     }
 }

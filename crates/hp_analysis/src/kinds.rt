@@ -6,6 +6,7 @@ mod columns;
 pub(crate) mod declaration;
 mod expr;
 pub(crate) mod finding;
+pub(crate) mod first;
 pub(crate) mod infer;
 mod part;
 mod rows;

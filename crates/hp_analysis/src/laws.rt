@@ -1,7 +1,9 @@
 //! Laws of what the graph gives.
 
 ghost use Rattle.hp_analysis.specs.Reached.{ReachedIsLeast, UnreachedNeverFire};
-ghost use Rattle.hp_analysis.specs.Witness.{ChainIsPath};
+ghost use Rattle.hp_analysis.specs.Installed.{InstalledSuffice, OthersDoNothing, KnownDepthHolds};
+ghost use Rattle.hp_analysis.specs.Guards.{GuardsHold};
+ghost use Rattle.hp_analysis.specs.Witness.{ChainIsPath, ChainIsPathAmong};
 
 /// The rules that are reached are the least set that has what the units trigger, and what each of its rules may
 /// trigger.
@@ -17,5 +19,26 @@ pub fn unreached_never_fire()
 /// The chain that is given for a rule which begins one of more than `more` firings is a path of the triggering graph:
 /// each rule of it may trigger the next. It has one firing more than that.
 pub fn chain_is_path()
-    ensures { ChainIsPath }
+    ensures library { ChainIsPath }
+
+    // Also where the rules outside a set do nothing.
+    ensures among { ChainIsPathAmong }
+{}
+
+/// A script installs no rules but those that are found as installed. So it does the same if the others do nothing.
+pub fn others_do_nothing()
+    ensures suffice { InstalledSuffice }
+    ensures same { OthersDoNothing }
+{}
+
+/// If a script's depth is known by the rules that are ever installed, nothing in its run ends since firings nest too
+/// deep.
+pub fn known_depth_holds()
+    ensures { KnownDepthHolds }
+{}
+
+/// In each run of a kinded script, no cause ends the condition of a guard that isn't closed and has no opening, and no
+/// cause of arithmetic or of kinds its action.
+pub fn guards_hold()
+    ensures { GuardsHold }
 {}

@@ -6,9 +6,12 @@
 //! `Kinds.antt` defines the judgement of kinds, and `hp_model::laws::kinds` says what an accepted library never meets.
 #![tactic(auto)]
 
+mod calm;
 mod chain;
 mod forms;
 mod graph;
+mod guards;
+mod installs;
 mod kinds;
 pub mod laws;
 mod listeners;
@@ -16,8 +19,12 @@ mod sets;
 mod triggers;
 
 pub use graph::Graph;
+pub use guards::{Opening, have_no_opening, opening_of};
+pub use installs::installed;
 pub use kinds::check::{check_library, check_unit, is_kinded, is_library_kinded, is_unit_kinded};
 pub use kinds::declaration::Declaration;
 pub use kinds::finding::{Finding, KindError, Reason, Wanted};
+pub use kinds::first::{KindFinding, first_finding};
 pub use kinds::infer::{Inferred, UnknownArgument, infer};
 pub use kinds::sort::Sort;
+pub use sets::has;

@@ -1,10 +1,10 @@
 //! Sets of rules: for each rule of a library whether it is in the set.
 
-ghost use Rattle.std.specs.Prelude.{◌≡◌, Bool, true, slice_set, map, option_map, IfOk};
+ghost use Rattle.std.specs.Prelude.{◌≡◌, Bool, true, slice_set, map, option_map, length, IfOk};
 ghost use Rattle.std.specs.Global.{Vec};
 ghost use Rattle.hp_rule.specs.Libraries as libraries;
 ghost use Rattle.hp_analysis.specs.Sets.{marked, outside_from, is_within};
-ghost use Rattle.hp_analysis.specs.Reached.{has, united_from, leading_out};
+ghost use Rattle.hp_analysis.specs.Reached.{has, united_from, leading_out, closure};
 
 use hp_rule::Library;
 use hp_value::RuleNo;
@@ -54,8 +54,8 @@ pub(crate) fn unite(set: &mut Vec<bool>, other: &[bool])
     }
 }
 
-/// Whether a rule is in the set; one that the set has no place for counts as in it.
-pub(crate) fn has(set: &[bool], number: usize) -> bool
+/// Whether a rule is in a set of rules; one that the set has no place for counts as in it.
+pub fn has(set: &[bool], number: usize) -> bool
     ensures { result ≡ has set.now number }
 {
     match set.get(number) {
@@ -110,4 +110,14 @@ pub(crate) fn leading_out<'a>(set: &[bool], after: &'a [Vec<bool>]) -> Option<&'
         }
     }
     None
+}
+
+/// Adds what the rules of the set lead to, what these lead to, and so on; `after` has what each rule leads to.
+pub(crate) fn spread(set: &mut Vec<bool>, after: &[Vec<bool>])
+    ensures { set.new.items ≡ closure (length set.old.items)
+        (map (λ (triggered : Vec Bool). triggered.items) after.now) set.old.items }
+{
+    while let Some(triggered) = leading_out(set, after) {
+        unite(set, triggered);
+    }
 }

@@ -5,56 +5,77 @@ ghost use Rattle.hp_model.specs.Occurrences.{Primitive};
 ghost use Rattle.hp_rule.specs.Libraries as libraries;
 ghost use Rattle.hp_rule.specs.RuleLists.{listed};
 ghost use Rattle.hp_analysis.specs.Listeners.{ending};
+ghost use Rattle.hp_analysis.specs.Installed.{with_only};
 
 use crate::forms::{completes, is_plain, may_detach};
 use crate::listeners::{listeners_of, listening};
-use crate::sets::{filled, mark, mark_all};
+use crate::sets::{filled, has, mark, mark_all};
 use hp_rule::{Library, Rule, RuleLists, Stmt, Subject, Unit};
 use hp_value::Prim;
 use std::alloc::{AllocError, Global};
 
-/// A library with its listeners.
+/// A library of which only some rules do anything, with its listeners.
 #[derive(Debug, Drop)]
 pub(crate) struct Triggers<'a> {
     library: &'a Library,
+    // The rules that do something; a rule that the set has no place for counts as one.
+    pub(crate) present: Vec<bool>,
     listeners: RuleLists,
-    // The listeners are those of the library's rules.
-    ghost of_rules: { (p : Primitive) → listed listeners p ≡ ending (libraries.library library.now).rules p },
+    // The listeners are those of the library in which the others do nothing.
+    ghost of_rules: { (p : Primitive) →
+        listed listeners p ≡ ending (with_only present.items (libraries.library library.now)).rules p },
 }
 
 impl<'a> Triggers<'a> {
-    ghost use Rattle.std.specs.Prelude.{IfOk, Bool, map, true};
+    ghost use Rattle.std.specs.Prelude.{IfOk, Bool, map, length, true};
     ghost use Rattle.std.specs.Global.{Vec};
     ghost use Rattle.hp_model.specs.Occurrences.{commit_reached, moment_reached};
-    ghost use Rattle.hp_model.specs.Chains.{statement_triggers, body_triggers, rule_triggers, unit_triggers, signal_triggers};
-    ghost use Rattle.hp_value.specs.Mapped.{primitive};
+    ghost use Rattle.hp_model.specs.Chains.{completes, statement_triggers, body_triggers, rule_triggers, unit_triggers, signal_triggers};
     ghost use Rattle.hp_rule.specs.Statements.{statement, body_in, rule};
     ghost use Rattle.hp_rule.specs.Mapped.{unit};
     ghost use Rattle.hp_analysis.specs.Sets.{marked, targets, begun_by};
     ghost use Rattle.hp_analysis.specs.Listeners.{is_plain};
+    ghost use Rattle.hp_analysis.specs.Installed.{rule_in};
+    ghost use Rattle.hp_analysis.specs.Graphs.{seen};
 
-    /// The triggers of a library.
+    /// The triggers of a library in which the rules outside the set do nothing.
     ///
-    /// An error means that memory ran out, or that there are more rules than rule numbers.
-    pub(crate) fn of(alloc: Global, library: &'a Library) -> Result<Triggers<'a>, AllocError>
-        ensures { IfOk result (λ t. t.library.now ≡ library.now) }
+    /// An error means that memory ran out, or that there are more rules or classes than numbers for them.
+    pub(crate) fn of(
+        alloc: Global,
+        library: &'a Library,
+        present: Vec<bool>,
+    ) -> Result<Triggers<'a>, AllocError>
+        ensures seen { IfOk result (λ t. seen t ≡ with_only present.items (libraries.library library.now)) }
+        ensures present { IfOk result (λ t. t.present.items ≡ present.items) }
     {
-        let listeners = listeners_of(alloc, library.rules())?;
-        Ok(Triggers { library, listeners })
+        let listeners = listeners_of(alloc, library, &present)?;
+        Ok(Triggers {
+            library,
+            present,
+            listeners,
+        })
     }
 
-    /// The library.
-    pub(crate) fn library(&self) -> &'a Library
-        ensures { result.now ≡ self.now.library.now }
+    /// The depth limit of firings.
+    pub(crate) fn depth_limit(&self) -> u8
+        ensures { result ≡ (seen self.now).depth_limit }
     {
-        self.library
+        self.library.depth_limit()
+    }
+
+    /// The set of all rules, or of none.
+    pub(crate) fn filled(&self, alloc: Global, member: bool) -> Result<Vec<bool>, AllocError>
+        ensures { IfOk result (λ set. set.items ≡ map (λ r. member) (seen self.now).rules) }
+    {
+        filled(alloc, self.library, member)
     }
 
     /// Adds the rules that a statement without statements in it may trigger.
     fn mark_own(&self, s: &Stmt, set: &mut Vec<bool>)
         requires { is_plain (statement s.now) ≡ true }
         ensures { set.new.items
-            ≡ marked (statement_triggers (libraries.library self.now.library.now) (statement s.now)) set.old.items }
+            ≡ marked (statement_triggers (seen self.now) (statement s.now)) set.old.items }
     {
         mark_all(set, listening(&self.listeners, s));
     }
@@ -63,7 +84,7 @@ impl<'a> Triggers<'a> {
     #[cycle(statement)]
     fn mark_statement(&self, s: &Stmt, set: &mut Vec<bool>)
         ensures { set.new.items
-            ≡ marked (statement_triggers (libraries.library self.now.library.now) (statement s.now)) set.old.items }
+            ≡ marked (statement_triggers (seen self.now) (statement s.now)) set.old.items }
     {
         if is_plain(s) {
             self.mark_own(s, set);
@@ -95,7 +116,7 @@ impl<'a> Triggers<'a> {
     #[cycle(statement)]
     pub(crate) fn mark_body(&self, body: &[Stmt], set: &mut Vec<bool>)
         ensures { set.new.items
-            ≡ marked (body_triggers (libraries.library self.now.library.now) (body_in body.now)) set.old.items }
+            ≡ marked (body_triggers (seen self.now) (body_in body.now)) set.old.items }
     {
         for s in body {
             self.mark_statement(s, set);
@@ -105,47 +126,59 @@ impl<'a> Triggers<'a> {
     /// Adds the rules that a commit event may trigger.
     fn mark_commit(&self, set: &mut Vec<bool>)
         ensures { set.new.items
-            ≡ marked (signal_triggers (libraries.library self.now.library.now) commit_reached) set.old.items }
+            ≡ marked (signal_triggers (seen self.now) commit_reached) set.old.items }
     {
         mark_all(set, self.listeners.rules(Subject::Commit));
     }
 
-    /// Adds the rules that a firing of the rule may trigger.
-    pub(crate) fn mark_rule(&self, fired: &Rule, set: &mut Vec<bool>)
-        ensures { set.new.items
-            ≡ marked (rule_triggers (libraries.library self.now.library.now) (rule fired.now)) set.old.items }
+    /// Adds the rules that the action of this rule may trigger.
+    fn mark_action(&self, number: usize, fired: &Rule, set: &mut Vec<bool>)
+        ensures { set.new.items ≡ marked (body_triggers (seen self.now) (rule_in self.now.present.items
+            (length (seen self.now).classes) number (rule fired.now)).action) set.old.items }
     {
-        self.mark_body(&fired.action, set);
+        if has(&self.present, number) {
+            self.mark_body(&fired.action, set);
+        }
+    }
+
+    /// Adds the rules that a firing of this rule may trigger.
+    fn mark_rule(&self, number: usize, fired: &Rule, set: &mut Vec<bool>)
+        ensures { set.new.items ≡ marked (rule_triggers (seen self.now) (rule_in self.now.present.items
+            (length (seen self.now).classes) number (rule fired.now))) set.old.items }
+    {
+        self.mark_action(number, fired, set);
         if may_detach(fired) {
             self.mark_commit(set);
         }
     }
 
-    /// Adds the rules that a moment may trigger.
-    fn mark_moment(&self, moment: &Prim, set: &mut Vec<bool>)
-        ensures { set.new.items
-            ≡ marked (signal_triggers (libraries.library self.now.library.now) (primitive moment.now)) set.old.items }
+    /// Whether an occurrence of the event of this rule may end with the moment.
+    fn may_wait_for(&self, number: usize, waiting: &Rule, time: u64) -> bool
+        ensures { result ≡ completes (rule_in self.now.present.items
+            (length (seen self.now).classes) number (rule waiting.now)).event (moment_reached time) }
+    {
+        if !has(&self.present, number) {
+            return false;
+        }
+        let moment = Prim::Time(time);
+        completes(&waiting.event, &moment)
+    }
+
+    /// Adds the rules that this moment may trigger.
+    fn mark_time(&self, time: u64, set: &mut Vec<bool>)
+        ensures { set.new.items ≡ marked (signal_triggers (seen self.now) (moment_reached time)) set.old.items }
     {
         for (n, rule) in self.library.rules().iter().enumerate() {
-            if completes(&rule.event, moment) {
+            if self.may_wait_for(n, rule, time) {
                 mark(set, n);
             }
         }
     }
 
-    /// Adds the rules that this moment may trigger.
-    fn mark_time(&self, time: u64, set: &mut Vec<bool>)
-        ensures { set.new.items
-            ≡ marked (signal_triggers (libraries.library self.now.library.now) (moment_reached time)) set.old.items }
-    {
-        let moment = Prim::Time(time);
-        self.mark_moment(&moment, set);
-    }
-
     /// Adds the rules that a unit's own transaction may trigger before its commit event.
     fn mark_begun(&self, begun: &Unit, set: &mut Vec<bool>)
         ensures { set.new.items
-            ≡ marked (begun_by (libraries.library self.now.library.now) (unit begun.now)) set.old.items }
+            ≡ marked (begun_by (seen self.now) (unit begun.now)) set.old.items }
     {
         match begun {
             Unit::Transaction { body, .. } => self.mark_body(body.statements(), set),
@@ -156,7 +189,7 @@ impl<'a> Triggers<'a> {
     /// Adds the rules that a unit's own transaction may trigger.
     pub(crate) fn mark_unit(&self, begun: &Unit, set: &mut Vec<bool>)
         ensures { set.new.items
-            ≡ marked (unit_triggers (libraries.library self.now.library.now) (unit begun.now)) set.old.items }
+            ≡ marked (unit_triggers (seen self.now) (unit begun.now)) set.old.items }
     {
         self.mark_begun(begun, set);
         self.mark_commit(set);
@@ -165,12 +198,12 @@ impl<'a> Triggers<'a> {
     /// For each rule of the library the rules that a firing of it may trigger.
     pub(crate) fn targets(&self, alloc: Global) -> Result<Vec<Vec<bool>>, AllocError>
         ensures { IfOk result (λ (sets : Vec (Vec Bool)). map (λ (set : Vec Bool). set.items) sets.items
-            ≡ map (targets (libraries.library self.now.library.now)) (libraries.library self.now.library.now).rules) }
+            ≡ map (targets (seen self.now)) (seen self.now).rules) }
     {
         let mut sets = Vec::new(alloc);
-        for rule in self.library.rules() {
-            let mut set = filled(alloc, self.library, false)?;
-            self.mark_rule(rule, &mut set);
+        for (n, rule) in self.library.rules().iter().enumerate() {
+            let mut set = self.filled(alloc, false)?;
+            self.mark_rule(n, rule, &mut set);
             sets.push(set)?;
         }
         Ok(sets)

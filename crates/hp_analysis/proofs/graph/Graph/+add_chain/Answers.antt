@@ -2,7 +2,7 @@ use Rattle.std.proofs.Common.{rules, arith, ◌≡◌, refl, sym, ap, ◌∙◌,
 use Rattle.std.specs.Prelude.{OnOk}
 use Rattle.std.specs.Option.{option_map_or}
 use Rattle.hp_model.specs.Rules.{rule_at}
-use Rattle.hp_rule.specs.Libraries as libraries
+use Rattle.hp_analysis.specs.Graphs.{seen}
 use Rattle.hp_analysis.specs.Sets.{targets, outside_from}
 use Rattle.hp_analysis.specs.Tables.{within}
 use Rattle.hp_analysis.specs.Witness.{chain_from}
@@ -11,7 +11,7 @@ use Rattle.hp_analysis.proofs.graph.Graph.+add_chain.Goals as goal
 
 pub returns-in-Some : goal.returns-in-Some
 returns-in-Some t c =
-    let library = libraries.library c.args.self.now.triggers.library.now in
+    let library = seen c.args.self.now.triggers in
     let step : c.args.more ≡ suc (c.args.more - 1) = omega (arith, c.if-more-eq0.false) in
     let table : c.deref.result.now ≡ within library (c.args.more - 1) = search rules in
     let pushed : c.push.new.self.items ≡ c.args.chain.now.items ++ c.args.number ∷ [] = search rules in
@@ -27,7 +27,7 @@ returns-in-Some t c =
 
 pub returns : goal.returns
 returns t c =
-    let library = libraries.library c.args.self.now.triggers.library.now in
+    let library = seen c.args.self.now.triggers in
     let step : c.args.more ≡ suc (c.args.more - 1) = omega (arith, c.if-more-eq0.false) in
     let table : c.deref.result.now ≡ within library (c.args.more - 1) = search rules in
     let pushed : c.push.new.self.items ≡ c.args.chain.now.items ++ c.args.number ∷ [] = search rules in

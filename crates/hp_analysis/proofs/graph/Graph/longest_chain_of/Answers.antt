@@ -1,6 +1,6 @@
 use Rattle.std.proofs.Common.{rules, ◌≡◌, ap, ◌∙◌, map, ◌&&◌, nat_lt}
 use Rattle.hp_model.specs.Chains.{script_within}
-use Rattle.hp_rule.specs.Libraries as libraries
+use Rattle.hp_analysis.specs.Graphs.{seen}
 use Rattle.hp_rule.specs.Mapped.{unit}
 use Rattle.hp_analysis.specs.Sets.{no_rules, begun, is_within}
 use Rattle.hp_analysis.specs.Tables.{within, script}
@@ -10,7 +10,7 @@ use Rattle.hp_analysis.proofs.graph.Graph.longest_chain_of.Goals as goal
 
 pub returns : goal.returns
 returns c =
-    let library = libraries.library c.args.self.now.triggers.library.now in
+    let library = seen c.args.self.now.triggers in
     let units = map unit c.args.units.now in
     let set : c.deref.result.now ≡ begun library units (no_rules library) = search rules in
     ok_to c.depth_from.result

@@ -1,5 +1,5 @@
 use Rattle.std.proofs.Common.{ap, ◌∙◌}
-use Rattle.hp_rule.specs.Libraries as libraries
+use Rattle.hp_analysis.specs.Graphs.{seen}
 use Rattle.hp_analysis.specs.Sets.{marked}
 use Rattle.hp_analysis.proofs.Marks.{commit_listed}
 use Rattle.hp_analysis.proofs.triggers.Triggers.mark_commit.Goals as goal
@@ -7,4 +7,4 @@ use Rattle.hp_analysis.proofs.triggers.Triggers.mark_commit.Goals as goal
 pub returns : goal.returns
 returns c =
     let self = c.args.self.now in
-    c.mark_all.ensures ∙ ap (λ ns. marked ns c.args.set.now.items) (c.rules.ensures ∙ commit_listed self.listeners (libraries.library self.library.now) self.of_rules)
+    c.mark_all.ensures ∙ ap (λ ns. marked ns c.args.set.now.items) (c.rules.ensures ∙ commit_listed self.listeners (seen self) self.of_rules)

@@ -1,0 +1,361 @@
+#!/usr/bin/env python3
+"""Compares what hipac_check says of random scripts with the definitions, written once more in Python, and with runs.
+
+    checks/checking.py [--scripts N] [--jobs N] [--show N]
+
+Of each script, of version 2 or 4:
+
+- The verdicts on depth and guards and all findings but the one of kinds are those that this script finds by itself.
+- What hipac_check promises holds in the run, by its report with trees: after `kinds ok` nothing ends with A3 or A6, not
+  even a condition; after a known depth nothing with A7; a guard that isn't closed and has no line `open` has no faulty
+  condition, and no arithmetic ends its action; no rule fires that is never installed or never reached.
+
+The lines before the last say how many of the scripts that met no such cause have the verdict. With --show a script is
+written out, and not run. HIPAC and HIPAC_CHECK name the programs; the defaults are those that ./hipac and ./hipac-check
+start. The seeds are fixed: script n is the same on each machine. The last line is 'N passed, M failed'.
+"""
+
+import argparse
+import concurrent.futures
+import json
+import os
+import re
+import sys
+
+from harness import TOP, by_pipe, command_of
+
+sys.path.insert(0, os.path.join(TOP, "tools"))
+
+from tests.made_scripts import ScriptMaker  # noqa: E402 (it lies in tools/)
+from tests.made_version4 import Version4Maker  # noqa: E402
+
+DETACHED = ("separate", "dependent", "exclusive")
+COMMIT = ("commit",)
+
+# What is read of an object or of an occurrence has 64 bits.
+FARTHEST = 2 ** 63
+
+# The statements inside a statement, by their places in it.
+INSIDE = {"if": (2, 3), "sub": (1, 2), "each": (4,), "with": (4,), "for": (2,), "let": (3,)}
+
+# The verdicts, each with the causes that it excludes.
+VERDICTS = {"kinds": ("A3", "A6"), "depth": ("A7",), "guards": ()}
+
+
+# ---- arithmetic that never faults
+
+def bound(e):
+    """How far from 0 an expression's integer is at most, if that is known."""
+    if isinstance(e, int) and not isinstance(e, bool):
+        return abs(e)
+    if not isinstance(e, list):
+        return None
+    word, *operands = e
+    if word in ("+", "-", "*"):
+        a, b = map(bound, operands)
+        return None if a is None or b is None else a * b if word == "*" else a + b
+    if word == "/":
+        return quotient(*operands)
+    if word in ("%", "neg"):
+        return bound(operands[-1])
+    return FARTHEST if word in ("of", "new", "old", "id", "arg", "time", "count", "now") else None
+
+
+def quotient(a, b):
+    """The bound of a quotient, or of the dividend if the divisor isn't a constant."""
+    divisor = abs(b) if isinstance(b, int) and not isinstance(b, bool) else 0
+    return bound(a) // divisor if divisor and bound(a) is not None else bound(a)
+
+
+def is_small(most):
+    return most is not None and most < FARTHEST
+
+
+def is_calm(e):
+    """Whether no arithmetic of an expression overflows or divides by zero, by its constants alone."""
+    if not isinstance(e, list):
+        return True
+    word, *operands = e
+    if word in ("+", "-", "*", "neg"):
+        return all(map(is_calm, operands)) and is_small(bound(e))
+    if word in ("/", "%"):
+        a, b = operands
+        is_nonzero = isinstance(b, int) and not isinstance(b, bool) and b != 0
+        return is_calm(a) and is_calm(b) and is_nonzero and is_small(quotient(a, b))
+    if word in ("not", "and", "or", "=", "!=", "<", "<=", ">", ">="):
+        return all(map(is_calm, operands))
+    return word != "count"
+
+
+def is_aggregate_calm(aggregate):
+    if isinstance(aggregate, list) and aggregate[0] in ("count", "least", "greatest") and len(aggregate) > 3:
+        return all(map(is_calm, aggregate[3:]))
+    return not (isinstance(aggregate, list) and aggregate[0] in ("sum", "next")) and is_calm(aggregate)
+
+
+def is_entry_calm(entry):
+    return is_aggregate_calm(entry[2]) if entry[0] == "let" else is_calm(entry[-1])
+
+
+def expressions(statement):
+    """The expressions of a statement itself."""
+    word = statement[0]
+    if word in ("create", "update"):
+        return [statement[2], *(value for _, value in statement[3])]
+    if word == "signal":
+        return statement[2]
+    return {"delete": statement[2:3], "emit": statement[1:2], "veto": statement[1:2], "if": statement[1:2],
+            "each": statement[3:4], "with": statement[3:4]}.get(word, [])
+
+
+def is_body_calm(body):
+    return all(map(is_statement_calm, body))
+
+
+def is_statement_calm(statement):
+    """Whether no arithmetic ends a statement; of a `sub` the body counts that follows its abort."""
+    if statement[0] == "let" and not is_aggregate_calm(statement[2]):
+        return False
+    places = (2,) if statement[0] == "sub" else INSIDE.get(statement[0], ())
+    return all(map(is_calm, expressions(statement))) and all(is_body_calm(statement[place]) for place in places)
+
+
+def may_veto(body):
+    return any(each[0] == "veto" or any(may_veto(each[place]) for place in INSIDE.get(each[0], ())) for each in body)
+
+
+def opening(rule):
+    """The place in a rule of the part that arithmetic may end, so that it doesn't veto."""
+    if rule[6:] or not may_veto(rule[5]):
+        return None
+    if not all(map(is_entry_calm, rule[3])):
+        return 3
+    return None if is_body_calm(rule[5]) else 5
+
+
+# ---- what triggers what
+
+def ends(event, occurrence):
+    """Whether an occurrence of the event may end with this primitive one."""
+    form = event[0]
+    if form == "or":
+        return ends(event[1], occurrence) or ends(event[2], occurrence)
+    if form in ("seq", "closure"):
+        return ends(event[2], occurrence)
+    if occurrence[0] == "moment" and form == "at":
+        return occurrence[1] == event[1]
+    if occurrence[0] == "moment" and form == "every":
+        return occurrence[1] >= event[1] and (occurrence[1] - event[1]) % event[2] == 0
+    return tuple(event) == occurrence
+
+
+def moments_named(event, clock, until):
+    """The moments after the clock up to `until` that the event names."""
+    form = event[0]
+    if form in ("or", "seq", "closure"):
+        return moments_named(event[1], clock, until) | moments_named(event[2], clock, until)
+    if form == "at":
+        return {event[1]} if clock < event[1] <= until else set()
+    if form == "every":
+        passed = 0 if event[1] > clock else (clock - event[1]) // event[2] + 1
+        return set(range(event[1] + passed * event[2], until + 1, event[2]))
+    return set()
+
+
+class Base:
+    """A script's rules, with the rules that each may trigger, where those outside a set do nothing."""
+
+    def __init__(self, script, present=None):
+        self.rules, self.items, self.limit = script["rules"], script["items"], script.get("depth", 8)
+        self.number = {rule[0]: n for n, rule in enumerate(self.rules)}
+        self.every = set(range(len(self.rules)))
+        self.present = self.every if present is None else present
+        self.after = [self.rule(n, rule) for n, rule in enumerate(self.rules)]
+
+    def signal(self, occurrence):
+        return {n for n in self.present if ends(self.rules[n][1], occurrence)}
+
+    def statement(self, given):
+        form = given[0]
+        if form in ("create", "update", "delete", "signal"):
+            return self.signal((form, given[1]))
+        if form == "fire":
+            return {self.number[given[1]]}
+        return set().union(*(self.body(given[place]) for place in INSIDE.get(form, ())))
+
+    def body(self, statements):
+        return set().union(*(self.statement(each) for each in statements))
+
+    def rule(self, n, rule):
+        may_detach = rule[2] in DETACHED or rule[4] in DETACHED
+        return (self.body(rule[5]) if n in self.present else set()) | (self.signal(COMMIT) if may_detach else set())
+
+    def begun(self):
+        found = set()
+        clock = 0
+        for item in self.items:
+            if item[0] == "tx":
+                found |= self.body(item[1]) | self.signal(COMMIT)
+                continue
+            for moment in set().union(*(moments_named(rule[1], clock, item[1]) for rule in self.rules)):
+                found |= self.signal(("moment", moment)) | self.signal(COMMIT)
+            clock = item[1]
+        return found
+
+    def within(self, most):
+        """The rules that begin no chain of more than `most` firings."""
+        table = set()
+        for _ in range(most):
+            table = {n for n, after in enumerate(self.after) if after <= table}
+        return table
+
+    def depth(self, rules):
+        return next((most for most in range(1, self.limit + 1) if rules <= self.within(most)), None)
+
+    def chain(self, rules):
+        """The rules of the first chain of more firings than may nest."""
+        found = []
+        for most in range(self.limit, -1, -1):
+            rules = rules - self.within(most)
+            if not rules:
+                return found
+            found.append(min(rules))
+            rules = self.after[found[-1]]
+        return found
+
+    def installed_in(self, body):
+        """The rules that a body may install."""
+        own = {self.number[each[1]] for each in body if each[0] == "install"}
+        return own.union(*(self.installed_in(each[place]) for each in body for place in INSIDE.get(each[0], ())))
+
+    def installed(self):
+        units = [self.installed_in(item[1]) for item in self.items if item[0] == "tx"]
+        return closed(set().union(*units), [self.installed_in(rule[5]) for rule in self.rules])
+
+
+def closed(rules, after):
+    """The rules with those that they lead to, those that these lead to, and so on."""
+    more = rules.union(*(after[n] for n in rules))
+    return rules if more == rules else closed(more, after)
+
+
+# ---- findings
+
+def findings(script, is_kinded):
+    """What hipac_check has to write of an accepted script, without the lines on kinds."""
+    base = Base(script)
+    among = Base(script, base.installed())
+    begun = among.begun()
+    known, own = base.depth(base.every), among.depth(begun)
+    here = f"depth {own} of {base.limit} here" if own else "depth unknown"
+    openings = [opening(rule) for rule in base.rules]
+    names = [rule[0] for rule in base.rules]
+    reached = closed(begun, among.after)
+    return [
+        f"depth {known} of {base.limit}" if known else here,
+        "guards closed" if is_kinded and not any(openings) else "guards unknown",
+        *(f"chain /rules/{n} {names[n]}" for n in (base.chain(base.every) if own else among.chain(begun))),
+        *(f"open /rules/{n}/{part} {names[n]}" for n, part in enumerate(openings) if part),
+        *(f"{'never' if n in among.present else 'uninstalled'} /rules/{n} {name}" for n, name in enumerate(names)
+          if n not in among.present or n not in reached),
+    ]
+
+
+# ---- runs
+
+def ended(report):
+    """The causes in a report with trees, each with the rule whose condition or action it ended, if it ended one."""
+    for line in report:
+        found = re.match(r" +(fire|act) (\S+) \S+ (?:satisfied )?(fault|aborted) (A\d)", line)
+        if found:
+            word, rule, how, cause = found.groups()
+            yield cause, (rule, "condition" if how == "fault" else "action")
+        else:
+            found = re.match(r"(?:unit \d+(?: time \d+)?|\w+ \S+| +sub) aborted (A\d)", line)
+            if found:
+                yield found.group(1), None
+
+
+def fired(report):
+    """The names of the rules that fired, by a report with trees."""
+    return {found.group(1) for found in (re.match(r" +(?:fire|act) (\S+) ", line) for line in report) if found}
+
+
+def failures(script, report):
+    """The causes that the run met, and the guards that let something pass since arithmetic or a kind ended them."""
+    guards = {rule[0] for rule in script["rules"] if may_veto(rule[5]) and not rule[6:]}
+    met, failed = set(), set()
+    for cause, where in ended(report):
+        met.add(cause)
+        if where and where[0] in guards and (where[1] == "condition" or cause in ("A3", "A4", "A5", "A6")):
+            failed.add(where[0])
+    return met, failed
+
+
+def broken(script, found, report):
+    """What hipac_check has promised and the run doesn't keep."""
+    met, failed = failures(script, report)
+    verdicts = dict(line.split(" ", 1) for line in found[:3])
+    for name, causes in VERDICTS.items():
+        if verdicts[name] != "unknown" and met.intersection(causes):
+            yield f"{name} {verdicts[name]}, and the run met {sorted(met.intersection(causes))}"
+    open_guards = {line.split()[2] for line in found if line.startswith("open ")}
+    if verdicts["kinds"] == "ok" and failed - open_guards:
+        yield f"the guards {sorted(failed - open_guards)} failed, and have no line"
+    idle = {line.split()[2] for line in found if line.startswith(("never ", "uninstalled "))}
+    if idle & fired(report):
+        yield f"the rules {sorted(idle & fired(report))} fired"
+
+
+def check(commands, seed):
+    """What is wrong with the findings on a script, if anything is; and for each verdict whether the run met none of
+    the causes that it excludes, and whether it was given."""
+    script = made(seed)
+    given = json.dumps(script).encode()
+    status, wrote, _ = by_pipe(commands["hipac_check"], given)
+    _, report, _ = by_pipe([*commands["hipac"], "--tree"], given)
+    found, lines = wrote.decode().splitlines(), report.decode().splitlines()
+    if status != 0 or len(found) < 3 or found[0] not in ("kinds ok", "kinds unknown"):
+        return f"status {status}, and it wrote {found[:3]}", {}
+    kinds = [line for line in found if line.startswith("kind ")]
+    if len(kinds) != (found[0] == "kinds unknown"):
+        return f"{found[0]}, and {len(kinds)} findings of kinds", {}
+    wanted = findings(script, found[0] == "kinds ok")
+    if [line for line in found[1:] if line not in kinds] != wanted:
+        return f"it wrote {found}, and by the definitions {wanted}", {}
+    met, failed = failures(script, lines)
+    given = {name: found[place].split()[1] != "unknown" for place, name in enumerate(VERDICTS)}
+    none = {name: not met.intersection(causes) for name, causes in VERDICTS.items()}
+    none["guards"] = not failed and any(may_veto(rule[5]) for rule in script["rules"])
+    return "; ".join(broken(script, found, lines)), {name: given[name] for name in VERDICTS if none[name]}
+
+
+def made(seed):
+    return (Version4Maker if seed % 2 else ScriptMaker)(seed).script()
+
+
+def main():
+    parser = argparse.ArgumentParser(description=__doc__, formatter_class=argparse.RawDescriptionHelpFormatter)
+    parser.add_argument("--scripts", type=int, default=5000)
+    parser.add_argument("--jobs", type=int, default=os.cpu_count())
+    parser.add_argument("--show", type=int)
+    options = parser.parse_args()
+    if options.show is not None:
+        print(json.dumps(made(options.show), indent=1))
+        return 0
+    commands = {name: command_of(name) for name in ("hipac", "hipac_check")}
+    with concurrent.futures.ThreadPoolExecutor(options.jobs) as pool:
+        done = list(pool.map(lambda seed: check(commands, seed), range(options.scripts)))
+    for seed, (wrong, _) in enumerate(done):
+        if wrong:
+            print(f"FAILED script {seed}: {wrong}")
+    for name in VERDICTS:
+        calm = [given[name] for _, given in done if name in given]
+        print(f"{name}: {sum(calm)} of {len(calm)} scripts that met no such cause have the verdict")
+    failed = sum(1 for wrong, _ in done if wrong)
+    print(f"{len(done) - failed} passed, {failed} failed")
+    return 1 if failed else 0
+
+
+if __name__ == "__main__":
+    sys.exit(main())

@@ -1,0 +1,41 @@
+-- What is written of a script, part by part.
+use Rattle.std.proofs.Common.{◌≡◌, refl, sym, ap, ◌∙◌, subst, ℕ, List, [], ◌∷◌, ◌++◌, take, Option, Some, None, append_assoc, append-nil}
+use Rattle.std.specs.Prelude.{⊤, IfSome}
+use Rattle.std.specs.Io.KnownBytes.{Appends}
+use Rattle.hp_model.specs.Report.{Bytes}
+use Rattle.hp_model.specs.Kinds.{Declared}
+use Rattle.hp_report.specs.Device.{Begins}
+use Rattle.hp_analysis.specs.Checking.{check_output, IsChecked}
+use Rattle.hipac_check.proofs.Longest.{output_of_take}
+
+pub whole_text : (v k c o i t0 t1 t2 t3 t4 t5 : Bytes) → t0 ≡ [] → t1 ≡ t0 ++ v → t2 ≡ t1 ++ k → t3 ≡ t2 ++ c → t4 ≡ t3 ++ o → t5 ≡ t4 ++ i → t5 ≡ v ++ (k ++ (c ++ (o ++ i)))
+whole_text v k c o i t0 t1 t2 t3 t4 t5 e0 e1 e2 e3 e4 e5 =
+    let e : t5 ≡ (((([] ++ v) ++ k) ++ c) ++ o) ++ i = cc in
+    e ∙ simp append_assoc
+
+pub three_parts : (a b c t0 t1 t2 t3 : Bytes) → t1 ≡ t0 ++ a → t2 ≡ t1 ++ b → t3 ≡ t2 ++ c → t3 ≡ t0 ++ (a ++ (b ++ c))
+three_parts a b c t0 t1 t2 t3 e1 e2 e3 =
+    let e : t3 ≡ ((t0 ++ a) ++ b) ++ c = cc in
+    e ∙ simp append_assoc
+
+-- before anything is written
+begins_before : (w : Option (List ℕ)) (text : List ℕ) → Begins w w text
+begins_before None text = ([], text, refl, tt)
+begins_before (Some xs) text = ([], text, refl, sym (append-nil xs))
+
+no_declared : Declared
+no_declared = record { signatures = []; fired = [] }
+
+pub checked_before : (w : Option (List ℕ)) (input : List ℕ) → IsChecked (λ text. Begins w w text) input
+checked_before w input = (no_declared, begins_before w (check_output input no_declared))
+
+pub checked_before_all : (w o : Option (List ℕ)) → IfSome o (λ input. IsChecked (λ text. Begins w w text) input)
+checked_before_all w None = tt
+checked_before_all w (Some input) = checked_before w input
+
+-- the bytes that are read are enough
+pub checked_all : (demand : Bytes → Type 0) (read : List ℕ) (o : Option (List ℕ)) → IfSome o (λ all. read ≡ take 1048577 all) → IsChecked demand read → IfSome o (λ all. IsChecked demand all)
+checked_all demand read None is h = tt
+checked_all demand read (Some all) is h =
+    let d = h.0 in
+    (d, subst demand (output_of_take all d) (subst (λ bytes. demand (check_output bytes d)) is h.1))

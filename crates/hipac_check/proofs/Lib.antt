@@ -1,0 +1,5 @@
+pub mod Found
+pub mod Written
+pub mod Longest
+pub mod RuleLines
+pub mod Checked

@@ -1,0 +1,212 @@
+//! A check, from the script's bytes to the bytes of its findings.
+
+ghost use Rattle.std.specs.Prelude.{◌≡◌, ◌≢◌, ◌↔◌, ◌&&◌, OnOk, IfOk, IfSome, map, take, true, false, string_bytes};
+ghost use Rattle.std.specs.Io.KnownBytes.{Appends};
+ghost use Rattle.hp_report.specs.Device.{Begins};
+ghost use Rattle.hp_report.specs.Text.{Gains};
+ghost use Rattle.hp_rule.specs.Libraries as libraries;
+ghost use Rattle.hp_rule.specs.Mapped.{unit};
+ghost use Rattle.hp_analysis.specs.Declarations.{declared};
+ghost use Rattle.hp_analysis.specs.Depths.{library_depth};
+ghost use Rattle.hp_analysis.specs.Graphs.{seen};
+ghost use Rattle.hp_analysis.specs.Installed.{with_installed};
+ghost use Rattle.hp_analysis.specs.Tables.{script};
+ghost use Rattle.hp_analysis.specs.Witness.{library_chain};
+ghost use Rattle.hp_analysis.specs.Checking.{check_output, findings_text, verdicts_of, have_no_opening, chain_by, IsChecked};
+ghost use Rattle.hipac_check.specs.Ends.{status_of};
+
+use crate::lines::{put_chain, put_idles, put_kind, put_openings};
+use crate::verdicts::{put_depth, put_guards, put_kinds};
+use hp_analysis::{Declaration, Graph, first_finding, have_no_opening, infer};
+use hp_report::{Fault, ReadFault, Sink, Source, Status, read_up_to, write_text};
+use hp_rule::{Library, Unit};
+use hp_script::{DecodeError, decode, refusal_text};
+use std::alloc::{AllocError, Global};
+
+/// The most bytes that are read: one more than a script may have is enough to refuse it.
+fn most_read() -> usize
+    ensures { result ≡ 1048577 }
+{
+    1_048_577
+}
+
+/// Reads a script up to the reader's end, and writes the findings on it, or the line that refuses it.
+///
+/// The reader and the writer must not have failed before. After `Fault::Read` and `Fault::NoMemory` nothing was
+/// written; after any fault what was written is a prefix of the text. No call of a device is repeated.
+#[tactic(auto, using(crate::proofs::Longest::output_of_take, crate::proofs::Longest::status_of_take))]
+pub fn check<R: Source, W: Sink>(
+    alloc: Global,
+    reader: &mut R,
+    writer: &mut W,
+) -> Result<Status, Fault>
+    requires reader { R.has_failed reader.old ≡ false }
+    requires writer { W.has_failed writer.old ≡ false }
+
+    // On `Ok` it has written the definition's text for the bytes up to the reader's end, and nothing else.
+    ensures output { OnOk result (IfSome (R.remaining reader.old) (λ input.
+        IsChecked (λ text. Appends (W.contents writer.old) (W.contents writer.new) text) input)) }
+    ensures status { IfOk result (λ status. IfSome (R.remaining reader.old) (λ input. status ≡ status_of input)) }
+
+    // However it ends, what was written is a prefix of that text.
+    ensures begins { IfSome (R.remaining reader.old) (λ input.
+        IsChecked (λ text. Begins (W.contents writer.old) (W.contents writer.new) text) input) }
+
+    // It returns a fault of a device exactly if a call has failed; after a failed read nothing was written.
+    ensures read { result ≡ Err Fault.Read ↔ (R.has_failed reader.new ≡ true) }
+    ensures unwritten { result ≡ Err Fault.Read → writer.new ≡ writer.old }
+    ensures write { result ≡ Err Fault.Write ↔ (W.has_failed writer.new ≡ true) }
+
+    // If memory ran out, nothing was written.
+    ensures memory { result ≡ Err Fault.NoMemory → writer.new ≡ writer.old }
+{
+    let input = read_script(alloc, reader)?;
+    let status = respond(alloc, input.as_slice(), writer)?;
+    Ok(status)
+}
+
+/// Reads the bytes of a script up to the reader's end, or one byte more than the longest script has.
+fn read_script<R: Source>(alloc: Global, reader: &mut R) -> Result<Vec<u8>, ReadFault>
+    requires { R.has_failed reader.old ≡ false }
+    ensures bytes { IfOk result (λ input. IfSome (R.remaining reader.old) (λ all. input.items ≡ take 1048577 all)) }
+    ensures read { result ≡ Err ReadFault.Read ↔ (R.has_failed reader.new ≡ true) }
+{
+    read_up_to(alloc, reader, most_read())
+}
+
+/// What is written for a script's bytes, and how the check ends then.
+#[derive(Debug, Drop)]
+struct Answer {
+    text: String,
+    status: Status,
+    // What is declared of the script's signals; of nothing if the script is refused.
+    declaration: Declaration,
+}
+
+/// The text that the definitions give for a script's bytes.
+///
+/// An error means that memory ran out.
+fn answer_to(alloc: Global, input: &[u8]) -> Result<Answer, AllocError>
+    ensures text { IfOk result (λ answer. string_bytes answer.text
+        ≡ check_output input.now (declared answer.declaration)) }
+    ensures status { IfOk result (λ answer. answer.status ≡ status_of input.now) }
+{
+    match decode(alloc, input) {
+        Ok(script) => {
+            let declaration = infer(alloc, &script.library, &script.items)?.declaration;
+            let text = findings(alloc, &script.library, &script.items, &declaration)?;
+            Ok(Answer {
+                text,
+                status: Status::Reported,
+                declaration,
+            })
+        }
+        Err(DecodeError::Refused(refusal)) => Ok(Answer {
+            text: refusal_text(alloc, &refusal)?,
+            status: Status::Refused,
+            declaration: Declaration::new(alloc),
+        }),
+        Err(DecodeError::Memory) => Err(AllocError),
+    }
+}
+
+/// Writes the text that the definitions give for a script's bytes.
+fn respond<W: Sink>(alloc: Global, input: &[u8], writer: &mut W) -> Result<Status, Fault>
+    requires { W.has_failed writer.old ≡ false }
+    ensures output { OnOk result (
+        IsChecked (λ text. Appends (W.contents writer.old) (W.contents writer.new) text) input.now) }
+    ensures status { IfOk result (λ status. status ≡ status_of input.now) }
+    ensures begins { IsChecked (λ text. Begins (W.contents writer.old) (W.contents writer.new) text) input.now }
+    ensures read { result ≢ Err Fault.Read }
+    ensures write { result ≡ Err Fault.Write ↔ (W.has_failed writer.new ≡ true) }
+    ensures memory { result ≡ Err Fault.NoMemory → writer.new ≡ writer.old }
+{
+    let answer = answer_to(alloc, input)?;
+    write_text(writer, answer.text.as_bytes())?;
+    Ok(answer.status)
+}
+
+/// The depth of the chains of a library, for whatever transactions come.
+fn any_depth(alloc: Global, library: &Library) -> Result<Option<u8>, AllocError>
+    ensures { IfOk result (λ depth. depth ≡ library_depth (libraries.library library.now)) }
+{
+    let graph = Graph::of(alloc, library)?;
+    graph.longest_chain(alloc)
+}
+
+/// A chain of any rules of a library that has more firings than may nest; empty if there is none.
+fn any_chain(alloc: Global, library: &Library) -> Result<Vec<usize>, AllocError>
+    ensures { IfOk result (λ chain. chain.items ≡ library_chain (libraries.library library.now)) }
+{
+    let graph = Graph::of(alloc, library)?;
+    graph.too_long(alloc)
+}
+
+/// A chain of more firings than may nest: one that the units begin, if there may be one, and else one of any rules.
+fn chain_by(
+    alloc: Global,
+    library: &Library,
+    units: &[Unit],
+    graph: &Graph<'_>,
+    own: Option<u8>,
+) -> Result<Vec<usize>, AllocError>
+    requires { seen graph.now.triggers
+        ≡ (with_installed (script (libraries.library library.now) (map unit units.now))).library }
+    ensures { IfOk result (λ chain. chain.items
+        ≡ chain_by (script (libraries.library library.now) (map unit units.now)) own) }
+{
+    match own {
+        None => graph.too_long_of(alloc, units),
+        Some(_) => any_chain(alloc, library),
+    }
+}
+
+/// Whether all values are used as what they are, and no guard of the library has an opening.
+fn is_closed(library: &Library, pass: bool) -> bool
+    ensures { result ≡ (pass && have_no_opening (libraries.library library.now).rules) }
+{
+    pass && have_no_opening(library.rules())
+}
+
+/// Adds the verdicts: whether all values are used as what they are, and how deep the units' own firings nest.
+fn put_verdicts(
+    alloc: Global,
+    text: &mut String,
+    library: &Library,
+    pass: bool,
+    own: Option<u8>,
+) -> Result<(), AllocError>
+    ensures { OnOk result (Gains text.old text.new (verdicts_of (libraries.library library.now) pass own)) }
+{
+    let any = any_depth(alloc, library)?;
+    put_kinds(text, pass)?;
+    put_depth(text, library.depth_limit(), any, own)?;
+    put_guards(text, is_closed(library, pass))?;
+    Ok(())
+}
+
+/// The findings on a script, by what is declared of its signals.
+///
+/// An error means that memory ran out.
+fn findings(
+    alloc: Global,
+    library: &Library,
+    units: &[Unit],
+    declaration: &Declaration,
+) -> Result<String, AllocError>
+    ensures { IfOk result (λ text. string_bytes text
+        ≡ findings_text (script (libraries.library library.now) (map unit units.now)) (declared declaration.now)) }
+{
+    let found = first_finding(alloc, library, declaration, units)?;
+    let graph = Graph::of_installed(alloc, library, units)?;
+    let own = graph.longest_chain_of(alloc, units)?;
+    let chain = chain_by(alloc, library, units, &graph, own)?;
+    let reached = graph.reached(alloc, units)?;
+    let mut text = String::new(alloc);
+    put_verdicts(alloc, &mut text, library, found.is_none(), own)?;
+    put_kind(&mut text, &found)?;
+    put_chain(&mut text, library.rules(), &chain)?;
+    put_openings(&mut text, library.rules())?;
+    put_idles(&mut text, graph.installed(), &reached, library.rules())?;
+    Ok(text)
+}

@@ -1,0 +1,9 @@
+use Rattle.std.proofs.Common.{◌≡◌, drop}
+use Rattle.hp_model.specs.Idle.{body_installs}
+use Rattle.hp_rule.specs.Statements.{body_in}
+use Rattle.hp_analysis.specs.Sets.{marked}
+use Rattle.hp_analysis.proofs.installs.+installing.Given as goal
+
+-- the rest of the body is still to be added
+abbrev pub invariant-mark_body-loop-s : goal.invariant-mark_body-loop-s
+invariant-mark_body-loop-s l = marked (body_installs (body_in (drop l.s-index l.body))) l.set.items ≡ marked (body_installs (body_in l.body)) l.initial.set.items
