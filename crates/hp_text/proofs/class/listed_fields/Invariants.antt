@@ -1,0 +1,12 @@
+use Rattle.std.proofs.Common.{◌≡◌, ℕ, ◌+◌, map}
+use Rattle.hp_model.specs.NotationTokens.{size}
+use Rattle.hp_model.specs.NotationPhrases.{listed}
+use Rattle.hp_model.specs.NotationScripts.{field}
+use Rattle.hp_text.specs.Mapped.{node_view, tokens_view}
+use Rattle.hp_text.proofs.Listing.{after}
+use Rattle.hp_text.proofs.class.listed_fields.Given as goal
+
+abbrev pub invariant-loop-done : goal.invariant-loop-done
+invariant-loop-done l =
+    (n : ℕ) × (l.done + n ≡ l.count)
+    × (listed field (size (tokens_view l.initial.tokens)) (tokens_view l.initial.tokens) ≡ after (map node_view l.fields.items) (listed field n (tokens_view l.tokens)))

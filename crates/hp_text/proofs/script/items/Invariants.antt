@@ -1,0 +1,12 @@
+use Rattle.std.proofs.Common.{◌≡◌, ℕ, ◌+◌, map, codes}
+use Rattle.hp_model.specs.NotationTokens.{size, if_mark}
+use Rattle.hp_model.specs.NotationPhrases.{is_mark, is_word, repeated}
+use Rattle.hp_model.specs.NotationScripts.{is_item, item}
+use Rattle.hp_text.specs.Mapped.{node_view, tokens_view}
+use Rattle.hp_text.proofs.Listing.{after}
+use Rattle.hp_text.proofs.script.items.Given as goal
+
+abbrev pub invariant-loop-done : goal.invariant-loop-done
+invariant-loop-done l =
+    (n : ℕ) × (l.done + n ≡ l.count)
+    × (repeated is_item item (size (tokens_view l.initial.tokens)) (tokens_view l.initial.tokens) ≡ after (map node_view l.items.items) (repeated is_item item n (tokens_view l.tokens)))
