@@ -1,3 +1,7 @@
 pub mod Chains
+pub mod Contents
+pub mod Lexing
 pub mod Listing
+pub mod Nodes
+pub mod Numbers
 pub mod Words

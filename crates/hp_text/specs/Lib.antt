@@ -4,3 +4,7 @@ pub mod Rows
 pub mod Operands
 pub mod Joints
 pub mod Scripts
+pub mod Lists
+pub mod Lexemes
+pub mod Places
+pub mod Steps

@@ -1,4 +1,4 @@
--- What the crate's marks, tokens and lexemes stand for in the model.
+-- What the crate's marks, tokens and values stand for in the model, and what its phrases promise.
 use Rattle.std.specs.Prelude.{◌≡◌, ⊤, ℕ, List, [], ◌∷◌, Option, Some, None, Result, Ok, Err, string_bytes}
 use Rattle.hp_model.specs.NotationTokens as N
 use Rattle.hp_model.specs.NotationTree as T
@@ -6,10 +6,6 @@ use Rattle.hp_text.specs.declared.mark.Mark.{Mark}
 use Rattle.hp_text.specs.declared.mark.Mark.TheVariants as m
 use Rattle.hp_text.specs.declared.token.Token.{Token}
 use Rattle.hp_text.specs.declared.token.Token.TheVariants as t
-use Rattle.hp_text.specs.declared.lexeme.Lexeme.{Lexeme}
-use Rattle.hp_text.specs.declared.lexeme.Lexeme.TheVariants as l
-use Rattle.hp_text.specs.declared.lexer.Beginning.{Beginning}
-use Rattle.hp_text.specs.declared.lexer.Beginning.TheVariants as b
 use Rattle.hp_text.specs.declared.token.Placed.{Placed}
 use Rattle.hp_text.specs.declared.token.Ending.{Ending}
 use Rattle.hp_text.specs.declared.token.Ending.TheVariants as e
@@ -88,20 +84,6 @@ token_view (t.Word w) = N.word w.now
 token_view (t.Quoted x) = N.quoted x.now
 token_view (t.Number n) = N.number n.value
 token_view (t.Text s) = N.string (string_bytes s)
-
-abbrev pub lexeme_view : Lexeme → N.Lexeme
-lexeme_view (l.Blank more) = N.blank more
-lexeme_view (l.Found t more) = N.found (token_view t) more
-lexeme_view (l.Faulty distance) = N.faulty distance
-
-abbrev pub beginning_view : Beginning → N.Beginning
-beginning_view b.Letter = N.letter
-beginning_view b.Digit = N.digit
-beginning_view b.Space = N.space
-beginning_view b.Hash = N.hash
-beginning_view b.Quote = N.quote
-beginning_view b.Backquote = N.backquote
-beginning_view b.Other = N.other
 
 -- ---- tokens that are left
 

@@ -14,7 +14,7 @@ use crate::parts::name;
 use crate::rows::{RowParts, any_expression, binding, object, rows};
 use crate::statement::{deletion, of_expression, setting, signalling, veto};
 use crate::token::Token;
-use crate::tokens::{Tokens, fault, first, is_mark, pass, place, skip};
+use crate::tokens::{Tokens, count, fault, first, is_mark, pass, place, skip};
 use std::alloc::Global;
 
 /// Reads a body, which may have `levels` levels.
@@ -39,13 +39,14 @@ fn statements(alloc: Global, inner: usize, tokens: &mut Tokens<'_>) -> Result<Ve
         (S.statements (S.statement (S.bodies_within inner)) (size (tokens_view tokens.old)) (tokens_view tokens.old)) }
 {
     let mut statements = Vec::new(alloc);
-    let count = tokens.placed.len();
+    let count = count(tokens);
     for done in 0..count {
         if is_mark(Mark::CloseBrace, tokens) {
             skip(tokens);
             return Ok(statements);
         }
-        statements.push(statement(alloc, inner, tokens)?)?;
+        let statement = statement(alloc, inner, tokens)?;
+        statements.push(statement)?;
         if is_mark(Mark::Semicolon, tokens) {
             skip(tokens);
         }

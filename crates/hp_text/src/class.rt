@@ -8,6 +8,7 @@ ghost use Rattle.hp_text.specs.Mapped.{node_view, tokens_view, Reads};
 ghost use Rattle.hp_text.specs.Rows.{nodes_view};
 
 use crate::fault::Stop;
+use crate::lists::{Part, listed};
 use crate::mark::Mark;
 use crate::node::{Node, list_node, offset, text_node};
 use crate::parts::name;
@@ -38,7 +39,7 @@ fn kind(alloc: Global, tokens: &mut Tokens<'_>) -> Result<Node, Stop>
 }
 
 /// Reads `F: k`.
-fn field(alloc: Global, tokens: &mut Tokens<'_>) -> Result<Node, Stop>
+pub(crate) fn field(alloc: Global, tokens: &mut Tokens<'_>) -> Result<Node, Stop>
     ensures { Reads node_view result tokens.new (N.field (tokens_view tokens.old)) }
 {
     let name = name(alloc, tokens)?;
@@ -48,23 +49,6 @@ fn field(alloc: Global, tokens: &mut Tokens<'_>) -> Result<Node, Stop>
     Ok(list_node(alloc, at, [name, kind])?)
 }
 
-/// Reads one field or more, with commas between them. There are no more of them than tokens.
-fn listed_fields(alloc: Global, tokens: &mut Tokens<'_>) -> Result<Vec<Node>, Stop>
-    ensures { Reads nodes_view result tokens.new
-        (P.listed N.field (size (tokens_view tokens.old)) (tokens_view tokens.old)) }
-{
-    let mut fields = Vec::new(alloc);
-    let count = tokens.placed.len();
-    for done in 0..count {
-        fields.push(field(alloc, tokens)?)?;
-        if !is_mark(Mark::Comma, tokens) {
-            return Ok(fields);
-        }
-        skip(tokens);
-    }
-    Err(fault(tokens))
-}
-
 /// Reads the fields of a class, if there are any.
 fn fields(alloc: Global, at: usize, tokens: &mut Tokens<'_>) -> Result<Node, Stop>
     ensures { Reads node_view result tokens.new (N.fields at (tokens_view tokens.old)) }
@@ -72,7 +56,7 @@ fn fields(alloc: Global, at: usize, tokens: &mut Tokens<'_>) -> Result<Node, Sto
     if !is_name(tokens) {
         return Ok(Node::List(at, Vec::new(alloc)));
     }
-    let fields = listed_fields(alloc, tokens)?;
+    let fields = listed(alloc, Part::Field, tokens)?;
     Ok(Node::List(at, fields))
 }
 

@@ -5,6 +5,7 @@ ghost use Rattle.hp_model.specs.NotationTokens.{place};
 ghost use Rattle.hp_model.specs.NotationPhrases as P;
 ghost use Rattle.hp_model.specs.NotationScripts as N;
 ghost use Rattle.hp_text.specs.Mapped.{node_view, tokens_view, Reads, Makes};
+ghost use Rattle.hp_text.specs.Scripts.{ends};
 
 use crate::body::body;
 use crate::event_parts::of_number;
@@ -44,14 +45,27 @@ pub(crate) fn item(alloc: Global, tokens: &mut Tokens<'_>) -> Result<Node, Stop>
     of_number(alloc, at, "clock", tokens)
 }
 
+/// Whether nothing is left.
+fn is_end(tokens: &Tokens<'_>) -> bool
+    ensures { result ≡ ends (tokens_view tokens.now) }
+{
+    match tokens.placed {
+        [_, ..] => false,
+        [] => match tokens.ending {
+            Ending::End(_) => true,
+            Ending::Unreadable(_) => false,
+        },
+    }
+}
+
 /// Sees that nothing is left.
 pub(crate) fn end(tokens: &Tokens<'_>) -> Result<(), Stop>
     ensures { Makes (λ _. place (tokens_view tokens.now)) result (N.ended (tokens_view tokens.now)) }
 {
-    match (tokens.placed, tokens.ending) {
-        ([], Ending::End(_)) => Ok(()),
-        _ => Err(fault(tokens)),
+    if is_end(tokens) {
+        return Ok(());
     }
+    Err(fault(tokens))
 }
 
 /// Reads an item, or `show`, and the end.

@@ -1,4 +1,4 @@
-//! Scripts as text that people write: a reader, and the printer of the one canonical text.
+//! Scripts as text that people write: a reader.
 #![tactic(auto)]
 
 mod body;
@@ -9,6 +9,7 @@ mod event_parts;
 mod expression;
 mod fault;
 mod item;
+mod lexeme;
 mod lexer;
 mod lists;
 mod literal;
@@ -16,27 +17,22 @@ mod mark;
 mod node;
 mod operand;
 mod parts;
-mod piece;
+mod paths;
 mod place;
-mod print_event;
-mod print_expression;
-mod print_rows;
-mod print_rule;
-mod print_statement;
-mod printer;
-mod printing;
 mod reading;
 mod rows;
 mod rule;
 mod script;
 mod statement;
+mod symbol;
 mod token;
 mod tokens;
 mod values;
+mod word;
 
-pub use error::{PrintError, ReadError};
+pub use error::ReadError;
 pub use node::{Node, ScriptNode};
+pub use paths::{Step, value_place};
 pub use place::{Place, place_at};
-pub use printing::{print_line, print_text};
 pub use reading::{read_line, read_text};
 pub use values::{script_value, value_of};

@@ -8,14 +8,16 @@ ghost use Rattle.hp_model.specs.NotationExpressions as E;
 ghost use Rattle.hp_model.specs.NotationStatements as S;
 ghost use Rattle.hp_text.specs.Mapped.{node_view, tokens_view, Reads};
 ghost use Rattle.hp_text.specs.Rows.{nodes_view};
+ghost use Rattle.hp_text.specs.Lists.{phrase_of};
 
+use crate::class::field;
 use crate::expression::sum;
 use crate::fault::Stop;
 use crate::mark::Mark;
 use crate::node::{Node, list_node, offset};
 use crate::parts::{MAX_LEVELS, name};
 use crate::rows::any_expression;
-use crate::tokens::{Tokens, fault, is_mark, pass, place, skip};
+use crate::tokens::{Tokens, count, fault, is_mark, pass, place, skip};
 use std::alloc::Global;
 
 /// Reads the value in a `set`, so that no `=` follows the `=`.
@@ -36,17 +38,39 @@ fn pair(alloc: Global, tokens: &mut Tokens<'_>) -> Result<Node, Stop>
     Ok(list_node(alloc, at, [field, value])?)
 }
 
-/// Reads one pair or more, with commas between them. There are no more of them than tokens.
-fn listed_pairs(alloc: Global, tokens: &mut Tokens<'_>) -> Result<Vec<Node>, Stop>
-    ensures { Reads nodes_view result tokens.new
-        (P.listed S.pair (size (tokens_view tokens.old)) (tokens_view tokens.old)) }
+/// What a list with commas consists of.
+#[derive(Clone, Copy)]
+pub(crate) enum Part {
+    /// `F = e`.
+    Pair,
+    Expression,
+    /// `F: k`.
+    Field,
+}
+
+/// Reads one part of a list.
+fn read_part(alloc: Global, part: Part, tokens: &mut Tokens<'_>) -> Result<Node, Stop>
+    ensures { Reads node_view result tokens.new (phrase_of part (tokens_view tokens.old)) }
 {
-    let mut pairs = Vec::new(alloc);
-    let count = tokens.placed.len();
+    match part {
+        Part::Pair => pair(alloc, tokens),
+        Part::Expression => any_expression(alloc, tokens),
+        Part::Field => field(alloc, tokens),
+    }
+}
+
+/// Reads one part or more, with commas between them. There are no more of them than tokens.
+pub(crate) fn listed(alloc: Global, kind: Part, tokens: &mut Tokens<'_>) -> Result<Vec<Node>, Stop>
+    ensures { Reads nodes_view result tokens.new
+        (P.listed (phrase_of kind) (size (tokens_view tokens.old)) (tokens_view tokens.old)) }
+{
+    let mut parts = Vec::new(alloc);
+    let count = count(tokens);
     for done in 0..count {
-        pairs.push(pair(alloc, tokens)?)?;
+        let part = read_part(alloc, kind, tokens)?;
+        parts.push(part)?;
         if !is_mark(Mark::Comma, tokens) {
-            return Ok(pairs);
+            return Ok(parts);
         }
         skip(tokens);
     }
@@ -62,25 +86,8 @@ pub(crate) fn pairs(alloc: Global, tokens: &mut Tokens<'_>) -> Result<Node, Stop
         return Ok(Node::List(at, Vec::new(alloc)));
     }
     skip(tokens);
-    let pairs = listed_pairs(alloc, tokens)?;
+    let pairs = listed(alloc, Part::Pair, tokens)?;
     Ok(Node::List(at, pairs))
-}
-
-/// Reads one expression or more, with commas between them. There are no more of them than tokens.
-fn listed_expressions(alloc: Global, tokens: &mut Tokens<'_>) -> Result<Vec<Node>, Stop>
-    ensures { Reads nodes_view result tokens.new
-        (P.listed E.any_expression (size (tokens_view tokens.old)) (tokens_view tokens.old)) }
-{
-    let mut expressions = Vec::new(alloc);
-    let count = tokens.placed.len();
-    for done in 0..count {
-        expressions.push(any_expression(alloc, tokens)?)?;
-        if !is_mark(Mark::Comma, tokens) {
-            return Ok(expressions);
-        }
-        skip(tokens);
-    }
-    Err(fault(tokens))
 }
 
 /// Reads what stands after the parenthesis of arguments.
@@ -91,7 +98,7 @@ fn some_arguments(alloc: Global, at: usize, tokens: &mut Tokens<'_>) -> Result<N
         skip(tokens);
         return Ok(Node::List(at, Vec::new(alloc)));
     }
-    let arguments = listed_expressions(alloc, tokens)?;
+    let arguments = listed(alloc, Part::Expression, tokens)?;
     pass(Mark::CloseParenthesis, tokens)?;
     Ok(Node::List(at, arguments))
 }

@@ -1,125 +1,176 @@
 //! Texts in quotes.
 
+ghost use Rattle.std.specs.Prelude.{◌≡◌, ◌+◌, ◌-◌, ◌<◌, ◌≤◌, IfOk, IfSome, length, drop};
+ghost use Rattle.std.specs.Prelude.{option_map, option_and_then};
+ghost use Rattle.std.specs.Char.{digit_value};
+ghost use Rattle.std.specs.List.{prefix_len};
+ghost use Rattle.std.specs.Str.{IsCharBoundary};
+ghost use Rattle.json.specs.Text.{code_unit, short_escape};
+ghost use Rattle.hp_model.specs.NotationTokens as N;
+ghost use Rattle.hp_text.specs.Lexemes.{lexeme_view, IsWithin, content_view, IsContentWithin};
+ghost use Rattle.hp_text.specs.Lexemes.{character_of, is_plain, EndsInAscii};
+
+use crate::lexeme::Lexeme;
+use crate::token::Token;
 use std::alloc::{AllocError, Global};
 
 /// What stands after an opening quote.
-pub(crate) enum Literal {
-    /// A text, and the offset after its closing quote.
-    Text(String, usize),
-    /// The offset of the first fault.
+#[derive(Drop)]
+pub(crate) enum Content {
+    /// A text, and how many bytes it has before its closing quote.
+    Closed(String, usize),
+    /// The distance of the first fault.
     Broken(usize),
 }
 
-/// One part of a text.
-enum Part {
-    /// A character that is written as an escape of so many bytes.
-    Escaped(char, usize),
-    /// No escape, or half of a surrogate pair.
-    Broken,
-}
-
-fn hex_value(digit: u8) -> Option<u32> {
-    match digit {
-        b'0'..=b'9' => Some((digit - b'0') as u32),
-        b'a'..=b'f' => Some((digit - b'a') as u32 + 10),
-        b'A'..=b'F' => Some((digit - b'A') as u32 + 10),
-        _ => None,
+/// The value of a digit up to `z`, and 36 of any other character.
+fn digit(byte: u8) -> u32
+    ensures value { result ≡ digit_value byte }
+    ensures ascii { result < 16 → byte < 128 }
+{
+    match byte {
+        b'0'..=b'9' => (byte - b'0') as u32,
+        b'A'..=b'Z' => (byte - b'A') as u32 + 10,
+        b'a'..=b'z' => (byte - b'a') as u32 + 10,
+        _ => 36,
     }
 }
 
-/// The number that four hexadecimal digits at the beginning have.
-fn code_unit(bytes: &[u8]) -> Option<u32> {
+/// The code unit that four hexadecimal digits write.
+fn unit_in(a: u8, b: u8, c: u8, d: u8) -> Option<u32>
+    ensures value { result ≡ code_unit a b c d }
+    ensures bounds { IfSome result (λ u. (u < 65536) × (d < 128)) }
+{
+    let (high, second, third, low) = (digit(a), digit(b), digit(c), digit(d));
+    if (high < 16) & (second < 16) & (third < 16) & (low < 16) {
+        return Some(high * 4096 + second * 256 + third * 16 + low);
+    }
+    None
+}
+
+/// The code unit that the four hexadecimal digits at the beginning write.
+fn unit_of(bytes: &[u8]) -> Option<u32>
+    ensures value { result ≡ N.unit_of bytes.now }
+    ensures bounds { IfSome result (λ u. (u < 65536) × EndsInAscii 4 bytes.now) }
+{
     match bytes {
-        [a, b, c, d, ..] => Some(
-            hex_value(*a)? * 4096 + hex_value(*b)? * 256 + hex_value(*c)? * 16 + hex_value(*d)?,
-        ),
+        [a, b, c, d, ..] => unit_in(*a, *b, *c, *d),
         _ => None,
     }
 }
 
-/// The second half of a surrogate pair that is written at the beginning.
-fn low_half(bytes: &[u8]) -> Option<u32> {
-    match bytes {
-        [b'\\', b'u', digits @ ..] => code_unit(digits).filter(|unit| 0xdc00 <= *unit
-            && *unit < 0xe000),
-        _ => None,
+/// The character whose second half is written at the beginning.
+fn low_escape(high: u32, bytes: &[u8]) -> Option<char>
+    requires { (0xd800 ≤ high) × (high < 0xdc00) }
+    ensures value { option_map (λ c. character_of c 11) result ≡ N.low_escape high bytes.now }
+    ensures bounds { IfSome result (λ c. EndsInAscii 6 bytes.now) }
+{
+    if bytes.len() < 6 || bytes[0] != b'\\' || bytes[1] != b'u' {
+        return None;
     }
+    let low = unit_of(&bytes[2..])?;
+    if low < 0xdc00 || low >= 0xe000 {
+        return None;
+    }
+    char::from_u32(0x10000 + (high - 0xd800) * 1024 + (low - 0xdc00))
 }
 
-/// The character of an escape `\u`, whose digits are at the beginning.
-fn unicode_escape(digits: &[u8]) -> Part {
-    let Some(unit) = code_unit(digits) else {
-        return Part::Broken;
-    };
+/// The character of an escape `\u` whose digits are at the beginning, and how many bytes it has after the backslash.
+fn unicode_escape(bytes: &[u8]) -> Option<(char, usize)>
+    ensures value { option_map (λ p. character_of p.0 p.1) result
+        ≡ option_and_then (N.unit_escape bytes.now) (N.unit_of bytes.now) }
+    ensures bounds { IfSome result (λ p. (0 < p.1) × EndsInAscii (p.1 - 1) bytes.now) }
+{
+    let unit = unit_of(bytes)?;
     if 0xd800 <= unit && unit < 0xdc00 {
-        return match low_half(&digits[4..]) {
-            Some(low) => escaped(0x10000 + (unit - 0xd800) * 0x400 + (low - 0xdc00), 12),
-            None => Part::Broken,
-        };
+        let character = low_escape(unit, &bytes[4..])?;
+        return Some((character, 11));
     }
-    escaped(unit, 6)
+    let character = char::from_u32(unit)?;
+    Some((character, 5))
 }
 
-fn escaped(code: u32, length: usize) -> Part {
-    match char::from_u32(code) {
-        Some(character) => Part::Escaped(character, length),
-        None => Part::Broken,
+/// The character that stands for itself after a backslash, or has a letter there.
+#[tactic(auto, unfolding(json::specs::Text::short_escape))]
+fn short_escape(byte: u8) -> Option<u8>
+    ensures value { result ≡ short_escape byte }
+    ensures ascii { IfSome result (λ c. (c < 128) × (byte < 128)) }
+{
+    match byte {
+        b'"' | b'\\' | b'/' => Some(byte),
+        b'b' => Some(8),
+        b'f' => Some(12),
+        b'n' => Some(b'\n'),
+        b'r' => Some(b'\r'),
+        b't' => Some(b'\t'),
+        _ => None,
     }
 }
 
-/// The escape at the beginning, which is a backslash.
-fn escape_at(bytes: &[u8]) -> Part {
+/// The character of an escape, and how many bytes it has after the backslash. The bytes begin after the backslash.
+fn escape(bytes: &[u8]) -> Option<(char, usize)>
+    ensures value { option_map (λ p. character_of p.0 p.1) result ≡ N.escape bytes.now }
+    ensures bounds { IfSome result (λ p. (0 < p.1) × EndsInAscii p.1 bytes.now) }
+{
     match bytes {
-        [_, b'"', ..] => Part::Escaped('"', 2),
-        [_, b'\\', ..] => Part::Escaped('\\', 2),
-        [_, b'/', ..] => Part::Escaped('/', 2),
-        [_, b'b', ..] => Part::Escaped('\u{8}', 2),
-        [_, b'f', ..] => Part::Escaped('\u{c}', 2),
-        [_, b'n', ..] => Part::Escaped('\n', 2),
-        [_, b'r', ..] => Part::Escaped('\r', 2),
-        [_, b't', ..] => Part::Escaped('\t', 2),
-        [_, b'u', digits @ ..] => unicode_escape(digits),
-        _ => Part::Broken,
+        [b'u', digits @ ..] => unicode_escape(digits),
+        [byte, ..] => {
+            let character = short_escape(*byte)?;
+            Some((character as char, 1))
+        }
+        [] => None,
     }
 }
 
-/// Where a run of characters that stand for themselves ends.
-fn plain_end(bytes: &[u8], from: usize) -> usize {
-    let mut at = from;
-    while at < bytes.len() && bytes[at] != b'"' && bytes[at] != b'\\' && bytes[at] >= 0x20 {
-        at += 1;
-    }
-    at
+/// How many bytes at the beginning stand for themselves.
+fn plain_len(bytes: &[u8]) -> usize
+    ensures value { result ≡ prefix_len is_plain bytes.now }
+    ensures within { result ≤ length bytes.now }
+{
+    bytes
+        .iter()
+        .take_while(|byte| **byte != b'"' && **byte != b'\\' && **byte >= 0x20)
+        .count()
 }
 
-/// The text whose opening quote stands before `from`.
-pub(crate) fn literal_from(
+/// The text whose opening quote stands before `start`.
+fn content_from(alloc: Global, text: &str, start: usize) -> Result<Content, AllocError>
+    requires { IsCharBoundary text.now start }
+    ensures value { IfOk result (λ c. content_view c ≡ N.content 0 (drop start text.now)) }
+    ensures size { IfOk result (λ c. IsContentWithin (length text.now - start) c) }
+{
+    let bytes = text.as_bytes();
+    let mut found = String::new(alloc);
+    let mut at = start;
+    'runs: loop {
+        let stop = at + plain_len(&bytes[at..]);
+        found.push_str(&text[at..stop])?;
+        if stop == bytes.len() || bytes[stop] < 0x20 {
+            return Ok(Content::Broken(stop - start));
+        }
+        if bytes[stop] == b'"' {
+            return Ok(Content::Closed(found, stop - start));
+        }
+        let Some((character, more)) = escape(&bytes[stop + 1..]) else {
+            return Ok(Content::Broken(stop - start));
+        };
+        found.push(character)?;
+        at = stop + 1 + more;
+    }
+}
+
+/// The text in quotes whose opening quote stands before `start`.
+pub(crate) fn text_at(
     alloc: Global,
-    bytes: &[u8],
-    from: usize,
-) -> Result<Literal, AllocError> {
-    let mut content = Vec::new(alloc);
-    let mut at = from;
-    loop {
-        let end = plain_end(bytes, at);
-        content.extend_from_slice(&bytes[at..end])?;
-        at = end;
-        if at == bytes.len() || bytes[at] < 0x20 {
-            return Ok(Literal::Broken(at));
-        }
-        if bytes[at] == b'"' {
-            return Ok(match String::from_utf8(content) {
-                Ok(text) => Literal::Text(text, at + 1),
-                Err(_) => Literal::Broken(from),
-            });
-        }
-        match escape_at(&bytes[at..]) {
-            Part::Escaped(character, length) => {
-                let mut buffer = [0; 4];
-                content.extend_from_slice(character.encode_utf8(&mut buffer).as_bytes())?;
-                at += length;
-            }
-            Part::Broken => return Ok(Literal::Broken(at)),
-        }
+    text: &str,
+    start: usize,
+) -> Result<Lexeme<'static>, AllocError>
+    requires { IsCharBoundary text.now start }
+    ensures value { IfOk result (λ l. lexeme_view l ≡ N.string_lexeme (N.content 0 (drop start text.now))) }
+    ensures size { IfOk result (λ l. IsWithin (length text.now - start) l) }
+{
+    match content_from(alloc, text, start)? {
+        Content::Closed(text, size) => Ok(Lexeme::Found(Token::Text(text), size + 1)),
+        Content::Broken(distance) => Ok(Lexeme::Faulty(distance + 1)),
     }
 }

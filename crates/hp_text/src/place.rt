@@ -1,5 +1,9 @@
 //! Places in a text.
 
+ghost use Rattle.std.specs.Prelude.{◌≡◌, ◌+◌, ◌<◌, ◌≤◌, ◌^◌, fold};
+ghost use Rattle.hp_model.specs.NotationPlaces as P;
+ghost use Rattle.hp_text.specs.Places.{place_view};
+
 use std::fmt;
 
 /// A place in a text: a line and a column, both from 1. A column is one character, also a tab.
@@ -17,27 +21,47 @@ impl fmt::Display for Place {
     }
 }
 
-/// Whether a byte begins a character of UTF-8.
-fn begins_character(byte: u8) -> bool {
-    byte < 0x80 || byte >= 0xc0
+/// The place after a byte of a text.
+fn after_byte(place: Place, byte: u8) -> Place
+    requires { (place.line < 2 ^ 63) × (place.column < 2 ^ 63) }
+    ensures value { place_view result ≡ P.after_byte (place_view place) byte }
+    ensures line { result.line ≤ place.line + 1 }
+    ensures column { result.column ≤ place.column + 1 }
+{
+    let Place { line, column } = place;
+    if byte == b'\n' {
+        return Place {
+            line: line + 1,
+            column: 1,
+        };
+    }
+    if 0x80 <= byte && byte < 0xc0 {
+        return place;
+    }
+    Place {
+        line,
+        column: column + 1,
+    }
 }
 
-/// The place of the character that begins after these bytes of a text.
-pub(crate) fn place_after(before: &[u8]) -> Place {
-    let mut line: usize = 1;
-    let mut column: usize = 1;
+/// The place of the character that begins after these bytes.
+fn place_after(before: &[u8]) -> Place
+    ensures { place_view result ≡ fold P.after_byte (record { line = 1; column = 1 }) before.now }
+{
+    let mut place = Place { line: 1, column: 1 };
     for byte in before {
-        if *byte == b'\n' {
-            line += 1;
-            column = 1;
-        } else if begins_character(*byte) {
-            column += 1;
-        }
+        place = after_byte(place, *byte);
     }
-    Place { line, column }
+    place
 }
 
 /// The place of the character that begins at an offset of a text. An offset beyond the end is the end.
-pub fn place_at(text: &[u8], offset: usize) -> Place {
-    place_after(&text[..offset.min(text.len())])
+#[tactic(auto, using(std::proofs::lemmas::List::take_all), unfolding(hp_model::specs::NotationPlaces::place_of))]
+pub fn place_at(text: &[u8], offset: usize) -> Place
+    ensures { place_view result ≡ P.place_of text.now offset }
+{
+    if offset < text.len() {
+        return place_after(&text[..offset]);
+    }
+    place_after(text)
 }

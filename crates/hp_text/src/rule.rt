@@ -1,10 +1,11 @@
 //! Rules.
 
-ghost use Rattle.std.specs.Prelude.{◌≡◌, Some};
-ghost use Rattle.hp_model.specs.NotationTokens.{size, if_mark};
+ghost use Rattle.std.specs.Prelude.{◌≡◌, ◌++◌, MatchOption, map, Some, true, false};
+ghost use Rattle.hp_model.specs.NotationTree as T;
+ghost use Rattle.hp_model.specs.NotationTokens.{size, spelling, if_mark};
 ghost use Rattle.hp_model.specs.NotationPhrases as P;
 ghost use Rattle.hp_model.specs.NotationScripts as N;
-ghost use Rattle.hp_text.specs.Mapped.{node_view, tokens_view, Reads, Finds};
+ghost use Rattle.hp_text.specs.Mapped.{mark_view, node_view, tokens_view, Gives, Reads, Finds};
 ghost use Rattle.hp_text.specs.Rows.{nodes_view, closed_view};
 
 use crate::body::body;
@@ -15,7 +16,7 @@ use crate::node::{Node, list_node, offset, text_node};
 use crate::parts::{MAX_LEVELS, name};
 use crate::rows::{RowParts, binding, rows};
 use crate::token::Token;
-use crate::tokens::{Tokens, fault, first, is_mark, is_word, pass, pass_word, place, skip};
+use crate::tokens::{Tokens, count, fault, first, is_mark, is_word, pass, pass_word, place, skip};
 use std::alloc::Global;
 
 /// Reads the word of a rule that vetoes if it can't decide, if it is there.
@@ -30,21 +31,33 @@ fn closed(alloc: Global, tokens: &mut Tokens<'_>) -> Result<Option<Node>, Stop>
     Ok(Some(text_node(alloc, at, "closed")?))
 }
 
+/// The word of a mode in JSON, if the mark is one.
+fn mode_word(mark: Mark) -> Option<&'static str>
+    ensures { MatchOption result (N.is_mode (mark_view mark) ≡ false)
+        (λ w. (N.is_mode (mark_view mark) ≡ true) × (w.now ≡ spelling (mark_view mark))) }
+{
+    match mark {
+        Mark::Immediate => Some("immediate"),
+        Mark::Deferred => Some("deferred"),
+        Mark::Separate => Some("separate"),
+        Mark::Dependent => Some("dependent"),
+        Mark::Exclusive => Some("exclusive"),
+        _ => None,
+    }
+}
+
 /// Reads a mode, which is `immediate` if none is there.
 fn mode(alloc: Global, tokens: &mut Tokens<'_>) -> Result<Node, Stop>
     ensures { Finds node_view result tokens.new (N.mode (tokens_view tokens.old)) }
 {
     let at = place(tokens);
-    let tag = match first(tokens) {
-        Some(Token::Mark(Mark::Immediate)) => "immediate",
-        Some(Token::Mark(Mark::Deferred)) => "deferred",
-        Some(Token::Mark(Mark::Separate)) => "separate",
-        Some(Token::Mark(Mark::Dependent)) => "dependent",
-        Some(Token::Mark(Mark::Exclusive)) => "exclusive",
-        _ => return Ok(text_node(alloc, at, "immediate")?),
-    };
-    skip(tokens);
-    Ok(text_node(alloc, at, tag)?)
+    if let Some(Token::Mark(mark)) = first(tokens) {
+        if let Some(word) = mode_word(*mark) {
+            skip(tokens);
+            return Ok(text_node(alloc, at, word)?);
+        }
+    }
+    Ok(text_node(alloc, at, "immediate")?)
 }
 
 /// Whether a node is the word `let`.
@@ -137,23 +150,21 @@ fn conditions(alloc: Global, lets: bool, tokens: &mut Tokens<'_>) -> Result<Vec<
         (P.repeated (P.is_mark if_mark) (N.condition lets) (size (tokens_view tokens.old)) (tokens_view tokens.old)) }
 {
     let mut queries = Vec::new(alloc);
-    let count = tokens.placed.len();
+    let count = count(tokens);
     for done in 0..count {
         if !is_mark(Mark::If, tokens) {
             return Ok(queries);
         }
-        queries.push(condition(alloc, lets, tokens)?)?;
+        let query = condition(alloc, lets, tokens)?;
+        queries.push(query)?;
     }
     Ok(queries)
 }
 
 /// A rule's value.
-fn rule_node(
-    alloc: Global,
-    at: usize,
-    parts: [Node; 6],
-    closed: Option<Node>,
-) -> Result<Node, Stop> {
+fn rule_node(alloc: Global, at: usize, parts: [Node; 6], closed: Option<Node>) -> Result<Node, Stop>
+    ensures { Gives node_view result (T.list at (T.nodes (map node_view parts ++ closed_view closed))) }
+{
     let mut list = Vec::from_array(alloc, parts)?;
     if let Some(closed) = closed {
         list.push(closed)?;

@@ -1,10 +1,12 @@
 //! Scripts.
 
-ghost use Rattle.std.specs.Prelude.{◌≡◌, codes, option_map};
+ghost use Rattle.std.specs.Prelude.{◌≡◌, option_map};
+ghost use Rattle.hp_model.specs.NotationTokens.{size};
 ghost use Rattle.hp_model.specs.NotationPhrases as P;
 ghost use Rattle.hp_model.specs.NotationScripts as N;
 ghost use Rattle.hp_text.specs.Mapped.{node_view, tokens_view, Reads, Makes};
-ghost use Rattle.hp_text.specs.Scripts.{script_view};
+ghost use Rattle.hp_text.specs.Rows.{nodes_view};
+ghost use Rattle.hp_text.specs.Scripts.{script_view, begins_part, phrase_of};
 
 use crate::class::class;
 use crate::fault::Stop;
@@ -12,7 +14,7 @@ use crate::item::{begins_item, end, item};
 use crate::node::{Node, ScriptNode};
 use crate::parts::natural;
 use crate::rule::rule;
-use crate::tokens::{Tokens, is_word, pass_word, place, skip};
+use crate::tokens::{Tokens, count, is_word, pass_word, place, skip};
 use std::alloc::Global;
 
 /// The first version in which a condition has `let`, and so no row that is called `let`.
@@ -39,53 +41,61 @@ fn depth(tokens: &mut Tokens<'_>) -> Result<Option<Node>, Stop>
     Ok(Some(natural(tokens)?))
 }
 
-/// Reads the classes. There are no more of them than tokens.
-fn classes(alloc: Global, tokens: &mut Tokens<'_>) -> Result<Node, Stop>
-    ensures { Reads node_view result tokens.new (N.all (P.is_word (codes "class")) N.class (tokens_view tokens.old)) }
-{
-    let at = place(tokens);
-    let mut classes = Vec::new(alloc);
-    let count = tokens.placed.len();
-    for done in 0..count {
-        if !is_word("class", tokens) {
-            return Ok(Node::List(at, classes));
-        }
-        classes.push(class(alloc, tokens)?)?;
-    }
-    Ok(Node::List(at, classes))
+/// What a script has many of.
+#[derive(Clone, Copy)]
+pub(crate) enum Part {
+    Class,
+    /// A rule, and whether its condition may have a `let`.
+    Rule(bool),
+    Item,
 }
 
-/// Reads the rules. There are no more of them than tokens.
-fn rules(alloc: Global, lets: bool, tokens: &mut Tokens<'_>) -> Result<Node, Stop>
-    ensures { Reads node_view result tokens.new
-        (N.all (P.is_word (codes "rule")) (N.rule lets) (tokens_view tokens.old)) }
+/// Whether a part of this kind begins with the first token.
+fn begins(part: Part, tokens: &Tokens<'_>) -> bool
+    ensures { result ≡ P.begins (begins_part part) (tokens_view tokens.now) }
 {
-    let at = place(tokens);
-    let mut rules = Vec::new(alloc);
-    let count = tokens.placed.len();
-    for done in 0..count {
-        if !is_word("rule", tokens) {
-            return Ok(Node::List(at, rules));
-        }
-        rules.push(rule(alloc, lets, tokens)?)?;
+    match part {
+        Part::Class => is_word("class", tokens),
+        Part::Rule(_) => is_word("rule", tokens),
+        Part::Item => begins_item(tokens),
     }
-    Ok(Node::List(at, rules))
 }
 
-/// Reads the items. There are no more of them than tokens.
-fn items(alloc: Global, tokens: &mut Tokens<'_>) -> Result<Node, Stop>
-    ensures { Reads node_view result tokens.new (N.all N.is_item N.item (tokens_view tokens.old)) }
+/// Reads a part of this kind.
+fn read_part(alloc: Global, part: Part, tokens: &mut Tokens<'_>) -> Result<Node, Stop>
+    ensures { Reads node_view result tokens.new (phrase_of part (tokens_view tokens.old)) }
+{
+    match part {
+        Part::Class => class(alloc, tokens),
+        Part::Rule(lets) => rule(alloc, lets, tokens),
+        Part::Item => item(alloc, tokens),
+    }
+}
+
+/// Reads the parts of this kind. There are no more of them than tokens.
+fn repeated(alloc: Global, kind: Part, tokens: &mut Tokens<'_>) -> Result<Vec<Node>, Stop>
+    ensures { Reads nodes_view result tokens.new
+        (P.repeated (begins_part kind) (phrase_of kind) (size (tokens_view tokens.old)) (tokens_view tokens.old)) }
+{
+    let mut parts = Vec::new(alloc);
+    let count = count(tokens);
+    for done in 0..count {
+        if !begins(kind, tokens) {
+            return Ok(parts);
+        }
+        let part = read_part(alloc, kind, tokens)?;
+        parts.push(part)?;
+    }
+    Ok(parts)
+}
+
+/// Reads the list of the parts of this kind.
+fn all(alloc: Global, kind: Part, tokens: &mut Tokens<'_>) -> Result<Node, Stop>
+    ensures { Reads node_view result tokens.new (N.all (begins_part kind) (phrase_of kind) (tokens_view tokens.old)) }
 {
     let at = place(tokens);
-    let mut items = Vec::new(alloc);
-    let count = tokens.placed.len();
-    for done in 0..count {
-        if !begins_item(tokens) {
-            return Ok(Node::List(at, items));
-        }
-        items.push(item(alloc, tokens)?)?;
-    }
-    Ok(Node::List(at, items))
+    let parts = repeated(alloc, kind, tokens)?;
+    Ok(Node::List(at, parts))
 }
 
 /// Reads a script and the end.
@@ -97,9 +107,9 @@ pub(crate) fn script(alloc: Global, tokens: &mut Tokens<'_>) -> Result<ScriptNod
     pass_word("version", tokens)?;
     let version = natural(tokens)?;
     let depth = depth(tokens)?;
-    let classes = classes(alloc, tokens)?;
-    let rules = rules(alloc, has_let(&version), tokens)?;
-    let items = items(alloc, tokens)?;
+    let classes = all(alloc, Part::Class, tokens)?;
+    let rules = all(alloc, Part::Rule(has_let(&version)), tokens)?;
+    let items = all(alloc, Part::Item, tokens)?;
     end(tokens)?;
     Ok(ScriptNode {
         at,

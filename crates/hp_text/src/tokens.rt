@@ -1,7 +1,7 @@
 //! The tokens that are left of a text, and what stands first.
 
 ghost use Rattle.std.specs.Prelude.{◌≡◌, option_map};
-ghost use Rattle.hp_model.specs.NotationTokens.{place};
+ghost use Rattle.hp_model.specs.NotationTokens.{place, size};
 ghost use Rattle.hp_model.specs.NotationPhrases as P;
 ghost use Rattle.hp_model.specs.NotationScripts.{is_name};
 ghost use Rattle.hp_text.specs.declared.fault.Stop.TheVariants.{Fault};
@@ -39,6 +39,14 @@ pub(crate) fn place(tokens: &Tokens<'_>) -> usize
             Ending::Unreadable(at) => at,
         },
     }
+}
+
+/// How many tokens are left.
+#[tactic(auto, using(crate::proofs::Listing::size_of_tokens))]
+pub(crate) fn count(tokens: &Tokens<'_>) -> usize
+    ensures { result ≡ size (tokens_view tokens.now) }
+{
+    tokens.placed.len()
 }
 
 /// Goes on to the next token.

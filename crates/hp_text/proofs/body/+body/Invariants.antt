@@ -1,4 +1,4 @@
-use Rattle.std.proofs.Common.{◌≡◌, ℕ, ◌+◌, ◌*◌, map}
+use Rattle.std.proofs.Common.{◌≡◌, ◌+◌, ◌-◌, ◌*◌, map}
 use Rattle.hp_model.specs.NotationTokens.{size}
 use Rattle.hp_model.specs.NotationStatements as S
 use Rattle.hp_text.specs.Mapped.{node_view, tokens_view}
@@ -43,6 +43,5 @@ decreases-body_after_otherwise l = 16 * l.inner + 2
 
 abbrev pub invariant-statements-loop-done : goal.invariant-statements-loop-done
 invariant-statements-loop-done l =
-    (n : ℕ) × (l.done + n ≡ l.count)
-    × (S.statements (S.statement (S.bodies_within l.inner)) (size (tokens_view l.initial.tokens)) (tokens_view l.initial.tokens)
-    ≡ after (map node_view l.statements.items) (S.statements (S.statement (S.bodies_within l.inner)) n (tokens_view l.tokens)))
+    S.statements (S.statement (S.bodies_within l.inner)) (size (tokens_view l.initial.tokens)) (tokens_view l.initial.tokens)
+    ≡ after (map node_view l.statements.items) (S.statements (S.statement (S.bodies_within l.inner)) (l.count - l.done) (tokens_view l.tokens))

@@ -1,6 +1,6 @@
-use Rattle.std.proofs.Common.{◌≡◌, ℕ, ◌+◌, map, codes}
+use Rattle.std.proofs.Common.{◌≡◌, ◌-◌, map}
 use Rattle.hp_model.specs.NotationTokens.{size, if_mark}
-use Rattle.hp_model.specs.NotationPhrases.{is_mark, is_word, repeated}
+use Rattle.hp_model.specs.NotationPhrases.{is_mark, repeated}
 use Rattle.hp_model.specs.NotationScripts.{condition}
 use Rattle.hp_text.specs.Mapped.{node_view, tokens_view}
 use Rattle.hp_text.proofs.Listing.{after}
@@ -8,5 +8,5 @@ use Rattle.hp_text.proofs.rule.conditions.Given as goal
 
 abbrev pub invariant-loop-done : goal.invariant-loop-done
 invariant-loop-done l =
-    (n : ℕ) × (l.done + n ≡ l.count)
-    × (repeated (is_mark if_mark) (condition l.lets) (size (tokens_view l.initial.tokens)) (tokens_view l.initial.tokens) ≡ after (map node_view l.queries.items) (repeated (is_mark if_mark) (condition l.lets) n (tokens_view l.tokens)))
+    repeated (is_mark if_mark) (condition l.lets) (size (tokens_view l.initial.tokens)) (tokens_view l.initial.tokens)
+    ≡ after (map node_view l.queries.items) (repeated (is_mark if_mark) (condition l.lets) (l.count - l.done) (tokens_view l.tokens))

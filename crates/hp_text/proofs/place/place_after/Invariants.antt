@@ -1,0 +1,12 @@
+use Rattle.std.proofs.Common.{◌≡◌, ◌+◌, ◌≤◌, take}
+use Rattle.std.specs.Prelude.{fold}
+use Rattle.hp_model.specs.NotationPlaces as P
+use Rattle.hp_text.specs.Places.{place_view}
+use Rattle.hp_text.proofs.place.place_after.Given as goal
+
+abbrev pub invariant-loop-byte : goal.invariant-loop-byte
+invariant-loop-byte l = record {
+  place : place_view l.place ≡ fold P.after_byte (record { line = 1; column = 1 }) (take l.byte-index l.before);
+  line : l.place.line ≤ l.byte-index + 1;
+  column : l.place.column ≤ l.byte-index + 1;
+}
