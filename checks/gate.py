@@ -27,6 +27,7 @@ SCRIPTS = (
     "checks/live_sessions.py",
     "checks/conditions.py",
     "checks/version4.py",
+    "checks/checking.py",
     "checks/accounts.py",
     "examples/orders/page_test.py",
     "editors/tests/run.py",
@@ -82,8 +83,8 @@ FOLDERS = sorted({name.split("/")[0] for name in UNIT_TESTS})
 
 # How many pass in the tree: two in each script and one for each program that is made; the unit tests, one of app_tests,
 # and their layout.
-QUICK = 2 * (len(SCRIPTS) - 1) + 3 + len(UNIT_TESTS) + 2
-PROVED = QUICK + 7 + 2 * 4
+QUICK = 2 * (len(SCRIPTS) - 1) + 4 + len(UNIT_TESTS) + 2
+PROVED = QUICK + 7 + 2 * 5
 
 # The folders of tests in Python: the part of ./test that runs them, its script, and the program that it needs.
 PYTHON_TESTS = {
@@ -199,7 +200,8 @@ def proves_all(tree):
     calls = tree.calls()
     proving = calls.index("rt ci")
     after = [it for it in calls[proving + 1 :]]
-    expect(sorted(after)[0], "checks/conditions.py", after)
+    scripts = ("checking", "conditions", "live_sessions", "programs", "version4")
+    expect(sorted(it.split()[0] for it in after), [f"checks/{name}.py" for name in scripts], after)
     expect([it for it in after if "--proved" in it],
            [f"checks/programs.py --proved {tree.top}/crates/hipac/out/hipac"], "the check of the proved program")
 
