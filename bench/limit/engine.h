@@ -122,7 +122,8 @@ private:
         Value key{Kind::Fault, 0};
         if (query.key) key = evaluate(query.key, frame);
         if (key.kind != Kind::Integer)
-            return store.for_each(query.class_number, [&](int64_t of, Row *row) { return test(query, frame, of, row); });
+            return store.for_each(query.class_number,
+                                  [&](int64_t of, Row *row) { return test(query, frame, of, row); });
         Row *row = store.now(store.find(query.class_number, key.word));
         return row ? test(query, frame, key.word, row) : 0;
     }
@@ -228,9 +229,11 @@ private:
         bool is_new = given.form == Form::Create;
         if (is_new == (before != nullptr)) return is_new ? ALREADY_THERE : NOT_THERE;
         Row *after = store.copy(given.target, before);
-        for (int number = 0; number < given.count; number++) after->set(given.assignments[number].field, values[number]);
+        for (int number = 0; number < given.count; number++)
+            after->set(given.assignments[number].field, values[number]);
         store.write(given.target, key.word, cell, after);
-        return signal_object(is_new ? Event::Create : Event::Update, given.target, key.word, before, after, frame.depth);
+        Event event = is_new ? Event::Create : Event::Update;
+        return signal_object(event, given.target, key.word, before, after, frame.depth);
     }
 
     End remove(const Statement &given, FrameOf &frame) {

@@ -183,7 +183,8 @@ bool asks_row(const Expression *given, int slot) {
 Expression *key_in(const Expression *predicate, int slot) {
     while (predicate->op == Operator::And) predicate = predicate->left;
     if (predicate->op != Operator::Equal) return nullptr;
-    for (auto [side, other] : {std::pair(predicate->left, predicate->right), std::pair(predicate->right, predicate->left)})
+    Expression *left = predicate->left, *right = predicate->right;
+    for (auto [side, other] : {std::pair(left, right), std::pair(right, left)})
         if (side->op == Operator::Key && side->slot == slot && !asks_row(other, slot)) return other;
     return nullptr;
 }

@@ -20,7 +20,9 @@ struct Value {
 };
 
 // The causes A1 to A8 by their numbers.
-enum Cause { ALREADY_THERE = 1, NOT_THERE, WRONG_KIND, OUT_OF_RANGE, DIVISION_BY_ZERO, NOT_IN_OCCURRENCE, TOO_DEEP, ABORTED };
+enum Cause {
+    ALREADY_THERE = 1, NOT_THERE, WRONG_KIND, OUT_OF_RANGE, DIVISION_BY_ZERO, NOT_IN_OCCURRENCE, TOO_DEEP, ABORTED,
+};
 
 inline Value integer(int64_t word) { return {Kind::Integer, word}; }
 inline Value boolean(bool word) { return {Kind::Boolean, word}; }
