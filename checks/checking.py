@@ -3,16 +3,18 @@
 
     checks/checking.py [--scripts N] [--jobs N] [--show N]
 
-Of each script, of version 2 or 4:
+Of each script, of version 2 or 4, and every third one made so that each value is used as what it is:
 
 - The verdicts on depth and guards and all findings but the one of kinds are those that this script finds by itself.
+  That one names something in the script, and a script that is made so has none.
 - What hipac_check promises holds in the run, by its report with trees: after `kinds ok` nothing ends with A3 or A6, not
   even a condition; after a known depth nothing with A7; a guard that isn't closed and has no line `open` has no faulty
   condition, and no arithmetic ends its action; no rule fires that is never installed or never reached.
 
-The lines before the last say how many of the scripts that met no such cause have the verdict. With --show a script is
-written out, and not run. HIPAC and HIPAC_CHECK name the programs; the defaults are those that ./hipac and ./hipac-check
-start. The seeds are fixed: script n is the same on each machine. The last line is 'N passed, M failed'.
+The lines before the last say how many of the scripts that met no such cause have the verdict, of each sort of scripts.
+With --show a script is written out, and not run. HIPAC and HIPAC_CHECK name the programs; the defaults are those that
+./hipac and ./hipac-check start. The seeds are fixed: script n is the same on each machine. The last line is 'N passed,
+M failed'.
 """
 
 import argparse
@@ -28,6 +30,8 @@ sys.path.insert(0, os.path.join(TOP, "tools"))
 
 from tests.made_scripts import ScriptMaker  # noqa: E402 (it lies in tools/)
 from tests.made_version4 import Version4Maker  # noqa: E402
+
+from kinded_scripts import KindedMaker  # noqa: E402
 
 DETACHED = ("separate", "dependent", "exclusive")
 COMMIT = ("commit",)
@@ -58,7 +62,7 @@ def bound(e):
         return quotient(*operands)
     if word in ("%", "neg"):
         return bound(operands[-1])
-    return FARTHEST if word in ("of", "new", "old", "id", "arg", "time", "count", "now") else None
+    return FARTHEST if word in ("of", "key", "new", "old", "id", "arg", "time", "count", "now") else None
 
 
 def quotient(a, b):
@@ -318,8 +322,10 @@ def check(commands, seed):
     if status != 0 or len(found) < 3 or found[0] not in ("kinds ok", "kinds unknown"):
         return f"status {status}, and it wrote {found[:3]}", {}
     kinds = [line for line in found if line.startswith("kind ")]
-    if len(kinds) != (found[0] == "kinds unknown"):
-        return f"{found[0]}, and {len(kinds)} findings of kinds", {}
+    if len(kinds) != (found[0] == "kinds unknown") or not all(is_there(script, line) for line in kinds):
+        return f"{found[0]}, and the findings of kinds {kinds}", {}
+    if kinds and maker_of(seed) is KindedMaker:
+        return f"{kinds[0]}, and the script uses each value as what it is", {}
     wanted = findings(script, found[0] == "kinds ok")
     if [line for line in found[1:] if line not in kinds] != wanted:
         return f"it wrote {found}, and by the definitions {wanted}", {}
@@ -330,8 +336,43 @@ def check(commands, seed):
     return "; ".join(broken(script, found, lines)), {name: given[name] for name in VERDICTS if none[name]}
 
 
+def is_there(script, line):
+    """Whether a finding of kinds names something: by its path in the script, or in the body of a unit."""
+    words = line.split()[1:]
+    whole = script
+    if words[0] == "unit":
+        units = list(bodies(script))
+        whole, words = units[int(words[1]) - 1], words[2:]
+    for step in words[0].strip("/").split("/"):
+        if isinstance(whole, list) and not (step.isdigit() and int(step) < len(whole)):
+            return False
+        if not isinstance(whole, list) and step not in ("rules", "items"):
+            return False
+        whole = whole[int(step)] if isinstance(whole, list) else whole[step]
+    return True
+
+
+def bodies(script):
+    """The bodies of the units that a report numbers; a moment has none."""
+    clock = 0
+    for item in script["items"]:
+        if item[0] == "tx":
+            yield item[1]
+        else:
+            moments = set().union(*(moments_named(rule[1], clock, item[1]) for rule in script["rules"]))
+            yield from [None] * len(moments)
+            clock = item[1]
+
+
+MAKERS = (ScriptMaker, KindedMaker, Version4Maker)
+
+
+def maker_of(seed):
+    return MAKERS[seed % len(MAKERS)]
+
+
 def made(seed):
-    return (Version4Maker if seed % 2 else ScriptMaker)(seed).script()
+    return maker_of(seed)(seed).script()
 
 
 def main():
@@ -349,9 +390,11 @@ def main():
     for seed, (wrong, _) in enumerate(done):
         if wrong:
             print(f"FAILED script {seed}: {wrong}")
-    for name in VERDICTS:
-        calm = [given[name] for _, given in done if name in given]
-        print(f"{name}: {sum(calm)} of {len(calm)} scripts that met no such cause have the verdict")
+    for title, is_kinded in (("scripts", False), ("kinded scripts", True)):
+        for name in VERDICTS:
+            calm = [given[name] for seed, (_, given) in enumerate(done)
+                    if name in given and (maker_of(seed) is KindedMaker) == is_kinded]
+            print(f"{name}: {sum(calm)} of {len(calm)} {title} that met no such cause have the verdict")
     failed = sum(1 for wrong, _ in done if wrong)
     print(f"{len(done) - failed} passed, {failed} failed")
     return 1 if failed else 0

@@ -413,6 +413,44 @@ CASES = {
 }
 
 
+# The first line of sessions of text, and the cases: the input after it, and the answers to that.
+UP_TEXT = (
+    "version 1 class acct { bal: int } rule tell on update acct do { emit new.bal } "
+    "rule wake on moment 5 or moment 9 do { emit event.time } "
+    "transaction { install tell install wake create acct(1) set bal = 3 }\n"
+)
+TEXT_CASES = {
+    "text, an item": ("transaction { update acct(1) set bal = 5 }\n", "unit 2 committed\nemit 5\nok 2\n"),
+    "text, without a line feed": ("transaction { emit 7 } # seven", "unit 2 committed\nemit 7\nok 2\n"),
+    "text, with a carriage return": ("transaction { emit 7 }\r\nshow\r\n", "unit 2 committed\nemit 7\nok 2\n"
+                                     f"{STATE.replace('ok 1', 'ok 2')}"),
+    "text, moves of the clock": ("clock 5\nclock 9\nclock 8\n", "unit 2 time 5 committed\nemit 5\nok 2\n"
+                                 "unit 3 time 9 committed\nemit 9\nok 3\nrefused S2 1:7\n"),
+    "text, show": (" show # all\n", STATE),
+    "text, S1": ("transaction { emit }\nshow acct\n", "refused S1 1:20\nrefused S1 1:6\n"),
+    "text, S1, an empty line": ("\n#\nshow\n", f"refused S1 1:1\nrefused S1 1:2\n{STATE}"),
+    "text, S1, JSON": ('["show"]\nshow\n', f"refused S1 1:1\n{STATE}"),
+    "text, S2": ("transaction { emit 1 veto }\nshow\n", f"refused S2 1:22\n{STATE}"),
+    "text, S4": ("transaction { update acct(1) set stok = 1 }\nshow\n", f"refused S4 1:34\n{STATE}"),
+    "text, S5 size": (longest("show", MOST + 1) + "\nshow\n", f"refused S5 size\n{STATE}"),
+    "text, the longest line": (longest("show", MOST) + "\n", STATE),
+}
+
+
+def text_case(live, given, answers):
+    """A session of text, whose first line is a script."""
+    wanted = (0, f"unit 1 committed\nok 1\n{answers}".encode(), b"")
+    expect(by_pipe([*live, "--text"], (UP_TEXT + given).encode()), wanted, "status, answers and standard error")
+
+
+def refused_text(live):
+    """A refused script as text ends the session."""
+    refusals = {"version 3": "S6", "version 1 transaction { delete nobody(1) }": "S4 1:32", "": "S1 1:1"}
+    for line, refusal in refusals.items():
+        wanted = (2, f"refused {refusal}\n".encode(), b"")
+        expect(by_pipe([*live, "--text"], f"{line}\nshow\n".encode()), wanted, f"answers to {line!r}")
+
+
 def case(live, given, answers, status):
     expect(by_pipe(live, given.encode()), (status, answers.encode(), b""), "status, answers and standard error")
 
@@ -515,7 +553,9 @@ def checks(programs, sessions):
     live = programs.live
     for name, (given, answers, status) in CASES.items():
         yield name, lambda given=given, answers=answers, status=status: case(live, given, answers, status)
-    for look in (stored, trees, refused_words, failed_read, failed_write, answers_at_once):
+    for name, (given, answers) in TEXT_CASES.items():
+        yield name, lambda given=given, answers=answers: text_case(live, given, answers)
+    for look in (stored, trees, refused_text, refused_words, failed_read, failed_write, answers_at_once):
         yield look.__name__.replace("_", " "), lambda look=look: look(live)
     if "HIPAC_LIVE" not in os.environ:
         yield "the launcher", launcher

@@ -27,10 +27,11 @@ COMMANDS = {
 # What mypy looks at, each with the folders that its imports are found in.
 GROUPS = {
     "scripts": (["build", "test", "tools/*.py", "checks/*.py", "bench/*.py"], ["tools", "checks", "bench"]),
-    "tools": (["tools/hipac_tools/*.py", "tools/hipac_tools/checking/*.py"], ["tools"]),
+    "tools": (["tools/hipac_tools/*.py", "tools/hipac_tools/*/*.py"], ["tools"]),
     "tests of the tools": (["tools/tests/*.py"], ["tools"]),
     "client": (["clients/python/*.py"], ["clients/python"]),
-    "order desk": (["examples/orders/desk.py", "examples/orders/page.py"], ["clients/python", "examples/orders"]),
+    "order desk": (
+        ["examples/orders/desk.py", "examples/orders/page.py"], ["clients/python", "examples/orders", "tools"]),
 }
 MYPY = ["mypy", "--python-version=3.9", "--ignore-missing-imports", "--follow-imports=silent", "--scripts-are-modules"]
 

@@ -1,9 +1,10 @@
-"""Refused scripts, each with its refusal. `checks/programs.py` runs them.
+"""Refused scripts, each with its refusal, and texts of the notation that come near a refusal. `checks/programs.py` runs
+them.
 
 The scripts of tools/tests/refused.py are others. For those the reported place of the fault is tested too.
 """
 
-from limits import nested
+from limits import MOST_BYTES, nested
 
 
 def script(version="1", classes="[]", rules="[]", items="[]", depth=None):
@@ -200,4 +201,90 @@ REFUSALS = [
      script(items='[["clock",5],["clock",4]]')),
     ("1,001 moments in one move", "S5 moments",
      script(rules='[["e",["every",0,1],"immediate",[],"immediate",[]]]', items='[["clock",1001]]')),
+]
+
+
+def transaction(body):
+    """The text of a script whose second line is a transaction with these statements."""
+    return f"version 1\ntransaction {{ {body} }}\n".encode()
+
+
+EMITS_1 = "unit 1 committed\nemit 1\nfinal\nend\n"
+ACCOUNTS = "version 1\nclass acct { bal: int }\n"
+NOISE = bytes((number * number * 7 + number * 31) % 256 for number in range(4096))
+
+# Texts of the notation: the name of each, the whole answer, and the bytes.
+TEXTS = [
+    # ---- the size
+    ("the longest text", EMITS_1,
+     transaction("emit 1").ljust(MOST_BYTES)),
+    ("the longest text, with a comment at its end", EMITS_1,
+     (transaction("emit 1") + b"#").ljust(MOST_BYTES, b"!")),
+    ("a text of one byte more", "refused S5 size\n",
+     transaction("emit 1").ljust(MOST_BYTES + 1)),
+    ("a text of one byte more, with a fault at its beginning", "refused S5 size\n",
+     b"?".ljust(MOST_BYTES + 1)),
+    # ---- faults of the notation
+    ("no byte at all", "refused S1 1:1\n",
+     b""),
+    ("a script in JSON", "refused S1 1:1\n",
+     script().encode()),
+    ("a byte order mark", "refused S1 1:1\n",
+     b"\xef\xbb\xbf" + transaction("emit 1")),
+    ("noise", "refused S1 1:1\n",
+     NOISE),
+    ("noise after a script", "refused S1 3:1\n",
+     transaction("emit 1") + NOISE),
+    ("a NUL", "refused S1 3:1\n",
+     transaction("emit 1") + b"\0"),
+    ("a NUL in a text", "refused S1 2:22\n",
+     transaction('emit "a\0"')),
+    ("half of a surrogate pair", "refused S1 2:21\n",
+     transaction('emit "\\ud800"')),
+    ("the other half of a surrogate pair", "refused S1 2:22\n",
+     transaction('emit "a\\udc00"')),
+    ("a surrogate pair", "unit 1 committed\nemit \"\U0001f600\"\nfinal\nend\n",
+     transaction('emit "\\ud83d\\ude00"')),
+    ("bytes that are no UTF-8", "refused S1 2:22\n",
+     b'version 1\ntransaction { emit "a\xff" }'),
+    ("a column is one character", "refused S1 2:25\n",
+     transaction('emit "\u00e9\u20ac" ?')),
+    ("a text without an end", "refused S1 3:1\n",
+     b'version 1\ntransaction {\n'),
+    ("a text in quotes without an end", "refused S1 2:22\n",
+     b'version 1\ntransaction { emit "a'),
+    ("lines that end with CR and LF", EMITS_1,
+     transaction("emit 1").replace(b"\n", b"\r\n")),
+    ("a fault after lines that end with CR and LF", "refused S1 2:22\n",
+     transaction("emit 1 ?").replace(b"\n", b"\r\n")),
+    ("a number of 64 bits and more", "refused S1 2:20\n",
+     transaction("emit 9223372036854775809")),
+    # ---- levels
+    ("64 levels of parentheses", EMITS_1,
+     transaction("emit " + nested("(", ")", 63, "1"))),
+    ("65 levels of parentheses", "refused S1 2:84\n",
+     transaction("emit " + nested("(", ")", 64, "1"))),
+    ("64 levels of bodies", "refused S5 nesting\n",
+     transaction(nested("sub { ", " }", 63, ""))),
+    ("65 levels of bodies", "refused S1 2:397\n",
+     transaction(nested("sub { ", " }", 64, ""))),
+    # ---- refusals of the checks
+    ("an unknown version", "refused S6\n",
+     b"version 3"),
+    ("a depth of 17", "refused S5 depth\n",
+     b"version 1 depth 17"),
+    ("a class's name for the second time", "refused S4 3:7\n",
+     f"{ACCOUNTS}class acct {{}}".encode()),
+    ("a class that is unknown", "refused S4 2:22\n",
+     transaction("delete nobody(1)")),
+    ("a create that lacks a field", "refused S4 3:30\n",
+     f"{ACCOUNTS}transaction {{ create acct(1) }}".encode()),
+    ("a row that nothing is called", "refused S4 2:20\n",
+     transaction("emit x.bal")),
+    ("a veto in a transaction", "refused S2 2:23\n",
+     transaction("emit 1; veto")),
+    ("an exclusive rule in version 1", "refused S2 2:18\n",
+     b"version 1\nrule r on commit exclusive do {}"),
+    ("a clock that goes back", "refused S2 2:15\n",
+     b"version 1\nclock 5 clock 4"),
 ]

@@ -18,7 +18,7 @@ These are the requests, one a line; each number is a whole number:
 
 An answer is what the rules emit, a line each and indented, and then `done` or `no: ` with the reason. A desk that is
 still reading its journal answers `wait: ` with how far it is, and `ask` asks again.
-`rules.json` says what is allowed and what follows: the desk only refuses numbers that no rule would ask about.
+`rules.rules` says what is allowed and what follows: the desk only refuses numbers that no rule would ask about.
 """
 
 from __future__ import annotations
@@ -34,13 +34,15 @@ import time
 from pathlib import Path
 from typing import Any, Callable, Dict, Iterable, Iterator, List, Optional
 
-sys.path.insert(0, str(Path(__file__).resolve().parents[2] / "clients" / "python"))
+TOP = Path(__file__).resolve().parents[2]
+sys.path[:0] = [str(TOP / "clients" / "python"), str(TOP / "tools")]
 
 import page  # noqa: E402 - it stands beside this file
 from hipac_live import (  # noqa: E402 - found by the path above
     HipacError, Journal, JournalFault, ProgramEnded, Refused, RuleBase, Unit, Value)
+from hipac_tools.notation.reader import read_bytes  # noqa: E402 - found by the path above
 
-RULES = Path(__file__).with_name("rules.json")
+RULES = Path(__file__).with_name("rules.rules")
 ADDRESS = ("127.0.0.1", int(os.environ.get("DESK_PORT", "7070")))
 
 # Seconds in which a desk that was just started is tried again.
@@ -254,10 +256,15 @@ def listening(*servers: socketserver.BaseServer) -> Iterator[List[threading.Thre
             server.shutdown()
 
 
+def rules() -> Dict[str, Any]:
+    """The script of the desk's rules, as JSON has it."""
+    return read_bytes(RULES.read_bytes()).value
+
+
 def serve(path: str) -> int:
     """Takes requests while the journal is read, and answers them from then on."""
     with CountedJournal(path) as journal, Desk(journal) as desk, page.PageServer(desk) as pages:
-        with listening(desk, pages) as threads, RuleBase.recover(journal, RULES) as base:
+        with listening(desk, pages) as threads, RuleBase.recover(journal, rules()) as base:
             desk.base = base
             print(f"desk: open on port {ADDRESS[1]}, with a page at {pages.url}; lines replayed: {base.replayed}; "
                   f"units so far: {base.units}", file=sys.stderr)

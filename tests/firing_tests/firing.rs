@@ -391,11 +391,8 @@ fn an_attempt_is_rejected_after_its_read_changed(rt: HostRuntime) -> Result<(), 
 }
 
 // A veto without a message.
-fn silent(rule: RuleNo) -> Veto {
-    Veto {
-        rule,
-        message: None,
-    }
+fn silent(alloc: Global, rule: RuleNo) -> Result<Veto, AllocError> {
+    Veto::new(alloc, rule, None)
 }
 
 // The balance of account 1 after a transaction that set it to 7 and ended so.
@@ -414,26 +411,29 @@ fn ended(alloc: Global, how: End) -> Result<Option<i64>, Fail> {
 
 #[test]
 fn a_transaction_ends_as_its_course_does(rt: HostRuntime) -> Result<(), Fail> {
+    let alloc = rt.alloc();
     for (how, balance) in [
         (End::Done, Some(7)),
         (End::Abort(Cause::Asked), Some(10)),
-        (End::Vetoed(silent(3)), Some(10)),
-        (End::Veto(silent(3)), Some(10)),
+        (End::Vetoed(silent(alloc, 3)?), Some(10)),
+        (End::Veto(silent(alloc, 3)?), Some(10)),
     ] {
-        assert_eq!(rt; ended(rt.alloc(), how)?, balance);
+        assert_eq!(rt; ended(alloc, how)?, balance);
     }
     Ok(())
 }
 
 #[test]
 fn endings_have_their_cause(rt: HostRuntime) -> Result<(), Fail> {
+    let alloc = rt.alloc();
     assert_eq!(rt; ending(End::Done), Ending::Committed);
     assert_eq!(rt;
         ending(End::Abort(Cause::Depth)),
         Ending::Aborted(Cause::Depth)
     );
-    assert_eq!(rt; ending(End::Vetoed(silent(3))), Ending::Vetoed(silent(3)));
-    assert_eq!(rt; ending(End::Veto(silent(3))), Ending::Vetoed(silent(3)));
+    let vetoed = Ending::Vetoed(silent(alloc, 3)?);
+    assert_eq!(rt; ending(End::Vetoed(silent(alloc, 3)?)), vetoed);
+    assert_eq!(rt; ending(End::Veto(silent(alloc, 3)?)), vetoed);
     Ok(())
 }
 
@@ -449,8 +449,9 @@ fn left(alloc: Global, how: End) -> Result<usize, AllocError> {
 
 #[test]
 fn dependent_tasks_stay_detached_where_all_is_done(rt: HostRuntime) -> Result<(), Fail> {
-    for (how, count) in [(End::Done, 1), (End::Veto(silent(0)), 0)] {
-        assert_eq!(rt; left(rt.alloc(), how)?, count);
+    let alloc = rt.alloc();
+    for (how, count) in [(End::Done, 1), (End::Veto(silent(alloc, 0)?), 0)] {
+        assert_eq!(rt; left(alloc, how)?, count);
     }
     Ok(())
 }

@@ -34,7 +34,7 @@ fn fields(alloc: Global) -> Result<Arc<Vec<Field>>, AllocError> {
 pub fn account(alloc: Global, balance: i64) -> Result<Row, AllocError> {
     let mut values = Vec::new(alloc);
     values.push(Value::Int(balance))?;
-    Row::new(alloc, &fields(alloc)?, values)
+    Row::new(alloc, &fields(alloc)?, values.into())
 }
 
 // The assignment of a balance.
@@ -250,7 +250,7 @@ pub fn bank(alloc: Global, lib: &Library) -> Result<View, Halt> {
 // The task of a rule's condition, as the signal makes it.
 pub fn task(alloc: Global, rule: RuleNo, place: Coupling) -> Result<Task, AllocError> {
     let occurrence = Occurrence {
-        parts: Vec::new(alloc),
+        parts: Vec::new(alloc).into(),
         count: 1,
     };
     Ok(Task {

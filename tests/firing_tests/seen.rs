@@ -66,9 +66,9 @@ pub fn emitted_inside(items: &[Item]) -> Last {
 pub type Said = (RuleNo, Option<i64>);
 
 pub fn said(veto: &Veto) -> Said {
-    match &veto.message {
-        Some(Value::Int(n)) => (veto.rule, Some(*n)),
-        _ => (veto.rule, None),
+    match veto.message() {
+        Some(Value::Int(n)) => (veto.rule(), Some(*n)),
+        _ => (veto.rule(), None),
     }
 }
 

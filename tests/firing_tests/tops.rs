@@ -180,10 +180,7 @@ fn an_abort_keeps_the_separate_and_releases_the_exclusive(rt: HostRuntime) -> Re
 #[test]
 fn a_veto_aborts(rt: HostRuntime) -> Result<(), Fail> {
     let left = left(&rt, rt.alloc(), Wanted::Veto, &[1, 3, 4])?;
-    let veto = Veto {
-        rule: 5,
-        message: None,
-    };
+    let veto = Veto::new(rt.alloc(), 5, None)?;
     assert!(rt; left.end == Ending::Vetoed(veto));
     assert!(rt; left.is_enabled);
     Ok(())

@@ -371,8 +371,8 @@ impl Gate for Starts {
 }
 
 // The first task starts late. Meanwhile one worker tries three of the others, two of which read what a predecessor
-// wrote; so the last task isn't tried. One of five tasks is settled from its attempt: the owner runs the others,
-// without a further wave.
+// wrote, and then tries no more. The late worker may get to the last task before the wave ends. One of five tasks is
+// settled from its attempt: the owner runs the others, without a further wave.
 #[test]
 fn a_wave_that_does_not_pay_is_the_last(rt: HostRuntime) -> Result<(), Fail> {
     let alloc = rt.alloc();
@@ -383,7 +383,8 @@ fn a_wave_that_does_not_pay_is_the_last(rt: HostRuntime) -> Result<(), Fail> {
     let lib = of_deeds(alloc, &[plus(1), plus(1), plus(1), plus(1), plus(1)]);
     let (counts, balances) = fire(&rt, alloc, lib, &[(1, 10)], tasks(alloc, 5), by(2, &gate))?;
     assert!(rt; !gate.hold.was_late());
-    assert_eq!(rt; gate.count.load(SeqCst), 4);
+    let started = gate.count.load(SeqCst);
+    assert!(rt; started == 4 || started == 5);
     assert_eq!(rt; counts, (1, 4, 1));
     assert_eq!(rt; balances.0, Some(15));
     Ok(())

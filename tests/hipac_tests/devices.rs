@@ -21,11 +21,19 @@ const SCRIPT: &[u8] = br#"{
   "items": [["tx", [["install", "r"], ["create", "acct", 1, [["bal", 5]]], ["update", "acct", 1, [["bal", 7]]]]]]
 }"#;
 
+/// The same script in the text notation.
+const NOTATION: &[u8] = b"version 1
+class acct { bal: int }
+rule r on update acct do { emit new.bal - old.bal }
+transaction { install r create acct(1) set bal = 5 update acct(1) set bal = 7 }
+";
+
 const TEXT: &[u8] = b"unit 1 committed\nemit 2\nfinal\nobject acct 1 bal=7\nrule r enabled\nend\n";
 
 const ONE_WORKER: Options = Options {
     workers: 1,
     tree: false,
+    text: false,
 };
 
 /// A device that moves at most `step` bytes per call, and fails at one call: it returns `Err`, or moves nothing.
@@ -104,35 +112,48 @@ fn words_give_their_options(rt: HostRuntime) -> Result<(), Fail> {
         asked(&rt, &[])?,
         Ok(Options {
             workers: 4,
-            tree: false
+            tree: false,
+            text: false
         })
     );
     assert_eq!(rt;
         asked(&rt, &["--tree"])?,
         Ok(Options {
             workers: 4,
-            tree: true
+            tree: true,
+            text: false
         })
     );
     assert_eq!(rt;
         asked(&rt, &["--workers", "1"])?,
         Ok(Options {
             workers: 1,
-            tree: false
+            tree: false,
+            text: false
         })
     );
     assert_eq!(rt;
         asked(&rt, &["--workers", "64", "--tree"])?,
         Ok(Options {
             workers: 64,
-            tree: true
+            tree: true,
+            text: false
         })
     );
     assert_eq!(rt;
         asked(&rt, &["--tree", "--workers=8"])?,
         Ok(Options {
             workers: 8,
-            tree: true
+            tree: true,
+            text: false
+        })
+    );
+    assert_eq!(rt;
+        asked(&rt, &["--text"])?,
+        Ok(Options {
+            workers: 4,
+            tree: false,
+            text: true
         })
     );
     Ok(())
@@ -146,6 +167,8 @@ fn other_words_are_refused(rt: HostRuntime) -> Result<(), Fail> {
     assert_eq!(rt; asked(&rt, &["--workers"])?, Err(WordFault::Refused));
     assert_eq!(rt; asked(&rt, &["--help"])?, Err(WordFault::Refused));
     assert_eq!(rt; asked(&rt, &["x"])?, Err(WordFault::Refused));
+    assert_eq!(rt; asked(&rt, &["--text=true"])?, Err(WordFault::Refused));
+    assert_eq!(rt; asked(&rt, &["--text", "--text"])?, Err(WordFault::Refused));
     Ok(())
 }
 
@@ -187,17 +210,36 @@ end
 
 #[test]
 fn the_program_passes_its_options_on(rt: HostRuntime) -> Result<(), Fail> {
-    for (words, text) in [
-        (["--workers", "2"].as_slice(), TEXT),
-        (["--tree"].as_slice(), WITH_TREE),
+    for (words, script, text) in [
+        (["--workers", "2"].as_slice(), SCRIPT, TEXT),
+        (["--tree"].as_slice(), SCRIPT, WITH_TREE),
+        (["--text"].as_slice(), NOTATION, TEXT),
     ] {
         let options = asked(&rt, words)?;
-        let mut reader = Watched::new(slow_device(&rt, SCRIPT, 4096));
+        let mut reader = Watched::new(slow_device(&rt, script, 4096));
         let mut writer = Watched::new(slow_device(&rt, b"", 4096));
         let ended = program(&rt, rt.alloc(), options, &mut reader, &mut writer);
         assert_eq!(rt; (ended.code, ended.stop), (0, None));
         assert_eq!(rt; writer.into_inner().output.as_slice(), text);
     }
+    Ok(())
+}
+
+#[test]
+fn a_refused_text_has_a_place(rt: HostRuntime) -> Result<(), Fail> {
+    let options = Options {
+        text: true,
+        ..ONE_WORKER
+    };
+    let text = b"version 1\ntransaction { delete nobody(1) }\n";
+    let mut reader = Watched::new(slow_device(&rt, text, 1));
+    let mut writer = Watched::new(slow_device(&rt, b"", 1));
+    let status = run(&rt, rt.alloc(), &mut reader, &mut writer, options)?;
+    assert_eq!(rt; status, Status::Refused);
+    assert_eq!(rt;
+        writer.into_inner().output.as_slice(),
+        b"refused S4 2:22\n".as_slice()
+    );
     Ok(())
 }
 

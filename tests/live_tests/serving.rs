@@ -22,6 +22,7 @@ fn served<R: AllocGlobal + Threads + Sync>(
     let options = Options {
         workers: 1,
         tree: false,
+        text: false,
     };
     let ended = serve(rt, alloc, &mut reader, &mut writer, options);
     (writer.into_inner().output, ended)

@@ -79,7 +79,7 @@ fn signal(alloc: Global, name: &str) -> Result<Prim, AllocError> {
 
 fn row(alloc: Global) -> Result<Row, AllocError> {
     let fields = Arc::new(alloc, Vec::new(alloc))?;
-    Row::new(alloc, &fields, Vec::new(alloc))
+    Row::new(alloc, &fields, Vec::new(alloc).into())
 }
 
 #[test]
@@ -442,7 +442,10 @@ fn long_text(alloc: Global, length: usize) -> Result<Box<Faulty>, AllocError> {
     for _ in 0..length {
         long.push('x')?;
     }
-    emits(alloc, Box::new(alloc, Expr::literal(Value::Text(long)))?)
+    emits(
+        alloc,
+        Box::new(alloc, Expr::literal(Value::Text(Box::new(alloc, long)?)))?,
+    )
 }
 
 fn amounts(alloc: Global) -> Result<Vec<(Box<Faulty>, Wanted)>, AllocError> {

@@ -54,7 +54,7 @@ fn empty_view(alloc: Global) -> Result<View, AllocError> {
 fn account(alloc: Global, balance: i64) -> Result<Row, AllocError> {
     let class = class(alloc, "account", &["bal"])?;
     let values = vec![in alloc; Value::Int(balance)]?;
-    Row::new(alloc, &class.fields, values)
+    Row::new(alloc, &class.fields, values.into())
 }
 
 fn balance(row: &Row) -> Option<i64> {

@@ -18,7 +18,7 @@ fn creates(alloc: Global, key: Key, end: Ending) -> Result<TopReport, Fail> {
     tree.push(Item::Operation(Operation::Create {
         class: 0,
         key,
-        new: Row::new(alloc, &fields, Vec::new(alloc))?,
+        new: Row::new(alloc, &fields, Vec::new(alloc).into())?,
     }))?;
     Ok(TopReport {
         task: None,

@@ -6,7 +6,7 @@ use hp_tree::{ConditionEnd, Ending, Item, Node, Objects, Operation, TopReport, U
 use hp_value::{
     Cause, ClassDef, Coupling, Field, Key, Kind, Row, RuleNo, RuleOperation, Value, Veto,
 };
-use std::alloc::Global;
+use std::alloc::{AllocError, Global};
 use std::sync::Arc;
 use std::test::Fail;
 
@@ -29,7 +29,7 @@ fn account(alloc: Global, classes: &[ClassDef], balance: i64) -> Result<Row, Fai
     let class = classes.first().ok_or("no class")?;
     let mut values = Vec::new(alloc);
     values.push(Value::Int(balance))?;
-    Ok(Row::new(alloc, &class.fields, values)?)
+    Ok(Row::new(alloc, &class.fields, values.into())?)
 }
 
 /// An update of object 1 of the class `acct` to a balance.
@@ -83,8 +83,8 @@ fn fire(rule: RuleNo, place: Coupling, condition: ConditionEnd) -> What {
 }
 
 /// The end by a rule's veto.
-fn veto(rule: RuleNo, message: Option<Value>) -> Ending {
-    Ending::Vetoed(Veto { rule, message })
+fn veto(alloc: Global, rule: RuleNo, message: Option<Value>) -> Result<Ending, AllocError> {
+    Ok(Ending::Vetoed(Veto::new(alloc, rule, message)?))
 }
 
 fn objects(alloc: Global, classes: &[ClassDef], entries: &[(Key, i64)]) -> Result<Objects, Fail> {
@@ -280,7 +280,7 @@ fn others(alloc: Global) -> Result<UnitReport, Fail> {
     ] {
         tree.push(Item::Operation(Operation::OnRule { operation, rule }))?;
     }
-    tree.push(Item::Emit(Value::Text(String::from_str(alloc, "\u{1f}")?)))?;
+    tree.push(Item::Emit(Value::Text(Box::new(alloc, String::from_str(alloc, "\u{1f}")?)?)))?;
     let emit = Item::Emit(Value::Bool(true));
     let end = Ending::Aborted(Cause::Asked);
     tree.push(node(alloc, What::Sub, end, Some(emit), None)?)?;
@@ -298,7 +298,12 @@ fn others(alloc: Global) -> Result<UnitReport, Fail> {
     };
     let end = Ending::Aborted(Cause::Exists);
     tree.push(node(alloc, act, end, None, None)?)?;
-    unit(alloc, Some(9223372036854775807), veto(1, None), tree)
+    unit(
+        alloc,
+        Some(9223372036854775807),
+        veto(alloc, 1, None)?,
+        tree,
+    )
 }
 
 #[test]
@@ -327,9 +332,9 @@ end
 
 /// A unit and a detached task that are aborted by vetoes with messages, as are the nodes in them.
 fn messages(alloc: Global) -> Result<UnitReport, Fail> {
-    let no = Value::Text(String::from_str(alloc, "say \"no\"")?);
+    let no = Value::Text(Box::new(alloc, String::from_str(alloc, "say \"no\"")?)?);
     let fires = fire(1, Coupling::Immediate, ConditionEnd::WithAction);
-    let fired = node(alloc, fires, veto(1, Some(no.clone()?)), None, None)?;
+    let fired = node(alloc, fires, veto(alloc, 1, Some(no.clone()?))?, None, None)?;
     let act = What::Act {
         rule: 0,
         place: Coupling::Deferred,
@@ -338,24 +343,30 @@ fn messages(alloc: Global) -> Result<UnitReport, Fail> {
     tree.push(node(
         alloc,
         What::Sub,
-        veto(1, Some(no.clone()?)),
+        veto(alloc, 1, Some(no.clone()?))?,
         Some(fired),
         None,
     )?)?;
     tree.push(node(
         alloc,
         What::Sub,
-        veto(0, Some(Value::Bool(true))),
+        veto(alloc, 0, Some(Value::Bool(true)))?,
         None,
         None,
     )?)?;
-    tree.push(node(alloc, act, veto(0, Some(Value::Int(-7))), None, None)?)?;
-    let mut unit = unit(alloc, None, veto(0, Some(Value::Int(-7))), tree)?;
+    tree.push(node(
+        alloc,
+        act,
+        veto(alloc, 0, Some(Value::Int(-7)))?,
+        None,
+        None,
+    )?)?;
+    let mut unit = unit(alloc, None, veto(alloc, 0, Some(Value::Int(-7)))?, tree)?;
     let fires = fire(1, Coupling::Dependent, ConditionEnd::WithAction);
-    let fired = node(alloc, fires, veto(1, Some(no.clone()?)), None, None)?;
+    let fired = node(alloc, fires, veto(alloc, 1, Some(no.clone()?))?, None, None)?;
     unit.tops.push(TopReport {
         task: Some((1, Coupling::Dependent)),
-        end: veto(1, Some(no)),
+        end: veto(alloc, 1, Some(no))?,
         tree: vec![in alloc; fired]?,
     })?;
     Ok(unit)

@@ -1,6 +1,6 @@
 //! The places of a script's values.
 
-use hp_text::{Step, read_text, value_place};
+use hp_text::{Step, node_place, read_line, read_text, value_place};
 use std::alloc::Global;
 use std::process::Abort;
 use std::test::Fail;
@@ -44,4 +44,19 @@ fn places_of_parts(rt: HostRuntime) -> Result<(), Fail> {
     )?;
     expect(&rt, alloc, &[rule, first, Step::Item(2)], "2:20")?;
     expect(&rt, alloc, &[rule, first, Step::Item(6)], "none")
+}
+
+#[test]
+fn places_in_a_line(rt: HostRuntime) -> Result<(), Fail> {
+    let alloc = rt.alloc();
+    let text = " clock 7".as_bytes();
+    let line = read_line(alloc, text)?;
+    for (steps, place) in [(&[][..], "1:2"), (&[Step::Item(1)][..], "1:8")] {
+        let found = match node_place(text, &line, steps) {
+            Some(place) => format!(in alloc; "{place}")?,
+            None => String::from_str(alloc, "none")?,
+        };
+        assert!(rt; found.as_str() == place, "{found} and not {place}");
+    }
+    Ok(())
 }

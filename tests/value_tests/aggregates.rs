@@ -1,6 +1,6 @@
 //! Aggregates, and conditions with `no` and `let`, over a plain map. The expected values are worked out by hand.
 
-use super::fixtures::{accounts, assert_keys, put, query, row, text};
+use super::fixtures::{accounts, assert_keys, put, query, row, text, text_value};
 use super::postfix::expression;
 use hp_query::{
     Aggregate, Entry, Findings, PlainObjects, Verdict, aggregated, evaluate_condition, let_value,
@@ -136,7 +136,7 @@ fn a_sum_faults_at_its_first_partial_sum_out_of_range(rt: HostRuntime) -> Result
 fn named_accounts(alloc: Global) -> Result<PlainObjects, AllocError> {
     let mut objects = accounts(alloc)?;
     for (key, name) in [(-20, "b"), (-3, "ab"), (2, "abc")] {
-        objects.insert(0, key, row(alloc, "bal", Value::Text(text(alloc, name)?))?)?;
+        objects.insert(0, key, row(alloc, "bal", text_value(alloc, name)?)?)?;
     }
     Ok(objects)
 }
@@ -147,13 +147,13 @@ fn assert_texts(rt: &impl Abort, alloc: Global, objects: &mut PlainObjects) -> R
         objects,
         &over(alloc, "least", "x.key 2 <=", "x.bal")?,
     )?;
-    assert!(rt; least == Some(Value::Text(text(alloc, "ab")?)));
+    assert!(rt; least == Some(text_value(alloc, "ab")?));
     let greatest = found(
         alloc,
         objects,
         &over(alloc, "greatest", "x.key 2 <=", "x.bal")?,
     )?;
-    assert!(rt; greatest == Some(Value::Text(text(alloc, "b")?)));
+    assert!(rt; greatest == Some(text_value(alloc, "b")?));
     let mixed = found(alloc, objects, &over(alloc, "least", "true", "x.bal")?);
     assert!(rt;
         mixed == Err(Halt::Cause(Cause::Kind)),
@@ -226,7 +226,7 @@ fn verdict(
     objects: &mut PlainObjects,
 ) -> Result<Verdict, AllocError> {
     let occurrence = Occurrence {
-        parts: Vec::new(alloc),
+        parts: Vec::new(alloc).into(),
         count: 0,
     };
     evaluate_condition(alloc, entries, &occurrence, 100, objects)

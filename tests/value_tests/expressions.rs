@@ -12,7 +12,7 @@ use std::sync::Arc;
 use std::test::Fail;
 
 fn text(alloc: Global, s: &str) -> Result<Value, AllocError> {
-    Ok(Value::Text(String::from_str(alloc, s)?))
+    Ok(Value::Text(Box::new(alloc, String::from_str(alloc, s)?)?))
 }
 
 fn int(z: i64) -> Result<Value, Halt> {
@@ -156,7 +156,7 @@ fn stock_values(alloc: Global, name: &str, held: i64) -> Result<Vec<Value>, Allo
 
 fn stock(alloc: Global, name: &str, held: i64) -> Result<Row, AllocError> {
     let fields = stock_fields(alloc)?;
-    Row::new(alloc, &fields, stock_values(alloc, name, held)?)
+    Row::new(alloc, &fields, stock_values(alloc, name, held)?.into())
 }
 
 fn alarm(alloc: Global) -> Result<Prim, AllocError> {
@@ -183,7 +183,7 @@ fn three_parts(alloc: Global) -> Result<Occurrence, AllocError> {
     parts.push(Prim::Time(9_223_372_036_854_775_808))?;
     parts.push(sale(alloc)?)?;
     Ok(Occurrence {
-        parts,
+        parts: parts.into(),
         count: 9_223_372_036_854_775_808,
     })
 }
@@ -296,7 +296,7 @@ fn a_name_means_its_innermost_row(rt: HostRuntime) -> Result<(), Fail> {
 }
 
 fn change_held(rt: &impl Abort, alloc: Global, row: &Row) -> Result<(), AllocError> {
-    let next = row.with_values(alloc, stock_values(alloc, "bolt", 5)?)?;
+    let next = row.with_values(alloc, stock_values(alloc, "bolt", 5)?.into())?;
     assert!(rt; next != *row);
     let anew = stock(alloc, "bolt", 5)?;
     assert!(rt; next == anew, "another list of fields");

@@ -11,12 +11,18 @@ pub fn text(alloc: Global, s: &str) -> Result<String, AllocError> {
     String::from_str(alloc, s)
 }
 
+/// A text as a value.
+pub fn text_value(alloc: Global, s: &str) -> Result<Value, AllocError> {
+    let text = text(alloc, s)?;
+    Ok(Value::Text(Box::new(alloc, text)?))
+}
+
 /// A row whose one field has a name and a value.
 pub fn row(alloc: Global, name: &str, value: Value) -> Result<Row, AllocError> {
     let name = text(alloc, name)?;
     let kind = Kind::Int;
     let fields = Arc::new(alloc, vec![in alloc; Field { name, kind }]?)?;
-    Row::new(alloc, &fields, vec![in alloc; value]?)
+    Row::new(alloc, &fields, vec![in alloc; value]?.into())
 }
 
 /// An account with a balance.

@@ -1,6 +1,6 @@
 //! Queries that begin by asking for a part of a class, with a look that finds parts and with one that doesn't.
 
-use super::fixtures::{account, accounts, assert_fault, assert_keys, query, row, text};
+use super::fixtures::{account, accounts, assert_fault, assert_keys, query, row, text_value};
 use super::postfix::expression;
 use hp_query::{Aggregate, Look, PlainObjects, aggregated, selected_rows};
 use hp_value::{Cause, ClassNo, ClassPart, Env, Expr, Halt, Key, KeyedRow, ObjectList, Row, Value};
@@ -319,7 +319,7 @@ fn assert_no_text(rt: &impl Abort, alloc: Global, looks: &mut Looks) -> Result<(
 }
 
 fn with_a_text(alloc: Global) -> Result<Looks, AllocError> {
-    let much = Value::Text(text(alloc, "much")?);
+    let much = text_value(alloc, "much")?;
     with_one_more(alloc, "bal", much)
 }
 
@@ -356,7 +356,7 @@ fn a_comparison_with_a_boolean_asks_for_no_part(rt: HostRuntime) -> Result<(), F
 // The balances become texts.
 fn put_texts(alloc: Global, looks: &mut Looks) -> Result<(), AllocError> {
     for (key, name) in [(-20, "b"), (-3, "a"), (2, "ab"), (10, "")] {
-        let named = row(alloc, "bal", Value::Text(text(alloc, name)?))?;
+        let named = row(alloc, "bal", text_value(alloc, name)?)?;
         looks.put(alloc, 0, key, &named)?;
     }
     Ok(())

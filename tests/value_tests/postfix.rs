@@ -96,7 +96,7 @@ fn value(alloc: Global, word: &str) -> Result<Value, AllocError> {
         return Ok(Value::Int(number));
     }
     match word.strip_prefix('\'') {
-        Some(text) => Ok(Value::Text(String::from_str(alloc, text)?)),
+        Some(text) => Ok(Value::Text(Box::new(alloc, String::from_str(alloc, text)?)?)),
         None => Ok(Value::Bool(word == "true")),
     }
 }

@@ -1,6 +1,6 @@
 //! Answers over a plain map. The expected values are worked out by hand.
 
-use super::fixtures::{accounts, assert_fault, assert_keys, put, query, row, text};
+use super::fixtures::{accounts, assert_fault, assert_keys, put, query, row, text_value};
 use super::postfix::expression;
 use hp_query::{Entry, PlainObjects, Verdict, answer, evaluate_condition, selected_rows};
 use hp_value::{Answer, Cause, ClassNo, Env, Halt, Key, KeyedRow, Occurrence, Value};
@@ -73,7 +73,7 @@ fn an_answer_has_the_rows_of_one_class_by_rising_keys(rt: HostRuntime) -> Result
 // The accounts, of which the one with the key 2 has a text in place of a balance.
 fn accounts_and_a_text(alloc: Global) -> Result<PlainObjects, AllocError> {
     let mut objects = accounts(alloc)?;
-    objects.insert(0, 2, row(alloc, "bal", Value::Text(text(alloc, "much")?))?)?;
+    objects.insert(0, 2, row(alloc, "bal", text_value(alloc, "much")?)?)?;
     Ok(objects)
 }
 
@@ -170,7 +170,7 @@ fn verdict(
     objects: &mut PlainObjects,
 ) -> Result<Verdict, AllocError> {
     let occurrence = Occurrence {
-        parts: Vec::new(alloc),
+        parts: Vec::new(alloc).into(),
         count: 0,
     };
     evaluate_condition(alloc, queries, &occurrence, 0, objects)

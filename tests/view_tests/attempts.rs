@@ -16,7 +16,7 @@ use std::test::Fail;
 
 fn task(alloc: Global, rule: RuleNo, depth: u8) -> Result<Task, AllocError> {
     let occurrence = Occurrence {
-        parts: Vec::new(alloc),
+        parts: Vec::new(alloc).into(),
         count: 1,
     };
     Ok(Task {
@@ -330,10 +330,10 @@ fn tried(alloc: Global, start: &View, place: Place) -> Result<Option<Attempt>, A
         return Ok(None);
     };
     let mut tried = attempt(alloc, start, rule, read, i64::from(rule))?;
-    tried.outcome.end = end.map(|rule| Veto {
-        rule,
-        message: None,
-    });
+    tried.outcome.end = match end {
+        Some(rule) => Some(Veto::new(alloc, rule, None)?),
+        None => None,
+    };
     Ok(Some(tried))
 }
 

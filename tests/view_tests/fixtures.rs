@@ -17,7 +17,7 @@ pub fn object(key: Key) -> Cell {
 fn row(alloc: Global, field: &str, kind: Kind, value: Value) -> Result<CellValue, AllocError> {
     let name = String::from_str(alloc, field)?;
     let fields = Arc::new(alloc, vec![in alloc; Field { name, kind }]?)?;
-    let row = Row::new(alloc, &fields, vec![in alloc; value]?)?;
+    let row = Row::new(alloc, &fields, vec![in alloc; value]?.into())?;
     Ok(CellValue::Row(row))
 }
 
@@ -27,7 +27,12 @@ pub fn balance(alloc: Global, value: i64) -> Result<CellValue, AllocError> {
 
 pub fn name(alloc: Global, text: &str) -> Result<CellValue, AllocError> {
     let text = String::from_str(alloc, text)?;
-    row(alloc, "name", Kind::Text, Value::Text(text))
+    row(
+        alloc,
+        "name",
+        Kind::Text,
+        Value::Text(Box::new(alloc, text)?),
+    )
 }
 
 /// A layer that gives objects balances, and removes others.

@@ -13,7 +13,7 @@ use std::test::Fail;
 
 fn row(alloc: Global) -> Result<CellValue, AllocError> {
     let fields = Arc::new(alloc, Vec::new(alloc))?;
-    let row = Row::new(alloc, &fields, Vec::new(alloc))?;
+    let row = Row::new(alloc, &fields, Vec::new(alloc).into())?;
     Ok(CellValue::Row(row))
 }
 

@@ -24,7 +24,7 @@ class Word:
 
 WORDS = {
     "check": Word("check", "says where and why a script is refused"),
-    "print": Word("printing", "writes a script in words"),
+    "print": Word("printing", "writes a script in the notation"),
     "graph": Word("graph", "draws which rules can trigger which"),
     "view": Word("view", "shows what a script's transactions did"),
     "why": Word("why", "says why a rule acted, or didn't"),

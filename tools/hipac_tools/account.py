@@ -16,6 +16,7 @@ from .course import Course, STEPS, TooLong
 from .notes import Note, Signal
 from .pasts import Hearing
 from .places import Places
+from .notation.tokens import NotText
 from .positions import NotJson
 from .report import Act, Fire, Operation, Report
 from .values import Primitive
@@ -62,7 +63,7 @@ def account_of(script_bytes: bytes, report_text: Optional[str] = None, watch: It
         text = script_bytes.decode("utf-8")
         base, places = rulebase.read(text), Places(text)
         found = report.read(report_text)
-    except (UnicodeDecodeError, rulebase.Refused, NotJson):
+    except (UnicodeDecodeError, rulebase.Refused, NotJson, NotText):
         raise NoAccount("this is no script; `hipac-tools check` says more", REFUSED)
     except report.ReportFault as fault:
         raise NoAccount(f"the report can't be read: {fault}", REFUSED)
@@ -103,7 +104,7 @@ def _run(script_bytes: bytes) -> Tuple[bytes, str]:
         except journal.NoJournal as fault:
             raise NoAccount(str(fault), fault.status) from None
         return ran.script_text.encode(), ran.report_text
-    ended = program.run(script_bytes, ["--tree"])
+    ended = program.run_script(script_bytes, ["--tree"])
     if ended.status == REFUSED:
         raise NoAccount(f"the script is {ended.output.strip()}; `hipac-tools check` says more", REFUSED)
     if ended.status != 0:

@@ -3,10 +3,16 @@
 from __future__ import annotations
 
 import json
+import re
 import sys
-from typing import BinaryIO, Iterable, Optional
+from typing import BinaryIO, Callable, Iterable, Optional, TypeVar
 
 from .near import nearest
+from .notation.reader import decoded, read_bytes, read_line
+from .notation.tokens import NotText
+from .positions import Node
+
+Text = TypeVar("Text", str, bytes)
 
 DONE, REFUSED, WRONG_WORDS, FAILED, DIFFERENT = 0, 2, 3, 4, 5
 """The program's statuses, which the words give too: all is well, a script that is no script, words that are wrong or a
@@ -31,15 +37,47 @@ def bytes_of(name: str, most: int = MOST_BYTES) -> bytes:
         return _read_script(file, most)
 
 
+TEXT_SUFFIX, JSON_SUFFIX = ".rules", ".json"
+BEGINS_TEXT = re.compile(rb"\s*[A-Za-z#]")
+
+
+def is_text(content: bytes, name: str = "") -> bool:
+    """Whether a script is text in the notation, and not JSON: by the name of its file, else by its first character."""
+    if name.endswith((TEXT_SUFFIX, JSON_SUFFIX)):
+        return name.endswith(TEXT_SUFFIX)
+    return BEGINS_TEXT.match(content) is not None
+
+
 def is_journal(content: bytes) -> bool:
-    """Whether these are lines of which the first is a script by itself."""
-    first, _, later = content.partition(b"\n")
-    if not later.strip():
+    """Whether these are lines of which the first is a script by itself. A text may also be on several lines, and then
+    isn't a journal: in one the next line is an item, and the lines together are no script, or mean the same."""
+    later = content.partition(b"\n")[2].strip()
+    if not later or not begins_journal(content):
         return False
+    if not is_text(content):
+        return True
+    next_line = later.partition(b"\n")[0]
+    return is_read(read_line, decoded(next_line)) and not is_read(read_bytes, content)
+
+
+def begins_journal(content: bytes) -> bool:
+    """Whether the first line is a script by itself."""
+    first = content.partition(b"\n")[0]
+    if is_text(first):
+        return is_read(read_bytes, first)
     try:
         return isinstance(json.loads(first), dict)
     except (ValueError, RecursionError):
         return False
+
+
+def is_read(read: Callable[[Text], Node], text: Text) -> bool:
+    """Whether a reader of the notation takes a text."""
+    try:
+        read(text)
+    except NotText:
+        return False
+    return True
 
 
 def _read_script(file: BinaryIO, most: int) -> bytes:

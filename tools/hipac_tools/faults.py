@@ -14,7 +14,7 @@ from .report import Transaction, Unit
 from .why import WIDTH, Lines, head_of
 from .wording import SOME, counted, sentence, some_of
 
-USAGE = """usage: hipac-tools faults SCRIPT.json
+USAGE = """usage: hipac-tools faults SCRIPT
 
 Lists the conditions and actions that ended with a fault, unit by unit: the cause, the place, and what triggered the
 rule. Of a rule that vetoes it says that it didn't. `-` is standard input.

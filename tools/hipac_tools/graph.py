@@ -11,22 +11,24 @@ import textwrap
 from dataclasses import dataclass
 from typing import Iterable, Iterator, Sequence
 
-from . import influence, language, oversights, paths, picture
+from . import influence, language, oversights, paths, picture, proved
 from . import rulebase as scripts
 from .command import DONE, unknown_option, write_file, wrong_words
+from .folding import folded
 from .influence import Deeds, Pattern, Reach
-from .printing import event_text, folded, when_text
+from .notation.event_texts import event_text, on_text
 from .rulebase import Rule, RuleBase
 
-USAGE = """usage: hipac-tools graph SCRIPT.json [--live] [--svg FILE]
+USAGE = """usage: hipac-tools graph SCRIPT [--live] [--proved] [--svg FILE]
 
 Tells which rule may set off which, the cycles among them, the longest chain of firings, and what looks like an
 oversight. With --live any transaction may follow the script's, as in a rule base that stays up; so it is anyway where
-the script only installs rules and creates objects. With --svg it also draws the picture: by Graphviz where `dot` is
-installed, else by a layout of its own. `-` is standard input.
+the script only installs rules and creates objects. With --proved ./hipac-check decides whether a run may meet A7. With
+--svg it also draws the picture: by Graphviz where `dot` is installed, else by a layout of its own. `-` is standard
+input.
 The exit status is 0, or 2 where it is no script, or 3 where the words are wrong or a file can't be read or written."""
 
-OPTIONS = ("--live", "--svg")
+OPTIONS = ("--live", "--proved", "--svg")
 
 SETS_OFF, PREPARES, FIRES = "sets off", "prepares", "fires"
 OPERATIONS = {"fire": FIRES, "install": "installs", "enable": "enables", "disable": "disables", "remove": "removes"}
@@ -37,7 +39,7 @@ FIRING_KINDS = (SETS_OFF, FIRES)
 NONE = ("none",)
 NO_TRANSACTION = "the script has no transaction: all rules are taken as installed, and all their events as possible"
 LATER = "transactions may follow those of the script: all events of its rules are taken as possible"
-NARROWER = 'a predicate that begins with "key of x = .." looks at one object, with "x.field < .." at those that fit'
+NARROWER = "a predicate that begins with `x.key = ..` looks at one object, with `x.field < ..` at those that fit"
 MOST_CYCLES = 20
 BOX_WIDTH, MOST_BOX_LINES = 36, 4
 
@@ -121,9 +123,8 @@ def main(arguments: list[str]) -> int:
     if words in (["--help"], ["-h"]):
         print(USAGE)
         return DONE
-    is_live = "--live" in words
-    if is_live:
-        words.remove("--live")
+    is_live, is_proved = "--live" in words, "--proved" in words
+    words = [word for word in words if word not in ("--live", "--proved")]
     target = None
     if "--svg" in words[:-1]:
         place = words.index("--svg")
@@ -132,11 +133,13 @@ def main(arguments: list[str]) -> int:
     if len(words) != 1 or unknown_option(words):
         return wrong_words("graph", USAGE, words, OPTIONS)
     try:
-        graph = build(scripts.read_file(words[0]), is_live)
+        script = scripts.text_of(words[0])
+        graph = build(scripts.read_text(words[0], script), is_live)
     except scripts.Refused as fault:
         print(fault, file=sys.stderr)
         return fault.status
-    sys.stdout.buffer.write(graph_text(graph).encode("utf-8"))
+    depth = proved.depth_text(scripts.value_of(script)) if is_proved else ""
+    sys.stdout.buffer.write(graph_text(graph, depth).encode("utf-8"))
     return DONE if target is None else write_file("graph", target, svg(graph).encode("utf-8"))
 
 
@@ -146,7 +149,7 @@ def build(rulebase: RuleBase, is_live: bool = False) -> Graph:
     sources = influence.all_deeds(rulebase, is_live)
     reach = influence.reach(rulebase, sources)
     nodes = [Node(name) for name in sources if name not in rules]
-    nodes += [Node(rule.name, when_text(rule.event), rule.ec, rule.ca, rule.name in reach.firing, rule.is_closed)
+    nodes += [Node(rule.name, on_text(rule.event), rule.ec, rule.ca, rule.name in reach.firing, rule.is_closed)
               for rule in rulebase.rules]
     edges = list(_edges(rulebase, sources))
     possible = _possible(rules, edges, reach)
@@ -261,8 +264,9 @@ def _steps(links: dict[str, dict[str, Edge]], names: Sequence[str]) -> tuple[Edg
 
 # The text.
 
-def graph_text(graph: Graph) -> str:
-    """The graph as text: its edges, the cycles, the longest chain, and what looks like an oversight."""
+def graph_text(graph: Graph, depth: str = "") -> str:
+    """The graph as text: its edges, the cycles, the longest chain, and what looks like an oversight; and what is proved
+    of the depth."""
     couplings = {node.name: node.couplings for node in graph.nodes}
     edges: dict[str, list[Edge]] = {node.name: [] for node in graph.nodes}
     for edge in graph.edges:
@@ -270,7 +274,8 @@ def graph_text(graph: Graph) -> str:
     taken = {influence.ANY_SCRIPT: NO_TRANSACTION, influence.ANY_LATER: LATER}
     sections = [_section("Who may set off whom", [words for source, words in taken.items() if source in edges])]
     sections += [_node_text(node, edges[node.name], couplings) for node in graph.nodes]
-    sections += [_cycles_text(graph), _chain_text(graph, couplings), _section("Warnings", graph.warnings or NONE)]
+    sections += [_cycles_text(graph), _chain_text(graph, couplings, depth)]
+    sections.append(_section("Warnings", graph.warnings or NONE))
     scans = list(graph.scans)
     if scans:
         scans.append(NARROWER)
@@ -304,7 +309,7 @@ def _cycles_text(graph: Graph) -> str:
     return _section("Cycles", lines or NONE)
 
 
-def _chain_text(graph: Graph, couplings: dict[str, str]) -> str:
+def _chain_text(graph: Graph, couplings: dict[str, str], proved_depth: str) -> str:
     """The longest chain with its depths, and whether a run may meet A7."""
     chain, limit = graph.chain, graph.limit
     length = "without end" if chain.endless else f"{len(chain.steps)} deep"
@@ -314,7 +319,7 @@ def _chain_text(graph: Graph, couplings: dict[str, str]) -> str:
         lines.append(f"{depth} {step.target} ({couplings[step.target]}), {way} from {step.source}")
     if chain.endless:
         lines.append("and so on, as long as conditions hold and events are complete")
-    lines.append("a run may meet A7" if graph.may_meet_limit else "no run meets A7")
+    lines.append(proved_depth or ("a run may meet A7" if graph.may_meet_limit else "no run meets A7"))
     return _section(f"Longest chain of firings: {length}, and at most {limit} may nest", lines)
 
 

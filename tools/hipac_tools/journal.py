@@ -14,7 +14,11 @@ from dataclasses import dataclass, field
 from pathlib import Path
 from typing import Any, Iterator, List, Optional, Tuple
 
-from .command import DONE, FAILED, REFUSED, WRONG_WORDS, bytes_of, is_journal, shown, wrong_words
+from .command import (
+    DONE, FAILED, REFUSED, WRONG_WORDS, begins_journal, bytes_of, is_text, shown, wrong_words,
+)
+from .notation.reader import decoded, read_bytes, read_line
+from .notation.tokens import NotText
 from .program import REPOSITORY
 
 JOURNAL_USAGE = """usage: hipac-tools journal JOURNAL [--until N]
@@ -82,6 +86,29 @@ def whole_lines(content: bytes) -> List[bytes]:
     return content.split(b"\n")[:-1]
 
 
+NO_LINE = b"-"
+
+
+def as_json(content: bytes) -> bytes:
+    """The lines of a journal as JSON. What is no line of the notation isn't JSON either, so that it is refused all the
+    same."""
+    if not is_text(content):
+        return content
+    first, *later = whole_lines(content)
+    return b"".join(line + b"\n" for line in [json_line(read_bytes(first).value), *map(json_of_line, later)])
+
+
+def json_of_line(line: bytes) -> bytes:
+    try:
+        return json_line(read_line(decoded(line)).value)
+    except NotText:
+        return NO_LINE
+
+
+def json_line(value: Any) -> bytes:
+    return json.dumps(value, ensure_ascii=False).encode("utf-8")
+
+
 def until_unit(item: List[Any], answer: List[str], last: int) -> Tuple[List[Any], List[str]]:
     """An item and its answer, up to a unit. Only a move of the clock has several units: it then ends at that one's
     moment."""
@@ -118,8 +145,9 @@ def state_after(script: Any) -> List[str]:
 
 def run(content: bytes, last: Optional[int] = None) -> Ran:
     """Runs a journal, up to a unit if one is given."""
-    if not is_journal(content + b"\n\n["):
+    if b"\n" not in content or not begins_journal(content):
         raise NoJournal("the first line is no script by itself")
+    content = as_json(content)
     ran: Optional[Ran] = None
     count = 0
     for value, answer in accepted(content):

@@ -7,7 +7,7 @@ from typing import Iterator, Mapping
 from . import language
 from .influence import ANY_LATER, Deeds, Reach
 from .language import Form, asks_part
-from .printing import event_text
+from .notation.event_texts import event_text
 from .rulebase import Let, RuleBase, numbered_items
 from .wording import listed
 

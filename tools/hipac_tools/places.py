@@ -8,7 +8,8 @@ from bisect import bisect_right
 from itertools import accumulate
 from typing import Any, Dict, List, Match, Optional, Tuple
 
-from . import positions
+from . import command, positions
+from .notation import reader
 
 MARK = "\0"
 """Stands before and after a path in a sentence. No value has it: in a text it is escaped."""
@@ -24,13 +25,14 @@ def marked(path: str) -> str:
 
 
 class Places:
-    """Tells where paths lead: to a line and a column. If the script is written on one line, they are those of the form
-    in which `python3 -m json.tool` prints it."""
+    """Tells where paths lead: to a line and a column. If a script is JSON on one line, they are those of the form in
+    which `python3 -m json.tool` prints it."""
 
     def __init__(self, text: str) -> None:
-        self.is_printed = "\n" not in text.strip()
+        is_text = command.is_text(text.encode("utf-8", "replace"))
+        self.is_printed = not is_text and "\n" not in text.strip()
         self.has_told = False
-        self.script: Any = Printed(json.loads(text)) if self.is_printed else Written(text)
+        self.script: Any = Printed(json.loads(text)) if self.is_printed else Written(text, is_text)
 
     @property
     def note(self) -> Optional[str]:
@@ -52,8 +54,8 @@ class Places:
 class Written:
     """A script as it is written."""
 
-    def __init__(self, text: str) -> None:
-        self.root = positions.parse(text)
+    def __init__(self, text: str, is_text: bool) -> None:
+        self.root = reader.read_text(text) if is_text else positions.parse(text)
         self.line_starts = [0] + [end.end() for end in re.finditer("\n", text)]
 
     def place(self, path: str) -> Optional[Tuple[int, int]]:

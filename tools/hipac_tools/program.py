@@ -9,7 +9,7 @@ import threading
 from dataclasses import dataclass
 from pathlib import Path
 
-from .command import FAILED
+from .command import FAILED, is_text
 
 REPOSITORY = Path(__file__).resolve().parents[2]
 
@@ -40,16 +40,26 @@ def read_errors(pipe: int, lines: list[str]) -> None:
                 print(line, end="", file=sys.stderr, flush=True)
 
 
-def run(script_bytes: bytes, words: list[str]) -> Ended:
-    """Runs the program with these words of the command line and the script on its standard input. A program that can't
-    be started counts as one that failed."""
+def run_script(content: bytes, words: list[str]) -> Ended:
+    """Runs the program on a script, which may be text."""
+    return run(content, [*words_for(is_text(content)), *words])
+
+
+def words_for(is_notation: bool) -> list[str]:
+    """The words of the command line for a text in the notation, or for JSON."""
+    return ["--text"] if is_notation else []
+
+
+def run(script_bytes: bytes, words: list[str], path: str = "") -> Ended:
+    """Runs the program, or the one at a path, with these words of the command line and the script on its standard
+    input. A program that can't be started counts as one that failed."""
     reads, writes = os.pipe()
     lines: list[str] = []
     reader = threading.Thread(target=read_errors, args=(reads, lines))
     reader.start()
     try:
-        ended = subprocess.run([program_path(), *words], input=script_bytes, stdout=subprocess.PIPE, stderr=writes,
-                               check=False)
+        ended = subprocess.run([path or program_path(), *words], input=script_bytes, stdout=subprocess.PIPE,
+                               stderr=writes, check=False)
     except OSError as fault:
         return Ended(FAILED, "", f"the program can't be run: {fault}\n")
     finally:

@@ -6,13 +6,14 @@ from __future__ import annotations
 from typing import Any, Dict, List, Optional
 
 from .answers import Shortfall, Silence, unit_of
-from .language import has_one_part
+from .language import Form, has_one_part
 from .notes import (
     ABORT, Dropped, EXPRESSION, Given, NO, NO_ABORT, QUERY, Query, Signal, Stop, ancestry, is_idle, undone_by,
 )
+from .notation.event_texts import event_text, operand_text
+from .notation.expression_texts import expression_text
 from .pasts import ABSENT, Candidate, DISABLED, ENABLED, Fate
 from .places import marked
-from .printing import expression_text, noun_text
 from .report import Act, End, Fire, Operation, Sub, Transaction
 from .values import Occurrence, Primitive, value_text
 from .wording import Most, SOME, counted, listed, sentence, some_of
@@ -243,7 +244,7 @@ class Teller:
 
     # Conditions
 
-    def query(self, query: Query, is_one_part: bool) -> str:
+    def query(self, query: Query) -> str:
         """What an entry found, or why it found nothing."""
         given = [_given_words(one) for one in query.given] + [f"{name} = {value}" for name, value in query.known]
         around = f", with {listed(given)}" if given else ""
@@ -252,15 +253,15 @@ class Teller:
         if query.fault is not None:
             return f"{what} met a fault{at_object(query)}{around}: {query.fault}"
         if not is_let:
-            return f"{what} found {self._found(query, is_one_part, 'nothing')}{around}"
+            return f"{what} found {self._found(query, 'nothing')}{around}"
         value = "isn't there" if query.value is None else f"is {query.value}"
         if query.word == EXPRESSION:
             return f"{what} {value}{around}"
         if query.word == "next":
             return f"{what} {value}, the next key of {query.on}"
-        return f"{what} {value}, the {query.word} over {self._found(query, is_one_part, 'no object')}{around}"
+        return f"{what} {value}, the {query.word} over {self._found(query, 'no object')}{around}"
 
-    def _found(self, query: Query, is_one_part: bool, nothing: str) -> str:
+    def _found(self, query: Query, nothing: str) -> str:
         """The rows that fit, or why there are none."""
         if query.objects == 0:
             return f"{nothing}, as there is no object of {query.on}"
@@ -272,16 +273,15 @@ class Teller:
             return f"{query.on} {query.key}"
         if query.failed is None:
             return f"{nothing}, as there is no {query.on} {query.key}"
-        test = expression_text(query.failed, is_one_part)
-        values = [f"{expression_text(form, is_one_part)} is {value}" for form, value in query.values]
+        test = expression_text(query.failed)
+        values = [f"{expression_text(form)} is {value}" for form, value in query.values]
         where = f" ({some_of(list(dict.fromkeys(values)), self.most.fields)})" if values else ""
         return f"{nothing}, as {test} isn't true of {query.on} {query.key}{where}"
 
     def queries(self, firing: Fire) -> List[str]:
         """How a condition went, entry by entry."""
         occurrence = firing.note.occurrence
-        is_one_part = occurrence is not None and len(occurrence.signals) <= 1
-        queries = [sentence(self.query(query, is_one_part)) for query in firing.note.queries]
+        queries = [sentence(self.query(query)) for query in firing.note.queries]
         if queries:
             return queries
         if firing.condition == "satisfied":
@@ -339,6 +339,11 @@ def _given_words(given: Given) -> str:
     """`x = p 1 (the first of 2 rows)`."""
     return f"{given.name} = {given.row.name} {given.row.key}" + (
         "" if given.rows == 1 else f" (the first of {given.rows} rows)")
+
+
+def noun_text(event: Form) -> str:
+    """An event as a thing that there may be one of, or none: `create order`, `(signal a then signal b)`."""
+    return f"moment of `{event_text(event)}`" if event[0] == "every" else operand_text(event)
 
 
 def _shortfall_words(shortfall: Shortfall, since: Optional[Operation]) -> str:

@@ -12,12 +12,23 @@ from typing import Any, Iterator, NoReturn, Union
 
 from . import command, journal, language
 from .language import Form
+from .notation import reader
+from .notation.tokens import NotText
+from .positions import Node, find, line_and_column
 
 
 class Refused(Exception):
     """The text isn't a script. The message says where, and which word says more."""
 
     status = command.REFUSED
+
+
+class WrongShape(Refused):
+    """A value of the script hasn't the shape of its place. `path` leads to it."""
+
+    def __init__(self, path: str, at: str = ""):
+        super().__init__(f"this is no script, at {at or path or '/'}: run ./hipac-tools check on it")
+        self.path = path
 
 
 class Unreadable(Refused):
@@ -91,7 +102,9 @@ class RuleBase:
 
 
 def read(text: str) -> RuleBase:
-    """The script that a text holds, or `Refused`."""
+    """The script that a text holds, in the notation or as JSON, or `Refused`."""
+    if command.is_text(text.encode("utf-8", "replace")):
+        return _read_notation(text)
     try:
         root = json.loads(text, parse_constant=_no_number)
         return _Reader().root(root)
@@ -99,16 +112,56 @@ def read(text: str) -> RuleBase:
         raise Refused("this is no JSON text: run ./hipac-tools check on it") from fault
 
 
+def value_of(text: str) -> Any:
+    """The JSON value of a script that can be read, in the notation or as JSON."""
+    return reader.read_text(text).value if command.is_text(text.encode("utf-8", "replace")) else json.loads(text)
+
+
+def _read_notation(text: str) -> RuleBase:
+    """A script in the notation. A value of a wrong shape is named by its line and column."""
+    try:
+        root = reader.read_text(text)
+    except NotText as fault:
+        raise WrongShape("", _told_at(text, fault.start)) from None
+    try:
+        return read_node(root)
+    except WrongShape as fault:
+        raise WrongShape(fault.path, _told_at(text, find(root, fault.path).node.start)) from None
+
+
+def read_node(root: Node) -> RuleBase:
+    """The script that a tree is; raises WrongShape."""
+    return _Reader().root(root.value)
+
+
+def _told_at(text: str, offset: int) -> str:
+    line, column = line_and_column(text, offset)
+    return f"line {line}:{column}"
+
+
 def read_file(name: str) -> RuleBase:
     """The script in a file, or `Refused`; of a journal the script of its accepted lines. `-` is standard input."""
+    return read_text(name, text_of(name))
+
+
+def read_text(name: str, text: str) -> RuleBase:
+    """The script that the text of a file holds, or `Refused`."""
+    try:
+        return read(text)
+    except Refused as fault:
+        raise Refused(f"{command.shown(name)}: {fault}") from fault
+
+
+def text_of(name: str) -> str:
+    """The text of the script in a file, or `Refused`."""
     shown = command.shown(name)
     try:
         content = command.bytes_of(name)
         if command.is_journal(content):
-            return read(journal.run(content).script_text)
+            return journal.run(content).script_text
         if len(content) > command.MOST_BYTES:
             raise Refused(f"a script has at most {command.MOST_BYTES:,} bytes, and this has more")
-        return read(content.decode("utf-8"))
+        return content.decode("utf-8")
     except OSError as fault:
         raise Unreadable(f"{shown}: {fault.strerror}") from fault
     except UnicodeDecodeError as fault:
@@ -290,7 +343,7 @@ class _Reader:
         return ((part, f"{path}/{position}") for position, part in enumerate(value))
 
     def _refuse(self, path: str) -> NoReturn:
-        raise Refused(f"this is no script, at {path or '/'}: run ./hipac-tools check on it")
+        raise WrongShape(path)
 
 
 def numbered_items(rulebase: RuleBase) -> Iterator[tuple[Form, int, list[int]]]:

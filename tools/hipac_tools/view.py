@@ -11,18 +11,19 @@ from dataclasses import dataclass
 from pathlib import Path
 from typing import Any, Dict, List, Optional
 
-from . import graph, printing
+from . import graph
 from .account import Account, NoAccount, account_of
 from .command import (
     DONE, MOST_REPORT_BYTES, REFUSED, bytes_of, shown, unknown_option, write_file, wrong_words,
 )
 from .model import page_model
+from .notation.writer import rule_text
 
-USAGE = """usage: hipac-tools view SCRIPT.json [REPORT] [--out FILE.html]
+USAGE = """usage: hipac-tools view SCRIPT [REPORT] [--out FILE.html]
 
 Makes a page that shows the script's units, the tree of what each did, rules, objects and their histories. REPORT is one
 that ./hipac wrote with --tree; where it isn't given the program is run. The page goes to standard output or to FILE.
-For SCRIPT.json or REPORT `-` is standard input.
+For SCRIPT or REPORT `-` is standard input.
 The exit status is 0, 2 for a script or a report that can't be shown, 3 for wrong words, 4 where the program failed, 5
 for a report that isn't the one that following the script gives."""
 
@@ -96,7 +97,7 @@ def page_text(account: Account, name: str) -> str:
     data: Dict[str, Any] = dict(vars(page_model(account)))
     data["name"] = name
     data["note"] = account.places.note
-    data["texts"] = {rule.name: printing.rule_text(rule, base) for rule in base.rules}
+    data["texts"] = {rule.name: rule_text(rule) for rule in base.rules}
     code = "".join(_part(part) for part in CODE)
     parts = {
         "policy": _policy(code),

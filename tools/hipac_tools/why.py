@@ -14,15 +14,15 @@ from .command import DONE, REFUSED, WRONG_WORDS, bytes_of, unknown_option, wrong
 from .course import STEPS
 from .language import DETACHED
 from .near import nearest
+from .notation.event_texts import event_text
 from .notes import NO_ABORT
 from .pasts import Past
 from .places import Places
-from .printing import event_text
 from .reasons import STATUS_WORDS, Teller
 from .report import Act, Fire, Sub, Transaction, Unit, walk
 from .wording import ALL, Most, SOME, some_of, times
 
-USAGE = """usage: hipac-tools why SCRIPT.json UNIT [RULE] [--all]
+USAGE = """usage: hipac-tools why SCRIPT UNIT [RULE] [--all]
 
 Says why the unit of that number ended as it did: what aborted, by which cause, and what led there. With a rule it says
 what the rule did in that unit and why, or why it wasn't triggered. Units are numbered from 1, as in the report; `-` is
@@ -47,7 +47,7 @@ def main(arguments: List[str]) -> int:
     if len(words) not in (2, 3) or unknown_option(words):
         return wrong_words("why", USAGE, arguments, [EVERYTHING])
     if not words[1].isdigit():
-        print(f"why: {words[1]} is no unit's number; the words are SCRIPT.json UNIT [RULE]", file=sys.stderr)
+        print(f"why: {words[1]} is no unit's number; the words are SCRIPT UNIT [RULE]", file=sys.stderr)
         return WRONG_WORDS
     name, number = words[0], int(words[1])
     try:

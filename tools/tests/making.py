@@ -9,10 +9,10 @@ from typing import Any, Callable, Sequence
 REPOSITORY = Path(__file__).resolve().parents[2]
 EXAMPLES = sorted((REPOSITORY / "examples").glob("*.json"))
 
-CONFUSING_NAMES = ("or", "and", "not", "some", "has", "key", "of", "new", "old", "part", "the", "its", "count", "found",
-                   "that", "is", "there", "with", "true", "then", "if", "at", "in", "as", "for", "each", "once",
-                   "moment", "argument", "else", "try", "rule", "a", "stock", "let", "be", "no", "value", "now", "next",
-                   "number", "sum", "least", "over")
+CONFUSING_NAMES = ("or", "and", "not", "key", "new", "old", "event", "count", "with", "true", "then", "if", "as", "for",
+                   "each", "where", "set", "do", "on", "create", "immediate", "a", "stock", "now", "let", "no", "some",
+                   "next", "sum", "least", "greatest", "over", "closed", "rule", "class", "version", "show", "moment",
+                   "every", "from", "time", "arg", "count_1", "x" * 32)
 CONFUSING_TEXTS = ("", "a", '"', "\\", '\\"', "a and b", ", then", "line\nbreak", "\u2028", "\u00a0", "é", "- 5",
                    "x" * 120, "many words " * 20, "\\u2028", "\x7f", "\t")
 COUPLINGS = ("immediate", "deferred", "separate", "dependent", "exclusive")
@@ -30,7 +30,7 @@ def rule(name: str, event: list, action: list, ec: str = "immediate", ca: str = 
 
 
 class RandomScripts:
-    """Random scripts of the right shape, with names and texts that resemble words of the printed text."""
+    """Random scripts of the right shape, with names and texts that resemble words of the notation."""
 
     def __init__(self, seed: int) -> None:
         self.random = random.Random(seed)

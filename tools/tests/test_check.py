@@ -192,7 +192,7 @@ class AcceptedScripts(InDirectory):
         self.assertNotIn("warning", output)
 
     def test_the_order_desk_has_no_warnings(self) -> None:
-        _, output, _ = run_word(check.main, str(REPOSITORY / "examples" / "orders" / "rules.json"))
+        _, output, _ = run_word(check.main, str(REPOSITORY / "examples" / "orders" / "rules.rules"))
         self.assertEqual(output.splitlines()[1:], [])
 
     def test_a_signal_may_follow_a_beginning(self) -> None:
@@ -264,16 +264,16 @@ class AcceptedScripts(InDirectory):
     def test_a_value_that_the_event_never_has(self) -> None:
         made, go, nine = '["create", "acct"]', '["signal", "go"]', '["at", 9]'
         for event, value, cause, warning in (
-                (made, '["time", 0]', "A6", "part 0 of the rule's event is create of acct, which has no `time`"),
-                (made, '["old", 0, "bal"]', "A6", "part 0 of the rule's event is create of acct, which has no `old`"),
+                (made, '["time", 0]', "A6", "part 0 of the rule's event is create acct, which has no `time`"),
+                (made, '["old", 0, "bal"]', "A6", "part 0 of the rule's event is create acct, which has no `old`"),
                 (made, '["new", 0, "ball"]', "A3", "the class `acct` has no field `ball`"),
                 (made, '["id", 1]', "A6", "the rule's event has no part 1"),
                 (go, '["id", 0]', "A6", "part 0 of the rule's event is signal go, which has no `id`"),
                 (nine, '["arg", 0, 0]', "A6", "part 0 of the rule's event is moment 9, which has no `arg`"),
                 (f'["or", {go}, {made}]', '["time", 0]', "A6",
-                 "part 0 of the rule's event is signal go or create of acct, which has no `time`"),
+                 "part 0 of the rule's event is signal go or create acct, which has no `time`"),
                 (f'["seq", {made}, {go}]', '["arg", 0, 0]', "A6",
-                 "part 0 of the rule's event is create of acct, which has no `arg`"),
+                 "part 0 of the rule's event is create acct, which has no `arg`"),
                 (f'["closure", {made}, {go}]', '["id", 2]', "A6", "the rule's event has no part 2")):
             with self.subTest(event=event, value=value):
                 text = self.on(event, value)
@@ -348,7 +348,7 @@ class CommandLine(InDirectory):
     def test_no_words(self) -> None:
         status, output, errors = run_word(check.main)
         self.assertEqual((status, output), (3, ""))
-        self.assertIn("usage: hipac-tools check [--live] SCRIPT.json", errors)
+        self.assertIn("usage: hipac-tools check [--live] [--proved] SCRIPT", errors)
 
     def test_an_unknown_option(self) -> None:
         self.assertEqual(run_word(check.main, "--fast")[0], 3)
@@ -356,7 +356,7 @@ class CommandLine(InDirectory):
     def test_help(self) -> None:
         status, output, _ = run_word(check.main, "--help")
         self.assertEqual(status, 0)
-        self.assertIn("usage: hipac-tools check [--live] SCRIPT.json", output)
+        self.assertIn("usage: hipac-tools check [--live] [--proved] SCRIPT", output)
 
     def test_a_file_that_is_not_there(self) -> None:
         status, output, errors = run_word(check.main, str(self.directory / "none.json"))

@@ -7,7 +7,7 @@ import re
 from .trials import REPOSITORY
 from .test_check import InDirectory
 
-EXAMPLE = re.compile(r"```json\n(.*?)```\n\n```text\n(.*?)```", re.DOTALL)
+EXAMPLE = re.compile(r"```(?:json|rules)\n(.*?)```\n\n```text\n(.*?)```", re.DOTALL)
 
 
 class Page(InDirectory):

@@ -41,9 +41,9 @@ def report(text: str) -> str:
 class Edges(unittest.TestCase):
     def test_operations_and_signals(self) -> None:
         for statement, event, label in [
-                (["create", "c", 1, [["f", 0]]], ["create", "c"], "create of c"),
-                (["update", "c", 1, []], ["update", "c"], "update of c"),
-                (["delete", "c", 1], ["delete", "c"], "delete of c"),
+                (["create", "c", 1, [["f", 0]]], ["create", "c"], "create c"),
+                (["update", "c", 1, []], ["update", "c"], "update c"),
+                (["delete", "c", 1], ["delete", "c"], "delete c"),
                 (["signal", "s", []], SIGNAL_S, "signal s")]:
             found = edges([rule("a", ["commit"], [statement]), rule("b", event, [])], [installed("a", "b")])
             self.assertIn(("a", "sets off", "b", label), found)
@@ -82,7 +82,7 @@ class Edges(unittest.TestCase):
                  rule("d", ["at", 0], [])]
         self.assertEqual(edges(rules, [installed("a"), ["clock", 5]]), {
             ("the script", "installs", "a", ""), ("the clock", "sets off", "a", "moment 5"),
-            ("the clock", "sets off", "b", "every 10 moments from moment 5")})
+            ("the clock", "sets off", "b", "every 10 from 5")})
 
     def test_commit_comes_from_each_top_level_transaction(self) -> None:
         rules = [rule(coupling, SIGNAL_S, [], coupling) for coupling in COUPLINGS]
@@ -208,7 +208,7 @@ class Beginnings(unittest.TestCase):
     """Scripts that transactions may follow, as in a rule base that stays up."""
 
     def test_of_the_order_desk_all_rules_may_fire(self) -> None:
-        found = graph.build(rulebase.read_file(str(REPOSITORY / "examples" / "orders" / "rules.json")))
+        found = graph.build(rulebase.read_file(str(REPOSITORY / "examples" / "orders" / "rules.rules")))
         self.assertTrue(all(node.may_fire for node in found.nodes))
         self.assertEqual(found.warnings, [])
         self.assertTrue(found.chain.endless and found.may_meet_limit)
@@ -249,7 +249,7 @@ class Beginnings(unittest.TestCase):
 any later transaction
   signal s sets off a (immediate)
   signal t sets off b (immediate)
-  every 9 moments from moment 2 sets off d (immediate)
+  every 9 from 2 sets off d (immediate)
   installs d
 """, told[1])
         self.assertIn("rule d isn't installed by the script, so a later transaction has to install it", told[1])
@@ -365,10 +365,10 @@ a (immediate, then deferred), on signal s
   signal t sets off b (dependent)
   disables c
 
-b (dependent), on signal s followed by signal t
+b (dependent), on signal s then signal t
   acts on no rule
 
-c (immediate), at moment 3
+c (immediate), on moment 3
   acts on no rule
 
 Cycles
@@ -384,7 +384,7 @@ Warnings
 
 Queries that look at a whole class
   rule c, query q: all of c
-  a predicate that begins with "key of x = .." looks at one object, with "x.field < .." at those that fit
+  a predicate that begins with `x.key = ..` looks at one object, with `x.field < ..` at those that fit
 """)
 
     def test_the_largest_dense_script_takes_no_long_time(self) -> None:

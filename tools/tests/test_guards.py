@@ -48,51 +48,51 @@ class Hints(unittest.TestCase):
 
     def test_each_operator_that_may_end_with_a_fault(self) -> None:
         for value, words in (
-                (["+", NEW, 1], "`new bal + 1` leaves 64 bits (A4)"),
-                (["-", NEW, 1], "`new bal - 1` leaves 64 bits (A4)"),
-                (["*", NEW, 2], "`new bal * 2` leaves 64 bits (A4)"),
-                (["neg", NEW], "`-(new bal)` leaves 64 bits (A4)"),
-                (["/", 7, NEW], "`new bal` is 0 (A5)"), (["%", 7, NEW], "`new bal` is 0 (A5)"),
-                (["/", NEW, -1], "`new bal / (-1)` leaves 64 bits (A4)"),
-                (["%", NEW, -1], "`new bal % (-1)` leaves 64 bits (A4)"), (NEW, ""), (["+", NEW, 0], ""),
+                (["+", NEW, 1], "`new.bal + 1` leaves 64 bits (A4)"),
+                (["-", NEW, 1], "`new.bal - 1` leaves 64 bits (A4)"),
+                (["*", NEW, 2], "`new.bal * 2` leaves 64 bits (A4)"),
+                (["neg", NEW], "`-new.bal` leaves 64 bits (A4)"),
+                (["/", 7, NEW], "`new.bal` is 0 (A5)"), (["%", 7, NEW], "`new.bal` is 0 (A5)"),
+                (["/", NEW, -1], "`new.bal / -1` leaves 64 bits (A4)"),
+                (["%", NEW, -1], "`new.bal % -1` leaves 64 bits (A4)"), (NEW, ""), (["+", NEW, 0], ""),
                 (["/", NEW, 2], ""),
                 (["%", NEW, 10], ""), (["+", ["/", NEW, 2], 5], ""), (["*", ["%", NEW, 1000], 1000], ""),
                 (["+", ["/", NEW, 2], ["/", NEW, 2]], ""), (["neg", ["/", NEW, 2]], ""), (["+", ["count"], 1], ""),
                 (["*", 10 ** 9, 10 ** 9], ""),
                 (["*", 10 ** 10, 10 ** 10], "`10000000000 * 10000000000` leaves 64 bits (A4)"),
                 (["neg", -GREATEST], ""), (["-", 0, ["neg", 5]], ""), (["/", 7, ["+", ["%", NEW, 3], 3]], ""),
-                (["/", 7, ["%", NEW, 3]], "`new bal % 3` is 0 (A5)")):
+                (["/", 7, ["%", NEW, 3]], "`new.bal % 3` is 0 (A5)")):
             with self.subTest(value):
                 self.assert_hint(tested(["<", value, 5]), words)
                 of_row = json.loads(json.dumps(value).replace('["new", 0, "bal"]', '["of", "a", "bal"]'))
-                words = words.replace("-(new bal)", "-a.bal").replace("new bal", "a.bal")
+                words = words.replace("new.bal", "a.bal")
                 self.assert_hint(guarded(UPDATED, VETO, [["a", "acct", ["and", ITSELF, ["<", of_row, 5]]]]), words)
 
     def test_kinds_and_parts_that_are_not_certain(self) -> None:
         either, both = ["or", MADE, GO], ["seq", GO, MADE]
         cases: tuple[tuple[list, Any, str], ...] = (
-            (either, ["<", NEW, 0], "`new bal` is missing (A6)"), (["or", MADE, UPDATED], ["<", NEW, 0], ""),
-            (["or", MADE, UPDATED], ["<", ["old", 0, "bal"], 0], "`old bal` is missing (A6)"),
+            (either, ["<", NEW, 0], "`new.bal` is missing (A6)"), (["or", MADE, UPDATED], ["<", NEW, 0], ""),
+            (["or", MADE, UPDATED], ["<", ["old", 0, "bal"], 0], "`old.bal` is missing (A6)"),
             (both, ["<", ["new", 1, "bal"], 0], ""), (both, ["<", ["id", 1], 0], ""),
             (MADE, ["new", 0, "open"], ""), (MADE, ["=", ["new", 0, "owner"], "Ada"], ""),
-            (MADE, ["=", NEW, "Ada"], "`new bal` isn't of the kind that it is compared with (A3)"),
-            (MADE, NEW, "`new bal` isn't of kind bool (A3)"),
-            (MADE, ["<", ["new", 0, "open"], True], "`new open` isn't of the kind that it is compared with (A3)"),
-            (MADE, ["and", NEW, True], "`new bal` isn't of kind bool (A3)"),
+            (MADE, ["=", NEW, "Ada"], "`new.bal` isn't of the kind that it is compared with (A3)"),
+            (MADE, NEW, "`new.bal` isn't of kind bool (A3)"),
+            (MADE, ["<", ["new", 0, "open"], True], "`new.open` isn't of the kind that it is compared with (A3)"),
+            (MADE, ["and", NEW, True], "`new.bal` isn't of kind bool (A3)"),
             (["at", 5], ["<", ["+", ["time", 0], 1], 9], ""),
-            (["every", 5, 5], ["<", ["+", ["time", 0], 1], 9], "`its moment + 1` leaves 64 bits (A4)"))
+            (["every", 5, 5], ["<", ["+", ["time", 0], 1], 9], "`event.time + 1` leaves 64 bits (A4)"))
         for event, test, words in cases:
             with self.subTest(event=event, test=test):
                 self.assert_hint(tested(test, event), words)
 
     def test_arguments_are_certain_only_if_all_signals_are_known(self) -> None:
         test = ["<", ["arg", 0, 0], 5]
-        missing = "`argument 0` is missing (A6)"
+        missing = "`event.arg(0)` is missing (A6)"
         cases: tuple[tuple[list, str], ...] = (
             ([["signal", "go", [1]]], ""), ([["signal", "go", [1]], ["signal", "go", [["count"]]]], ""),
             ([["signal", "go", []]], missing), ([["signal", "go", [1]], ["signal", "go", []]], missing),
             ([["signal", "go", ["a"]], ["signal", "go", [1]]],
-             "`argument 0` isn't of the kind that it is compared with (A3)"),
+             "`event.arg(0)` isn't of the kind that it is compared with (A3)"),
             ([["each", "a", "acct", True, [["signal", "go", [BAL]]]]], ""))
         for signals, words in cases:
             with self.subTest(signals):
@@ -107,7 +107,7 @@ class Hints(unittest.TestCase):
     def test_tests_before_it_bound_a_value(self) -> None:
         small = ["and", ["<=", NEW, 1000], [">=", NEW, -1000]]
         large, sum_ = ["or", [">", NEW, 1000], ["<", NEW, -1000]], [">", ["*", NEW, 1000], 5]
-        leaves = "`new bal * 1000` leaves 64 bits (A4)"
+        leaves = "`new.bal * 1000` leaves 64 bits (A4)"
         cases: tuple[tuple[list, str], ...] = (
             ([["if", ["and", small, sum_], VETO, []]], ""), ([["if", ["or", large, sum_], VETO, []]], ""),
             ([["if", small, [["if", sum_, VETO, []]], VETO]], ""),
@@ -117,7 +117,7 @@ class Hints(unittest.TestCase):
             ([["if", large, [], []], ["if", sum_, VETO, []]], leaves),
             ([["if", [">", NEW, 1000], VETO, []], ["if", sum_, VETO, []]], leaves),
             ([["if", ["!=", NEW, 0], [["if", ["<", ["/", 7, ["*", NEW, NEW]], 1], VETO, []]], []]],
-             "`new bal * new bal` leaves 64 bits (A4)"),
+             "`new.bal * new.bal` leaves 64 bits (A4)"),
             ([["if", [">", NEW, 0], [["if", ["<", ["/", 7, NEW], 1], VETO, []]], []]], ""),
             ([["if", ["=", NEW, 7], [["if", ["<", ["+", NEW, 1], 1], VETO, []]], []]], ""),
             ([["if", ["or", ["=", NEW, -GREATEST - 1], [">", ["neg", NEW], 5]], VETO, []]], ""),
@@ -144,7 +144,7 @@ class Hints(unittest.TestCase):
 
     def test_only_what_may_keep_a_veto_from_being_reached(self) -> None:
         risk, test = ["emit", ["+", NEW, 1]], ["if", ["<", ["+", NEW, 1], 0], VETO, []]
-        leaves = "`new bal + 1` leaves 64 bits (A4)"
+        leaves = "`new.bal + 1` leaves 64 bits (A4)"
         cases: tuple[tuple[list, str], ...] = (
             ([risk, ["veto"]], leaves), ([["if", True, VETO, []], risk], ""),
             ([["if", True, [], VETO], test], leaves),
@@ -168,7 +168,7 @@ class Hints(unittest.TestCase):
         text = tested(test)
         lines = check.accepted("x.json", check.read(text.encode("utf-8")))
         column = text.index(json.dumps(["*", NEW, NEW])) + 1
-        told = f"x.json:1:{column}: hint: `guard` doesn't veto if `new bal * new bal` leaves 64 bits (A4)"
+        told = f"x.json:1:{column}: hint: `guard` doesn't veto if `new.bal * new.bal` leaves 64 bits (A4)"
         self.assertEqual(lines[1], told)
         self.assertEqual(lines[4:], ["  2 more expressions of it may end with a fault", HELP])
 

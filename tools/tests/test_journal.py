@@ -10,7 +10,7 @@ import tempfile
 import unittest
 from pathlib import Path
 
-from hipac_tools import journal, program
+from hipac_tools import command, journal, program
 
 SCRIPT = {"version": 2, "classes": [["item", [["stock", "int"]]]], "rules": [
     ["tick", ["every", 5, 5], "immediate", [], "immediate", [["emit", ["time", 0]]]],
@@ -64,9 +64,9 @@ class JournalTest(unittest.TestCase):
         self.assertEqual(hipac_tools("journal", "/nosuch").returncode, 3)
 
     def test_it_is_a_journal(self):
-        self.assertTrue(journal.is_journal(content()))
-        self.assertFalse(journal.is_journal(content([SCRIPT])))
-        self.assertFalse(journal.is_journal(json.dumps(SCRIPT, indent=1).encode()))
+        self.assertTrue(command.is_journal(content()))
+        self.assertFalse(command.is_journal(content([SCRIPT])))
+        self.assertFalse(command.is_journal(json.dumps(SCRIPT, indent=1).encode()))
 
     def test_the_other_words_take_a_journal(self):
         """They say of it what they say of its script, and of one that no script could hold."""

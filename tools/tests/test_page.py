@@ -4,12 +4,13 @@ from __future__ import annotations
 import re
 import unittest
 
-from hipac_tools import graph, printing, rulebase
+from hipac_tools import graph, rulebase
+from hipac_tools.notation.writer import script_text
 from tests.making import REPOSITORY
 
-WORDS = {"print": printing.script_text, "graph": lambda base: graph.graph_text(graph.build(base))}
+WORDS = {"print": script_text, "graph": lambda base: graph.graph_text(graph.build(base))}
 
-SHOWN = re.compile(r"```\n\$ \./hipac-tools (print|graph) (\w+\.json)\n(.*?)```", re.DOTALL)
+SHOWN = re.compile(r"```\n\$ \./hipac-tools (print|graph) (?:examples/)?(\w+\.(?:json|rules))\n(.*?)```", re.DOTALL)
 
 
 class Page(unittest.TestCase):
@@ -18,7 +19,7 @@ class Page(unittest.TestCase):
         for page in sorted((REPOSITORY / "docs").glob("TOOLS*.md")):
             text = page.read_text(encoding="utf-8")
             for word, name, output in SHOWN.findall(text):
-                script = re.search(r"`" + re.escape(name) + r"`:\n\n```json\n(.*?)```", text, re.DOTALL)
+                script = re.search(r"`" + re.escape(name) + r"`:\n\n```\w+\n(.*?)```", text, re.DOTALL)
                 example = REPOSITORY / "examples" / name
                 source = script.group(1) if script else example.read_text(encoding="utf-8")
                 self.assertEqual(WORDS[word](rulebase.read(source)), output, f"{page.name}: {word} {name}")

@@ -2,7 +2,6 @@
 
 from __future__ import annotations
 
-import json
 import unittest
 
 from . import tutorial
@@ -20,7 +19,7 @@ class Scripts(unittest.TestCase):
 
     def test_each_report_has_a_script(self) -> None:
         for report in tutorial.SCRIPTS.glob("*.report"):
-            self.assertTrue(report.with_suffix(".json").exists(), report.name)
+            self.assertTrue(report.with_suffix(".rules").exists(), report.name)
 
     def test_the_page_names_each_script(self) -> None:
         named = set(tutorial.NAMED.findall(tutorial.PAGE.read_text(encoding="utf-8")))
@@ -47,25 +46,20 @@ class Page(unittest.TestCase):
                 self.assertEqual(tutorial.printed(command.text), output.text)
 
     def test_parts_of_scripts_are_in_their_files(self) -> None:
-        """A script is shown as in its file, except for indentation and a comma at its end."""
+        """A part of a script is shown as in its file, except for indentation. Other paragraphs may stand between."""
         for block in self.blocks:
-            if block.word != "json":
+            if block.word != "rules":
                 continue
             with self.subTest(line=block.line, script=block.script):
                 stored = (tutorial.SCRIPTS / block.script).read_text(encoding="utf-8")
-                shown = [line.strip() for line in block.text.rstrip().rstrip(",").split("\n")]
-                lines = [line.strip() for line in stored.rstrip("\n").split("\n")]
-                found = any(
-                    lines[at:at + len(shown) - 1] == shown[:-1]
-                    and lines[at + len(shown) - 1].rstrip(",") == shown[-1]
-                    for at in range(len(lines) - len(shown) + 1)
-                )
-                self.assertTrue(found, f"not in {block.script}:\n{block.text}")
+                stripped = "".join(line.strip() + "\n" for line in stored.split("\n"))
+                for paragraph in block.text.rstrip("\n").split("\n\n"):
+                    shown = "".join(line.strip() + "\n" for line in paragraph.split("\n"))
+                    self.assertIn(f"\n{shown}", f"\n{stripped}", f"not in {block.script}")
 
-    def test_scripts_are_json_in_short_lines(self) -> None:
+    def test_scripts_have_short_lines(self) -> None:
         for script in tutorial.scripts():
             text = script.read_text(encoding="utf-8")
-            json.loads(text)
             self.assertLessEqual(max(map(len, text.split("\n"))), LONGEST_LINE, script.name)
 
     def test_lines_are_short(self) -> None:

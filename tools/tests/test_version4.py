@@ -8,8 +8,9 @@ import sys
 import unittest
 from typing import Any
 
-from hipac_tools import check, graph, printing, report, rulebase
+from hipac_tools import check, graph, report, rulebase
 from hipac_tools.course import Course
+from hipac_tools.notation.writer import rule_text
 
 from .made_version4 import Version4Maker
 from .trials import REPOSITORY
@@ -77,7 +78,7 @@ class HintTest(unittest.TestCase):
 
     def test_a_guard_whose_entry_may_fault(self) -> None:
         self.assertEqual(hints(script(self.RISKY, [["veto", ["value", "n"]]])),
-                         ["`r` doesn't veto if `argument 0` is missing (A6)"])
+                         ["`r` doesn't veto if `event.arg(0)` is missing (A6)"])
         self.assertEqual(hints(script(self.RISKY, [["emit", ["value", "n"]]])), [])
 
     def test_a_closed_guard_has_none(self) -> None:
@@ -88,7 +89,7 @@ class HintTest(unittest.TestCase):
         for aggregate, message in (
                 (["count", "s", "acct", True], ""),
                 (["least", *over], ""),
-                (["sum", *over], "`r` doesn't veto if `the sum of s.bal over each acct s` leaves 64 bits (A4)"),
+                (["sum", *over], "`r` doesn't veto if `sum s.bal over acct s` leaves 64 bits (A4)"),
                 (["sum", "s", "acct", True, ["of", "s", "owner"]],
                  "`r` doesn't veto if `s.owner` isn't of kind int (A3)")):
             with self.subTest(aggregate):
@@ -97,7 +98,7 @@ class HintTest(unittest.TestCase):
 
     def test_a_message_that_may_fault(self) -> None:
         self.assertEqual(hints(script([], [["veto", ["arg", 0, 0]]])),
-                         ["`r` doesn't veto if `argument 0` is missing (A6)"])
+                         ["`r` doesn't veto if `event.arg(0)` is missing (A6)"])
 
 
 class TextTest(unittest.TestCase):
@@ -106,17 +107,19 @@ class TextTest(unittest.TestCase):
 
     def test_print(self) -> None:
         action = [["let", "k", ["next", "acct"], [["emit", ["value", "k"]], ["emit", ["now"]]]], ["veto", "full"]]
-        text = printing.rule_text(rulebase.read(script(self.ENTRIES, action, "closed")).rules[0])
+        text = rule_text(rulebase.read(script(self.ENTRIES, action, "closed")).rules[0])
         self.assertEqual(text.split("\n"), [
-            "closed rule r: on signal go, at once:",
-            "  if no acct k has key of k = argument 0",
-            "  and let n be the number of each acct a",
-            "  and let t be the sum of s.bal over each acct s that has key of s < the value n",
-            "  then:",
-            "    let k be the next key of acct:",
-            "      emit the value k",
+            "rule r closed on signal go",
+            "  if no acct k where k.key = event.arg(0)",
+            "  if let n = count acct a",
+            "  if let t = sum s.bal over acct s where s.key < n",
+            "  do {",
+            "    let k = next acct {",
+            "      emit k",
             "      emit now",
-            '    veto with "full"'])
+            "    }",
+            '    veto "full"',
+            "  }"])
 
     def test_graph(self) -> None:
         text = script(self.ENTRIES, [["let", "m", ["least", "x", "acct", True, ["of", "x", "bal"]], []]], "closed")

@@ -228,8 +228,8 @@ class FiringTest(WhyCase):
         self.assertEqual(self.condition(key, ["signal", "order", [8]]),
                          "Its condition wasn't satisfied. Query i found nothing, as there is no item 8.")
         self.assertEqual(self.condition(["and", ["and", key, few], many]),
-                         "Its condition wasn't satisfied. Query i found nothing, as 5 < i.stock or i.stock = argument "
-                         "0 - 1 isn't true of item 7 (i.stock is 3, argument 0 is 7).")
+                         "Its condition wasn't satisfied. Query i found nothing, as 5 < i.stock or i.stock = "
+                         "event.arg(0) - 1 isn't true of item 7 (i.stock is 3, event.arg(0) is 7).")
         self.assertEqual(self.condition(["and", key, False]),
                          "Its condition wasn't satisfied. Query i found nothing, as false isn't true of item 7.")
 
@@ -384,15 +384,15 @@ class SilenceTest(WhyCase):
     def test_events_in_events_that_wait(self):
         pair, batch = ["seq", ["signal", "a"], ["signal", "b"]], ["closure", ["signal", "a"], ["signal", "c"]]
         self.assertEqual(self.mentions(["seq", pair, ["signal", "c"]], "c", "a", "b"), [
-            "there was no (signal a followed by signal b) before it since install waits in unit 1 (at /items/0/1/0).",
+            "there was no (signal a then signal b) before it since install waits in unit 1 (at /items/0/1/0).",
             "signal b has yet to follow.", "signal c has yet to follow."])
         self.assertEqual(self.mentions(["or", pair, batch], "c", "a", "a"), [
             "there was no signal a before it.", "signal b has yet to follow and signal c has yet to follow.",
             "signal b has yet to follow and signal c has yet to follow."])
         self.assertEqual(self.mentions(["closure", ["every", 2, 2], ["signal", "b"]], "b"), [
-            'there was no moment of "every 2 moments from moment 2" before it.'])
+            'there was no moment of `every 2 from 2` before it.'])
         self.assertEqual(self.mentions(["seq", ["signal", "a"], ["every", 2, 2]], "a"), [
-            'the next moment of "every 2 moments from moment 2" has yet to follow.'])
+            'the next moment of `every 2 from 2` has yet to follow.'])
 
     def test_too_deep(self):
         rules = [simple("outer", ["signal", "out"], action=[GO]), self.TELL]
@@ -501,7 +501,7 @@ class PastTest(WhyCase):
     def test_the_parts_of_a_candidate_are_told(self):
         triple = simple("waits", ["seq", self.PAIR[1], ["signal", "c"]])
         self.assertEqual(self.told(triple, [self.A, ["sub", [self.B, ["abort"]], []], ["signal", "c", []]])[-2:], [
-            "as no earlier (signal a followed by signal b) is left.",
+            "as no earlier (signal a then signal b) is left.",
             "Signal a [] then signal b [] (at /items/1/1/1/1/0) was undone, as the `sub` at /items/1/1/1 aborted "
             "(A8)."])
 
@@ -604,7 +604,7 @@ class CommandTest(unittest.TestCase):
                                                                        "tell\n"))
             self.assertEqual(self.run_words(good, "1", "tel")[2], "why: there is no rule tel; did you mean tell?\n")
             self.assertEqual(self.run_words(good, "tell")[::2], (
-                3, "why: tell is no unit's number; the words are SCRIPT.json UNIT [RULE]\n"))
+                3, "why: tell is no unit's number; the words are SCRIPT UNIT [RULE]\n"))
             self.assertEqual(self.run_words(good)[0], 3)
             self.assertEqual(self.run_words("--all", good, "1"), self.run_words(good, "1"))
             self.assertEqual(self.run_words(good, "1", "--al")[0], 3)

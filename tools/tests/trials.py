@@ -30,10 +30,10 @@ def accepted_scripts() -> dict[str, object]:
     return {file.name: json.loads(file.read_text(encoding="utf-8")) for file in files}
 
 
-def refusals(texts: list[str]) -> list[str]:
-    """The program's answer to each script: its refusal, or nothing if it is accepted."""
+def refusals(texts: list[str], is_text: bool = False) -> list[str]:
+    """The program's answer to each script, JSON or text: its refusal, or nothing if it is accepted."""
     def refusal(text: str) -> str:
-        ended = program.run(text.encode("utf-8"), [])
+        ended = program.run(text.encode("utf-8"), program.words_for(is_text))
         if ended.status not in (0, 2):
             raise AssertionError(f"status {ended.status} {ended.errors} for {text}")
         return ended.output.strip()[len("refused "):] if ended.status == 2 else ""

@@ -3,7 +3,7 @@
 
     tools/tests/tutorial.py
 
-A ```sh block of the page has one command, and the ```text block after it the command's output. A ```json block is a
+A ```sh block of the page has one command, and the ```text block after it the command's output. A ```rules block is a
 part of the script whose file is named last before it. Each script in examples/tutorial has a stored report beside it.
 """
 
@@ -20,14 +20,14 @@ TOOLS = Path(__file__).resolve().parents[1]
 if __name__ == "__main__":
     sys.path.insert(0, str(TOOLS))
 
-from hipac_tools import program  # noqa: E402 - found by the path above
+from hipac_tools import program, proved  # noqa: E402 - found by the path above
 
 REPOSITORY = TOOLS.parent
 PAGE = REPOSITORY / "docs" / "TUTORIAL.md"
 SCRIPTS = REPOSITORY / "examples" / "tutorial"
 
 FENCED = re.compile(r"^```(\w*)\n(.*?)^```$", re.MULTILINE | re.DOTALL)
-NAMED = re.compile(r"examples/tutorial/([\w-]+\.json)")
+NAMED = re.compile(r"examples/tutorial/([\w-]+\.rules)")
 LINK = re.compile(r"\]\(([^)\s]+)\)")
 
 
@@ -52,19 +52,22 @@ def blocks(page: str) -> list[Block]:
 
 
 def scripts() -> list[Path]:
-    return sorted(SCRIPTS.glob("*.json"))
+    return sorted(SCRIPTS.glob("*.rules"))
 
 
 def report_of(script: Path) -> str:
     """What the program writes for a script."""
-    return program.run(script.read_bytes(), []).output
+    return program.run_script(script.read_bytes(), []).output
 
 
 def printed(command: str) -> str:
-    """What a command of the page prints to standard output. The program is $HIPAC if that is set."""
+    """What a command of the page prints to standard output. The programs are $HIPAC and $HIPAC_CHECK if
+    those are set."""
     words = shlex.split(command)
     if words[0] == "./hipac" and words[-2] == "<":
         return program.run((REPOSITORY / words[-1]).read_bytes(), words[1:-2]).output
+    if words[0] == "./hipac-check" and words[-2] == "<":
+        return program.run((REPOSITORY / words[-1]).read_bytes(), [], proved.program_path()).output
     if words[0] == "./hipac-tools":
         ended = subprocess.run(words, cwd=REPOSITORY, stdin=subprocess.DEVNULL, stdout=subprocess.PIPE, check=False)
         return ended.stdout.decode("utf-8")

@@ -1,5 +1,5 @@
 -- A script's text, from the reports of its units and the final state.
-use Rattle.std.proofs.Common.{◌≡◌, refl, sym, ap, subst, ◌∙◌, List, [], ◌∷◌, ◌++◌, map, take, length, ℕ, Bool, Ok, Err, codes, arith}
+use Rattle.std.proofs.Common.{◌≡◌, refl, sym, ap, subst, ◌∙◌, List, [], ◌∷◌, ◌++◌, map, take, length, ℕ, Bool, true, false, Result, Ok, Err, codes, arith}
 use Rattle.std.proofs.lemmas.List.{take_all}
 use Rattle.hp_model.specs.State as S
 use Rattle.hp_model.specs.State.{State, RuleState, Objects, initial_state, with_status}
@@ -8,15 +8,20 @@ use Rattle.hp_model.specs.Cells.{Cells}
 use Rattle.hp_model.specs.Soundness.{LeadsTo}
 use Rattle.hp_model.specs.Laws.{replay_units}
 use Rattle.hp_model.specs.Report.{Bytes, line, units_text, objects_text, report_text}
-use Rattle.hp_model.specs.Refusals.{Refusal}
+use Rattle.hp_model.specs.Refusals.{Decoded}
 use Rattle.hp_model.specs.Decode.{script_of}
-use Rattle.hp_model.specs.Output.{refusal_text, text_of, output}
+use Rattle.hp_model.specs.TextScripts.{PlacedRefusal, script_of_text}
+use Rattle.hp_model.specs.Output.{refusal_text, text_of, placed_refusal_text, text_of_notation, output}
 use Rattle.hp_report.specs.declared.report.RuleStatus.{RuleStatus}
 use Rattle.hp_report.specs.Mapped.{status, rule_state}
 use Rattle.hp_report.specs.Ending.{AreFinal, statuses}
 use Rattle.hp_report.specs.Text.{final_text}
 use Rattle.hp_report.proofs.Ends.{same_rules}
+use Rattle.hp_report.specs.declared.status.Status.TheVariants.{Reported, Refused}
 use Rattle.hp_top.specs.Units.{RanUnits, AreReplayed, IsOpening}
+use Rattle.hp_notation.specs.Readings.{told, script_in}
+use Rattle.hp_notation.proofs.Told.{told_ok}
+use Rattle.hipac.specs.Ends.{status_for, status_of}
 
 -- the statuses of rules without a past
 shown : (ss : List RuleStatus) → statuses (map rule_state ss) ≡ map status ss
@@ -45,9 +50,37 @@ whole_text script before after reports objects ss with_tree opening ran replayed
     ∙ ap (λ (b : Bytes). units_text library with_tree 1 reports ++ (line 0 (codes "final" ∷ []) ++ (objects_text library objects ++ (b ++ line 0 (codes "end" ∷ [])))))
     (sym (same_rules library.rules _ _ rules_are))
 
--- the text for the bytes read is the output
-pub output_of_script : (input : List ℕ) (with_tree : Bool) (script : Script) → script_of input ≡ Ok script → text_of with_tree (Ok script) ≡ output input with_tree
-output_of_script input with_tree script told = ap (text_of with_tree) (sym told)
+-- the text for the bytes read is the output, and so is the line that refuses them
+pub output_of_script : (input : List ℕ) (is_text with_tree : Bool) (script : Script) → script_in is_text input ≡ Ok script → text_of with_tree (Ok script) ≡ output input is_text with_tree
+output_of_script input false with_tree script read = ap (text_of with_tree) (sym (told_ok refusal_text (script_of input) script read))
+output_of_script input true with_tree script read = ap (text_of_notation with_tree) (sym (told_ok placed_refusal_text (script_of_text input) script read))
 
-pub output_of_refusal : (input : List ℕ) (with_tree : Bool) (r : Refusal) → script_of input ≡ Err r → refusal_text r ≡ output input with_tree
-output_of_refusal input with_tree r told = ap (text_of with_tree) (sym told)
+refused_json : (with_tree : Bool) (r : Decoded Script) (line : Bytes) → told refusal_text r ≡ Err line → line ≡ text_of with_tree r
+refused_json with_tree (Ok script) line read = cc
+refused_json with_tree (Err e) line read = let same : refusal_text e ≡ line = cc in sym same
+
+refused_text : (with_tree : Bool) (r : Result Script PlacedRefusal) (line : Bytes) → told placed_refusal_text r ≡ Err line → line ≡ text_of_notation with_tree r
+refused_text with_tree (Ok script) line read = cc
+refused_text with_tree (Err e) line read = let same : placed_refusal_text e ≡ line = cc in sym same
+
+pub output_of_refusal : (input : List ℕ) (is_text with_tree : Bool) (line : Bytes) → script_in is_text input ≡ Err line → line ≡ output input is_text with_tree
+output_of_refusal input false with_tree line read = refused_json with_tree (script_of input) line read
+output_of_refusal input true with_tree line read = refused_text with_tree (script_of_text input) line read
+
+-- ---- how the run ends
+
+reported : {R : Type 0} (line : R → Bytes) (r : Result Script R) (script : Script) → told line r ≡ Ok script → Reported ≡ status_for r
+reported line (Ok s) script read = refl
+reported line (Err e) script read = cc
+
+refused : {R : Type 0} (line : R → Bytes) (r : Result Script R) (text : Bytes) → told line r ≡ Err text → Refused ≡ status_for r
+refused line (Ok s) text read = cc
+refused line (Err e) text read = refl
+
+pub status_of_script : (input : List ℕ) (is_text : Bool) (script : Script) → script_in is_text input ≡ Ok script → Reported ≡ status_of input is_text
+status_of_script input false script read = reported refusal_text (script_of input) script read
+status_of_script input true script read = reported placed_refusal_text (script_of_text input) script read
+
+pub status_of_refusal : (input : List ℕ) (is_text : Bool) (line : Bytes) → script_in is_text input ≡ Err line → Refused ≡ status_of input is_text
+status_of_refusal input false line read = refused refusal_text (script_of input) line read
+status_of_refusal input true line read = refused placed_refusal_text (script_of_text input) line read

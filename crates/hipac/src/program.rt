@@ -1,6 +1,6 @@
 //! The program, as a function of its words and its devices.
 
-ghost use Rattle.std.specs.Prelude.{◌≡◌, ◌≢◌, IfOk, IfSome, OnErr, OnOk, Ok, true, false};
+ghost use Rattle.std.specs.Prelude.{◌≡◌, ◌≢◌, IfOk, IfSome, OnErr, Ok, true, false};
 ghost use Rattle.std.specs.Result.{IfErr};
 ghost use Rattle.std.specs.Io.KnownBytes.{Appends};
 ghost use Rattle.hp_model.specs.Output.{output};
@@ -54,12 +54,12 @@ pub fn program<T: Threads + Sync, R: Source, W: Sink>(
 
     // At 0 and 2 it has written the definition's output for the bytes up to the reader's end, with the trees that the
     // options ask for; and in any case a prefix of it.
-    ensures code { OnOk asked (result.code ≢ 4 → IfSome (R.remaining reader.old) (λ input.
-        result.code ≡ code_of (Ok (status_of input)))) }
+    ensures code { IfOk asked (λ options. result.code ≢ 4 → IfSome (R.remaining reader.old) (λ input.
+        result.code ≡ code_of (Ok (status_of input options.text)))) }
     ensures output { IfOk asked (λ options. result.code ≢ 4 → IfSome (R.remaining reader.old) (λ input.
-        Appends (W.contents writer.old) (W.contents writer.new) (output input options.tree))) }
+        Appends (W.contents writer.old) (W.contents writer.new) (output input options.text options.tree))) }
     ensures begins { IfOk asked (λ options. IfSome (R.remaining reader.old) (λ input.
-        Begins (W.contents writer.old) (W.contents writer.new) (output input options.tree))) }
+        Begins (W.contents writer.old) (W.contents writer.new) (output input options.text options.tree))) }
     ensures read { R.has_failed reader.new ≡ true → result.code ≡ 4 }
     ensures write { W.has_failed writer.new ≡ true → result.code ≡ 4 }
 {

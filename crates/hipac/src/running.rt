@@ -9,11 +9,12 @@ ghost use Rattle.hp_report.specs.Mapped.{library, evaluation};
 ghost use Rattle.hp_script.specs.Mapped.{script as script_of_model};
 ghost use Rattle.hipac.specs.Ends.{status_of};
 
+use hp_notation::{Unread, read_script};
 use hp_report::{
     Fault, ReadFault, Report, Sink, Source, Status, final_state, read_up_to, write_report,
     write_text,
 };
-use hp_script::{DecodeError, Script, decode, refusal_text};
+use hp_script::Script;
 use hp_top::{opening, run_items};
 use hp_words::Options;
 use std::alloc::{AllocError, Global};
@@ -44,12 +45,13 @@ pub fn run<T: Threads + Sync, R: Source, W: Sink>(
 
     // On `Ok` it has written the definition's output for the bytes up to the reader's end, and nothing else.
     ensures output { OnOk result (IfSome (R.remaining reader.old) (λ input.
-        Appends (W.contents writer.old) (W.contents writer.new) (output input options.tree))) }
-    ensures status { IfOk result (λ status. IfSome (R.remaining reader.old) (λ input. status ≡ status_of input)) }
+        Appends (W.contents writer.old) (W.contents writer.new) (output input options.text options.tree))) }
+    ensures status { IfOk result (λ status. IfSome (R.remaining reader.old) (λ input.
+        status ≡ status_of input options.text)) }
 
     // However it ends, what was written is a prefix of that output.
     ensures begins { IfSome (R.remaining reader.old) (λ input.
-        Begins (W.contents writer.old) (W.contents writer.new) (output input options.tree)) }
+        Begins (W.contents writer.old) (W.contents writer.new) (output input options.text options.tree)) }
 
     // It returns a fault of a device exactly if a call has failed; after a failed read nothing was written.
     ensures read { result ≡ Err Fault.Read ↔ (R.has_failed reader.new ≡ true) }
@@ -59,13 +61,13 @@ pub fn run<T: Threads + Sync, R: Source, W: Sink>(
     // If memory ran out, nothing was written.
     ensures memory { result ≡ Err Fault.NoMemory → writer.new ≡ writer.old }
 {
-    let input = read_script(alloc, reader)?;
+    let input = read_input(alloc, reader)?;
     let status = respond(rt, alloc, input.as_slice(), writer, options)?;
     Ok(status)
 }
 
 /// Reads the bytes of a script up to the reader's end, or one byte more than the longest script has.
-fn read_script<R: Source>(alloc: Global, reader: &mut R) -> Result<Vec<u8>, ReadFault>
+fn read_input<R: Source>(alloc: Global, reader: &mut R) -> Result<Vec<u8>, ReadFault>
     requires { R.has_failed reader.old ≡ false }
     ensures bytes { IfOk result (λ input. IfSome (R.remaining reader.old) (λ all. input.items ≡ take 1048577 all)) }
     ensures read { result ≡ Err ReadFault.Read ↔ (R.has_failed reader.new ≡ true) }
@@ -83,14 +85,15 @@ fn respond<T: Threads + Sync, W: Sink>(
 ) -> Result<Status, Fault>
     requires { W.has_failed writer.old ≡ false }
     ensures output { OnOk result (
-        Appends (W.contents writer.old) (W.contents writer.new) (output input.now options.tree)) }
-    ensures status { IfOk result (λ status. status ≡ status_of input.now) }
-    ensures begins { Begins (W.contents writer.old) (W.contents writer.new) (output input.now options.tree) }
+        Appends (W.contents writer.old) (W.contents writer.new) (output input.now options.text options.tree)) }
+    ensures status { IfOk result (λ status. status ≡ status_of input.now options.text) }
+    ensures begins { Begins (W.contents writer.old) (W.contents writer.new)
+        (output input.now options.text options.tree) }
     ensures read { result ≢ Err Fault.Read }
     ensures write { result ≡ Err Fault.Write ↔ (W.has_failed writer.new ≡ true) }
     ensures memory { result ≡ Err Fault.NoMemory → writer.new ≡ writer.old }
 {
-    match decode(alloc, input) {
+    match read_script(alloc, input, options.text) {
         Ok(script) => {
             let report = evaluated(rt, alloc, script, options.workers)?;
             write_report(alloc, &report, options.tree, writer)?;
@@ -98,12 +101,11 @@ fn respond<T: Threads + Sync, W: Sink>(
             mem::forget(report);
             Ok(Status::Reported)
         }
-        Err(DecodeError::Refused(refusal)) => {
-            let line = refusal_text(alloc, &refusal)?;
+        Err(Unread::Refused(line)) => {
             write_text(writer, line.as_bytes())?;
             Ok(Status::Refused)
         }
-        Err(DecodeError::Memory) => Err(Fault::NoMemory),
+        Err(Unread::Memory) => Err(Fault::NoMemory),
     }
 }
 

@@ -7,7 +7,9 @@ ghost use Rattle.hp_report.specs.Device.{Begins};
 ghost use Rattle.hp_report.specs.Exits.{code_of};
 ghost use Rattle.hp_lines.specs.Live as L;
 ghost use Rattle.hp_live.specs.Ends.{status_of};
+ghost use Rattle.hp_live.specs.Kept.{manner};
 ghost use Rattle.hp_words.specs.Words.{word_code_of};
+ghost use Rattle.hipac_live.specs.Asked.{manner_of};
 
 use hp_live::{Fault, Options, exit_code, serve};
 use hp_report::{Sink, Source};
@@ -39,11 +41,12 @@ pub struct Ended {
 /// The options of a rule base for those of the words.
 fn options_for(words: hp_words::Options) -> Options
     ensures workers { result.workers ≡ words.workers }
-    ensures tree { result.tree ≡ words.tree }
+    ensures manner { manner result ≡ manner_of words }
 {
     Options {
         workers: words.workers,
         tree: words.tree,
+        text: words.text,
     }
 }
 
@@ -66,11 +69,11 @@ pub fn program<T: Threads + Sync, R: Source, W: Sink>(
     // At 0 and 2 it has written the definition's answers for all bytes up to the reader's end, with the trees that the
     // options ask for; and in any case a prefix of them.
     ensures code { IfOk asked (λ options. result.code ≢ 4 → IfSome (R.remaining reader.old) (λ input.
-        result.code ≡ code_of (Ok (status_of options.tree input)))) }
+        result.code ≡ code_of (Ok (status_of (manner_of options) input)))) }
     ensures output { IfOk asked (λ options. result.code ≢ 4 → IfSome (R.remaining reader.old) (λ input.
-        Appends (W.contents writer.old) (W.contents writer.new) (L.output options.tree input))) }
+        Appends (W.contents writer.old) (W.contents writer.new) (L.output (manner_of options) input))) }
     ensures begins { IfOk asked (λ options. IfSome (R.remaining reader.old) (λ input.
-        Begins (W.contents writer.old) (W.contents writer.new) (L.output options.tree input))) }
+        Begins (W.contents writer.old) (W.contents writer.new) (L.output (manner_of options) input))) }
     ensures read { R.has_failed reader.new ≡ true → result.code ≡ 4 }
     ensures write { W.has_failed writer.new ≡ true → result.code ≡ 4 }
 {

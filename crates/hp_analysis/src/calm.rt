@@ -164,6 +164,7 @@ fn measure(expr: &Expr) -> Option<Option<u128>>
         }
         Expr::And(a, b) | Expr::Or(a, b) | Expr::Comparison(_, a, b) => measure_both(a, b),
         Expr::FieldOf { .. }
+        | Expr::KeyOf { .. }
         | Expr::NewField { .. }
         | Expr::OldField { .. }
         | Expr::KeyIn { .. }
@@ -171,7 +172,7 @@ fn measure(expr: &Expr) -> Option<Option<u128>>
         | Expr::TimeOf { .. }
         | Expr::Now => Some(Some(FARTHEST)),
         Expr::Count => None,
-        Expr::KeyOf { .. } | Expr::ValueOf { .. } => Some(None),
+        Expr::ValueOf { .. } => Some(None),
     }
 }
 

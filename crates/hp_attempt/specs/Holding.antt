@@ -71,4 +71,4 @@ pub record IsAccepted (old new : Seeing) (reads : List Read) (layer : Entries) :
   pub covers : Covers recorded reads
   pub adds : AddsReads (IsForAny (written old) reads) old.reads recorded.reads
   pub takes : TakesIn recorded new layer
-  pub so_it_was : Holds (beneath new) new.reads
+  pub reads_held : Holds (beneath new) new.reads

@@ -18,8 +18,8 @@ use std::collections::VecDeque;
 /// Takes in attempts at tasks that are siblings, from the first on: up to a task that has none, or whose attempt
 /// `settle` rejects, or past one that ended with a veto where `stop_at_veto` is set.
 ///
-/// `attempts` has a place for each task, in the same order; of two rows of different lengths the longer one's end isn't
-/// looked at. The answer is the outcomes of the accepted attempts, and the places that are left, as they were: a
+/// `attempts` has a place for each task, in the same order; extra entries of the longer list are
+/// ignored. The answer is the outcomes of the accepted attempts, and the places that are left, as they were: a
 /// rejected attempt stays in its place.
 ///
 /// An error means that memory ran out. Some of the front's first attempts have then been accepted, and nothing else.

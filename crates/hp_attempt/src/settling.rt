@@ -62,7 +62,7 @@ pub fn settle(
     ensures reads { IfOk result (λ r.
         r ≡ Settled.Accepted →
         AddsReads (IsForAny (written view.old) attempt.now.reads) view.old.reads view.new.reads) }
-    ensures so_it_was { IfOk result (λ r. r ≡ Settled.Accepted → Holds (beneath view.new) view.new.reads) }
+    ensures reads_held { IfOk result (λ r. r ≡ Settled.Accepted → Holds (beneath view.new) view.new.reads) }
     ensures goes_on { GoesOn view.old view.new }
     ensures unchanged { OnErr result (IsSame view.old view.new) }
     ensures err { OnErr result (Restores view.old view.new) }
@@ -131,7 +131,7 @@ fn read_again(alloc: Global, view: &mut View, seen: &Seen, found: &Found) -> Res
     }
 }
 
-// The same of a class: with the rows of its objects, where they were read with it.
+// Reads a class again: with the rows of its objects, where they were read with it.
 fn read_class_again(
     alloc: Global,
     view: &mut View,
@@ -153,7 +153,7 @@ fn read_class_again(
     }
 }
 
-// The same of a part of a class. Where the view can't read the part alone, it reads all of the class.
+// Reads a part of a class again. Where the view can't read the part alone, it reads all of the class.
 fn read_part_again(
     alloc: Global,
     view: &mut View,

@@ -6,7 +6,8 @@ ghost use Rattle.hp_model.specs.Occurrences.{primitive_occurrence};
 ghost use Rattle.hp_value.specs.Mapped.{primitive, occurrence};
 ghost use Rattle.hp_detect.specs.Stepped.{gathered_after};
 
-use hp_value::{Occurrence, Prim};
+use hp_value::{Occurrence, OccurrenceParts, Prim};
+use smallvec::SmallVec;
 use std::alloc::{AllocError, Global};
 use std::sync::Arc;
 
@@ -14,7 +15,7 @@ use std::sync::Arc;
 pub fn single(alloc: Global, prim: &Prim) -> Result<Occurrence, AllocError>
     ensures { IfOk result (λ o. occurrence o ≡ primitive_occurrence (primitive prim.now)) }
 {
-    let mut parts = Vec::with_capacity(alloc, 1)?;
+    let mut parts = SmallVec::new(alloc);
     parts.push(prim.clone()?)?;
     Ok(Occurrence { parts, count: 1 })
 }
@@ -65,7 +66,7 @@ fn ended(
         option_map occurrence o
         ≡ Some (record { parts = (occurrence first.now).parts ++ (occurrence last).parts; count = count })) }
 {
-    let parts = followed(alloc, &first.parts, last.parts)?;
+    let parts = followed(alloc, first.parts.as_slice(), last.parts)?;
     Ok(Some(Occurrence { parts, count }))
 }
 
@@ -97,10 +98,14 @@ pub fn gathered(
 }
 
 /// The parts of one occurrence followed by those of another.
-fn followed(alloc: Global, first: &[Prim], mut last: Vec<Prim>) -> Result<Vec<Prim>, AllocError>
+fn followed(
+    alloc: Global,
+    first: &[Prim],
+    mut last: OccurrenceParts,
+) -> Result<OccurrenceParts, AllocError>
     ensures { IfOk result (λ v. map primitive v.items ≡ map primitive first.now ++ map primitive last.items) }
 {
-    let mut parts = Vec::with_capacity(alloc, first.len().saturating_add(last.len()))?;
+    let mut parts = SmallVec::with_capacity(alloc, first.len().saturating_add(last.len()))?;
     for part in first {
         parts.push(part.clone()?)?;
     }

@@ -69,7 +69,7 @@ use Rattle.hp_query.specs.contracts.query.Query as Query
 use Rattle.hp_query.specs.contracts.aggregate.Aggregate as Aggregate
 use Rattle.hp_query.specs.contracts.entry.Entry as Entry
 use Rattle.hp_query.proofs.entry.Findings.TheSendSync as findings
-use Rattle.hp_value.proofs.halt.Veto.TheSendSync as veto
+use Rattle.hp_value.proofs.veto.Veto.TheSendSync as veto
 use Rattle.hp_rule.specs.contracts.rule.Rule as Rule
 use Rattle.hp_rule.specs.contracts.library.Library as Library
 use Rattle.hp_rule.proofs.rule_lists.RuleLists.TheSendSync as rule_lists
@@ -278,4 +278,4 @@ pub view_send : IsSend View.the_row
 view_send = search (snapshot_send, reads_send, layer_row_send, layer_row_sync, cell_value_send, cell.the_send, heap.crosses, sendable) depth 30 fits 20000
 
 pub progress_send : IsSend Progress.the_row
-progress_send = search (outcome_send, attempt_send, heap.crosses, sendable) depth 30 fits 20000
+progress_send = search (outcome_send, attempt_send, veto.the_send, heap.crosses, sendable) depth 30 fits 20000

@@ -97,8 +97,8 @@ impl<R: Threads + Sync> Engine<'_, R> {
         self.run_with(view, tasks, stop_at_veto, &NoGate, false)
     }
 
-    /// The same with a gate, which is notified of the tasks that workers try. If `eager` is set, workers are started
-    /// even if they don't pay, as many as tasks and threads allow.
+    /// Fires the tasks of a group as siblings, with a gate that is notified of the tasks that workers try. If `eager`
+    /// is set, workers are started even if they don't pay, as many as tasks and threads allow.
     fn run_with<G: Gate + Sync>(
         &self,
         view: &mut View,

@@ -148,7 +148,7 @@ impl<R> Engine<'_, R> {
             (course_in course)) }
     {
         end_transaction(view, mark, &course.end)?;
-        let end = action_veto(self.lib, task.rule, &course.end)?;
+        let end = action_veto(self.alloc, self.lib, task.rule, &course.end)?;
         let Course {
             end: _,
             queued,

@@ -57,7 +57,7 @@ impl<'a> Context<'a> {
         }
     }
 
-    /// The same context with a name for a row.
+    /// This context with a name for a row.
     pub(crate) fn bound<'b>(&'b self, name: &'b str, key: Key, row: &'b Row) -> Context<'b>
         ensures context { mapped.context result
             ≡ with_row name.entry.now (record { key = key; row = row.entry.now }) (mapped.context self.entry.now) }
@@ -71,7 +71,7 @@ impl<'a> Context<'a> {
         }
     }
 
-    /// The same context with a name for a value.
+    /// This context with a name for a value.
     pub(crate) fn holding<'b>(&'b self, name: &'b str, value: &'b Value) -> Context<'b>
         ensures context { mapped.context result
             ≡ with_let name.entry.now (value_of value.entry.now) (mapped.context self.entry.now) }

@@ -118,7 +118,7 @@ impl<R> Engine<'_, R> {
             }
             Verdict::Faulty(cause) => {
                 let what = fired(task, ConditionEnd::WithFault(cause));
-                let veto = fault_veto(self.lib, task.rule);
+                let veto = fault_veto(self.alloc, self.lib, task.rule)?;
                 let outcome = without_effects(self.alloc, what, veto)?;
                 Ok(Decision::Over(outcome))
             }

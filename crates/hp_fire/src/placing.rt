@@ -50,7 +50,7 @@ pub(crate) fn place_tasks(alloc: Global, tasks: Vec<Task>) -> Result<Placed, All
     })
 }
 
-/// The same, where not all tasks are immediate.
+/// Divides new tasks, not all immediate, by their coupling modes.
 fn sort_tasks(alloc: Global, tasks: Vec<Task>) -> Result<Placed, AllocError>
     ensures immediate { IfOk result (λ p. map task_of p.immediate.items
         ≡ filter (λ (t : ModelTask). is_immediate t.place) (map task_of tasks.items)) }

@@ -30,7 +30,10 @@ pub(crate) fn run_veto(
 {
     match message {
         Some(message) => veto_saying(alloc, context, message),
-        None => Ok(vetoed(alloc, context.rule, None)),
+        None => {
+            let course = vetoed(alloc, context.rule, None)?;
+            Ok(course)
+        }
     }
 }
 
@@ -41,17 +44,25 @@ fn veto_saying(alloc: Global, context: &Context<'_>, message: &Expr) -> Result<C
         Steps lib (model.run_statement statement level (context_in context.now)) view view result }
 {
     let said = message.eval(alloc, &context.env)?;
-    Ok(vetoed(alloc, context.rule, Some(said)))
+    let course = vetoed(alloc, context.rule, Some(said))?;
+    Ok(course)
 }
 
 /// The course of a veto. In the body of a script a veto does nothing; a checked body has none.
-fn vetoed(alloc: Global, rule: Option<RuleNo>, message: Option<Value>) -> Course
-    ensures { (lib : ModelLibrary) (view : Seeing)
-        → Runs lib (vetoes rule (option_map value message)) view view (course_in result) }
+fn vetoed(
+    alloc: Global,
+    rule: Option<RuleNo>,
+    message: Option<Value>,
+) -> Result<Course, AllocError>
+    ensures { IfOk result (λ c. (lib : ModelLibrary) (view : Seeing)
+        → Runs lib (vetoes rule (option_map value message)) view view (course_in c)) }
 {
     match rule {
-        Some(rule) => Course::ended(alloc, End::Veto(Veto { rule, message })),
-        None => Course::ended(alloc, End::Done),
+        Some(rule) => {
+            let veto = Veto::new(alloc, rule, message)?;
+            Ok(Course::ended(alloc, End::Veto(veto)))
+        }
+        None => Ok(Course::ended(alloc, End::Done)),
     }
 }
 
@@ -60,6 +71,7 @@ fn vetoed(alloc: Global, rule: Option<RuleNo>, message: Option<Value>) -> Course
 /// The veto with which the firing of an action of this rule ends, where the action ended so; `None` if it doesn't veto.
 /// A closed rule vetoes whenever its action doesn't commit.
 pub(crate) fn action_veto(
+    alloc: Global,
     lib: &Library,
     rule: RuleNo,
     how: &End,
@@ -68,7 +80,7 @@ pub(crate) fn action_veto(
         IfOk result (λ v. option_map veto_in v ≡ model.action_veto closed rule (end how.now)) }
 {
     if is_closed(lib, rule) {
-        closed_veto(rule, how)
+        closed_veto(alloc, rule, how)
     } else {
         own_veto(how)
     }
@@ -76,12 +88,12 @@ pub(crate) fn action_veto(
 
 /// The veto of a closed rule whose action ended so; `None` if it commits. The veto of another firing inside the action
 /// is passed on as it is.
-fn closed_veto(rule: RuleNo, how: &End) -> Result<Option<Veto>, AllocError>
+fn closed_veto(alloc: Global, rule: RuleNo, how: &End) -> Result<Option<Veto>, AllocError>
     ensures { IfOk result (λ v. option_map veto_in v ≡ model.closed_veto rule (end how.now)) }
 {
     match how {
         End::Done => Ok(None),
-        End::Abort(_) => Ok(Some(silent(rule))),
+        End::Abort(_) => Ok(Some(Veto::new(alloc, rule, None)?)),
         End::Vetoed(veto) | End::Veto(veto) => Ok(Some(veto.clone()?)),
     }
 }
@@ -97,24 +109,18 @@ fn own_veto(how: &End) -> Result<Option<Veto>, AllocError>
 }
 
 /// The veto with which the firing of this rule's condition ends if the condition faults; `None` if it doesn't veto.
-pub(crate) fn fault_veto(lib: &Library, rule: RuleNo) -> Option<Veto>
+pub(crate) fn fault_veto(
+    alloc: Global,
+    lib: &Library,
+    rule: RuleNo,
+) -> Result<Option<Veto>, AllocError>
     ensures { let closed = (rule_at (library lib.now) rule).closed in
-        option_map veto_in result ≡ model.fault_veto closed rule }
+        IfOk result (λ v. option_map veto_in v ≡ model.fault_veto closed rule) }
 {
     if is_closed(lib, rule) {
-        Some(silent(rule))
+        Ok(Some(Veto::new(alloc, rule, None)?))
     } else {
-        None
-    }
-}
-
-/// A veto without a message.
-fn silent(rule: RuleNo) -> Veto
-    ensures { veto_in result ≡ model.silent rule }
-{
-    Veto {
-        rule,
-        message: None,
+        Ok(None)
     }
 }
 

@@ -1,5 +1,5 @@
 -- That accepted lines are a journal.
-use Rattle.std.proofs.Common.{◌≡◌, ℕ, suc, ◌+◌, nat_lt, Bool, true, false, cond, List, [], ◌∷◌, ◌++◌, length, Option, Some, None, Ok, Err, refl, sym, ap, subst, ◌∙◌, append_assoc, append-nil, arith}
+use Rattle.std.proofs.Common.{◌≡◌, ℕ, suc, ◌+◌, nat_lt, Bool, true, false, cond, List, [], ◌∷◌, ◌++◌, length, Option, Some, None, Result, Ok, Err, refl, sym, ap, subst, ◌∙◌, append_assoc, append-nil, arith}
 use Rattle.std.specs.Prelude.{codes, flat_map}
 use Rattle.std.proofs.lemmas.List.{length-append}
 use Rattle.serde_json.specs.Data.{Data}
@@ -9,19 +9,26 @@ use Rattle.hp_model.specs.State.{State, initial_state}
 use Rattle.hp_model.specs.Cascade.{Unit, Script, UnitReport, Evaluation, unit_report, run_unit, run_units, evaluate}
 use Rattle.hp_model.specs.Scopes.{Scope}
 use Rattle.hp_model.specs.Refusals.{Path, Refusal, Decoded, under_root, item_at, over_limit, size_limit, shaped}
-use Rattle.hp_model.specs.Json.{list_of}
-use Rattle.hp_model.specs.Decode.{Version, Schedule, no_item, Root, version_at, root_of, json_at, unit_at, units_from, units_at, decode, script_of}
+use Rattle.hp_model.specs.Json.{json_of, list_of}
+use Rattle.hp_model.specs.Decode.{Version, Schedule, no_item, Root, version_at, root_of, readable, json_at, unit_at, units_from, units_at, decode, script_of}
 use Rattle.hp_model.specs.Report.{Bytes, transaction_text, units_text}
-use Rattle.hp_model.specs.Output.{text_of}
+use Rattle.hp_model.specs.NotationTree as T
+use Rattle.hp_model.specs.NotationPlaces.{Place, read_text, read_text_line}
+use Rattle.hp_model.specs.TextScripts.{placed, script_place, line_place, script_checked, line_checked, text_checked, text_line_checked, script_of_text}
+use Rattle.hp_model.specs.Output.{refusal_text, placed_refusal_text, text_of}
 use Rattle.hp_report.specs.Text.{final_text}
 use Rattle.hp_script.specs.Scopes.{library_scope}
 use Rattle.hp_script.specs.Requests.{Request, item, show, ShowForm, show_form_in, excerpt_from, show_of, nothing_since, item_of, request_from, request_at, request_of}
 use Rattle.hp_script.specs.Timed.{TimedScript, library_at, timed_script_at, timed_script_of, untimed}
 use Rattle.hp_script.proofs.Timed.{untimed_at}
+use Rattle.hp_notation.specs.Readings.{timed_script_in, request_in}
+use Rattle.hp_notation.proofs.Told.{told_ok}
 use Rattle.hp_lines.specs.Lines.{Line}
-use Rattle.hp_lines.specs.Live.{RuleBase, new_base, up, closed, opening_answer, later_answer, stage_after}
+use Rattle.hp_lines.specs.Readings.{script_read, line_read, script_value, line_value}
+use Rattle.hp_lines.specs.Live.{Manner, RuleBase, new_base, up, closed, opening_answer, later_answer, stage_after}
 use Rattle.hp_lines.specs.Journal.{item_in, value_if, body_if, accepted, accepted_bodies, AcceptedLinesReplay}
 use Rattle.hp_lines.proofs.Anywhere.{unit_goes}
+use Rattle.hp_lines.proofs.Lines.{too_long}
 use Rattle.hp_lines.proofs.Pieces.{closed_stage}
 
 -- ---- units, and then more units
@@ -72,14 +79,46 @@ from-append version rules scope path before i (d ∷ ds) es s read =
 
 -- ---- a line that is accepted
 
-unless_ok : {A : Type 0} (b : Bool) (e : Refusal) (r : Decoded A) (x : A) → cond b (Err e) r ≡ Ok x → r ≡ Ok x
+unless_ok : {A R : Type 0} (b : Bool) (e : R) (r : Result A R) (x : A) → cond b (Err e) r ≡ Ok x → r ≡ Ok x
 unless_ok true e r x h = cc
 unless_ok false e r x h = h
 
--- its value, and what is read of it
-record IsItem (version : Version) (library : Library) (clock : ℕ) (l : Line) (s : Schedule) : Type 0 where
+placed_ok : {A : Type 0} (place : Path → Place) (r : Decoded A) (x : A) → placed place r ≡ Ok x → r ≡ Ok x
+placed_ok place (Ok y) x e = let same : y ≡ x = cc in ap (λ z. Ok z) same
+placed_ok place (Err r) x e = cc
+
+readable_some : (o : Option Data) (d : Data) → readable o ≡ Ok d → o ≡ Some d
+readable_some None d e = cc
+readable_some (Some v) d e = let same : v ≡ d = cc in ap (λ z. Some z) same
+
+-- the value for which a line stands, and what is asked by it
+record Asks (is_text : Bool) (version : Version) (library : Library) (clock : ℕ) (l : Line) (r : Request) : Type 0 where
   pub value : Data
-  pub value_is : json_at l ≡ Ok value
+  pub value_is : line_value is_text l ≡ Some value
+  pub asked : request_at version library clock value ≡ Ok r
+
+asks_by : (version : Version) (library : Library) (clock : ℕ) (l : Line) (r : Request) (read : Result T.Node Place)
+    → read_text_line l ≡ read → line_checked (request_at version library clock) l read ≡ Ok r → Asks true version library clock l r
+asks_by version library clock l r (Ok n) is asked = record {
+  value = T.data_of n;
+  value_is = ap line_read is;
+  asked = placed_ok (line_place l n) (request_at version library clock (T.data_of n)) r asked;
+}
+asks_by version library clock l r (Err fault) is asked = cc
+
+asks : (is_text : Bool) (version : Version) (library : Library) (clock : ℕ) (l : Line) (r : Request) → request_in is_text version library clock l ≡ Ok r → Asks is_text version library clock l r
+unfolding json_at request_of text_line_checked
+asks false version library clock l r read =
+    let parts = both (json_at l) (request_at version library clock) r (unless_ok (nat_lt 1048576 (length l)) (over_limit size_limit) (json_at l >>= request_at version library clock) r (told_ok refusal_text (request_of version library clock l) r read)) in
+    record { value = parts.first; value_is = readable_some (json_of l) parts.first parts.is; asked = parts.then_is }
+asks true version library clock l r read =
+    asks_by version library clock l r (read_text_line l) refl
+    (unless_ok (nat_lt 1048576 (length l)) too_long (line_checked (request_at version library clock) l (read_text_line l)) r (told_ok placed_refusal_text (text_line_checked (request_at version library clock) l) r read))
+
+-- the value of an accepted item, and what is read of it
+record IsItem (is_text : Bool) (version : Version) (library : Library) (clock : ℕ) (l : Line) (s : Schedule) : Type 0 where
+  pub value : Data
+  pub value_is : line_value is_text l ≡ Some value
   pub reads : unit_at version library.rules (library_scope library) [] (nothing_since clock) value ≡ Ok s
 
 item_or_show : (version : Version) (library : Library) (clock : ℕ) (d : Data) (form : Option ShowForm) (s : Schedule) → request_from version library clock d form ≡ Ok (item s) → item_of version library clock d ≡ Ok (item s)
@@ -96,13 +135,13 @@ asked_for s = Ok (item s)
 same_item : (s t : Schedule) (r : Decoded Schedule) → r ≡ Ok s → asked_for s ≡ asked_for t → r ≡ Ok t
 same_item s t r read e = let same : s ≡ t = cc in read ∙ ap (λ (x : Schedule). Ok x) same
 
-item_read : (version : Version) (library : Library) (clock : ℕ) (l : Line) (s : Schedule) → request_of version library clock l ≡ Ok (item s) → IsItem version library clock l s
-unfolding request_of request_at item_of
-item_read version library clock l s read =
-    let parts = both (json_at l) (request_at version library clock) (item s) (unless_ok (nat_lt 1048576 (length l)) (over_limit size_limit) (json_at l >>= request_at version library clock) (item s) read) in
-    let asked = item_or_show version library clock parts.first (show_form_in parts.first) s parts.then_is in
-    let schedule = both (unit_at version library.rules (library_scope library) [] (nothing_since clock) parts.first) (λ x. Ok (item x)) (item s) asked in
-    record { value = parts.first; value_is = parts.is; reads = same_item schedule.first s _ schedule.is schedule.then_is }
+item_read : (is_text : Bool) (version : Version) (library : Library) (clock : ℕ) (l : Line) (s : Schedule) → request_in is_text version library clock l ≡ Ok (item s) → IsItem is_text version library clock l s
+unfolding request_at item_of
+item_read is_text version library clock l s read =
+    let asking = asks is_text version library clock l (item s) read in
+    let asked = item_or_show version library clock asking.value (show_form_in asking.value) s asking.asked in
+    let schedule = both (unit_at version library.rules (library_scope library) [] (nothing_since clock) asking.value) (λ x. Ok (item x)) (item s) asked in
+    record { value = asking.value; value_is = asking.value_is; reads = same_item schedule.first s _ schedule.is schedule.then_is }
 
 -- ---- lines after the first
 
@@ -113,12 +152,12 @@ record Leads (S : State) (before : Schedule) (base : RuleBase) : Type 0 where
   pub units_are : length (run_units base.library before.units S).units ≡ base.units
 
 -- items that are read after others lead on, and say more
-record Leads_on (with_tree : Bool) (S : State) (path : Path) (base : RuleBase) (before : Schedule) (i : ℕ) (ds : List Data) (bodies : Bytes) (end : RuleBase) : Type 0 where
+record Leads_on (manner : Manner) (S : State) (path : Path) (base : RuleBase) (before : Schedule) (i : ℕ) (ds : List Data) (bodies : Bytes) (end : RuleBase) : Type 0 where
   pub all : Schedule
   pub reads : units_from base.version base.library.rules (library_scope base.library) path before i ds ≡ Ok all
   pub library_is : end.library ≡ base.library
   pub state_is : (run_units base.library all.units S).state ≡ end.state
-  pub text : units_text base.library with_tree 1 (run_units base.library all.units S).units ≡ units_text base.library with_tree 1 (run_units base.library before.units S).units ++ bodies
+  pub text : units_text base.library manner.with_tree 1 (run_units base.library all.units S).units ≡ units_text base.library manner.with_tree 1 (run_units base.library before.units S).units ++ bodies
 
 -- the rule base after an item
 abbrev ran_to : RuleBase → Schedule → RuleBase
@@ -147,53 +186,53 @@ leads_joined S base before s leads =
       units_are = ap (λ (e : Evaluation). length e.units) both_ran ∙ length-append old new ∙ ap (λ n. n + length new) leads.units_are;
     }
 
-text_joined : (with_tree : Bool) (S : State) (base : RuleBase) (before s : Schedule) → Leads S before base
-    → units_text base.library with_tree 1 (run_units base.library (before.units ++ s.units) S).units
-    ≡ units_text base.library with_tree 1 (run_units base.library before.units S).units ++ units_text base.library with_tree (base.units + 1) (run_units base.library s.units base.state).units
-text_joined with_tree S base before s leads =
+text_joined : (manner : Manner) (S : State) (base : RuleBase) (before s : Schedule) → Leads S before base
+    → units_text base.library manner.with_tree 1 (run_units base.library (before.units ++ s.units) S).units
+    ≡ units_text base.library manner.with_tree 1 (run_units base.library before.units S).units ++ units_text base.library manner.with_tree (base.units + 1) (run_units base.library s.units base.state).units
+text_joined manner S base before s leads =
     let old = (run_units base.library before.units S).units in
     let new = (run_units base.library s.units base.state).units in
     let number : 1 + length old ≡ base.units + 1 = omega (arith, leads.units_are) in
-    ap (λ (e : Evaluation). units_text base.library with_tree 1 e.units) (ran_joined S base before s leads)
-    ∙ text-append base.library with_tree 1 old new
-    ∙ ap (λ n. units_text base.library with_tree 1 old ++ units_text base.library with_tree n new) number
+    ap (λ (e : Evaluation). units_text base.library manner.with_tree 1 e.units) (ran_joined S base before s leads)
+    ∙ text-append base.library manner.with_tree 1 old new
+    ∙ ap (λ n. units_text base.library manner.with_tree 1 old ++ units_text base.library manner.with_tree n new) number
 
 -- one line more, by what is read of it
-step : (with_tree : Bool) (S : State) (path : Path) (base : RuleBase) (before : Schedule) (i : ℕ) (l : Line) (ls : List Line) (end : RuleBase)
-    → ((base : RuleBase) (before : Schedule) (i : ℕ) → Leads S before base → stage_after with_tree (up base) ls ≡ up end
-    → Leads_on with_tree S path base before i (accepted with_tree (up base) ls) (accepted_bodies with_tree (up base) ls) end)
-    → Leads S before base → (r : Decoded Request) → request_of base.version base.library base.clock l ≡ r → stage_after with_tree (later_answer with_tree base r).stage ls ≡ up end
-    → Leads_on with_tree S path base before i (value_if (item_in r) (json_at l) ++ accepted with_tree (later_answer with_tree base r).stage ls)
-    (body_if (item_in r) (later_answer with_tree base r).body ++ accepted_bodies with_tree (later_answer with_tree base r).stage ls) end
-step with_tree S path base before i l ls end rest leads (Err e) asked ends = rest base before i leads ends
-step with_tree S path base before i l ls end rest leads (Ok (show excerpt)) asked ends = rest base before i leads ends
-step with_tree S path base before i l ls end rest leads (Ok (item s)) asked ends =
-    let read = item_read base.version base.library base.clock l s asked in
+step : (manner : Manner) (S : State) (path : Path) (base : RuleBase) (before : Schedule) (i : ℕ) (l : Line) (ls : List Line) (end : RuleBase)
+    → ((base : RuleBase) (before : Schedule) (i : ℕ) → Leads S before base → stage_after manner (up base) ls ≡ up end
+    → Leads_on manner S path base before i (accepted manner (up base) ls) (accepted_bodies manner (up base) ls) end)
+    → Leads S before base → (r : Result Request Bytes) → request_in manner.is_text base.version base.library base.clock l ≡ r → stage_after manner (later_answer manner.with_tree base r).stage ls ≡ up end
+    → Leads_on manner S path base before i (value_if (item_in r) (line_value manner.is_text l) ++ accepted manner (later_answer manner.with_tree base r).stage ls)
+    (body_if (item_in r) (later_answer manner.with_tree base r).body ++ accepted_bodies manner (later_answer manner.with_tree base r).stage ls) end
+step manner S path base before i l ls end rest leads (Err e) asked ends = rest base before i leads ends
+step manner S path base before i l ls end rest leads (Ok (show excerpt)) asked ends = rest base before i leads ends
+step manner S path base before i l ls end rest leads (Ok (item s)) asked ends =
+    let read = item_read manner.is_text base.version base.library base.clock l s asked in
     let clock : nothing_since base.clock ≡ nothing_since before.clock = ap nothing_since (sym leads.clock_is) in
     let alone = ap (λ b. unit_at base.version base.library.rules (library_scope base.library) [] b read.value) (sym clock) ∙ read.reads in
     let here = unit_goes base.version base.library.rules (library_scope base.library) before read.value [] (item_at path i) s alone in
     let later = rest (ran_to base s) (joined before s) (suc i) (leads_joined S base before s leads) ends in
-    let body = units_text base.library with_tree (base.units + 1) (run_units base.library s.units base.state).units in
-    let more = accepted_bodies with_tree (up (ran_to base s)) ls in
+    let body = units_text base.library manner.with_tree (base.units + 1) (run_units base.library s.units base.state).units in
+    let more = accepted_bodies manner (up (ran_to base s)) ls in
     record {
       all = later.all;
       reads =
-          ap (λ v. units_from base.version base.library.rules (library_scope base.library) path before i (value_if (Some s) v ++ accepted with_tree (up (ran_to base s)) ls)) read.value_is
-          ∙ after_ok _ (joined before s) (λ next. units_from base.version base.library.rules (library_scope base.library) path next (suc i) (accepted with_tree (up (ran_to base s)) ls)) here
+          ap (λ v. units_from base.version base.library.rules (library_scope base.library) path before i (value_if (Some s) v ++ accepted manner (up (ran_to base s)) ls)) read.value_is
+          ∙ after_ok _ (joined before s) (λ next. units_from base.version base.library.rules (library_scope base.library) path next (suc i) (accepted manner (up (ran_to base s)) ls)) here
           ∙ later.reads;
       library_is = later.library_is;
       state_is = later.state_is;
       text =
-          later.text ∙ ap (λ (b : Bytes). b ++ more) (text_joined with_tree S base before s leads)
-          ∙ append_assoc (units_text base.library with_tree 1 (run_units base.library before.units S).units) body more;
+          later.text ∙ ap (λ (b : Bytes). b ++ more) (text_joined manner S base before s leads)
+          ∙ append_assoc (units_text base.library manner.with_tree 1 (run_units base.library before.units S).units) body more;
     }
 
 same_end : (base end : RuleBase) → up base ≡ up end → base ≡ end
 same_end base end e = cc
 
-later_lines : (with_tree : Bool) (S : State) (path : Path) (base : RuleBase) (before : Schedule) (i : ℕ) (ls : List Line) (end : RuleBase)
-    → Leads S before base → stage_after with_tree (up base) ls ≡ up end → Leads_on with_tree S path base before i (accepted with_tree (up base) ls) (accepted_bodies with_tree (up base) ls) end
-later_lines with_tree S path base before i [] end leads ends =
+later_lines : (manner : Manner) (S : State) (path : Path) (base : RuleBase) (before : Schedule) (i : ℕ) (ls : List Line) (end : RuleBase)
+    → Leads S before base → stage_after manner (up base) ls ≡ up end → Leads_on manner S path base before i (accepted manner (up base) ls) (accepted_bodies manner (up base) ls) end
+later_lines manner S path base before i [] end leads ends =
     let same : base ≡ end = same_end base end ends in
     record {
       all = before;
@@ -202,9 +241,9 @@ later_lines with_tree S path base before i [] end leads ends =
       state_is = leads.state_is ∙ ap (λ (b : RuleBase). b.state) same;
       text = sym (append-nil _);
     }
-later_lines with_tree S path base before i (l ∷ ls) end leads ends =
-    step with_tree S path base before i l ls end (λ base' before' i' leads' ends'. later_lines with_tree S path base' before' i' ls end leads' ends')
-    leads (request_of base.version base.library base.clock l) refl ends
+later_lines manner S path base before i (l ∷ ls) end leads ends =
+    step manner S path base before i l ls end (λ base' before' i' leads' ends'. later_lines manner S path base' before' i' ls end leads' ends')
+    leads (request_in manner.is_text base.version base.library base.clock l) refl ends
 
 -- ---- the first line
 
@@ -284,31 +323,42 @@ journal_read journal root entries version library all is_root is_version is_libr
     ∙ after_ok (library_at version whole) library (items_after version whole) (same_library version root entries ∙ is_library)
     ∙ after_ok (units_at version library.rules (library_scope library) (under_root (codes "items")) entries) all (read_timed version library) is_all
 
-first_read : (first : Line) (script : Data) (t : TimedScript) → json_at first ≡ Ok script → timed_script_of first ≡ Ok t → timed_script_at script ≡ Ok t
-unfolding timed_script_of
-first_read first script t value read =
-    sym (after_ok (json_at first) script timed_script_at value) ∙ unless_ok (nat_lt 1048576 (length first)) (over_limit size_limit) (json_at first >>= timed_script_at) t read
+-- the script of a text
+first_by : (first : Line) (script : Data) (t : TimedScript) (read : Result T.Script Place) → script_read read ≡ Some script → script_checked timed_script_at first read ≡ Ok t → timed_script_at script ≡ Ok t
+first_by first script t (Ok s) value read =
+    let same : T.script_data s ≡ script = cc in
+    sym (ap timed_script_at same) ∙ placed_ok (script_place first s) (timed_script_at (T.script_data s)) t read
+first_by first script t (Err fault) value read = cc
+
+first_read : (is_text : Bool) (first : Line) (script : Data) (t : TimedScript) → script_value is_text first ≡ Some script → timed_script_in is_text first ≡ Ok t → timed_script_at script ≡ Ok t
+unfolding json_at timed_script_of text_checked
+first_read false first script t value read =
+    sym (after_ok (json_at first) script timed_script_at (ap readable value))
+    ∙ unless_ok (nat_lt 1048576 (length first)) (over_limit size_limit) (json_at first >>= timed_script_at) t (told_ok refusal_text (timed_script_of first) t read)
+first_read true first script t value read =
+    first_by first script t (read_text first) value
+    (unless_ok (nat_lt 1048576 (length first)) too_long (script_checked timed_script_at first (read_text first)) t (told_ok placed_refusal_text (text_checked timed_script_at first) t read))
 
 -- the law, by what is read of the first line
-record ReplaysBy (with_tree : Bool) (r : Decoded TimedScript) (later : List Line) (journal : Data) (base : RuleBase) : Type 0 where
+record ReplaysBy (manner : Manner) (r : Result TimedScript Bytes) (later : List Line) (journal : Data) (base : RuleBase) : Type 0 where
   pub script : Script
   pub decoded : decode journal ≡ Ok script
   pub library_is : script.library ≡ base.library
   pub state_is : (evaluate script).state ≡ base.state
-  pub report_is : text_of with_tree (Ok script)
-      ≡ ((opening_answer with_tree r).body ++ accepted_bodies with_tree (opening_answer with_tree r).stage later) ++ final_text base.library base.state.objects base.state.rules
+  pub report_is : text_of manner.with_tree (Ok script)
+      ≡ ((opening_answer manner.with_tree r).body ++ accepted_bodies manner (opening_answer manner.with_tree r).stage later) ++ final_text base.library base.state.objects base.state.rules
 
-replayed_by : (with_tree : Bool) (first : Line) (later : List Line) (journal : Data) (base : RuleBase) (script : Data) (root : Root) (entries : Data) (items : List Data) (r : Decoded TimedScript)
-    → timed_script_of first ≡ r → stage_after with_tree (opening_answer with_tree r).stage later ≡ up base → json_at first ≡ Ok script → root_of script ≡ Some root
-    → root_of journal ≡ Some (with_entries root entries) → list_of root.items ≡ Some items → list_of entries ≡ Some (items ++ accepted with_tree (opening_answer with_tree r).stage later)
-    → ReplaysBy with_tree r later journal base
-replayed_by with_tree first later journal base script root entries items (Err e) read ends value is_root is_journal are_items are_entries =
-    let never : closed ≡ up base = sym (closed_stage with_tree later) ∙ ends in
+replayed_by : (manner : Manner) (first : Line) (later : List Line) (journal : Data) (base : RuleBase) (script : Data) (root : Root) (entries : Data) (items : List Data) (r : Result TimedScript Bytes)
+    → timed_script_in manner.is_text first ≡ r → stage_after manner (opening_answer manner.with_tree r).stage later ≡ up base → script_value manner.is_text first ≡ Some script → root_of script ≡ Some root
+    → root_of journal ≡ Some (with_entries root entries) → list_of root.items ≡ Some items → list_of entries ≡ Some (items ++ accepted manner (opening_answer manner.with_tree r).stage later)
+    → ReplaysBy manner r later journal base
+replayed_by manner first later journal base script root entries items (Err e) read ends value is_root is_journal are_items are_entries =
+    let never : closed ≡ up base = sym (closed_stage manner later) ∙ ends in
     cc
-replayed_by with_tree first later journal base script root entries items (Ok t) read ends value is_root is_journal are_items are_entries =
+replayed_by manner first later journal base script root entries items (Ok t) read ends value is_root is_journal are_items are_entries =
     let library = t.script.library in
     let S = initial_state library in
-    let o = opening script root items t is_root are_items (first_read first script t value read) in
+    let o = opening script root items t is_root are_items (first_read manner.is_text first script t value read) in
     let given : Schedule = record { units = t.script.units; clock = t.clock } in
     let opened = ran_to (new_base t.version library) given in
     let path = under_root (codes "items") in
@@ -319,11 +369,11 @@ replayed_by with_tree first later journal base script root entries items (Ok t) 
       state_is = ap (λ us. (run_units library us S).state) (sym o.units_are);
       units_are = ap (λ us. length (run_units library us S).units) (sym o.units_are) ∙ from_none;
     } in
-    let on = later_lines with_tree S path opened o.schedule (0 + length items) later base leads ends in
-    let all_read = listed t.version library.rules (library_scope library) path entries (items ++ accepted with_tree (up opened) later) are_entries
-    ∙ from-append t.version library.rules (library_scope library) path no_item 0 items (accepted with_tree (up opened) later) o.schedule o.items_read ∙ on.reads in
+    let on = later_lines manner S path opened o.schedule (0 + length items) later base leads ends in
+    let all_read = listed t.version library.rules (library_scope library) path entries (items ++ accepted manner (up opened) later) are_entries
+    ∙ from-append t.version library.rules (library_scope library) path no_item 0 items (accepted manner (up opened) later) o.schedule o.items_read ∙ on.reads in
     let timed_is = journal_read journal root entries t.version library on.all is_journal o.version_read o.library_read all_read in
-    let bodies = accepted_bodies with_tree (up opened) later in
+    let bodies = accepted_bodies manner (up opened) later in
     record {
       script = (timed t.version library on.all).script;
       decoded = sym (untimed_at journal) ∙ ap untimed timed_is;
@@ -331,9 +381,9 @@ replayed_by with_tree first later journal base script root entries items (Ok t) 
       state_is = on.state_is;
       report_is =
           ap (λ (b : Bytes). b ++ final_text library (run_units library on.all.units S).state.objects (run_units library on.all.units S).state.rules) on.text
-          ∙ ap (λ us. (units_text library with_tree 1 (run_units library us S).units ++ bodies) ++ final_text library (run_units library on.all.units S).state.objects (run_units library on.all.units S).state.rules) (sym o.units_are)
-          ∙ ap (λ (T : State). (units_text library with_tree 1 (run_units library t.script.units S).units ++ bodies) ++ final_text library T.objects T.rules) on.state_is
-          ∙ ap (λ l. (units_text library with_tree 1 (run_units library t.script.units S).units ++ bodies) ++ final_text l base.state.objects base.state.rules) (sym on.library_is);
+          ∙ ap (λ us. (units_text library manner.with_tree 1 (run_units library us S).units ++ bodies) ++ final_text library (run_units library on.all.units S).state.objects (run_units library on.all.units S).state.rules) (sym o.units_are)
+          ∙ ap (λ (T : State). (units_text library manner.with_tree 1 (run_units library t.script.units S).units ++ bodies) ++ final_text library T.objects T.rules) on.state_is
+          ∙ ap (λ l. (units_text library manner.with_tree 1 (run_units library t.script.units S).units ++ bodies) ++ final_text l base.state.objects base.state.rules) (sym on.library_is);
     }
 
 -- a text is read as its value, unless it is too long
@@ -343,7 +393,15 @@ unfolding script_of
 text_read text d script decoded value =
     ap (λ r. cond (nat_lt 1048576 (length text)) (Err (over_limit size_limit)) r) (after_ok (json_at text) d decode value ∙ decoded)
 
+-- a text is read as what it stands for, unless it is too long
+notation_read : (text : Bytes) (s : T.Script) (d : Data) (script : Script) → decode d ≡ Ok script → read_text text ≡ Ok s → T.script_data s ≡ d
+    → script_of_text text ≡ cond (nat_lt 1048576 (length text)) (Err too_long) (Ok script)
+unfolding text_checked
+notation_read text s d script decoded read same =
+    ap (λ r. cond (nat_lt 1048576 (length text)) (Err too_long) r)
+    (ap (script_checked decode text) read ∙ ap (placed (script_place text s)) (ap decode same ∙ decoded))
+
 pub accepted_lines_replay : AcceptedLinesReplay
-accepted_lines_replay with_tree first later journal base ends j =
-    let by = replayed_by with_tree first later journal base j.script j.root j.entries j.items (timed_script_of first) refl ends j.first_is j.root_is j.journal_is j.items_are j.entries_are in
-    record { script = by.script; decoded = by.decoded; read_is = λ text value. text_read text journal by.script by.decoded value; library_is = by.library_is; state_is = by.state_is; report_is = by.report_is }
+accepted_lines_replay manner first later journal base ends j =
+    let by = replayed_by manner first later journal base j.script j.root j.entries j.items (timed_script_in manner.is_text first) refl ends j.first_is j.root_is j.journal_is j.items_are j.entries_are in
+    record { script = by.script; decoded = by.decoded; read_is = λ text value. text_read text journal by.script by.decoded value; text_is = λ text s read same. notation_read text s journal by.script by.decoded read same; library_is = by.library_is; state_is = by.state_is; report_is = by.report_is }

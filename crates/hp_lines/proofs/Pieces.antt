@@ -3,7 +3,7 @@ use Rattle.std.proofs.Common.{◌≡◌, ◌==◌, ℕ, suc, nat_lt, Bool, true,
 use Rattle.std.proofs.lemmas.Bool.{cases_lt, lt-ltb, le-ltb}
 use Rattle.std.proofs.lemmas.List.{take_all, take-append-le, length-take-le, length-append}
 use Rattle.hp_lines.specs.Lines.{Line, begun, lines_from, lines_of, kept_with}
-use Rattle.hp_lines.specs.Live.{Stage, unopened, closed, Answer, answer, answers, stage_after, output, Server, new_server, reply, answered, grown, byte_output, next, piece_output, after, end_output}
+use Rattle.hp_lines.specs.Live.{Manner, Stage, unopened, closed, Answer, answer, answers, stage_after, output, Server, new_server, reply, answered, grown, byte_output, next, piece_output, after, end_output}
 use Rattle.hp_lines.proofs.Lines.{kept_answer}
 
 -- ---- pieces
@@ -23,7 +23,7 @@ abbrev pub in_all : Server → List ℕ → List ℕ
 in_all d xs = piece_output d xs ++ end_output (after d xs)
 
 abbrev pub stage_in_all : Server → List ℕ → Stage
-stage_in_all d xs = let e = after d xs in stage_after e.with_tree e.stage (begun e.line)
+stage_in_all d xs = let e = after d xs in stage_after e.manner e.stage (begun e.line)
 
 pub in_all-append : (d : Server) (a b : List ℕ) → in_all d (a ++ b) ≡ piece_output d a ++ in_all (after d a) b
 in_all-append d a b =
@@ -32,14 +32,14 @@ in_all-append d a b =
     ∙ append_assoc (piece_output d a) (piece_output (after d a) b) (end_output (after (after d a) b))
 
 -- a server that keeps as much of a line as shows whether it is too long
-abbrev at : Bool → Stage → Line → Server
-at with_tree stage line = record { with_tree = with_tree; stage = stage; line = take 1048577 line }
+abbrev at : Manner → Stage → Line → Server
+at manner stage line = record { manner = manner; stage = stage; line = take 1048577 line }
 
-answered_kept : (with_tree : Bool) (stage : Stage) (line : Line) → answered (at with_tree stage line) ≡ at with_tree (answer with_tree stage line).stage []
-answered_kept with_tree stage line = ap (λ (a : Answer). at with_tree a.stage []) (kept_answer with_tree stage line)
+answered_kept : (manner : Manner) (stage : Stage) (line : Line) → answered (at manner stage line) ≡ at manner (answer manner stage line).stage []
+answered_kept manner stage line = ap (λ (a : Answer). at manner a.stage []) (kept_answer manner stage line)
 
-reply_kept : (with_tree : Bool) (stage : Stage) (line : Line) → reply (at with_tree stage line) ≡ (answer with_tree stage line).body ++ (answer with_tree stage line).last
-reply_kept with_tree stage line = ap (λ (a : Answer). a.body ++ a.last) (kept_answer with_tree stage line)
+reply_kept : (manner : Manner) (stage : Stage) (line : Line) → reply (at manner stage line) ≡ (answer manner stage line).body ++ (answer manner stage line).last
+reply_kept manner stage line = ap (λ (a : Answer). a.body ++ a.last) (kept_answer manner stage line)
 
 -- by its first so many bytes and one more
 kept_by : ℕ → Line → ℕ → Line
@@ -59,104 +59,104 @@ one_more most line x =
           ap (λ l. kept_by most l x) all ∙ ap (λ b. cond b line (line ++ x ∷ [])) (le-ltb most (length line) short) ∙ sym fits
     ]
 
-grown_kept : (with_tree : Bool) (stage : Stage) (line : Line) (x : ℕ) → grown (at with_tree stage line) x ≡ at with_tree stage (line ++ x ∷ [])
+grown_kept : (manner : Manner) (stage : Stage) (line : Line) (x : ℕ) → grown (at manner stage line) x ≡ at manner stage (line ++ x ∷ [])
 unfolding kept_by
-grown_kept with_tree stage line x = ap (λ (l : Line). record { with_tree = with_tree; stage = stage; line = l }) (one_more 1048576 line x)
+grown_kept manner stage line x = ap (λ (l : Line). record { manner = manner; stage = stage; line = l }) (one_more 1048576 line x)
 
-output_of_begun : (with_tree : Bool) (stage : Stage) (line : Line) → end_output (at with_tree stage line) ≡ answers with_tree stage (begun line)
-output_of_begun with_tree stage [] = refl
-output_of_begun with_tree stage (x ∷ line) = ap (λ (l : List ℕ). l ++ []) (reply_kept with_tree stage (x ∷ line))
+output_of_begun : (manner : Manner) (stage : Stage) (line : Line) → end_output (at manner stage line) ≡ answers manner stage (begun line)
+output_of_begun manner stage [] = refl
+output_of_begun manner stage (x ∷ line) = ap (λ (l : List ℕ). l ++ []) (reply_kept manner stage (x ∷ line))
 
 -- by whether a byte ends the line
-by_end : (b : Bool) (with_tree : Bool) (stage : Stage) (line : Line) (x : ℕ) (xs : List ℕ)
-    → (reply (at with_tree stage line) ++ piece_output (answered (at with_tree stage line)) xs) ++ end_output (after (answered (at with_tree stage line)) xs) ≡ answers with_tree stage (line ∷ lines_from [] xs)
-    → in_all (grown (at with_tree stage line) x) xs ≡ answers with_tree stage (lines_from (line ++ x ∷ []) xs)
-    → (cond b (reply (at with_tree stage line)) [] ++ piece_output (cond b (answered (at with_tree stage line)) (grown (at with_tree stage line) x)) xs) ++ end_output (after (cond b (answered (at with_tree stage line)) (grown (at with_tree stage line) x)) xs)
-    ≡ answers with_tree stage (cond b (line ∷ lines_from [] xs) (lines_from (line ++ x ∷ []) xs))
-by_end true with_tree stage line x xs ends goes_on = ends
-by_end false with_tree stage line x xs ends goes_on = goes_on
+by_end : (b : Bool) (manner : Manner) (stage : Stage) (line : Line) (x : ℕ) (xs : List ℕ)
+    → (reply (at manner stage line) ++ piece_output (answered (at manner stage line)) xs) ++ end_output (after (answered (at manner stage line)) xs) ≡ answers manner stage (line ∷ lines_from [] xs)
+    → in_all (grown (at manner stage line) x) xs ≡ answers manner stage (lines_from (line ++ x ∷ []) xs)
+    → (cond b (reply (at manner stage line)) [] ++ piece_output (cond b (answered (at manner stage line)) (grown (at manner stage line) x)) xs) ++ end_output (after (cond b (answered (at manner stage line)) (grown (at manner stage line) x)) xs)
+    ≡ answers manner stage (cond b (line ∷ lines_from [] xs) (lines_from (line ++ x ∷ []) xs))
+by_end true manner stage line x xs ends goes_on = ends
+by_end false manner stage line x xs ends goes_on = goes_on
 
-stage_by_end : (b : Bool) (with_tree : Bool) (stage : Stage) (line : Line) (x : ℕ) (xs : List ℕ)
-    → stage_in_all (answered (at with_tree stage line)) xs ≡ stage_after with_tree stage (line ∷ lines_from [] xs)
-    → stage_in_all (grown (at with_tree stage line) x) xs ≡ stage_after with_tree stage (lines_from (line ++ x ∷ []) xs)
-    → stage_in_all (cond b (answered (at with_tree stage line)) (grown (at with_tree stage line) x)) xs ≡ stage_after with_tree stage (cond b (line ∷ lines_from [] xs) (lines_from (line ++ x ∷ []) xs))
-stage_by_end true with_tree stage line x xs ends goes_on = ends
-stage_by_end false with_tree stage line x xs ends goes_on = goes_on
+stage_by_end : (b : Bool) (manner : Manner) (stage : Stage) (line : Line) (x : ℕ) (xs : List ℕ)
+    → stage_in_all (answered (at manner stage line)) xs ≡ stage_after manner stage (line ∷ lines_from [] xs)
+    → stage_in_all (grown (at manner stage line) x) xs ≡ stage_after manner stage (lines_from (line ++ x ∷ []) xs)
+    → stage_in_all (cond b (answered (at manner stage line)) (grown (at manner stage line) x)) xs ≡ stage_after manner stage (cond b (line ∷ lines_from [] xs) (lines_from (line ++ x ∷ []) xs))
+stage_by_end true manner stage line x xs ends goes_on = ends
+stage_by_end false manner stage line x xs ends goes_on = goes_on
 
-pub in_all_from : (with_tree : Bool) (stage : Stage) (line : Line) (xs : List ℕ) → in_all (at with_tree stage line) xs ≡ answers with_tree stage (lines_from line xs)
-in_all_from with_tree stage line [] = output_of_begun with_tree stage line
-in_all_from with_tree stage line (x ∷ xs) =
-    let d = at with_tree stage line in
-    let a = answer with_tree stage line in
-    by_end (x == 10) with_tree stage line x xs
+pub in_all_from : (manner : Manner) (stage : Stage) (line : Line) (xs : List ℕ) → in_all (at manner stage line) xs ≡ answers manner stage (lines_from line xs)
+in_all_from manner stage line [] = output_of_begun manner stage line
+in_all_from manner stage line (x ∷ xs) =
+    let d = at manner stage line in
+    let a = answer manner stage line in
+    by_end (x == 10) manner stage line x xs
     (append_assoc (reply d) (piece_output (answered d) xs) (end_output (after (answered d) xs))
-    ∙ ap (λ (l : List ℕ). l ++ in_all (answered d) xs) (reply_kept with_tree stage line)
-    ∙ ap (λ (e : Server). (a.body ++ a.last) ++ in_all e xs) (answered_kept with_tree stage line)
-    ∙ ap (λ (l : List ℕ). (a.body ++ a.last) ++ l) (in_all_from with_tree a.stage [] xs))
-    (ap (λ (e : Server). in_all e xs) (grown_kept with_tree stage line x) ∙ in_all_from with_tree stage (line ++ x ∷ []) xs)
+    ∙ ap (λ (l : List ℕ). l ++ in_all (answered d) xs) (reply_kept manner stage line)
+    ∙ ap (λ (e : Server). (a.body ++ a.last) ++ in_all e xs) (answered_kept manner stage line)
+    ∙ ap (λ (l : List ℕ). (a.body ++ a.last) ++ l) (in_all_from manner a.stage [] xs))
+    (ap (λ (e : Server). in_all e xs) (grown_kept manner stage line x) ∙ in_all_from manner stage (line ++ x ∷ []) xs)
 
 -- what is written for an input is the answers to its lines
-pub in_all_of : (with_tree : Bool) (input : List ℕ) → in_all (new_server with_tree) input ≡ output with_tree input
-in_all_of with_tree input = in_all_from with_tree unopened [] input
+pub in_all_of : (manner : Manner) (input : List ℕ) → in_all (new_server manner) input ≡ output manner input
+in_all_of manner input = in_all_from manner unopened [] input
 
 -- ---- the stage in the end
 
-stage_of_begun : (with_tree : Bool) (stage : Stage) (line : Line) → stage_in_all (at with_tree stage line) [] ≡ stage_after with_tree stage (begun line)
-stage_of_begun with_tree stage [] = refl
-stage_of_begun with_tree stage (x ∷ line) = ap (λ (a : Answer). a.stage) (kept_answer with_tree stage (x ∷ line))
+stage_of_begun : (manner : Manner) (stage : Stage) (line : Line) → stage_in_all (at manner stage line) [] ≡ stage_after manner stage (begun line)
+stage_of_begun manner stage [] = refl
+stage_of_begun manner stage (x ∷ line) = ap (λ (a : Answer). a.stage) (kept_answer manner stage (x ∷ line))
 
-pub stage_from : (with_tree : Bool) (stage : Stage) (line : Line) (xs : List ℕ) → stage_in_all (at with_tree stage line) xs ≡ stage_after with_tree stage (lines_from line xs)
-stage_from with_tree stage line [] = stage_of_begun with_tree stage line
-stage_from with_tree stage line (x ∷ xs) =
-    let d = at with_tree stage line in
-    stage_by_end (x == 10) with_tree stage line x xs
-    (ap (λ (e : Server). stage_in_all e xs) (answered_kept with_tree stage line) ∙ stage_from with_tree (answer with_tree stage line).stage [] xs)
-    (ap (λ (e : Server). stage_in_all e xs) (grown_kept with_tree stage line x) ∙ stage_from with_tree stage (line ++ x ∷ []) xs)
+pub stage_from : (manner : Manner) (stage : Stage) (line : Line) (xs : List ℕ) → stage_in_all (at manner stage line) xs ≡ stage_after manner stage (lines_from line xs)
+stage_from manner stage line [] = stage_of_begun manner stage line
+stage_from manner stage line (x ∷ xs) =
+    let d = at manner stage line in
+    stage_by_end (x == 10) manner stage line x xs
+    (ap (λ (e : Server). stage_in_all e xs) (answered_kept manner stage line) ∙ stage_from manner (answer manner stage line).stage [] xs)
+    (ap (λ (e : Server). stage_in_all e xs) (grown_kept manner stage line x) ∙ stage_from manner stage (line ++ x ∷ []) xs)
 
-pub stage_of : (with_tree : Bool) (input : List ℕ) → stage_in_all (new_server with_tree) input ≡ stage_after with_tree unopened (lines_of input)
-stage_of with_tree input = stage_from with_tree unopened [] input
+pub stage_of : (manner : Manner) (input : List ℕ) → stage_in_all (new_server manner) input ≡ stage_after manner unopened (lines_of input)
+stage_of manner input = stage_from manner unopened [] input
 
 pub stage-append : (d : Server) (a b : List ℕ) → stage_in_all d (a ++ b) ≡ stage_in_all (after d a) b
-stage-append d a b = ap (λ (e : Server). stage_after e.with_tree e.stage (begun e.line)) (after-append d a b)
+stage-append d a b = ap (λ (e : Server). stage_after e.manner e.stage (begun e.line)) (after-append d a b)
 
 -- ---- after a refused script
 
-closed_answers : (with_tree : Bool) (ls : List Line) → answers with_tree closed ls ≡ []
-closed_answers with_tree [] = refl
-closed_answers with_tree (l ∷ ls) = closed_answers with_tree ls
+closed_answers : (manner : Manner) (ls : List Line) → answers manner closed ls ≡ []
+closed_answers manner [] = refl
+closed_answers manner (l ∷ ls) = closed_answers manner ls
 
-pub closed_stage : (with_tree : Bool) (ls : List Line) → stage_after with_tree closed ls ≡ closed
-closed_stage with_tree [] = refl
-closed_stage with_tree (l ∷ ls) = closed_stage with_tree ls
+pub closed_stage : (manner : Manner) (ls : List Line) → stage_after manner closed ls ≡ closed
+closed_stage manner [] = refl
+closed_stage manner (l ∷ ls) = closed_stage manner ls
 
 -- a server that was closed
-abbrev shut : Bool → Line → Server
-shut with_tree line = record { with_tree = with_tree; stage = closed; line = line }
+abbrev shut : Manner → Line → Server
+shut manner line = record { manner = manner; stage = closed; line = line }
 
-shut_by : (b : Bool) (with_tree : Bool) (line : Line) (x : ℕ) → cond b (answered (shut with_tree line)) (grown (shut with_tree line) x) ≡ shut with_tree (cond b [] (kept_with line x))
-shut_by true with_tree line x = refl
-shut_by false with_tree line x = refl
+shut_by : (b : Bool) (manner : Manner) (line : Line) (x : ℕ) → cond b (answered (shut manner line)) (grown (shut manner line) x) ≡ shut manner (cond b [] (kept_with line x))
+shut_by true manner line x = refl
+shut_by false manner line x = refl
 
-silent_by : (b : Bool) (with_tree : Bool) (line : Line) → cond b (reply (shut with_tree line)) [] ≡ []
-silent_by true with_tree line = refl
-silent_by false with_tree line = refl
+silent_by : (b : Bool) (manner : Manner) (line : Line) → cond b (reply (shut manner line)) [] ≡ []
+silent_by true manner line = refl
+silent_by false manner line = refl
 
-shut_writes : (with_tree : Bool) (line : Line) (xs : List ℕ) → in_all (shut with_tree line) xs ≡ []
-shut_writes with_tree line [] = closed_answers with_tree (begun line)
-shut_writes with_tree line (x ∷ xs) =
-    let d = shut with_tree line in
-    ap (λ (l : List ℕ). (l ++ piece_output (next d x) xs) ++ end_output (after (next d x) xs)) (silent_by (x == 10) with_tree line)
-    ∙ ap (λ (e : Server). in_all e xs) (shut_by (x == 10) with_tree line x)
-    ∙ shut_writes with_tree (cond (x == 10) [] (kept_with line x)) xs
+shut_writes : (manner : Manner) (line : Line) (xs : List ℕ) → in_all (shut manner line) xs ≡ []
+shut_writes manner line [] = closed_answers manner (begun line)
+shut_writes manner line (x ∷ xs) =
+    let d = shut manner line in
+    ap (λ (l : List ℕ). (l ++ piece_output (next d x) xs) ++ end_output (after (next d x) xs)) (silent_by (x == 10) manner line)
+    ∙ ap (λ (e : Server). in_all e xs) (shut_by (x == 10) manner line x)
+    ∙ shut_writes manner (cond (x == 10) [] (kept_with line x)) xs
 
-shut_stays : (with_tree : Bool) (line : Line) (xs : List ℕ) → stage_in_all (shut with_tree line) xs ≡ closed
-shut_stays with_tree line [] = closed_stage with_tree (begun line)
-shut_stays with_tree line (x ∷ xs) =
-    ap (λ (e : Server). stage_in_all e xs) (shut_by (x == 10) with_tree line x) ∙ shut_stays with_tree (cond (x == 10) [] (kept_with line x)) xs
+shut_stays : (manner : Manner) (line : Line) (xs : List ℕ) → stage_in_all (shut manner line) xs ≡ closed
+shut_stays manner line [] = closed_stage manner (begun line)
+shut_stays manner line (x ∷ xs) =
+    ap (λ (e : Server). stage_in_all e xs) (shut_by (x == 10) manner line x) ∙ shut_stays manner (cond (x == 10) [] (kept_with line x)) xs
 
 -- nothing more is written for an input whose script was refused
 pub closed_writes : (d : Server) (xs : List ℕ) → d.stage ≡ closed → in_all d xs ≡ []
-closed_writes d xs is = ap (λ stage. in_all (record { with_tree = d.with_tree; stage = stage; line = d.line }) xs) is ∙ shut_writes d.with_tree d.line xs
+closed_writes d xs is = ap (λ stage. in_all (record { manner = d.manner; stage = stage; line = d.line }) xs) is ∙ shut_writes d.manner d.line xs
 
 pub closed_stays : (d : Server) (xs : List ℕ) → d.stage ≡ closed → stage_in_all d xs ≡ closed
-closed_stays d xs is = ap (λ stage. stage_in_all (record { with_tree = d.with_tree; stage = stage; line = d.line }) xs) is ∙ shut_stays d.with_tree d.line xs
+closed_stays d xs is = ap (λ stage. stage_in_all (record { manner = d.manner; stage = stage; line = d.line }) xs) is ∙ shut_stays d.manner d.line xs

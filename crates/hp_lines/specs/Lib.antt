@@ -1,4 +1,5 @@
 pub mod Lines
+pub mod Readings
 pub mod Live
 pub mod Laws
 pub mod Journal

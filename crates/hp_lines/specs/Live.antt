@@ -1,16 +1,15 @@
 -- The answers of a running rule manager to lines.
-use Rattle.std.specs.Prelude.{ℕ, ◌+◌, ◌==◌, Bool, List, [], ◌∷◌, ◌++◌, length, codes, decimal, Ok, Err, if◌then◌else◌}
+use Rattle.std.specs.Prelude.{ℕ, ◌+◌, ◌==◌, Bool, List, [], ◌∷◌, ◌++◌, length, codes, decimal, Result, Ok, Err, if◌then◌else◌}
 use Rattle.hp_model.specs.Rules.{Library}
 use Rattle.hp_model.specs.State.{State, initial_state}
 use Rattle.hp_model.specs.Cascade.{run_units}
-use Rattle.hp_model.specs.Refusals.{Decoded}
 use Rattle.hp_model.specs.Decode.{Version, Schedule}
 use Rattle.hp_model.specs.Report.{Bytes, line, units_text}
-use Rattle.hp_model.specs.Output.{refusal_text}
 use Rattle.hp_report.specs.Text.{state_text, class_text, object_text}
-use Rattle.hp_script.specs.Timed.{TimedScript, timed_script_of}
-use Rattle.hp_script.specs.Requests.{Excerpt, whole_state, objects_of, object_at, Request, item, show, request_of}
+use Rattle.hp_script.specs.Timed.{TimedScript}
+use Rattle.hp_script.specs.Requests.{Excerpt, whole_state, objects_of, object_at, Request, item, show}
 use Rattle.hp_lines.specs.Lines.{Line, lines_of, kept_with, begun}
+use Rattle.hp_notation.specs.Readings.{timed_script_in, request_in}
 
 -- ---- a running rule base
 
@@ -30,6 +29,11 @@ pub data Stage : Type 0 where
   unopened : Stage
   up : RuleBase → Stage
   closed : Stage
+
+-- how lines are read and answered: whether they are text in the notation or JSON, and whether the answers have trees
+pub record Manner : Type 0 where
+  pub is_text : Bool
+  pub with_tree : Bool
 
 -- ---- answers
 
@@ -54,8 +58,8 @@ ran with_tree base schedule =
     }
 
 -- a refused line changes nothing
-abbrev pub opening_answer : (with_tree : Bool) → Decoded TimedScript → Answer
-opening_answer with_tree (Err r) = record { body = []; last = refusal_text r; stage = closed }
+abbrev pub opening_answer : (with_tree : Bool) → Result TimedScript Bytes → Answer
+opening_answer with_tree (Err refusal) = record { body = []; last = refusal; stage = closed }
 opening_answer with_tree (Ok t) = ran with_tree (new_base t.version t.script.library) (record { units = t.script.units; clock = t.clock })
 
 -- the lines of a part of a state
@@ -64,54 +68,54 @@ excerpt_text library S whole_state = state_text library S.objects S.rules
 excerpt_text library S (objects_of class) = class_text library class S.objects
 excerpt_text library S (object_at class key) = object_text library class key S.objects
 
-abbrev pub later_answer : (with_tree : Bool) → RuleBase → Decoded Request → Answer
-later_answer with_tree base (Err r) = record { body = []; last = refusal_text r; stage = up base }
+abbrev pub later_answer : (with_tree : Bool) → RuleBase → Result Request Bytes → Answer
+later_answer with_tree base (Err refusal) = record { body = []; last = refusal; stage = up base }
 later_answer with_tree base (Ok (item schedule)) = ran with_tree base schedule
 later_answer with_tree base (Ok (show excerpt)) =
     record { body = excerpt_text base.library base.state excerpt; last = ok_line base.units; stage = up base }
 
 -- the first line is a script; each later one is an item of its version over its library, or asks for a part of the state
-abbrev pub answer : (with_tree : Bool) → Stage → Line → Answer
-answer with_tree unopened l = opening_answer with_tree (timed_script_of l)
-answer with_tree (up base) l = later_answer with_tree base (request_of base.version base.library base.clock l)
-answer with_tree closed l = record { body = []; last = []; stage = closed }
+abbrev pub answer : Manner → Stage → Line → Answer
+answer manner unopened l = opening_answer manner.with_tree (timed_script_in manner.is_text l)
+answer manner (up base) l = later_answer manner.with_tree base (request_in manner.is_text base.version base.library base.clock l)
+answer manner closed l = record { body = []; last = []; stage = closed }
 
 -- ---- lines, one after the other
 
-abbrev pub answers : (with_tree : Bool) → Stage → List Line → Bytes
-answers with_tree stage [] = []
-answers with_tree stage (l ∷ ls) =
-    let a = answer with_tree stage l in
-    (a.body ++ a.last) ++ answers with_tree a.stage ls
+abbrev pub answers : Manner → Stage → List Line → Bytes
+answers manner stage [] = []
+answers manner stage (l ∷ ls) =
+    let a = answer manner stage l in
+    (a.body ++ a.last) ++ answers manner a.stage ls
 
-abbrev pub stage_after : (with_tree : Bool) → Stage → List Line → Stage
-stage_after with_tree stage [] = stage
-stage_after with_tree stage (l ∷ ls) = stage_after with_tree (answer with_tree stage l).stage ls
+abbrev pub stage_after : Manner → Stage → List Line → Stage
+stage_after manner stage [] = stage
+stage_after manner stage (l ∷ ls) = stage_after manner (answer manner stage l).stage ls
 
 -- all that is written for an input
-abbrev pub output : (with_tree : Bool) → List ℕ → Bytes
-output with_tree input = answers with_tree unopened (lines_of input)
+abbrev pub output : Manner → List ℕ → Bytes
+output manner input = answers manner unopened (lines_of input)
 
 -- ---- the same, byte by byte
 
--- whether trees are wanted, the stage, and the beginning of the next line
+-- how lines are read and answered, the stage, and the beginning of the next line
 pub record Server : Type 0 where
-  pub with_tree : Bool
+  pub manner : Manner
   pub stage : Stage
   pub line : Line
 
-abbrev pub new_server : (with_tree : Bool) → Server
-new_server with_tree = record { with_tree = with_tree; stage = unopened; line = [] }
+abbrev pub new_server : Manner → Server
+new_server manner = record { manner = manner; stage = unopened; line = [] }
 
 -- the answer to the kept line, and the server after it
 abbrev pub reply : Server → Bytes
-reply s = let a = answer s.with_tree s.stage s.line in a.body ++ a.last
+reply s = let a = answer s.manner s.stage s.line in a.body ++ a.last
 
 abbrev pub answered : Server → Server
-answered s = record { with_tree = s.with_tree; stage = (answer s.with_tree s.stage s.line).stage; line = [] }
+answered s = record { manner = s.manner; stage = (answer s.manner s.stage s.line).stage; line = [] }
 
 abbrev pub grown : Server → ℕ → Server
-grown s x = record { with_tree = s.with_tree; stage = s.stage; line = kept_with s.line x }
+grown s x = record { manner = s.manner; stage = s.stage; line = kept_with s.line x }
 
 -- what is written after one more byte: the answer, if the byte ends a line
 abbrev pub byte_output : Server → ℕ → Bytes
@@ -131,4 +135,4 @@ after s (x ∷ xs) = after (next s x) xs
 
 -- what is written at the end of the input: the answer to a last line without a line feed
 abbrev pub end_output : Server → Bytes
-end_output s = answers s.with_tree s.stage (begun s.line)
+end_output s = answers s.manner s.stage (begun s.line)

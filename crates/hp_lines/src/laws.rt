@@ -6,7 +6,8 @@ ghost use Rattle.hp_lines.specs.Snapshots.{AlikeAnswer, SnapshotsAnswer};
 
 /// Accepted lines replay as one script, whose items are those of the first line and then the accepted ones. The
 /// answers, without their last lines, are the text of the units in the script's report, and the state is the script's
-/// final state. A text of the script is read as the script, unless it is longer than a script may be.
+/// final state. The script's JSON, and a text that stands for it, is read as the script, unless it is longer than a
+/// script may be. This holds for lines of JSON and for lines of text.
 pub fn accepted_lines_replay()
     ensures { AcceptedLinesReplay }
 {}

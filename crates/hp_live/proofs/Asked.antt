@@ -1,13 +1,13 @@
 -- The answer to a later line, by the kind of request.
-use Rattle.std.proofs.Common.{◌≡◌, ◌∙◌, ◌++◌, ap, sym, subst, ℕ, List, string_bytes, String, Global, Bool, Result, Ok, Err, IfOk, OnOk}
-use Rattle.hp_model.specs.Refusals.{Refusal, Decoded}
+use Rattle.std.proofs.Common.{◌≡◌, ◌∙◌, ◌++◌, ap, refl, sym, subst, ℕ, List, string_bytes, String, Global, Bool, Result, Ok, Err, IfOk, OnOk}
 use Rattle.hp_model.specs.Decode.{Schedule}
-use Rattle.hp_model.specs.Output.{refusal_text}
+use Rattle.hp_model.specs.Report.{Bytes}
 use Rattle.hp_rule.specs.Mapped.{library}
-use Rattle.hp_script.specs.Timed.{TimedScript, timed_script_of}
+use Rattle.hp_script.specs.Timed.{TimedScript}
 use Rattle.hp_script.specs.Requests as R
 use Rattle.hp_script.specs.Versions.{version_view}
-use Rattle.hp_script.specs.Requests.{Request, request_of}
+use Rattle.hp_script.specs.Requests.{Request}
+use Rattle.hp_notation.specs.Readings.{timed_script_in, request_in}
 use Rattle.hp_lines.specs.Live as L
 use Rattle.hp_live.specs.Kept.{StandsFor, IsStage, Answers}
 use Rattle.hp_live.specs.Running.{ran_base}
@@ -16,31 +16,32 @@ use Rattle.hp_live.specs.declared.server.Stage.{Stage}
 use Rattle.hp_live.specs.declared.server.Stage.TheVariants.{Up}
 
 -- a line is read with what is kept as with what that stands for
-pub asked_of : (kept : RuleBase) (base : L.RuleBase) (line : List ℕ) (r : Decoded Request) → StandsFor kept base → request_of (version_view kept.version) (library kept.library.value) kept.clock line ≡ r → request_of base.version base.library base.clock line ≡ r
-asked_of kept base line r stands read =
-    ap (λ v. request_of v base.library base.clock line) stands.version_is
-    ∙ ap (λ l. request_of (version_view kept.version) l base.clock line) stands.library_is
-    ∙ ap (λ t. request_of (version_view kept.version) (library kept.library.value) t line) (sym stands.clock_is) ∙ read
+pub asked_of : (is_text : Bool) (kept : RuleBase) (base : L.RuleBase) (line : List ℕ) (r : Result Request Bytes) → StandsFor kept base
+    → request_in is_text (version_view kept.version) (library kept.library.value) kept.clock line ≡ r → request_in is_text base.version base.library base.clock line ≡ r
+asked_of is_text kept base line r stands read =
+    ap (λ v. request_in is_text v base.library base.clock line) stands.version_is
+    ∙ ap (λ l. request_in is_text (version_view kept.version) l base.clock line) stands.library_is
+    ∙ ap (λ t. request_in is_text (version_view kept.version) (library kept.library.value) t line) (sym stands.clock_is) ∙ read
 
 -- by the kind of request
-answers_by : (text : String Global) (kept : RuleBase) (with_tree : Bool) (base : L.RuleBase) (line : List ℕ) (r : Decoded Request) → request_of base.version base.library base.clock line ≡ r
-    → Answers text (Up kept) (L.later_answer with_tree base r) → Answers text (Up kept) (L.answer with_tree (L.up base) line)
-answers_by text kept with_tree base line r read answers = subst (λ q. Answers text (Up kept) (L.later_answer with_tree base q)) (sym read) answers
+answers_by : (text : String Global) (kept : RuleBase) (manner : L.Manner) (base : L.RuleBase) (line : List ℕ) (r : Result Request Bytes) → request_in manner.is_text base.version base.library base.clock line ≡ r
+    → Answers text (Up kept) (L.later_answer manner.with_tree base r) → Answers text (Up kept) (L.answer manner (L.up base) line)
+answers_by text kept manner base line r read answers = subst (λ q. Answers text (Up kept) (L.later_answer manner.with_tree base q)) (sym read) answers
 
-pub answers_item : (text : String Global) (old new : RuleBase) (with_tree : Bool) (base : L.RuleBase) (line : List ℕ) (s : Schedule) → StandsFor old base → request_of (version_view old.version) (library old.library.value) old.clock line ≡ Ok (R.item s)
-    → string_bytes text ≡ (L.ran with_tree base s).body ++ (L.ran with_tree base s).last → StandsFor new (ran_base base s) → Answers text (Up new) (L.answer with_tree (L.up base) line)
-answers_item text old new with_tree base line s stands read is later =
-    answers_by text new with_tree base line (Ok (R.item s)) (asked_of old base line (Ok (R.item s)) stands read) (record { text_is = is; stage_is = later })
+pub answers_item : (text : String Global) (old new : RuleBase) (manner : L.Manner) (base : L.RuleBase) (line : List ℕ) (s : Schedule) → StandsFor old base → request_in manner.is_text (version_view old.version) (library old.library.value) old.clock line ≡ Ok (R.item s)
+    → string_bytes text ≡ (L.ran manner.with_tree base s).body ++ (L.ran manner.with_tree base s).last → StandsFor new (ran_base base s) → Answers text (Up new) (L.answer manner (L.up base) line)
+answers_item text old new manner base line s stands read is later =
+    answers_by text new manner base line (Ok (R.item s)) (asked_of manner.is_text old base line (Ok (R.item s)) stands read) (record { text_is = is; stage_is = later })
 
-pub answers_show : (text : String Global) (kept : RuleBase) (with_tree : Bool) (base : L.RuleBase) (line : List ℕ) (e : R.Excerpt) → StandsFor kept base → request_of (version_view kept.version) (library kept.library.value) kept.clock line ≡ Ok (R.show e)
-    → string_bytes text ≡ L.excerpt_text base.library base.state e ++ L.ok_line base.units → Answers text (Up kept) (L.answer with_tree (L.up base) line)
-answers_show text kept with_tree base line e stands read is =
-    answers_by text kept with_tree base line (Ok (R.show e)) (asked_of kept base line (Ok (R.show e)) stands read) (record { text_is = is; stage_is = stands })
+pub answers_show : (text : String Global) (kept : RuleBase) (manner : L.Manner) (base : L.RuleBase) (line : List ℕ) (e : R.Excerpt) → StandsFor kept base → request_in manner.is_text (version_view kept.version) (library kept.library.value) kept.clock line ≡ Ok (R.show e)
+    → string_bytes text ≡ L.excerpt_text base.library base.state e ++ L.ok_line base.units → Answers text (Up kept) (L.answer manner (L.up base) line)
+answers_show text kept manner base line e stands read is =
+    answers_by text kept manner base line (Ok (R.show e)) (asked_of manner.is_text kept base line (Ok (R.show e)) stands read) (record { text_is = is; stage_is = stands })
 
-pub answers_refusal : (text : String Global) (kept : RuleBase) (with_tree : Bool) (base : L.RuleBase) (line : List ℕ) (r : Refusal) → StandsFor kept base → request_of (version_view kept.version) (library kept.library.value) kept.clock line ≡ Err r
-    → string_bytes text ≡ refusal_text r → Answers text (Up kept) (L.answer with_tree (L.up base) line)
-answers_refusal text kept with_tree base line r stands read is =
-    answers_by text kept with_tree base line (Err r) (asked_of kept base line (Err r) stands read) (record { text_is = is; stage_is = stands })
+pub answers_refusal : (text : String Global) (kept : RuleBase) (manner : L.Manner) (base : L.RuleBase) (line : List ℕ) → StandsFor kept base
+    → request_in manner.is_text (version_view kept.version) (library kept.library.value) kept.clock line ≡ Err (string_bytes text) → Answers text (Up kept) (L.answer manner (L.up base) line)
+answers_refusal text kept manner base line stands read =
+    answers_by text kept manner base line (Err (string_bytes text)) (asked_of manner.is_text kept base line (Err (string_bytes text)) stands read) (record { text_is = refl; stage_is = stands })
 
 -- two facts of one result
 pub both_ok : {T E : Type 0} (r : Result T E) (P : T → Type 0) (Q : Type 0) (R : T → Type 0) → IfOk r P → OnOk r Q → ((x : T) → P x → Q → R x) → IfOk r R
@@ -54,8 +55,8 @@ stands_up kept (L.up base) A is f = f base is
 stands_up kept L.closed A is f = absurd is
 
 -- the answer to the script
-pub answers_script : (text : String Global) (new : RuleBase) (with_tree : Bool) (line : List ℕ) (t : TimedScript) → timed_script_of line ≡ Ok t
-    → string_bytes text ≡ (L.ran with_tree (L.new_base t.version t.script.library) (record { units = t.script.units; clock = t.clock })).body ++ (L.ran with_tree (L.new_base t.version t.script.library) (record { units = t.script.units; clock = t.clock })).last
-    → StandsFor new (ran_base (L.new_base t.version t.script.library) (record { units = t.script.units; clock = t.clock })) → Answers text (Up new) (L.answer with_tree L.unopened line)
-answers_script text new with_tree line t read is later =
-    subst (λ q. Answers text (Up new) (L.opening_answer with_tree q)) (sym read) (record { text_is = is; stage_is = later })
+pub answers_script : (text : String Global) (new : RuleBase) (manner : L.Manner) (line : List ℕ) (t : TimedScript) → timed_script_in manner.is_text line ≡ Ok t
+    → string_bytes text ≡ (L.ran manner.with_tree (L.new_base t.version t.script.library) (record { units = t.script.units; clock = t.clock })).body ++ (L.ran manner.with_tree (L.new_base t.version t.script.library) (record { units = t.script.units; clock = t.clock })).last
+    → StandsFor new (ran_base (L.new_base t.version t.script.library) (record { units = t.script.units; clock = t.clock })) → Answers text (Up new) (L.answer manner L.unopened line)
+answers_script text new manner line t read is later =
+    subst (λ q. Answers text (Up new) (L.opening_answer manner.with_tree q)) (sym read) (record { text_is = is; stage_is = later })

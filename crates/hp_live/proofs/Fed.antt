@@ -183,42 +183,42 @@ served_on left rest more lost gone old mid new was is first now then piece s tak
 }
 
 -- the answers to the bytes so far are a prefix of the output
-pub begins_output : (left rest old new : Option (List ℕ)) (with_tree : Bool) (bytes : List ℕ) → Consumes left rest bytes → Begins old new (piece_output (new_server with_tree) bytes)
-    → IfSome left (λ input. Begins old new (output with_tree input))
-begins_output None rest old new with_tree bytes taken begins = tt
-begins_output (Some input) None old new with_tree bytes taken begins = absurd taken
-begins_output (Some input) (Some r) old new with_tree bytes taken begins =
-    let d = new_server with_tree in
-    let all : piece_output d bytes ++ in_all (after d bytes) r ≡ output with_tree input = sym (in_all-append d bytes r) ∙ ap (in_all d) (sym taken) ∙ in_all_of with_tree input in
+pub begins_output : (left rest old new : Option (List ℕ)) (manner : L.Manner) (bytes : List ℕ) → Consumes left rest bytes → Begins old new (piece_output (new_server manner) bytes)
+    → IfSome left (λ input. Begins old new (output manner input))
+begins_output None rest old new manner bytes taken begins = tt
+begins_output (Some input) None old new manner bytes taken begins = absurd taken
+begins_output (Some input) (Some r) old new manner bytes taken begins =
+    let d = new_server manner in
+    let all : piece_output d bytes ++ in_all (after d bytes) r ≡ output manner input = sym (in_all-append d bytes r) ∙ ap (in_all d) (sym taken) ∙ in_all_of manner input in
     subst (Begins old new) all (begins_more old new (piece_output d bytes) (in_all (after d bytes) r) begins)
 
 -- the answers to all bytes, followed by those at their end, are the output, and each prefix is one of it
-pub begins_end : (left rest old mid new : Option (List ℕ)) (with_tree : Bool) (bytes : List ℕ) → Consumes left rest bytes → IsAtEnd rest → Appends old mid (piece_output (new_server with_tree) bytes)
-    → Begins mid new (end_output (after (new_server with_tree) bytes)) → IfSome left (λ input. Begins old new (output with_tree input))
-begins_end None rest old mid new with_tree bytes taken ended out begins = tt
-begins_end (Some input) None old mid new with_tree bytes taken ended out begins = absurd taken
-begins_end (Some input) (Some r) old mid new with_tree bytes taken ended out begins =
+pub begins_end : (left rest old mid new : Option (List ℕ)) (manner : L.Manner) (bytes : List ℕ) → Consumes left rest bytes → IsAtEnd rest → Appends old mid (piece_output (new_server manner) bytes)
+    → Begins mid new (end_output (after (new_server manner) bytes)) → IfSome left (λ input. Begins old new (output manner input))
+begins_end None rest old mid new manner bytes taken ended out begins = tt
+begins_end (Some input) None old mid new manner bytes taken ended out begins = absurd taken
+begins_end (Some input) (Some r) old mid new manner bytes taken ended out begins =
     let whole : bytes ≡ input = sym (append-nil bytes) ∙ ap (λ (l : List ℕ). bytes ++ l) (sym ended) ∙ sym taken in
-    subst (Begins old new) (in_all_of with_tree bytes ∙ ap (output with_tree) whole) (begins_on old mid new (piece_output (new_server with_tree) bytes) (end_output (after (new_server with_tree) bytes)) out begins)
+    subst (Begins old new) (in_all_of manner bytes ∙ ap (output manner) whole) (begins_on old mid new (piece_output (new_server manner) bytes) (end_output (after (new_server manner) bytes)) out begins)
 
-pub output_end : (left rest old mid new : Option (List ℕ)) (with_tree : Bool) (bytes : List ℕ) → Consumes left rest bytes → IsAtEnd rest → Appends old mid (piece_output (new_server with_tree) bytes)
-    → Appends mid new (end_output (after (new_server with_tree) bytes)) → IfSome left (λ input. Appends old new (output with_tree input))
-output_end None rest old mid new with_tree bytes taken ended out last = tt
-output_end (Some input) None old mid new with_tree bytes taken ended out last = absurd taken
-output_end (Some input) (Some r) old mid new with_tree bytes taken ended out last =
+pub output_end : (left rest old mid new : Option (List ℕ)) (manner : L.Manner) (bytes : List ℕ) → Consumes left rest bytes → IsAtEnd rest → Appends old mid (piece_output (new_server manner) bytes)
+    → Appends mid new (end_output (after (new_server manner) bytes)) → IfSome left (λ input. Appends old new (output manner input))
+output_end None rest old mid new manner bytes taken ended out last = tt
+output_end (Some input) None old mid new manner bytes taken ended out last = absurd taken
+output_end (Some input) (Some r) old mid new manner bytes taken ended out last =
     let whole : bytes ≡ input = sym (append-nil bytes) ∙ ap (λ (l : List ℕ). bytes ++ l) (sym ended) ∙ sym taken in
-    subst (Appends old new) (in_all_of with_tree bytes ∙ ap (output with_tree) whole) (Appends-trans old mid new (piece_output (new_server with_tree) bytes) (end_output (after (new_server with_tree) bytes)) out last)
+    subst (Appends old new) (in_all_of manner bytes ∙ ap (output manner) whole) (Appends-trans old mid new (piece_output (new_server manner) bytes) (end_output (after (new_server manner) bytes)) out last)
 
 -- if the script was refused, the output is complete
-pub output_closed : (left rest old new : Option (List ℕ)) (with_tree : Bool) (bytes : List ℕ) → Consumes left rest bytes → Appends old new (piece_output (new_server with_tree) bytes)
-    → (after (new_server with_tree) bytes).stage ≡ closed → IfSome left (λ input. Appends old new (output with_tree input))
-output_closed None rest old new with_tree bytes taken out shut = tt
-output_closed (Some input) None old new with_tree bytes taken out shut = absurd taken
-output_closed (Some input) (Some r) old new with_tree bytes taken out shut =
-    let d = new_server with_tree in
-    let all : piece_output d bytes ≡ output with_tree input =
+pub output_closed : (left rest old new : Option (List ℕ)) (manner : L.Manner) (bytes : List ℕ) → Consumes left rest bytes → Appends old new (piece_output (new_server manner) bytes)
+    → (after (new_server manner) bytes).stage ≡ closed → IfSome left (λ input. Appends old new (output manner input))
+output_closed None rest old new manner bytes taken out shut = tt
+output_closed (Some input) None old new manner bytes taken out shut = absurd taken
+output_closed (Some input) (Some r) old new manner bytes taken out shut =
+    let d = new_server manner in
+    let all : piece_output d bytes ≡ output manner input =
     sym (append-nil (piece_output d bytes)) ∙ ap (λ (l : List ℕ). piece_output d bytes ++ l) (sym (closed_writes (after d bytes) r shut)) ∙ sym (in_all-append d bytes r) ∙ ap (in_all d) (sym taken)
-    ∙ in_all_of with_tree input in
+    ∙ in_all_of manner input in
     subst (Appends old new) all out
 
 closed_of : (s : L.Stage) → status_at s ≡ Refused → s ≡ closed
@@ -230,21 +230,21 @@ closed_of L.closed e = refl
 pub closed_by : (s : L.Stage) (status : Status) → status ≡ Refused → status ≡ status_at s → s ≡ closed
 closed_by s status is known = closed_of s (sym known ∙ is)
 
-pub status_closed : (left rest : Option (List ℕ)) (with_tree : Bool) (bytes : List ℕ) → Consumes left rest bytes → (after (new_server with_tree) bytes).stage ≡ closed
-    → IfSome left (λ input. Refused ≡ status_of with_tree input)
-status_closed None rest with_tree bytes taken shut = tt
-status_closed (Some input) None with_tree bytes taken shut = absurd taken
-status_closed (Some input) (Some r) with_tree bytes taken shut =
-    let d = new_server with_tree in
-    ap status_at (sym (closed_stays (after d bytes) r shut) ∙ sym (stage-append d bytes r) ∙ ap (stage_in_all d) (sym taken) ∙ stage_of with_tree input)
+pub status_closed : (left rest : Option (List ℕ)) (manner : L.Manner) (bytes : List ℕ) → Consumes left rest bytes → (after (new_server manner) bytes).stage ≡ closed
+    → IfSome left (λ input. Refused ≡ status_of manner input)
+status_closed None rest manner bytes taken shut = tt
+status_closed (Some input) None manner bytes taken shut = absurd taken
+status_closed (Some input) (Some r) manner bytes taken shut =
+    let d = new_server manner in
+    ap status_at (sym (closed_stays (after d bytes) r shut) ∙ sym (stage-append d bytes r) ∙ ap (stage_in_all d) (sym taken) ∙ stage_of manner input)
 
-pub status_end : (left rest : Option (List ℕ)) (with_tree : Bool) (bytes : List ℕ) (status : Status) → Consumes left rest bytes → IsAtEnd rest → status ≡ status_at (stage_in_all (new_server with_tree) bytes)
-    → IfSome left (λ input. status ≡ status_of with_tree input)
-status_end None rest with_tree bytes status taken ended known = tt
-status_end (Some input) None with_tree bytes status taken ended known = absurd taken
-status_end (Some input) (Some r) with_tree bytes status taken ended known =
+pub status_end : (left rest : Option (List ℕ)) (manner : L.Manner) (bytes : List ℕ) (status : Status) → Consumes left rest bytes → IsAtEnd rest → status ≡ status_at (stage_in_all (new_server manner) bytes)
+    → IfSome left (λ input. status ≡ status_of manner input)
+status_end None rest manner bytes status taken ended known = tt
+status_end (Some input) None manner bytes status taken ended known = absurd taken
+status_end (Some input) (Some r) manner bytes status taken ended known =
     let whole : bytes ≡ input = sym (append-nil bytes) ∙ ap (λ (l : List ℕ). bytes ++ l) (sym ended) ∙ sym taken in
-    known ∙ ap status_at (stage_of with_tree bytes) ∙ ap (status_of with_tree) whole
+    known ∙ ap status_at (stage_of manner bytes) ∙ ap (status_of manner) whole
 
 -- ---- the rest after reads
 
@@ -256,9 +256,9 @@ kept_left (Some input) (Some r) None bytes taken keeps = absurd keeps
 kept_left (Some input) (Some r) (Some q) bytes taken keeps = taken ∙ ap (λ (l : List ℕ). bytes ++ l) (sym keeps)
 
 -- what was written for a piece is a prefix of the output
-pub begins_fed : (left rest more old mid new : Option (List ℕ)) (with_tree : Bool) (bytes piece : List ℕ) → Consumes left rest bytes → Consumes rest more piece → Appends old mid (piece_output (new_server with_tree) bytes)
-    → Begins mid new (piece_output (after (new_server with_tree) bytes) piece) → IfSome left (λ input. Begins old new (output with_tree input))
-begins_fed left rest more old mid new with_tree bytes piece taken next out begins =
-    let d = new_server with_tree in
-    begins_output left more old new with_tree (bytes ++ piece) (Consumes-trans left rest more bytes piece taken next)
+pub begins_fed : (left rest more old mid new : Option (List ℕ)) (manner : L.Manner) (bytes piece : List ℕ) → Consumes left rest bytes → Consumes rest more piece → Appends old mid (piece_output (new_server manner) bytes)
+    → Begins mid new (piece_output (after (new_server manner) bytes) piece) → IfSome left (λ input. Begins old new (output manner input))
+begins_fed left rest more old mid new manner bytes piece taken next out begins =
+    let d = new_server manner in
+    begins_output left more old new manner (bytes ++ piece) (Consumes-trans left rest more bytes piece taken next)
     (subst (Begins old new) (sym (output-append d bytes piece)) (begins_on old mid new (piece_output d bytes) (piece_output (after d bytes) piece) out begins))

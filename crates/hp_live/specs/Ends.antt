@@ -1,7 +1,7 @@
 -- How a run ends.
-use Rattle.std.specs.Prelude.{List, ℕ, Bool}
+use Rattle.std.specs.Prelude.{List, ℕ}
 use Rattle.hp_lines.specs.Lines.{lines_of}
-use Rattle.hp_lines.specs.Live.{Stage, unopened, up, closed, stage_after}
+use Rattle.hp_lines.specs.Live.{Manner, Stage, unopened, up, closed, stage_after}
 use Rattle.hp_report.specs.declared.status.Status.{Status}
 use Rattle.hp_report.specs.declared.status.Status.TheVariants.{Reported, Refused}
 
@@ -11,5 +11,5 @@ status_at (up base) = Reported
 status_at closed = Refused
 
 -- the status at the end of an input, which is `Refused` if its first line is refused
-abbrev pub status_of : (with_tree : Bool) → List ℕ → Status
-status_of with_tree input = status_at (stage_after with_tree unopened (lines_of input))
+abbrev pub status_of : Manner → List ℕ → Status
+status_of manner input = status_at (stage_after manner unopened (lines_of input))

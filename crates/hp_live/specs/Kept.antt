@@ -12,6 +12,7 @@ use Rattle.hp_store.specs.Stack.{cells_in}
 use Rattle.hp_report.specs.Device.{Begins}
 use Rattle.hp_lines.specs.Live as L
 use Rattle.hp_live.specs.declared.base.RuleBase.{RuleBase}
+use Rattle.hp_live.specs.declared.options.Options.{Options}
 use Rattle.hp_live.specs.declared.server.Stage.{Stage}
 use Rattle.hp_live.specs.declared.server.Stage.TheVariants.{Unopened, Up, Closed}
 use Rattle.hp_live.specs.declared.server.Server.{Server}
@@ -32,8 +33,12 @@ IsStage (Up kept) (L.up base) = StandsFor kept base
 IsStage Closed L.closed = ⊤
 IsStage s t = ⊥
 
+-- how lines are read and answered by a user's options
+abbrev pub manner : Options → L.Manner
+manner options = record { is_text = options.text; with_tree = options.tree }
+
 pub record IsServer (kept : Server) (s : L.Server) : Type 0 where
-  pub tree_is : kept.options.tree ≡ s.with_tree
+  pub manner_is : manner kept.options ≡ s.manner
   pub stage_is : IsStage kept.stage s.stage
   pub line_is : kept.line.items ≡ s.line
 

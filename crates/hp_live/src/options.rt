@@ -7,4 +7,6 @@ pub struct Options {
     pub workers: usize,
     /// Whether answers show what each transaction did.
     pub tree: bool,
+    /// Whether the lines are text in the notation, and not JSON.
+    pub text: bool,
 }

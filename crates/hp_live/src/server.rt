@@ -4,16 +4,17 @@ ghost use Rattle.std.specs.Prelude.{◌≡◌, ◌≢◌, ◌↔◌, ◌++◌, L
 ghost use Rattle.std.specs.Io.KnownBytes.{Appends};
 ghost use Rattle.hp_report.specs.Device.{Begins};
 ghost use Rattle.hp_script.specs.Mapped.{timed_script};
-ghost use Rattle.hp_script.specs.Timed.{timed_script_of};
+ghost use Rattle.hp_notation.specs.Readings.{timed_script_in};
 ghost use Rattle.hp_lines.specs.Lines.{begun};
 ghost use Rattle.hp_lines.specs.Live as L;
 ghost use Rattle.hp_live.specs.Ends.{status_at};
-ghost use Rattle.hp_live.specs.Kept.{StandsFor, IsStage, IsServer, Answers, FirstAnswers};
+ghost use Rattle.hp_live.specs.Kept.{StandsFor, IsStage, IsServer, manner, Answers, FirstAnswers};
 
 use crate::base::RuleBase;
 use crate::options::Options;
+use hp_notation::{Unread, read_request, read_script};
 use hp_report::{Fault, Sink, Status, write_text};
-use hp_script::{DecodeError, Request, Schedule, Script, decode, decode_request, refusal_text};
+use hp_script::{Request, Schedule, Script};
 use std::alloc::{AllocError, Global};
 use std::thread::Threads;
 
@@ -50,8 +51,8 @@ fn open_by<T: Threads + Sync>(
     script: Script,
     options: Options,
 ) -> Result<(String, Stage), AllocError>
-    ensures { IfOk result (λ opened. (line : List ℕ) → timed_script_of line ≡ Ok (timed_script script) →
-        Answers opened.0 opened.1 (L.answer options.tree L.unopened line)) }
+    ensures { IfOk result (λ opened. (line : List ℕ) → timed_script_in options.text line ≡ Ok (timed_script script) →
+        Answers opened.0 opened.1 (L.answer (manner options) L.unopened line)) }
 {
     let mut base = RuleBase::new(alloc, script.version, script.library, options.workers)?;
     let schedule = Schedule {
@@ -69,12 +70,12 @@ fn open<T: Threads + Sync>(
     line: &[u8],
     options: Options,
 ) -> Result<(String, Stage), AllocError>
-    ensures { IfOk result (λ opened. Answers opened.0 opened.1 (L.answer options.tree L.unopened line.now)) }
+    ensures { IfOk result (λ opened. Answers opened.0 opened.1 (L.answer (manner options) L.unopened line.now)) }
 {
-    match decode(alloc, line) {
+    match read_script(alloc, line, options.text) {
         Ok(script) => open_by(rt, alloc, script, options),
-        Err(DecodeError::Refused(refusal)) => Ok((refusal_text(alloc, &refusal)?, Stage::Closed)),
-        Err(DecodeError::Memory) => Err(AllocError),
+        Err(Unread::Refused(refusal)) => Ok((refusal, Stage::Closed)),
+        Err(Unread::Memory) => Err(AllocError),
     }
 }
 
@@ -87,13 +88,13 @@ fn answer_later<T: Threads + Sync>(
     options: Options,
 ) -> Result<String, AllocError>
     ensures { IfOk result (λ text. (now : L.RuleBase) →
-        StandsFor base.old now → Answers text (Stage.Up base.new) (L.answer options.tree (L.up now) line.now)) }
+        StandsFor base.old now → Answers text (Stage.Up base.new) (L.answer (manner options) (L.up now) line.now)) }
 {
-    match decode_request(alloc, base.version, &base.library, base.clock, line) {
+    match read_request(alloc, base.version, &base.library, base.clock, line, options.text) {
         Ok(Request::Item(schedule)) => base.run(rt, alloc, schedule, options),
         Ok(Request::Show(excerpt)) => base.show(alloc, excerpt),
-        Err(DecodeError::Refused(refusal)) => refusal_text(alloc, &refusal),
-        Err(DecodeError::Memory) => Err(AllocError),
+        Err(Unread::Refused(refusal)) => Ok(refusal),
+        Err(Unread::Memory) => Err(AllocError),
     }
 }
 
@@ -106,7 +107,7 @@ fn answer_at<T: Threads + Sync>(
     options: Options,
 ) -> Result<String, AllocError>
     ensures { IfOk result (λ text. (now : L.Stage) →
-        IsStage stage.old now → Answers text stage.new (L.answer options.tree now line.now)) }
+        IsStage stage.old now → Answers text stage.new (L.answer (manner options) now line.now)) }
 {
     match stage {
         Stage::Unopened => {
@@ -122,7 +123,7 @@ fn answer_at<T: Threads + Sync>(
 impl Server {
     /// A server before the first line.
     pub fn new(alloc: Global, options: Options) -> Server
-        ensures { IsServer result (L.new_server options.tree) }
+        ensures { IsServer result (L.new_server (manner options)) }
     {
         Server {
             options,
@@ -244,7 +245,7 @@ impl Server {
         ensures output { OnOk result ((s : L.Server) →
             IsServer self.old s → Appends (W.contents writer.old) (W.contents writer.new) (L.end_output s)) }
         ensures stage { OnOk result ((s : L.Server) →
-            IsServer self.old s → IsStage self.new.stage (L.stage_after s.with_tree s.stage (begun s.line))) }
+            IsServer self.old s → IsStage self.new.stage (L.stage_after s.manner s.stage (begun s.line))) }
         ensures begins { (s : L.Server) →
             IsServer self.old s → Begins (W.contents writer.old) (W.contents writer.new) (L.end_output s) }
         ensures memory { result ≡ Err Fault.NoMemory → writer.new ≡ writer.old }
@@ -272,7 +273,7 @@ impl Server {
         ensures output { OnOk result ((s : L.Server) →
             IsServer self s → Appends (W.contents writer.old) (W.contents writer.new) (L.end_output s)) }
         ensures status { IfOk result (λ status. (s : L.Server) →
-            IsServer self s → status ≡ status_at (L.stage_after s.with_tree s.stage (begun s.line))) }
+            IsServer self s → status ≡ status_at (L.stage_after s.manner s.stage (begun s.line))) }
         ensures begins { (s : L.Server) →
             IsServer self s → Begins (W.contents writer.old) (W.contents writer.new) (L.end_output s) }
         ensures memory { result ≡ Err Fault.NoMemory → writer.new ≡ writer.old }

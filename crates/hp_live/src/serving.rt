@@ -4,7 +4,7 @@ ghost use Rattle.std.specs.Prelude.{◌≡◌, ◌↔◌, OnOk, IfOk, IfSome, tr
 ghost use Rattle.std.specs.Io.KnownBytes.{Appends};
 ghost use Rattle.hp_report.specs.Device.{Begins};
 ghost use Rattle.hp_lines.specs.Live as L;
-ghost use Rattle.hp_live.specs.Kept.{AllAnswered, WholeAnswers, AnswersBegun, StopsAtRefusal};
+ghost use Rattle.hp_live.specs.Kept.{manner, AllAnswered, WholeAnswers, AnswersBegun, StopsAtRefusal};
 ghost use Rattle.hp_live.specs.Ends.{status_of};
 
 use crate::options::Options;
@@ -31,28 +31,28 @@ pub fn serve<T: Threads + Sync, R: Source, W: Sink>(
 
     // On `Ok` it has written the definition's answers for all bytes up to the reader's end.
     ensures output { OnOk result (IfSome (R.remaining reader.old) (λ input.
-        Appends (W.contents writer.old) (W.contents writer.new) (L.output options.tree input))) }
+        Appends (W.contents writer.old) (W.contents writer.new) (L.output (manner options) input))) }
     ensures status { IfOk result (λ status. IfSome (R.remaining reader.old) (λ input.
-        status ≡ status_of options.tree input)) }
+        status ≡ status_of (manner options) input)) }
 
     // However it ends, what was written is a prefix of these answers.
     ensures begins { IfSome (R.remaining reader.old) (λ input.
-        Begins (W.contents writer.old) (W.contents writer.new) (L.output options.tree input)) }
+        Begins (W.contents writer.old) (W.contents writer.new) (L.output (manner options) input)) }
 
     // After a failed read, all lines that were complete before it have been answered: no answer is held back. The
     // script wasn't refused by then.
     ensures at_once { result ≡ Err Fault.Read → AllAnswered (R.remaining reader.old) (R.remaining reader.new)
-        (W.contents writer.old) (W.contents writer.new) (L.new_server options.tree) }
+        (W.contents writer.old) (W.contents writer.new) (L.new_server (manner options)) }
 
     // After other faults, all lines that were complete before the last read have been answered. If memory ran out, what
     // was written is whole answers.
     ensures memory { result ≡ Err Fault.NoMemory → WholeAnswers (R.remaining reader.old) (R.remaining reader.new)
-        (W.contents writer.old) (W.contents writer.new) (L.new_server options.tree) }
+        (W.contents writer.old) (W.contents writer.new) (L.new_server (manner options)) }
     ensures cut { result ≡ Err Fault.Write → AnswersBegun (R.remaining reader.old) (R.remaining reader.new)
-        (W.contents writer.old) (W.contents writer.new) (L.new_server options.tree) }
+        (W.contents writer.old) (W.contents writer.new) (L.new_server (manner options)) }
 
     // It reads on only while the script isn't refused, in pieces of at most 4096 bytes.
-    ensures stops { StopsAtRefusal (R.remaining reader.old) (R.remaining reader.new) (L.new_server options.tree) }
+    ensures stops { StopsAtRefusal (R.remaining reader.old) (R.remaining reader.new) (L.new_server (manner options)) }
 
     // It returns a fault of a device exactly if a call has failed.
     ensures read { result ≡ Err Fault.Read ↔ (R.has_failed reader.new ≡ true) }

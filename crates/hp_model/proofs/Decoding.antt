@@ -31,11 +31,11 @@ script_on_literals = tt
 
 -- a script is refused with this line
 abbrev pub Refuses : (script line : Bytes) → Type 0
-Refuses script line = output script false ≡ lines (line ∷ [])
+Refuses script line = output script false false ≡ lines (line ∷ [])
 
 -- a script is accepted, with this report
 abbrev pub Reports : (script : Bytes) → List Bytes → Type 0
-Reports script report = output script false ≡ lines report
+Reports script report = output script false false ≡ lines report
 
 -- ---- the root
 

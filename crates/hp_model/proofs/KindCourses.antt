@@ -24,7 +24,7 @@ use Rattle.hp_model.proofs.FitValues.{Gives, Gives-any, each_to, each_append, ea
 use Rattle.hp_model.proofs.FitRows.{made_gives, checked_gives, ChangesFit, object_changed, key_gives, keyed_gives, object_gives, kinds_are, fields_at}
 use Rattle.hp_model.proofs.FitStates.{found_fit, PastFits, objects_of_fit, pasts_of_fit, extended_fits, with_rule_fits, rule_state_fits, operated_rule_gives, OperationFits, operation_fits, occurrence_fits}
 use Rattle.hp_model.proofs.FitCourses.{TaskFits, at_level, kept_answer_fits, created_object}
-use Rattle.hp_model.proofs.KindValues.{Safe-value, Safe-cause, Safe-weaker, PartTyped, PartsTyped, EnvironmentTyped, RowOf}
+use Rattle.hp_model.proofs.KindValues.{Safe-value, Safe-cause, Safe-weaker, PartTyped, PartsTyped, EnvironmentTyped, KeyedOf}
 use Rattle.hp_model.proofs.KindEvents.{Well, MayBeWell, occurrence_well, parts_open}
 use Rattle.hp_model.proofs.KindRows.{Sound, not_first, not_second, any_sound, integer_sound, boolean_sound, arguments_sound, row_sound, made_sound, checked_sound, RowsOf, answer_sound, bound_typed, holding_typed, HasSort, let_sound, sorted_is, let_sorts, AnswersTyped, FindingsTyped, answer_named_typed, object_sound, operated_sound}
 
@@ -322,7 +322,7 @@ module _ (library : Library) (d : Declared) where
   fired_typed enabled now timely depth below n is fires S good = start_typed below (fired_task (at_level library now depth below) n ∷ []) fires (((tt, tt), (fired_well (is_fired d n) (rule_at library n).event is, tt), timely), tt) S good
   fired_typed disabled now timely depth below n is fires S good = start_typed below (fired_task (at_level library now depth below) n ∷ []) fires (((tt, tt), (fired_well (is_fired d n) (rule_at library n).event is, tt), timely), tt) S good
 
-  row_context : (x : Name) (class : ℕ) (r : KeyedRow) (scope : Scope) (queries : List (Name × ℕ)) (context : Context) → KeyedFits r → RowOf library class r.row → ContextTyped scope queries context
+  row_context : (x : Name) (class : ℕ) (r : KeyedRow) (scope : Scope) (queries : List (Name × ℕ)) (context : Context) → KeyedFits r → KeyedOf library class r → ContextTyped scope queries context
       → ContextTyped (with_name x class scope) queries (with_row x r context)
   row_context x class r scope queries context fit h typed = record {
     fits = (bound_fits library x r context.environment fit typed.fits.0, typed.fits.1);
@@ -397,18 +397,18 @@ module _ (library : Library) (d : Declared) where
           with_value_typed RowsFit (RowsOf library class) (answer context.environment x class predicate S.objects) (λ rows. for_each rows (λ r. run_body body level (with_row x r context))) S good
           (answer_gives library context.environment x class predicate S.objects (objects_of_fit library S good.fit))
           (Safe-weaker (λ c e. (e.0, λ _. not_first (is_calm predicate) (is_body_calm body) e.1)) (λ rows e. e) (answer_sound library d x class predicate scope context.environment env.environment kinds.0 S.objects (objects_of_fit library S good.fit)))
-          (λ rows hrows of. for_each_typed KeyedFits (λ (r : KeyedRow). RowOf library class r.row) rows (λ r. run_body body level (with_row x r context)) hrows of
+          (λ rows hrows of. for_each_typed KeyedFits (λ (r : KeyedRow). KeyedOf library class r) rows (λ r. run_body body level (with_row x r context)) hrows of
           (λ r hr is. weaker_work (is_body_calm body) (is_calm predicate && is_body_calm body) (run_body body level (with_row x r context)) (λ z. not_second (is_calm predicate) (is_body_calm body) z) (body_typed body (with_name x class scope) queries (with_row x r context) parts.1 kinds.1 (row_context x class r scope queries context hr is env))) S good)
       statement_typed (for_answer x body) scope queries context h k env S good =
           let kinds = and_parts (is_some (lookup (bytes_eq x) queries)) (body_kinded library d (with_name x (unwrap_or (lookup (bytes_eq x) queries) 0) scope) queries body) k in
           let class : ℕ = unwrap_or (lookup (bytes_eq x) queries) 0 in
-          for_each_typed KeyedFits (λ (r : KeyedRow). RowOf library class r.row) (answer_named context.answers x) (λ r. run_body body level (with_row x r context)) (kept_answer_fits library context.answers x env.fits.1)
+          for_each_typed KeyedFits (λ (r : KeyedRow). KeyedOf library class r) (answer_named context.answers x) (λ r. run_body body level (with_row x r context)) (kept_answer_fits library context.answers x env.fits.1)
           (answer_named_typed library x queries context.answers env.answers)
           (λ r hr is. body_typed body (with_name x class scope) queries (with_row x r context) h kinds.1 (row_context x class r scope queries context hr is env)) S good
       statement_typed (with_object x class key body) scope queries context h k env S good =
           let parts = and_parts (expression_fits key) (body_fits (length library.classes) body) h in
           let kinds = and_parts (is_only integer_kind (sort_of library d scope key)) (body_kinded library d (with_name x class scope) queries body) k in
-          with_value_typed KeyedFits (λ (r : KeyedRow). RowOf library class r.row) (named_object S.objects context.environment class key) (λ r. run_body body level (with_row x r context)) S good
+          with_value_typed KeyedFits (λ (r : KeyedRow). KeyedOf library class r) (named_object S.objects context.environment class key) (λ r. run_body body level (with_row x r context)) S good
           (object_gives library context.environment env.fits.0 S.objects class key parts.0 (objects_of_fit library S good.fit))
           (object_sound library d scope context.environment env.environment (is_calm key && is_body_calm body) S.objects class key (λ z. not_first (is_calm key) (is_body_calm body) z) (objects_of_fit library S good.fit) kinds.0)
           (λ r hr is. weaker_course (is_body_calm body) (is_calm key && is_body_calm body) (run_body body level (with_row x r context) S) (λ z. not_second (is_calm key) (is_body_calm body) z) (body_typed body (with_name x class scope) queries (with_row x r context) parts.1 kinds.1 (row_context x class r scope queries context hr is env) S good))

@@ -16,7 +16,7 @@ use Rattle.hp_model.specs.Kinds.{Sort, only, any, has_sort, Declared, covers, Sc
 use Rattle.hp_model.proofs.FitValues.{ObjectsFit}
 use Rattle.hp_model.proofs.FitRows.{KindsAre}
 use Rattle.hp_model.proofs.FitStates.{found_fit}
-use Rattle.hp_model.proofs.KindValues.{Safe, Safe-value, Safe-cause, Safe-then, Safe-some, Safe-weaker, not_of_kinds, IsOf, ArithmeticOf, Typed, only_gives, only_is, some_if, either_is, range_safe, calculate_safe, below_integers, below_texts, ValuesTyped, integer_safe, boolean_safe, one_name, RowOf, object_row, EnvironmentTyped, value_typed}
+use Rattle.hp_model.proofs.KindValues.{Safe, Safe-value, Safe-cause, Safe-then, Safe-some, Safe-weaker, not_of_kinds, IsOf, ArithmeticOf, Typed, only_gives, only_is, some_if, either_is, range_safe, calculate_safe, below_integers, below_texts, ValuesTyped, integer_safe, boolean_safe, one_name, KeyedOf, object_row, EnvironmentTyped, value_typed}
 
 -- no cause of a kind, none of arithmetic if it is calm, and the value has the property
 abbrev pub Sound : {A : Type 0} (calm : Bool) (P : A → Type 0) → Outcome A → Type 0
@@ -158,16 +158,16 @@ checked_sound calm fields (a ∷ more) (g ∷ gs) h =
 
 -- rows of a class
 abbrev pub RowsOf : Library → ℕ → List KeyedRow → Type 0
-RowsOf library class rows = AllByRecursion (λ (r : KeyedRow). RowOf library class r.row) rows
+RowsOf library class rows = AllByRecursion (λ (r : KeyedRow). KeyedOf library class r) rows
 
-kept_of : (library : Library) (class : ℕ) (keep : Bool) (r : KeyedRow) (rest : List KeyedRow) → RowOf library class r.row → RowsOf library class rest → RowsOf library class (if keep then r ∷ rest else rest)
+kept_of : (library : Library) (class : ℕ) (keep : Bool) (r : KeyedRow) (rest : List KeyedRow) → KeyedOf library class r → RowsOf library class rest → RowsOf library class (if keep then r ∷ rest else rest)
 kept_of library class true r rest h k = (h, k)
 kept_of library class false r rest h k = k
 
 chosen_of : (library : Library) (class : ℕ) (b : Bool) (o : ObjectName × Row) (os : Objects) → (b ≡ true → o.0.class ≡ class) → IsTrue (object_fits library o.0.class o.0.key o.1)
     → RowsOf library class (map (λ (x : ObjectName × Row). record { key = x.0.key; row = x.1 }) os)
     → RowsOf library class (map (λ (x : ObjectName × Row). record { key = x.0.key; row = x.1 }) (cond b (o ∷ os) os))
-chosen_of library class true o os same h k = (subst (λ n. RowOf library n o.1) (same refl) (object_row library (record { signatures = []; fired = [] }) o.0.class o.0.key o.1 h), k)
+chosen_of library class true o os same h k = (subst (λ n. KeyedOf library n (record { key = o.0.key; row = o.1 })) (same refl) (object_row library (record { signatures = []; fired = [] }) o.0.class o.0.key o.1 h), k)
 chosen_of library class false o os same h k = k
 
 -- the rows of a class have its fields
@@ -177,7 +177,7 @@ rows_of_class library class (o ∷ os) h =
     chosen_of library class (o.0.class == class) o (filter (λ (x : ObjectName × Row). x.0.class == class) os) (λ e. (Decides-eqb o.0.class class).0 e) h.0 (rows_of_class library class os h.1)
 
 -- one more row
-pub bound_typed : (library : Library) (d : Declared) (x : Name) (class : ℕ) (r : KeyedRow) (scope : Scope) (env : Environment) → RowOf library class r.row → EnvironmentTyped library d scope env
+pub bound_typed : (library : Library) (d : Declared) (x : Name) (class : ℕ) (r : KeyedRow) (scope : Scope) (env : Environment) → KeyedOf library class r → EnvironmentTyped library d scope env
     → EnvironmentTyped library d (with_name x class scope) (bound x r env)
 bound_typed library d x class r scope env h typed = record { columns = typed.columns; parts = typed.parts; rows = ((refl, h), typed.rows); values = typed.values; now = typed.now }
 
@@ -207,8 +207,8 @@ Held P (Some v) = P v
 
 merged_sound : (library : Library) (class : ℕ) (C : Cause → Type 0) (P : Value → Type 0) (merge : Merge) (env : Environment) (x : Name) (predicate term : Expression)
     → ((o : Option Value) (v : Value) → Held P o → P v → Safe C P (merge o v))
-    → ((r : KeyedRow) → RowOf library class r.row → Safe C (IsOf boolean_kind) (value_of (bound x r env) predicate))
-    → ((r : KeyedRow) → RowOf library class r.row → Safe C P (value_of (bound x r env) term))
+    → ((r : KeyedRow) → KeyedOf library class r → Safe C (IsOf boolean_kind) (value_of (bound x r env) predicate))
+    → ((r : KeyedRow) → KeyedOf library class r → Safe C P (value_of (bound x r env) term))
     → (so_far : Option Value) (rows : List KeyedRow) → Held P so_far → RowsOf library class rows → Safe C (Held P) (merged merge env x predicate term so_far rows)
 merged_sound library class C P merge env x predicate term merges test give so_far [] h of = Safe-value so_far h
 merged_sound library class C P merge env x predicate term merges test give so_far (r ∷ rs) h of =
@@ -222,13 +222,13 @@ merged_sound library class C P merge env x predicate term merges test give so_fa
 
 -- the predicate of an aggregate or of a query
 test_sound : (library : Library) (d : Declared) (x : Name) (class : ℕ) (predicate : Expression) (scope : Scope) (env : Environment) → EnvironmentTyped library d scope env → is_test library d scope x class predicate ≡ true
-    → (r : KeyedRow) → RowOf library class r.row → Safe (FaultOf (is_calm predicate)) (IsOf boolean_kind) (value_of (bound x r env) predicate)
+    → (r : KeyedRow) → KeyedOf library class r → Safe (FaultOf (is_calm predicate)) (IsOf boolean_kind) (value_of (bound x r env) predicate)
 test_sound library d x class predicate scope env typed e r h =
     Safe-weaker (λ c k. (not_of_kinds c k.0, k.1)) (λ v k. k) (only_gives boolean_kind (sort_of library d (with_name x class scope) predicate) (value_of (bound x r env) predicate)
     (value_typed library d (with_name x class scope) (bound x r env) (bound_typed library d x class r scope env h typed) predicate) e)
 
 term_sound : (library : Library) (d : Declared) (x : Name) (class : ℕ) (term : Expression) (k : Kind) (scope : Scope) (env : Environment) → EnvironmentTyped library d scope env → sort_of library d (with_name x class scope) term ≡ Some (only k)
-    → (r : KeyedRow) → RowOf library class r.row → Safe (FaultOf (is_calm term)) (IsOf k) (value_of (bound x r env) term)
+    → (r : KeyedRow) → KeyedOf library class r → Safe (FaultOf (is_calm term)) (IsOf k) (value_of (bound x r env) term)
 term_sound library d x class term k scope env typed e r h =
     Safe-weaker (λ c z. (not_of_kinds c z.0, z.1)) (λ v z. z) (value_typed library d (with_name x class scope) (bound x r env) (bound_typed library d x class r scope env h typed) term (only k) e)
 
@@ -350,7 +350,7 @@ let_sorts library d scope (let_entry x a ∷ es) =
 -- an answer with a row
 abbrev pub IsAnswer : Library → ℕ → List KeyedRow → Type 0
 IsAnswer library class [] = ⊥
-IsAnswer library class (r ∷ rs) = RowOf library class r.row × RowsOf library class rs
+IsAnswer library class (r ∷ rs) = KeyedOf library class r × RowsOf library class rs
 
 -- the answers of queries of these names and classes
 abbrev pub AnswersTyped : Library → List (Name × ℕ) → Answers → Type 0
@@ -386,7 +386,7 @@ later_typed library qs ss first rest unsatisfied k = tt
 later_typed library qs ss first rest (faulty c) k = (k.0, not_second first rest k.1)
 
 answered_typed : (library : Library) (q : Name × ℕ) (qs : List (Name × ℕ)) (ss : List (Name × Sort)) (first rest : Bool) (o : Outcome (List KeyedRow)) (next : KeyedRow → Verdict) → Safe (FaultOf first) (RowsOf library q.1) o
-    → ((r : KeyedRow) → RowOf library q.1 r.row → VerdictTyped library qs ss rest (next r)) → VerdictTyped library (q ∷ qs) ss (first && rest) (if_answered q.0 o next)
+    → ((r : KeyedRow) → KeyedOf library q.1 r → VerdictTyped library qs ss rest (next r)) → VerdictTyped library (q ∷ qs) ss (first && rest) (if_answered q.0 o next)
 answered_typed library q qs ss first rest (Err c) next safe k = let is = safe.cause c refl in (is.0, not_first first rest is.1)
 answered_typed library q qs ss first rest (Ok []) next safe k = tt
 answered_typed library q qs ss first rest (Ok (r ∷ rs)) next safe k = let rows = safe.value (r ∷ rs) refl in keeping_typed library q qs ss first rest (r ∷ rs) (next r) rows (k r rows.0)
@@ -501,15 +501,15 @@ answer_named_typed library x (q ∷ qs) (a ∷ more) h =
 -- ---- objects and rules that statements name
 
 pub object_sound : (library : Library) (d : Declared) (scope : Scope) (env : Environment) → EnvironmentTyped library d scope env → (calm : Bool) (objects : Objects) (class : ℕ) (key : Expression) → (is_calm key ≡ false → calm ≡ false) → ObjectsFit library objects
-    → is_only integer_kind (sort_of library d scope key) ≡ true → Sound calm (λ (r : KeyedRow). RowOf library class r.row) (named_object objects env class key)
+    → is_only integer_kind (sort_of library d scope key) ≡ true → Sound calm (λ (r : KeyedRow). KeyedOf library class r) (named_object objects env class key)
 object_sound library d scope env typed calm objects class key less fit h =
     Safe-then (integer_sound library d scope env typed calm key less h) λ k _.
-    Safe-then {P = λ row. RowOf library class row} (row_or (find_object objects class k) (λ row e. object_row library d class k row (found_fit library class k objects row fit e))) λ row hrow.
+    Safe-then {P = λ row. KeyedOf library class (record { key = k; row = row })} (row_or k (find_object objects class k) (λ row e. object_row library d class k row (found_fit library class k objects row fit e))) λ row hrow.
     Safe-value (record { key = k; row = row }) hrow
   where
-    row_or : (o : Option Row) → ((row : Row) → o ≡ Some row → RowOf library class row) → Sound calm (RowOf library class) (or_cause o missing)
-    row_or None next = Safe-cause missing (tt, λ e. cc)
-    row_or (Some row) next = Safe-value row (next row refl)
+    row_or : (k : ℤ) (o : Option Row) → ((row : Row) → o ≡ Some row → KeyedOf library class (record { key = k; row = row })) → Sound calm (λ row. KeyedOf library class (record { key = k; row = row })) (or_cause o missing)
+    row_or k None next = Safe-cause missing (tt, λ e. cc)
+    row_or k (Some row) next = Safe-value row (next row refl)
 
 operated_by : (calm : Bool) (op : RuleOperation) (r : RuleState) (status : Status) → r.status ≡ status → Sound calm (λ _. ⊤) (operated_rule op (record { status = status; past = r.past }))
 operated_by calm install r absent e = Safe-value _ tt

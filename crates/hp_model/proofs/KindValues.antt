@@ -16,7 +16,7 @@ use Rattle.hp_model.specs.State.{object_fits, primitive_fits}
 use Rattle.hp_model.specs.Firing.{kind_in}
 use Rattle.hp_model.specs.Kinds.{Sort, only, any, only_if, has_sort, Declared, signature_of, covers, is_declared, Columns, Scope, is_only, meets, meet, common, common_at, part_sort, field_sort, new_sort, old_sort, key_sort, argument_sort, moment_sort, named_sort, are_alike, are_ordered, are_comparable, sort_of, magnitude, is_small, is_result_calm, is_calm, NotOfKinds}
 use Rattle.hp_model.proofs.FitValues as Fact
-use Rattle.hp_model.proofs.FitValues.{RowFits, PrimitiveFits, OptionFits, values_fit}
+use Rattle.hp_model.proofs.FitValues.{KeyedFits, PrimitiveFits, OptionFits, values_fit}
 use Rattle.hp_model.proofs.Magnitudes.{Near, near_value, known_value, GivesInteger, calm_gives, calm_negation}
 
 -- ---- outcomes
@@ -284,6 +284,10 @@ mapped_only (Some k) t e = (k, refl, cc)
 abbrev pub RowOf : Library → ℕ → Row → Type 0
 RowOf library class row = IsTrue (row_fits (class_at library class).fields row)
 
+-- the same of a row under its key, which has 64 bits
+abbrev pub KeyedOf : Library → ℕ → KeyedRow → Type 0
+KeyedOf library class r = IsTrue (fits_64 r.key) × RowOf library class r.row
+
 pub field_typed : {C : Cause → Type 0} (library : Library) (class : ℕ) (f : Name) (row : Row) → RowOf library class row → Typed C (field_sort library class f) (field_in row f)
 field_typed library class f row h t e =
     let is = mapped_only (kind_in (class_at library class).fields f) t e in
@@ -295,17 +299,17 @@ abbrev pub RowsTyped : Library → List (Name × ℕ) → List (Name × KeyedRow
 RowsTyped library [] [] = ⊤
 RowsTyped library [] (y ∷ ys) = ⊥
 RowsTyped library (x ∷ xs) [] = ⊥
-RowsTyped library (x ∷ xs) (y ∷ ys) = ((x.0 ≡ y.0) × RowOf library x.1 y.1.row) × RowsTyped library xs ys
+RowsTyped library (x ∷ xs) (y ∷ ys) = ((x.0 ≡ y.0) × KeyedOf library x.1 y.1) × RowsTyped library xs ys
 
-row_choice : (library : Library) (b c : Bool) (class : ℕ) (r : KeyedRow) (known : Option ℕ) (found : Option KeyedRow) (n : ℕ) → b ≡ c → cond b (Some class) known ≡ Some n → RowOf library class r.row
-    → (known ≡ Some n → (s : KeyedRow) × (found ≡ Some s) × RowOf library n s.row) → (s : KeyedRow) × (cond c (Some r) found ≡ Some s) × RowOf library n s.row
-row_choice library true true class r known found n same e h next = let is : class ≡ n = cc in (r, refl, subst (λ m. RowOf library m r.row) is h)
+row_choice : (library : Library) (b c : Bool) (class : ℕ) (r : KeyedRow) (known : Option ℕ) (found : Option KeyedRow) (n : ℕ) → b ≡ c → cond b (Some class) known ≡ Some n → KeyedOf library class r
+    → (known ≡ Some n → (s : KeyedRow) × (found ≡ Some s) × KeyedOf library n s) → (s : KeyedRow) × (cond c (Some r) found ≡ Some s) × KeyedOf library n s
+row_choice library true true class r known found n same e h next = let is : class ≡ n = cc in (r, refl, subst (λ m. KeyedOf library m r) is h)
 row_choice library true false class r known found n same e h next = cc
 row_choice library false true class r known found n same e h next = cc
 row_choice library false false class r known found n same e h next = next e
 
 pub row_found : (library : Library) (x : Name) (xs : List (Name × ℕ)) (ys : List (Name × KeyedRow)) (n : ℕ) → RowsTyped library xs ys → lookup (bytes_eq x) xs ≡ Some n
-    → (r : KeyedRow) × (lookup (bytes_eq x) ys ≡ Some r) × RowOf library n r.row
+    → (r : KeyedRow) × (lookup (bytes_eq x) ys ≡ Some r) × KeyedOf library n r
 row_found library x [] ys n h e = cc
 row_found library x (a ∷ xs) [] n h e = absurd h
 row_found library x (a ∷ xs) (b ∷ ys) n h e =
@@ -435,15 +439,15 @@ module _ (library : Library) (d : Declared) where
   part_typed None env h typed i test read each s e = cc
   part_typed (Some c) env h typed i test read each s e = parts_typed c env.occurrence env h typed i test read each s e
 
-  -- an object's row is one of its class
-  pub object_row : (class : ℕ) (key : ℤ) (row : Row) → IsTrue (object_fits library class key row) → RowOf library class row
+  -- an object's row under its key is one of its class
+  pub object_row : (class : ℕ) (key : ℤ) (row : Row) → IsTrue (object_fits library class key row) → KeyedOf library class (record { key = key; row = row })
   object_row class key row h =
       let within = and_parts (nat_lt class (length library.classes)) (fits_64 key && row_fits (class_at library class).fields row) h in
-      (and_parts (fits_64 key) (row_fits (class_at library class).fields row) within.1).1
+      and_parts (fits_64 key) (row_fits (class_at library class).fields row) within.1
 
   class_field : {C : Cause → Type 0} (c k : ℕ) (f : Name) (key : ℤ) (row : Row) → (c == k) ≡ true → IsTrue (object_fits library k key row) → Typed C (field_sort library c f) (field_in row f)
   class_field c k f key row is h =
-      field_typed library c f row (subst (λ n. RowOf library n row) (sym (one_number c k is)) (object_row k key row h))
+      field_typed library c f row (subst (λ n. RowOf library n row) (sym (one_number c k is)) (object_row k key row h).1)
 
   new_typed : {C : Cause → Type 0} (f : Name) (q : Pattern) (p : Primitive) → matches q p ≡ true → PartTyped library d p → Typed C (new_sort library f q) (new_row p >>= λ row. field_in row f)
   new_typed f (on_create c) (created k key new) is h = class_field c k f key new is h.0
@@ -600,7 +604,7 @@ module _ (library : Library) (d : Declared) where
     named_typed x f (Some class) e s g =
         let found = row_found library x scope.rows env.rows class typed.rows e in
         Safe-then {P = λ r. r ≡ found.0} (Safe-some (lookup (bytes_eq x) env.rows) found.0 wrong_kind found.1 refl) λ r same.
-        field_typed library class f r.row (subst (λ y. RowOf library class y.row) (sym same) found.2) s g
+        field_typed library class f r.row (subst (λ y. KeyedOf library class y) (sym same) found.2).1 s g
 
     keyed_typed : {C : Cause → Type 0} (x : Name) (known : Option ℕ) → lookup (bytes_eq x) scope.rows ≡ known → Typed C (then_some (is_some known) (only integer_kind)) (row_named env x >>= λ r. Ok (integer r.key))
     keyed_typed x None e = untyped _
@@ -638,11 +642,11 @@ module _ (library : Library) (d : Declared) where
         each [] k = tt
         each (p ∷ ps) k = (k.0.0, each ps k.1)
 
-    rows_fit : (xs : List (Name × ℕ)) (ys : List (Name × KeyedRow)) → RowsTyped library xs ys → AllByRecursion (λ (b : Name × KeyedRow). RowFits b.1.row) ys
+    rows_fit : (xs : List (Name × ℕ)) (ys : List (Name × KeyedRow)) → RowsTyped library xs ys → AllByRecursion (λ (b : Name × KeyedRow). KeyedFits b.1) ys
     rows_fit [] [] h = tt
     rows_fit [] (y ∷ ys) h = absurd h
     rows_fit (x ∷ xs) [] h = absurd h
-    rows_fit (x ∷ xs) (y ∷ ys) h = (values_fit (class_at library x.1).fields y.1.row h.0.1, rows_fit xs ys h.1)
+    rows_fit (x ∷ xs) (y ∷ ys) h = ((h.0.1.0, values_fit (class_at library x.1).fields y.1.row h.0.1.1), rows_fit xs ys h.1)
 
     near : (e : Expression) → Fact.Gives (Near (magnitude e)) (value_of env e)
     near e = near_value library env (parts_fit env.occurrence typed.parts) (rows_fit scope.rows env.rows typed.rows) e

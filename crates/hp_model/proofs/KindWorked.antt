@@ -117,6 +117,10 @@ digit = arithmetic remainder balance (number 10)
 pub half_calm : is_calm (arithmetic quotient balance (number 2)) ≡ true
 half_calm = refl
 
+-- a key has 64 bits, as a field has
+pub key_calm : is_calm (arithmetic remainder (key_of (codes "s")) (number 2)) ≡ true
+key_calm = refl
+
 pub digits_calm : is_calm (arithmetic plus digit (arithmetic times digit (number 3))) ≡ true
 digits_calm = refl
 

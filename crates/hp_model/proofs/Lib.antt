@@ -55,6 +55,7 @@ pub mod KindCourses
 pub mod KindUnits
 pub mod KindWorked
 pub mod NotationWorked
+pub mod TextWorked
 pub mod NotationLexing
 pub mod NotationReadings
 pub mod NotationExpressionsRead

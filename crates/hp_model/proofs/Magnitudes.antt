@@ -10,11 +10,11 @@ use Rattle.std.proofs.lemmas.Nat.{le-div, mul-le}
 use Rattle.std.proofs.lemmas.Int.{unsigned_abs-mul, rem_below}
 use Rattle.std.proofs.lemmas.Bool.{and_parts, ltb-true}
 use Rattle.hp_model.specs.Values.{Name, Value, integer, boolean, text, KeyedRow, wrong_kind, overflow, divide_by_zero, Outcome, ◌>>=◌, fits_64}
-use Rattle.hp_model.specs.Expressions.{Arithmetic, plus, minus, times, quotient, remainder, Expression, constant, arithmetic, negated, inverted, both, either, compared, field_of, key_of, new_field, old_field, key_in, argument, time_of, occurrence_count, value_named, time_now, Environment, as_integer, in_range, calculate, value_of}
+use Rattle.hp_model.specs.Expressions.{Arithmetic, plus, minus, times, quotient, remainder, Expression, constant, arithmetic, negated, inverted, both, either, compared, field_of, key_of, new_field, old_field, key_in, argument, time_of, occurrence_count, value_named, time_now, Environment, as_integer, in_range, calculate, row_named, value_of}
 use Rattle.hp_model.specs.Rules.{Library}
 use Rattle.hp_model.specs.Ranges.{expression_fits}
 use Rattle.hp_model.specs.Kinds.{bounded_by, known_divisor, quotient_bound, magnitude, is_small, is_nonzero, is_result_calm}
-use Rattle.hp_model.proofs.FitValues.{Gives, Gives-value, Gives-none, Gives-any, Gives-then, Gives-if, Gives-or, each_found, ValueFits, RowFits, OptionFits, unsigned_fits, fits_unsigned, field_gives, value_gives}
+use Rattle.hp_model.proofs.FitValues.{Gives, Gives-value, Gives-none, Gives-any, Gives-then, Gives-if, Gives-or, each_found, ValueFits, KeyedFits, OptionFits, unsigned_fits, fits_unsigned, field_gives, value_gives}
 
 -- ---- distances from 0
 
@@ -167,13 +167,16 @@ known_value env occurrence_count = Gives-weaker (λ v _. none_known v) (Gives-an
 known_value env (value_named x) = Gives-weaker (λ v _. none_known v) (Gives-any (value_of env (value_named x)))
 known_value env time_now = Gives-weaker (λ v _. none_known v) (Gives-any (value_of env time_now))
 
-module _ (library : Library) (env : Environment) (parts : OptionFits library env.occurrence) (rows : AllByRecursion (λ (b : Name × KeyedRow). RowFits b.1.row) env.rows) where
+module _ (library : Library) (env : Environment) (parts : OptionFits library env.occurrence) (rows : AllByRecursion (λ (b : Name × KeyedRow). KeyedFits b.1) env.rows) where
   -- the parts of the occurrence, without names
   abbrev nameless : Environment
   nameless = record { occurrence = env.occurrence; rows = []; values = []; now = env.now }
 
   of_parts : (e : Expression) → IsTrue (expression_fits e) → Gives ValueFits (value_of nameless e)
   of_parts e fits = value_gives library nameless (parts, tt, tt) e fits
+
+  row_found : (x : Name) → Gives KeyedFits (row_named env x)
+  row_found x = Gives-or (lookup (bytes_eq x) env.rows) wrong_kind (λ r is. each_found KeyedFits (bytes_eq x) env.rows r rows is)
 
   pub near_value : (e : Expression) → Gives (Near (magnitude e)) (value_of env e)
   near_value (constant (integer z)) = Gives-value (integer z) (near_integer (Some (unsigned_abs z)) z (λ m e. let same : unsigned_abs z ≡ m = cc in omega (arith, same)))
@@ -200,9 +203,9 @@ module _ (library : Library) (env : Environment) (parts : OptionFits library env
   near_value (either a b) = Gives-weaker (λ v _. tt) (Gives-any (value_of env (either a b)))
   near_value (compared op a b) = Gives-weaker (λ v _. tt) (Gives-any (value_of env (compared op a b)))
   near_value (field_of x f) =
-      Gives-then (Gives-or (lookup (bytes_eq x) env.rows) wrong_kind (λ r is. each_found (λ (k : KeyedRow). RowFits k.row) (bytes_eq x) env.rows r rows is)) λ r hr.
-      Gives-weaker by_bits (field_gives r.row f hr)
-  near_value (key_of x) = Gives-weaker (λ v _. tt) (Gives-any (value_of env (key_of x)))
+      Gives-then (row_found x) λ r hr.
+      Gives-weaker by_bits (field_gives r.row f hr.1)
+  near_value (key_of x) = Gives-then (row_found x) λ r hr. Gives-value (integer r.key) (by_bits (integer r.key) hr.0)
   near_value (new_field i f) = Gives-weaker by_bits (of_parts (new_field i f) refl)
   near_value (old_field i f) = Gives-weaker by_bits (of_parts (old_field i f) refl)
   near_value (key_in i) = Gives-weaker by_bits (of_parts (key_in i) refl)

@@ -1,5 +1,5 @@
 -- Scripts of version 4, from their bytes: each is refused with this line, or has this report.
-use Rattle.std.proofs.Common.{◌≡◌, refl, List, [], ◌∷◌, codes, true}
+use Rattle.std.proofs.Common.{◌≡◌, refl, List, [], ◌∷◌, codes, true, false}
 use Rattle.hp_model.specs.Report.{Bytes}
 use Rattle.hp_model.specs.Output.{output}
 use Rattle.hp_model.proofs.Scripts.{lines}
@@ -7,7 +7,7 @@ use Rattle.hp_model.proofs.Decoding.{script_on_literals, Refuses, Reports}
 
 -- a script is accepted, with this report, which has its trees
 abbrev pub ReportsTree : (script : Bytes) → List Bytes → Type 0
-ReportsTree script report = output script true ≡ lines report
+ReportsTree script report = output script false true ≡ lines report
 
 pub closed_and_its_own_veto : ReportsTree (codes "{\"version\":4,\"classes\":[],\"rules\":[[\"r\",[\"signal\",\"go\"],\"immediate\",[],\"immediate\",[[\"if\",[\"=\",[\"arg\",0,0],0],[[\"veto\",\"no\"]],[[\"veto\",[\"/\",1,0]]]]],\"closed\"]],\"items\":[[\"tx\",[[\"install\",\"r\"]]],[\"tx\",[[\"signal\",\"go\",[0]]]],[\"tx\",[[\"signal\",\"go\",[1]]]]]}") (codes "unit 1 committed" ∷ codes "  op install r" ∷ codes "unit 2 aborted A9 r \"no\"" ∷ codes "  fire r immediate satisfied aborted A9 r \"no\"" ∷ codes "unit 3 aborted A9 r" ∷ codes "  fire r immediate satisfied aborted A5" ∷ codes "final" ∷ codes "rule r enabled" ∷ codes "end" ∷ [])
 unfolding script_on_literals

@@ -241,6 +241,7 @@ magnitude (arithmetic quotient a b) = quotient_bound (magnitude a) (known_diviso
 magnitude (arithmetic remainder a b) = magnitude b
 magnitude (negated a) = magnitude a
 magnitude (field_of x f) = Some (2 ^ 63)
+magnitude (key_of x) = Some (2 ^ 63)
 magnitude (new_field i f) = Some (2 ^ 63)
 magnitude (old_field i f) = Some (2 ^ 63)
 magnitude (key_in i) = Some (2 ^ 63)

@@ -34,6 +34,7 @@ pub mod NotationForms
 pub mod NotationPrint
 pub mod NotationValues
 pub mod NotationLaws
+pub mod TextScripts
 pub mod Output
 pub mod ClassParts
 pub mod Cells

@@ -4,7 +4,9 @@ use Rattle.std.specs.Prelude.{bytes_eq, unwrap_or, string_bytes, slice_get, opti
 use Rattle.std.specs.Map.{lookup}
 use Rattle.hp_model.specs.Values.{Name, Value, Kind, Cause, Row, Outcome, wrong_kind, ◌>>=◌, or_cause, kind_of, is_kind}
 use Rattle.hp_model.specs.Values as V
-use Rattle.hp_model.specs.Firing.{of_kind, made_row, changed_row}
+use Rattle.hp_model.specs.Expressions.{Environment, value_of}
+use Rattle.hp_model.specs.Rules.{Assignment}
+use Rattle.hp_model.specs.Firing.{assigned, of_kind, made_row, changed_row}
 use Rattle.hp_value.specs.declared.value.Value.{Value as RustValue}
 use Rattle.hp_value.specs.declared.row.Field.{Field}
 use Rattle.hp_value.specs.Mapped.{value, row_of}
@@ -23,6 +25,14 @@ onto_push pre x (Err c) = refl
 bind_assoc : {X Y Z : Type 0} (o : Outcome X) (f : X → Outcome Y) (g : Y → Outcome Z) → (o >>= λ x. f x >>= g) ≡ (o >>= f >>= g)
 bind_assoc (Ok x) f g = refl
 bind_assoc (Err c) f g = refl
+
+-- ---- given values
+
+-- one more value is assigned
+pub assigned_more : (env : Environment) (a : Assignment) (others : List Assignment) (pre : List (Name × Value)) (v : Value) → Ok v ≡ value_of env a.value
+    → onto pre (assigned env (a ∷ others)) ≡ onto (pre ++ (a.field, v) ∷ []) (assigned env others)
+assigned_more env a others pre v is =
+    ap (λ o. onto pre (o >>= λ w. assigned env others >>= λ rest. Ok ((a.field, w) ∷ rest))) (sym is) ∙ onto_push pre (a.field, v) (assigned env others)
 
 -- ---- new rows
 

@@ -11,17 +11,21 @@ ghost use Rattle.hp_ops.specs.Given.{given_in, keyed_in, value_given};
 
 use hp_rule::{Assignment, Library};
 use hp_value::{Cause, ClassNo, Env, Expr, Field, Halt, Key, KeyedRow, Kind, Row, Value};
+use smallvec::SmallVec;
 use std::alloc::{AllocError, Global};
 use std::sync::Arc;
 
 /// A field's name with the value that a statement gives it.
-#[derive(Debug, Drop)]
+#[derive(Debug, Default, Drop)]
 pub struct Given<'a> {
     /// The field's name.
     pub field: &'a str,
     /// Its new value.
     pub value: Value,
 }
+
+/// The values that a statement gives. Few stand in the list itself.
+pub type GivenValues<'a> = SmallVec<Given<'a>, 4>;
 
 /// The key and the row of the object that a `create` makes. The key is evaluated first, then each value as written;
 /// their kinds are tested after that, as those of operands are.
@@ -53,7 +57,7 @@ pub fn given_values<'a>(
     env: &Env<'_>,
     key: &Expr,
     pairs: &'a [Assignment],
-) -> Result<(Key, Vec<Given<'a>>), Halt>
+) -> Result<(Key, GivenValues<'a>), Halt>
     ensures { Meets (λ k. keyed_in k.0 k.1.items) result
         (model.keyed_row (environment env.now) (expression key.now) (map assignment pairs.now)
         (model.checked_kinds (class_at (library lib.now) class).fields)) }
@@ -71,10 +75,10 @@ fn assigned<'a>(
     alloc: Global,
     env: &Env<'_>,
     pairs: &'a [Assignment],
-) -> Result<Vec<Given<'a>>, Halt>
+) -> Result<GivenValues<'a>, Halt>
     ensures { Meets (λ gs. given_in gs.items) result (model.assigned (environment env.now) (map assignment pairs.now)) }
 {
-    let mut given = Vec::with_capacity(alloc, pairs.len())?;
+    let mut given = SmallVec::with_capacity(alloc, pairs.len())?;
     for pair in pairs {
         let value = pair.value.eval(alloc, env)?;
         let field = pair.field.as_str();
@@ -99,7 +103,7 @@ fn class_fields(alloc: Global, lib: &Library, class: ClassNo) -> Result<Arc<Vec<
 fn made_row(alloc: Global, fields: &Arc<Vec<Field>>, given: &[Given<'_>]) -> Result<Row, Halt>
     ensures { Meets (λ r. r) result (model.made_row (map field fields.now.value.items) (given_in given.now)) }
 {
-    let mut values = Vec::with_capacity(alloc, fields.len())?;
+    let mut values = SmallVec::with_capacity(alloc, fields.len())?;
     for f in fields.iter() {
         let value = field_value(f, given)?;
         values.push(value.clone()?).map_err(AllocError::from)?;
@@ -170,7 +174,7 @@ fn kind_in(fields: &[Field], name: &str) -> Option<Kind>
 pub(crate) fn changed_row(alloc: Global, old: &Row, given: &[Given<'_>]) -> Result<Row, AllocError>
     ensures { IfOk result (λ r. r ≡ model.changed_row (given_in given.now) old.now) }
 {
-    let mut values = Vec::with_capacity(alloc, old.len())?;
+    let mut values = SmallVec::with_capacity(alloc, old.len())?;
     for i in 0..old.len() {
         if let Some((name, value)) = old.get(i) {
             let new = given_value(given, name).unwrap_or(value);

@@ -15,6 +15,7 @@ use crate::notifying::{new_task, notify_all};
 use hp_rule::{Library, Task};
 use hp_value::{Cause, Halt, Occurrence, Prim, RuleNo};
 use hp_view::View;
+use smallvec::SmallVec;
 use std::alloc::{AllocError, Global};
 use std::sync::Arc;
 
@@ -81,7 +82,7 @@ fn nothing(alloc: Global) -> Result<Arc<Occurrence>, AllocError>
     ensures { IfOk result (λ o. occurrence_of o.value ≡ no_occurrence) }
 {
     let occurrence = Occurrence {
-        parts: Vec::new(alloc),
+        parts: SmallVec::new(alloc),
         count: 0,
     };
     let occurrence = Arc::new(alloc, occurrence)?;

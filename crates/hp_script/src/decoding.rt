@@ -3,7 +3,7 @@
 ghost use Rattle.std.specs.Prelude.{◌≡◌, ◌≤◌, ◌<◌, codes, length, map, option_map, IfOk};
 ghost use Rattle.serde_json.specs.View.{view};
 ghost use Rattle.hp_model.specs.Refusals.{under_root};
-ghost use Rattle.hp_model.specs.Decode.{wanted_count, root_of, rules_at, script_scope, script_of};
+ghost use Rattle.hp_model.specs.Decode.{wanted_count, root_of, rules_at, script_scope, decode, script_of};
 ghost use Rattle.hp_value.specs.Mapped.{class_def};
 ghost use Rattle.hp_rule.specs.Mapped.{library as model_library, rule};
 ghost use Rattle.hp_script.specs.Forms.{heads_view, root_view};
@@ -145,6 +145,19 @@ fn script_at(alloc: Global, value: &Value) -> Result<Script, DecodeError>
         items: schedule.units,
         clock: schedule.clock,
     })
+}
+
+/// Reads a script from its JSON value, however the value was written. The bodies of the script are checked against its
+/// own library.
+///
+/// `Refused` has the first fault, in the order of the checks of `decode` after the JSON text. `Memory` means that memory
+/// ran out.
+pub fn decode_value(alloc: Global, value: &Value) -> Result<Script, DecodeError>
+    ensures reads { Gives script result (decode (view value.now)) }
+    ensures timed { Gives timed_script result (timed_script_at (view value.now)) }
+    ensures own { IfOk result (λ s. AreOf s.library.value s.items.items) }
+{
+    script_at(alloc, value)
 }
 
 /// The script in the bytes, unless they are too many.

@@ -42,6 +42,7 @@ fn text_at(alloc: Global, text: &str) -> Result<Expr, DecodeError>
         return Err(DecodeError::Refused(Refusal::S5(Limit::Text)));
     }
     let text = String::from_str(alloc, text)?;
+    let text = Box::new(alloc, text)?;
     Ok(Expr::literal(Constant::Text(text)))
 }
 

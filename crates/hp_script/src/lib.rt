@@ -40,10 +40,10 @@ mod statement;
 mod statement_form;
 mod version;
 
-pub use decoding::decode;
+pub use decoding::{decode, decode_value};
 pub use hp_rule::{Limit, Member, PathStep};
 pub use refusal::{DecodeError, Refusal};
-pub use request::{Excerpt, Request, decode_request};
+pub use request::{Excerpt, Request, decode_request, decode_request_value};
 pub use schedule::Schedule;
 pub use script::Script;
 pub use shown::refusal_text;

@@ -156,9 +156,12 @@ fn item_of(
     Ok(Request::Item(schedule))
 }
 
-/// The request in a JSON value.
+/// Reads what a line asks from its JSON value, however the value was written.
+///
+/// `Refused` has the first fault, in the order of the checks of `decode_request` after the JSON text. `Memory` means that
+/// memory ran out.
 #[tactic(auto, unfolding(crate::specs::Requests::request_at))]
-fn request_at(
+pub fn decode_request_value(
     alloc: Global,
     version: Version,
     library: &Arc<Library>,
@@ -199,5 +202,5 @@ pub fn decode_request(
         return Err(DecodeError::Refused(Refusal::S5(Limit::Size)));
     }
     let value = json_at(alloc, bytes)?;
-    request_at(alloc, version, library, clock, &value)
+    decode_request_value(alloc, version, library, clock, &value)
 }

@@ -11,6 +11,7 @@ use Rattle.atomic_table.proofs.shared.Seat.TheSendSync as seat
 use Rattle.atomic_table.proofs.shared.Shared.TheSendSync as shared
 use Rattle.atomic_table.proofs.send_lease.SendLease.TheSendSync as lease
 use Rattle.hp_value.proofs.value.Value.TheSendSync as value
+use Rattle.hp_value.proofs.veto.Veto.TheSendSync as veto
 use Rattle.hp_value.proofs.occurrence.Coupling.TheSendSync as coupling
 use Rattle.hp_value.proofs.rule_operation.RuleOperation.TheSendSync as operation_word
 use Rattle.hp_value.proofs.expr.Arithmetic.TheSendSync as arithmetic
@@ -32,7 +33,7 @@ use Rattle.hp_rule.proofs.rule_lists.RuleLists.TheSendSync as rule_lists
 use Rattle.hp_rule.proofs.asked.AskedField.TheSendSync as asked
 use Rattle.hp_rule.specs.contracts.library.Library as Library
 use Rattle.hp_rule.specs.contracts.body.Body as Body
-use Rattle.hp_tree.proofs.node.Ending.TheSendSync as ending
+use Rattle.hp_tree.specs.contracts.node.Ending as Ending
 use Rattle.hp_tree.specs.contracts.report.TopReport as TopReport
 use Rattle.hp_tree.specs.contracts.report.UnitReport as UnitReport
 use Rattle.hp_store.specs.contracts.store.Store as Store
@@ -88,11 +89,17 @@ body_send = search (shared_library_send, stmt_send, heap.crosses, sendable) dept
 
 -- ---- replies
 
+ending_send : IsSend Ending.the_field.row
+ending_send = search (veto.the_send, heap.crosses, sendable) depth 30 fits 20000
+
+ending_sync : IsSync Ending.the_field.row
+ending_sync = search (veto.the_sync, heap.crosses, sendable) depth 30 fits 20000
+
 top_send : IsSend TopReport.the_field.row
-top_send = search (item_send, ending.the_send, coupling.the_send, heap.crosses, sendable) depth 30 fits 20000
+top_send = search (item_send, ending_send, coupling.the_send, heap.crosses, sendable) depth 30 fits 20000
 
 top_sync : IsSync TopReport.the_field.row
-top_sync = search (item_sync, ending.the_sync, coupling.the_sync, heap.crosses, sendable) depth 30 fits 20000
+top_sync = search (item_sync, ending_sync, coupling.the_sync, heap.crosses, sendable) depth 30 fits 20000
 
 report_send : IsSend UnitReport.the_row
 report_send = search (top_send, heap.crosses, sendable) depth 12

@@ -67,7 +67,7 @@ impl Base {
         }
     }
 
-    // The same of an object.
+    // The value of an object's cell.
     fn object(&self, class: ClassNo, key: Key) -> Option<&CellValue>
         ensures { option_map (λ v. here.cell_value v.now) result ≡ base_cells self.now (object_cell class key) }
     {
@@ -126,7 +126,7 @@ impl Base {
         }
     }
 
-    // The same without an index.
+    // The candidates of a part that no index serves.
     fn within(&self, class: ClassNo, part: &ClassPart<'_>) -> Candidates<'_>
         ensures { Covers (is_among (keys_left result)) (mapped.class_part part.now) class (base_cells self.now) }
     {
@@ -190,7 +190,7 @@ impl Base {
         Ok(())
     }
 
-    // The same of the cells alone. The answer is the value that the cell had.
+    // Sets a cell without renewing indexes. The answer is the value that the cell had.
     fn replace(
         &mut self,
         alloc: Global,

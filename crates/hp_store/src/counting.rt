@@ -26,8 +26,8 @@ impl Snapshot {
         sized(counted(&self.base, &self.layers, class))
     }
 
-    /// The same once a layer has been written over the cells. The time goes with the layer's changes of the class's
-    /// objects, too.
+    /// The number of a class's objects once a layer has been written over the cells. The time goes with the layer's
+    /// changes of the class's objects, too.
     pub fn count_over(&self, writes: &Layer, class: ClassNo) -> Result<usize, AllocError>
         ensures { IfOk result (IsCount (over (cells_in self.now) (changes writes.now)) class) }
     {

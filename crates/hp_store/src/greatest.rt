@@ -23,7 +23,7 @@ impl Snapshot {
         self.greatest_key_over(&nothing, class)
     }
 
-    /// The same once a layer has been written over the cells.
+    /// The greatest key of a class's objects once a layer has been written over the cells.
     pub fn greatest_key_over(&self, writes: &Layer, class: ClassNo) -> Option<Key>
         ensures { IsGreatestKey (over (cells_in self.now) (changes writes.now)) class result }
     {

@@ -20,7 +20,7 @@ use hp_value::{Attribute, Bounds, Cell, ClassNo, ClassPart, Key};
 use std::alloc::{AllocError, Global};
 use std::collections::{BTreeMap, BTreeSet};
 
-/// The places of a class's objects by a field. So those are found whose values lie between two bounds.
+/// The places of a class's objects by a field. It supports range lookup.
 ///
 /// It only has to be complete: whoever finds a key in it looks at the object.
 #[derive(Debug, Drop)]
@@ -92,7 +92,7 @@ impl Index {
         add(&mut self.places, place)
     }
 
-    /// The same of a cell, which may be none of an object of the class.
+    /// Takes in what a cell holds, if it is one of an object of the class. The answer is false where memory runs out.
     pub(crate) fn enter_at(&mut self, cell: Cell, value: Option<&CellValue>) -> bool
         ensures same { self.new.class ≡ self.old.class }
         ensures kept { (k : ℤ) (v : Option Held) → IsIn self.old k v → IsIn self.new k v }

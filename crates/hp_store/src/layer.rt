@@ -127,7 +127,7 @@ impl Layer {
         }
     }
 
-    // The same for the cell of an object.
+    // Names the cell of an object.
     fn insert_object(
         &mut self,
         class: ClassNo,
@@ -246,8 +246,8 @@ impl Layer {
         self.changes.range(Cell::Object(class, Key::MIN)..=Cell::Object(class, Key::MAX))
     }
 
-    /// Keys among which all objects of a part of a class are to which the layer gives a row: those of an index, if
-    /// there is one of the part's field, and else those up to the part's bounds, if it is one by keys.
+    /// Candidate keys of a part of a class: a superset of the layer's matches. They are those of an index, if there is
+    /// one of the part's field, and else those up to the part's bounds, if it is one by keys.
     pub(crate) fn candidates(&self, class: ClassNo, part: &ClassPart<'_>) -> Candidates<'_>
         ensures { Covers (is_among (keys_left result)) (mapped.class_part part.now) class
             (over no_cells (changes self.now)) }
@@ -258,7 +258,7 @@ impl Layer {
         }
     }
 
-    // The same without an index.
+    // The candidates of a part that no index serves.
     fn within(&self, class: ClassNo, part: &ClassPart<'_>) -> Candidates<'_>
         ensures { Covers (is_among (keys_left result)) (mapped.class_part part.now) class
             (over no_cells (changes self.now)) }
@@ -472,7 +472,7 @@ impl Clone for Layer {
 
     ghost is_clone = { λ l m. m ≡ l };
 
-    /// The same layer once more, which shares its values.
+    /// A copy that shares the layer's values.
     fn clone(&self) -> Result<Layer, AllocError> {
         let changes = self.changes.clone()?;
         Ok(Layer {

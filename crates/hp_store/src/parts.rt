@@ -41,7 +41,7 @@ impl Snapshot {
         self.part_over(alloc, &Layer::new(alloc), class, part)
     }
 
-    /// The same once a layer has been written over the cells.
+    /// The objects of a part of a class, as `part` finds them, once a layer has been written over the cells.
     pub fn part_over(
         &self,
         alloc: Global,
@@ -193,7 +193,7 @@ impl Snapshot {
         *row == object.row && matches!(part.has(object.key, &object.row), Ok(true))
     }
 
-    // The same of each of some objects.
+    // Whether each of some objects is there with its row and belongs to the part.
     fn shows_each(
         &self,
         writes: &Layer,
@@ -231,7 +231,7 @@ impl Snapshot {
         }
     }
 
-    // The same of each of some keys.
+    // Whether the objects with these keys belong to the part exactly if they are in the list.
     fn agrees_on(
         &self,
         writes: &Layer,
@@ -252,7 +252,7 @@ impl Snapshot {
         true
     }
 
-    // The same of the objects that one of some layers names, as far as they may belong to the part.
+    // Whether that is so of the objects that one of some layers names, as far as they may belong to the part.
     fn agrees_on_layers(
         &self,
         writes: &Layer,
@@ -279,7 +279,7 @@ impl Snapshot {
         true
     }
 
-    // The same of all objects of the class, as far as they may belong to the part.
+    // Whether that is so of all objects of the class, as far as they may belong to the part.
     fn agrees_on_all(
         &self,
         writes: &Layer,

@@ -120,7 +120,7 @@ pub(crate) fn newest(layers: &[SharedLayer], cell: Cell) -> Option<&Option<CellV
     None
 }
 
-/// The same layers once more.
+/// A copy of a list of layers, which shares them.
 ///
 /// An error means that memory ran out.
 pub(crate) fn copied(alloc: Global, layers: &[SharedLayer]) -> Result<Layers, AllocError>

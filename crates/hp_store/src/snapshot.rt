@@ -389,7 +389,7 @@ impl Snapshot {
         true
     }
 
-    // The same of several layers.
+    // Whether it lists the class's objects that some layers name.
     fn lists_layers(
         &self,
         writes: &Layer,
@@ -489,14 +489,14 @@ fn settle(alloc: Global, base: &mut Arc<Base>, layers: &mut Layers)
     ensures complete { AreComplete (base_cells base.old.value) base.old.value.indexes.items →
         AreComplete (base_cells base.new.value) base.new.value.indexes.items }
 {
-    if taken(alloc, base, layers) {
+    if merge_layers(alloc, base, layers) {
         *layers = SmallVec::new(alloc);
     }
 }
 
-// Takes layers into the base, where nobody else holds it; else, and where memory runs out, the answer is false. Under
+// Merges layers into the base if nobody shares it, and says whether it did; it didn't where memory ran out. Under
 // these layers the cells are the same either way.
-fn taken(alloc: Global, base: &mut Arc<Base>, layers: &[SharedLayer]) -> bool
+fn merge_layers(alloc: Global, base: &mut Arc<Base>, layers: &[SharedLayer]) -> bool
     ensures same { (q : ModelCell) → over (base_cells base.new.value) (changes_in layers.now) q
         ≡ over (base_cells base.old.value) (changes_in layers.now) q }
     ensures all { IsTrue result → (q : ModelCell) →
@@ -505,13 +505,13 @@ fn taken(alloc: Global, base: &mut Arc<Base>, layers: &[SharedLayer]) -> bool
         AreComplete (base_cells base.new.value) base.new.value.indexes.items }
 {
     match Arc::get_mut(base) {
-        Some(base) => taken_in(alloc, base, layers).is_ok(),
+        Some(base) => merge_each(alloc, base, layers).is_ok(),
         None => false,
     }
 }
 
-// Takes layers into a base, the oldest first. An error means that memory ran out; some changes may have been taken in.
-fn taken_in(alloc: Global, base: &mut Base, layers: &[SharedLayer]) -> Result<(), AllocError>
+// Merges layers into a base, the oldest first. An error means that memory ran out; some changes may have been merged.
+fn merge_each(alloc: Global, base: &mut Base, layers: &[SharedLayer]) -> Result<(), AllocError>
     ensures ok { OnOk result ((q : ModelCell) → base_cells base.new q
         ≡ over (base_cells base.old) (changes_in layers.now) q) }
     ensures others { (q : ModelCell) → changes_in layers.now q ≡ None → base_cells base.new q ≡ base_cells base.old q }
@@ -531,7 +531,7 @@ impl Clone for Snapshot {
 
     ghost is_clone = { λ s t. t ≡ s };
 
-    /// The same snapshot once more. It shares the base, the layers and the lists that are kept, and copies no cell.
+    /// A copy that shares the base, the layers and the lists that are kept, and copies no cell.
     /// Nobody has asked it for a list yet.
     ///
     /// An error means that memory ran out.

@@ -29,7 +29,7 @@ impl Clone for CellValue {
 
     ghost is_clone = { λ v w. w ≡ v };
 
-    /// The same value, shared: no value of a row is copied.
+    /// A copy that shares what the value has: no value of a row is copied.
     ///
     /// An error means that std refused a copy of an `Arc`.
     fn clone(&self) -> Result<CellValue, AllocError> {

@@ -31,8 +31,8 @@ mod values;
 mod word;
 
 pub use error::ReadError;
-pub use node::{Node, ScriptNode};
-pub use paths::{Step, value_place};
+pub use node::{Node, ScriptNode, offset};
+pub use paths::{Step, node_place, value_place};
 pub use place::{Place, place_at};
 pub use reading::{read_line, read_text};
 pub use values::{script_value, value_of};

@@ -34,8 +34,8 @@ pub struct ScriptNode {
     pub items: Node,
 }
 
-/// The offset of a value.
-pub(crate) fn offset(node: &Node) -> usize
+/// The offset of a value: how many bytes stand before it in the text.
+pub fn offset(node: &Node) -> usize
     ensures { result ≡ T.offset (node_view node.now) }
 {
     match node {

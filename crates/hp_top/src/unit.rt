@@ -50,7 +50,7 @@ impl<R: Threads + Sync> Runner<'_, R> {
         ensures sound { IfOk result (λ a.
             IsSoundUnit (library self.now.engine.lib.now) (unit_of unit.now) a.reads (changes a.layer.value)
             (unit_report a.report)) }
-        ensures so_it_was { IfOk result (λ a. Holds (cells_in snapshot) a.reads) }
+        ensures reads_held { IfOk result (λ a. Holds (cells_in snapshot) a.reads) }
     {
         let mut view = View::new(self.alloc(), snapshot)?;
         let report = self.run_unit_on(&mut view, unit)?;
@@ -123,7 +123,7 @@ pub fn attempt_unit<R: Threads + Sync>(
 ) -> Result<UnitAttempt, AllocError>
     ensures sound { IfOk result (λ a.
         IsSoundUnit (library lib.now) (unit_of unit.now) a.reads (changes a.layer.value) (unit_report a.report)) }
-    ensures so_it_was { IfOk result (λ a. Holds (cells_in snapshot) a.reads) }
+    ensures reads_held { IfOk result (λ a. Holds (cells_in snapshot) a.reads) }
 {
     let past = Past::new(alloc, lib, width);
     let attempt = Runner::new(rt, alloc, lib, width, &past).attempt_unit(snapshot, unit)?;

@@ -10,7 +10,7 @@ use Rattle.hp_model.specs.ClassParts as P
 pub use Rattle.hp_value.specs.Rows.{value, kind, field, row_of}
 use Rattle.hp_value.specs.declared.halt.Cause.{Cause}
 use Rattle.hp_value.specs.declared.halt.Cause.TheVariants.{Exists, Missing, Kind, Overflow, DivideByZero, NoParameter, Depth, Asked}
-use Rattle.hp_value.specs.declared.halt.Veto.{Veto}
+use Rattle.hp_value.specs.declared.veto.Veto.{Veto}
 use Rattle.hp_value.specs.declared.halt.Halt.{Halt}
 use Rattle.hp_value.specs.declared.halt.Halt.TheVariants.{Cause as ByCause, Memory}
 use Rattle.hp_value.specs.declared.cell.Cell.{Cell}
@@ -57,7 +57,7 @@ cause Depth = V.depth_exceeded
 cause Asked = V.requested
 
 abbrev pub veto : Veto → V.Veto
-veto v = record { rule = v.rule; message = option_map value v.message }
+veto v = record { rule = v.told.value.rule; message = option_map value v.told.value.message }
 
 -- a result, with its value mapped by f
 abbrev pub outcome : {A B : Type 0} → (A → B) → Result A Cause → V.Outcome B

@@ -13,7 +13,7 @@ use Rattle.hp_value.specs.declared.row.Field.{Field}
 abbrev pub value : Value → V.Value
 value (Int z) = integer z
 value (Truth b) = boolean b
-value (Text s) = text (string_bytes s)
+value (Text s) = text (string_bytes s.value)
 
 abbrev pub kind : Kind → V.Kind
 kind IntKind = V.integer_kind

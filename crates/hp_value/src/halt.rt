@@ -3,7 +3,6 @@
 ghost use Rattle.std.specs.Prelude.{◌≡◌};
 ghost use Rattle.hp_value.specs.declared.halt.Halt.TheVariants.{Memory, Cause as ByCause};
 
-use crate::value::{RuleNo, Value};
 use std::alloc::AllocError;
 
 /// Why a statement aborts the innermost transaction around it. A veto, of which [`Veto`] tells, aborts too.
@@ -27,61 +26,6 @@ pub enum Cause {
     Depth,
     /// A8: the statement `abort`.
     Asked,
-}
-
-/// A9: a rule vetoes, and what it undoes ends with this.
-#[derive(Debug, Drop)]
-pub struct Veto {
-    /// The rule that vetoes.
-    pub rule: RuleNo,
-    /// Its reason, if it gives one.
-    pub message: Option<Value>,
-}
-
-impl PartialEq for Veto {
-    ghost use Rattle.std.specs.Ordering.{on};
-    ghost use Rattle.std.specs.Cmp.{on_equiv, partial_equiv_from_equiv};
-    ghost use Rattle.hp_value.specs.Same.{veto_same, veto_equiv};
-    ghost use Rattle.hp_value.specs.Mapped.{veto};
-
-    ghost eq = { on veto veto_same };
-
-    ghost laws = { partial_equiv_from_equiv (on_equiv veto veto_equiv) };
-
-    fn eq(&self, other: &Veto) -> bool {
-        self.rule == other.rule
-            && match (&self.message, &other.message) {
-                (None, None) => true,
-                (Some(v), Some(w)) => v == w,
-                _ => false,
-            }
-    }
-}
-
-impl Eq for Veto {
-    ghost use Rattle.std.specs.Cmp.{on_equiv};
-    ghost use Rattle.hp_value.specs.Same.{veto_equiv};
-    ghost use Rattle.hp_value.specs.Mapped.{veto};
-
-    ghost laws = { on_equiv veto veto_equiv };
-}
-
-impl Clone for Veto {
-    ghost use Rattle.std.specs.Prelude.{◌≡◌};
-    ghost use Rattle.hp_value.specs.Mapped.{veto};
-
-    ghost is_clone = { λ x y. veto y ≡ veto x };
-
-    fn clone(&self) -> Result<Veto, AllocError> {
-        let message = match &self.message {
-            Some(v) => Some(v.clone()?),
-            None => None,
-        };
-        Ok(Veto {
-            rule: self.rule,
-            message,
-        })
-    }
 }
 
 /// Why an evaluation has no value: a cause in the script itself, or out of memory.

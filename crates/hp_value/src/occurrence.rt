@@ -4,6 +4,7 @@ use crate::halt::Cause;
 use crate::operator::in_range;
 use crate::row::Row;
 use crate::value::{ClassNo, Key, Value};
+use smallvec::SmallVec;
 use std::alloc::AllocError;
 
 /// A primitive occurrence: what rules are notified of.
@@ -51,6 +52,13 @@ pub enum Primitive {
     Commit,
     /// The logical clock reached this moment.
     Time(u64),
+}
+
+/// The commit, with which the unused place of an occurrence's parts is filled.
+impl Default for Primitive {
+    fn default() -> Primitive {
+        Primitive::Commit
+    }
 }
 
 impl PartialEq for Primitive {
@@ -218,11 +226,14 @@ impl Primitive {
     }
 }
 
+/// The parts of an occurrence. One part, as most events have, stands in the occurrence itself.
+pub type OccurrenceParts = SmallVec<Primitive, 1>;
+
 /// An occurrence of an event.
 #[derive(Debug, Drop)]
 pub struct Occurrence {
     /// The primitive occurrences that make it up, in the order that its event gives them.
-    pub parts: Vec<Primitive>,
+    pub parts: OccurrenceParts,
     /// How many occurrences it stands for, capped at `u64::MAX` (this project's own choice).
     pub count: u64,
 }

@@ -9,6 +9,7 @@ ghost use Rattle.hp_value.specs.Same.{row_same, value_same};
 
 use crate::halt::Cause;
 use crate::value::{Key, Kind, Value};
+use smallvec::SmallVec;
 use std::alloc::{AllocError, Global};
 use std::marker::Model;
 use std::sync::Arc;
@@ -31,6 +32,9 @@ pub struct ClassDef {
     pub fields: Arc<Vec<Field>>,
 }
 
+/// Values of a row. As many as most classes have fields stand in the row's own allocation.
+pub type RowValues = SmallVec<Value, 4>;
+
 /// The values of an object, by the names of its class's fields.
 ///
 /// A row shares the list of fields with its class. A clone shares both lists: it copies no value, and counts on the
@@ -44,7 +48,7 @@ pub struct Row {
 #[derive(Debug, Drop)]
 struct RowLists {
     fields: Arc<Vec<Field>>,
-    values: Vec<Value>,
+    values: RowValues,
 }
 
 impl Model for Row {
@@ -62,7 +66,7 @@ impl Row {
     pub fn new(
         alloc: Global,
         fields: &Arc<Vec<Field>>,
-        values: Vec<Value>,
+        values: RowValues,
     ) -> Result<Row, AllocError>
         ensures { IfOk result (λ r. r ≡ row_of fields.now.value.items values.items) }
     {
@@ -80,7 +84,7 @@ impl Row {
     ghost use Rattle.hp_value.specs.Rows.{renewed, names_of, values_of};
 
     /// A row of the same fields with these values, in their order. A value without a field is left out.
-    pub fn with_values(&self, alloc: Global, mut values: Vec<Value>) -> Result<Row, AllocError>
+    pub fn with_values(&self, alloc: Global, mut values: RowValues) -> Result<Row, AllocError>
         ensures { IfOk result (λ r. r ≡ renewed self.now (map value values.items)) }
     {
         values.truncate(self.len());
@@ -141,7 +145,7 @@ impl Row {
     fn parts(&self) -> (&[Field], &[Value])
         ensures { row_of result.0.now result.1.now ≡ self.now }
     {
-        (&self.lists.fields, &self.lists.values)
+        (&self.lists.fields, self.lists.values.as_slice())
     }
 }
 

@@ -19,8 +19,8 @@ pub enum Value {
     Int(i64),
     /// A boolean.
     Bool(bool),
-    /// A text, compared byte by byte.
-    Text(String),
+    /// A text, compared byte by byte. It lies behind a pointer, so that a value takes 16 bytes.
+    Text(Box<String>),
 }
 
 /// The kinds of values.
@@ -32,6 +32,13 @@ pub enum Kind {
     Bool,
     /// Texts.
     Text,
+}
+
+/// The number 0, with which the unused places of a row are filled.
+impl Default for Value {
+    fn default() -> Value {
+        Value::Int(0)
+    }
 }
 
 impl PartialEq for Value {
@@ -48,7 +55,7 @@ impl PartialEq for Value {
         match (self, other) {
             (Value::Int(x), Value::Int(y)) => x == y,
             (Value::Bool(x), Value::Bool(y)) => x == y,
-            (Value::Text(x), Value::Text(y)) => x == y,
+            (Value::Text(x), Value::Text(y)) => **x == **y,
             _ => false,
         }
     }
@@ -134,7 +141,7 @@ impl Value {
         match (self, other) {
             (Value::Int(x), Value::Int(y)) => Ok(x == y),
             (Value::Bool(x), Value::Bool(y)) => Ok(x == y),
-            (Value::Text(x), Value::Text(y)) => Ok(x == y),
+            (Value::Text(x), Value::Text(y)) => Ok(**x == **y),
             _ => Err(Cause::Kind),
         }
     }
@@ -146,7 +153,7 @@ impl Value {
     {
         match (self, other) {
             (Value::Int(x), Value::Int(y)) => Ok(x < y),
-            (Value::Text(x), Value::Text(y)) => Ok(x < y),
+            (Value::Text(x), Value::Text(y)) => Ok(**x < **y),
             _ => Err(Cause::Kind),
         }
     }

@@ -258,7 +258,7 @@ pub record ReadsCell (old new : Seeing) (cell : Cell) (done : Bool) : Type 0 whe
   pub shows : done ≡ true → Shows new cell (now_in old cell)
   pub only : OnlyReads old new
   pub goes_on : GoesOn old new
-  pub so_it_was : done ≡ true → Holds (beneath new) new.reads
+  pub reads_held : done ≡ true → Holds (beneath new) new.reads
 
 -- only the keys of a class are read, as they stand beneath the writes
 pub record ReadsKeys (old new : Seeing) (class : ℕ) : Type 0 where

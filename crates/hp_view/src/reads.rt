@@ -464,7 +464,7 @@ fn compared(found: &Found, part: &ClassPart<'_>) -> PartState
     }
 }
 
-// The same value, shared.
+// A copy of a value that shares what the value has.
 fn shared(value: Option<&CellValue>) -> Result<Option<CellValue>, AllocError>
     ensures { IfOk result (λ copy. option_map cell_value copy ≡ option_map (λ v. cell_value v.now) value.entry) }
 {

@@ -38,7 +38,7 @@ pub(crate) fn write(
     Ok(())
 }
 
-// The same in a layer that nobody shares.
+// Writes a change to a layer that nobody shares, and keeps what it replaces.
 fn write_in(
     writes: &mut Layer,
     undo: &mut Vec<Replaced>,
@@ -83,8 +83,8 @@ pub(crate) fn write_all(
     Ok(())
 }
 
-// The same in a layer that nobody shares. An error means that memory ran out; some of the changes may have been
-// written.
+// Writes a layer's changes to one that nobody shares. An error means that memory ran out; some of the changes may
+// have been written.
 fn write_each(writes: &mut Layer, undo: &mut Vec<Replaced>, upper: &Layer) -> Result<(), AllocError>
     requires { AreCovered (map replaced undo.old.items) (changes writes.old) }
     ensures ok { OnOk result ((q : ModelCell) → changes writes.new q
@@ -122,7 +122,7 @@ pub(crate) fn take_back(
     Ok(())
 }
 
-// The same of a layer that nobody shares, the newest first. It allocates nothing.
+// Undoes the changes of a layer that nobody shares, the newest first. It allocates nothing.
 fn unwind(writes: &mut Layer, undo: &mut Vec<Replaced>, at: usize)
     requires within { at ≤ length undo.old.items }
     requires covered { AreCovered (map replaced undo.old.items) (changes writes.old) }

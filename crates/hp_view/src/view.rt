@@ -108,7 +108,7 @@ impl View {
         ensures shows { OnOk result (Shows self.new (mapped.cell cell) (now_in self.old (mapped.cell cell))) }
         ensures only { OnlyReads self.old self.new }
         ensures goes_on { GoesOn self.old self.new }
-        ensures so_it_was { OnOk result (Holds (beneath self.new) self.new.reads) }
+        ensures reads_held { OnOk result (Holds (beneath self.new) self.new.reads) }
     {
         if self.reads.has_cell(cell) {
             return Ok(());
@@ -202,7 +202,7 @@ impl View {
     pub fn take_in(&mut self, layer: &Layer) -> Result<(), AllocError>
         ensures ok { OnOk result (TakesIn self.old self.new layer.now) }
         ensures goes_on { GoesOn self.old self.new }
-        ensures so_it_was { OnOk result (Holds (beneath self.new) self.new.reads) }
+        ensures reads_held { OnOk result (Holds (beneath self.new) self.new.reads) }
         ensures err { OnErr result (IsSame self.old self.new) }
     {
         write_all(&mut self.writes, &mut self.undo, layer)?;
@@ -274,7 +274,7 @@ impl View {
         ensures shows { IfOk result (λ keys. ShowsKeys self.new class keys.items) }
         ensures only { OnlyReads self.old self.new }
         ensures goes_on { GoesOn self.old self.new }
-        ensures so_it_was { OnOk result (Holds (beneath self.new) self.new.reads) }
+        ensures reads_held { OnOk result (Holds (beneath self.new) self.new.reads) }
     {
         if let Some(recorded) = self.reads.keys(class) {
             let under = Vec::from_slice(alloc, recorded)?;
@@ -320,14 +320,14 @@ impl View {
         ensures shows { IfOk result (λ greatest. ShowsGreatest self.new class greatest) }
         ensures only { OnlyReads self.old self.new }
         ensures goes_on { GoesOn self.old self.new }
-        ensures so_it_was { OnOk result (Holds (beneath self.new) self.new.reads) }
+        ensures reads_held { OnOk result (Holds (beneath self.new) self.new.reads) }
     {
         let greatest = self.base.greatest_key_over(&self.writes, class);
         self.read_greatest(alloc, class, greatest)?;
         Ok(greatest)
     }
 
-    // The same where the greatest key is known.
+    // Records the read of a class's greatest key, which is known.
     fn read_greatest(
         &mut self,
         alloc: Global,
@@ -340,7 +340,7 @@ impl View {
         ensures shows { OnOk result (ShowsGreatest self.new class greatest) }
         ensures only { OnlyReads self.old self.new }
         ensures goes_on { GoesOn self.old self.new }
-        ensures so_it_was { OnOk result (Holds (beneath self.new) self.new.reads) }
+        ensures reads_held { OnOk result (Holds (beneath self.new) self.new.reads) }
     {
         if self.reads.keys(class).is_some() {
             return Ok(());
@@ -375,7 +375,7 @@ impl View {
             ShowsCount self.new class count) }
         ensures only { OnlyReads self.old self.new }
         ensures goes_on { GoesOn self.old self.new }
-        ensures so_it_was { OnOk result (Holds (beneath self.new) self.new.reads) }
+        ensures reads_held { OnOk result (Holds (beneath self.new) self.new.reads) }
     {
         if self.reads.keys(class).is_some() {
             return Ok(());
@@ -399,7 +399,7 @@ impl View {
         ensures shows { IfOk result (ShowsCount self.new class) }
         ensures only { OnlyReads self.old self.new }
         ensures goes_on { GoesOn self.old self.new }
-        ensures so_it_was { OnOk result (Holds (beneath self.new) self.new.reads) }
+        ensures reads_held { OnOk result (Holds (beneath self.new) self.new.reads) }
     {
         let count = self.base.count_over(&self.writes, class)?;
         self.read_class_count(alloc, class)?;
@@ -461,7 +461,7 @@ impl View {
         ensures shows { IfOk result (λ found. IfSome found (λ objects. ShowsObjects self.new class objects.value)) }
         ensures only { OnlyReads self.old self.new }
         ensures goes_on { GoesOn self.old self.new }
-        ensures so_it_was { OnOk result (Holds (beneath self.new) self.new.reads) }
+        ensures reads_held { OnOk result (Holds (beneath self.new) self.new.reads) }
     {
         if self.writes.names_objects_of(class) {
             return Ok(None);
@@ -486,7 +486,7 @@ impl View {
         ensures shows { IfOk result (λ found. IfSome found (λ objects. ShowsObjects self.new class objects.value)) }
         ensures only { OnlyReads self.old self.new }
         ensures goes_on { GoesOn self.old self.new }
-        ensures so_it_was { OnOk result (Holds (beneath self.new) self.new.reads) }
+        ensures reads_held { OnOk result (Holds (beneath self.new) self.new.reads) }
     {
         let Some(under) = self.whole_beneath(alloc, class)? else {
             return Ok(None);
@@ -533,7 +533,7 @@ impl View {
             AreObjects base class objects.value)) }
         ensures only { OnlyReads self.old self.new }
         ensures goes_on { GoesOn self.old self.new }
-        ensures so_it_was { OnOk result (Holds (beneath self.new) self.new.reads) }
+        ensures reads_held { OnOk result (Holds (beneath self.new) self.new.reads) }
     {
         if let Some(recorded) = self.reads.objects(class) {
             return Ok(Some(Arc::try_clone(recorded)?));
@@ -618,7 +618,7 @@ impl View {
             IfOk result (λ is_read. is_read ≡ true) }
         ensures only { OnlyReads self.old self.new }
         ensures goes_on { GoesOn self.old self.new }
-        ensures so_it_was { OnOk result (Holds (beneath self.new) self.new.reads) }
+        ensures reads_held { OnOk result (Holds (beneath self.new) self.new.reads) }
     {
         match self.reads.part_state(class, part) {
             PartState::WasRead => return Ok(true),
@@ -654,7 +654,7 @@ impl View {
             IfOk result (λ found. IsSome found) }
         ensures only { OnlyReads self.old self.new }
         ensures goes_on { GoesOn self.old self.new }
-        ensures so_it_was { OnOk result (Holds (beneath self.new) self.new.reads) }
+        ensures reads_held { OnOk result (Holds (beneath self.new) self.new.reads) }
     {
         let Some(objects) = self.base.part_over(alloc, &self.writes, class, part)? else {
             return Ok(None);
@@ -725,7 +725,7 @@ impl View {
         true
     }
 
-    // The same of one object.
+    // Whether an object of a class has this row.
     fn has_row(&self, class: ClassNo, object: &KeyedRow) -> bool
         ensures { result ≡ is_row (now_in self.now (object_cell class object.now.key)) object.now.row }
     {
@@ -781,7 +781,7 @@ impl View {
     pub fn into_parts(self) -> (Reads, Arc<Layer>)
         ensures reads { result.0 ≡ self.reads }
         ensures layer { result.1.value ≡ self.writes }
-        ensures so_it_was { Holds (cells_in self.base) result.0 }
+        ensures reads_held { Holds (cells_in self.base) result.0 }
     {
         let View {
             base: _,

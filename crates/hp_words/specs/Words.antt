@@ -6,6 +6,7 @@ use Rattle.clap.specs.Words.{App, Kinds, Row, Rule, fault_of, matches_of, new_ap
 use Rattle.clap.specs.Walk.{byte_or_zero}
 use Rattle.clap.specs.declared.builder.ArgAction.TheVariants.{SetTrue}
 use Rattle.clap.specs.declared.builder.value_parser.ValueParser.TheVariants as parser
+use Rattle.hp_words.specs.declared.words.Options.{Options}
 use Rattle.hp_words.specs.declared.words.WordFault.{WordFault}
 use Rattle.hp_words.specs.declared.words.WordFault.TheVariants.{Refused, NoMemory}
 
@@ -17,13 +18,13 @@ workers_rule = record (new_rule (codes "workers")) {
   defaults = codes "4" ∷ [];
 }
 
--- `--tree`
-abbrev pub tree_rule : Rule
-tree_rule = record (new_rule (codes "tree")) { long = Some (codes "tree"); action = Some SetTrue }
+-- `--NAME`
+abbrev pub flag_rule : (name : List ℕ) → Rule
+flag_rule name = record (new_rule name) { long = Some name; action = Some SetTrue }
 
--- a command with `[--workers N] [--tree]`, whose name no text shows
+-- a command with `[--workers N] [--tree] [--text]`, whose name no text shows
 abbrev pub app : App
-app = with_rule (with_rule (new_app (codes "program")) workers_rule) tree_rule
+app = with_rule (with_rule (with_rule (new_app (codes "program")) workers_rule) (flag_rule (codes "tree"))) (flag_rule (codes "text"))
 
 -- the row of each argument
 unfoldable pub rows_for : List (List ℕ) → List Row
@@ -42,8 +43,8 @@ flag_in o = option_map_or (λ t. bytes_eq t (codes "true")) o false
 abbrev pub workers_for : List (List ℕ) → ℕ
 workers_for words = number_in (one_of (codes "workers") (rows_for words))
 
-abbrev pub tree_for : List (List ℕ) → Bool
-tree_for words = flag_in (one_of (codes "tree") (rows_for words))
+abbrev pub has_flag : (name : List ℕ) → List (List ℕ) → Bool
+has_flag name words = flag_in (one_of name (rows_for words))
 
 abbrev pub is_empty_list : {A : Type 0} → List A → Bool
 is_empty_list [] = true
@@ -53,13 +54,16 @@ is_empty_list (x ∷ xs) = false
 abbrev pub are_taken : List (List ℕ) → Bool
 are_taken words = is_empty_list (faults_for words) && (nat_le 1 (workers_for words) && nat_le (workers_for words) 64)
 
--- the number of workers, and whether trees are wanted
-abbrev pub options_for : List (List ℕ) → Option (ℕ × Bool)
-options_for words = if are_taken words then Some (workers_for words, tree_for words) else None
+-- the number of workers, whether trees are wanted, and whether scripts are in the text notation
+abbrev pub options_for : List (List ℕ) → Option Options
+options_for words =
+    if are_taken words
+    then Some (record { workers = workers_for words; tree = has_flag (codes "tree") words; text = has_flag (codes "text") words })
+    else None
 
 -- the options of some command line
-abbrev pub AreOfWords : (workers : ℕ) → (tree : Bool) → Type 0
-AreOfWords workers tree = (words : List (List ℕ)) × (options_for words ≡ Some (workers, tree))
+abbrev pub AreOfWords : Options → Type 0
+AreOfWords options = (words : List (List ℕ)) × (options_for words ≡ Some options)
 
 -- the program's exit status without options
 abbrev pub word_code_of : WordFault → ℕ

@@ -1,8 +1,8 @@
 //! The words of the command line.
 
-ghost use Rattle.std.specs.Prelude.{◌≡◌, map, string_bytes, codes, IfOk, Some, None};
-ghost use Rattle.clap.specs.Words.{one_of, rows_of, found_of, FailsBy};
-ghost use Rattle.hp_words.specs.Words.{rows_for, faults_for, number_in, flag_in, options_for, AreOfWords, word_code_of};
+ghost use Rattle.std.specs.Prelude.{◌≡◌, map, string_bytes, codes, IfOk, Some, None, false};
+ghost use Rattle.clap.specs.Words.{one_of, rows_of, found_of, rule_of, FailsBy};
+ghost use Rattle.hp_words.specs.Words.{rows_for, faults_for, flag_rule, number_in, flag_in, options_for, AreOfWords, word_code_of};
 
 use clap::error::ErrorKind;
 use clap::{Arg, ArgAction, ArgMatches, Command, Error, value_parser};
@@ -18,6 +18,8 @@ pub struct Options {
     pub workers: usize,
     /// Whether the trees of the transactions are written.
     pub tree: bool,
+    /// Whether scripts and lines are in the text notation, and not in JSON.
+    pub text: bool,
 }
 
 /// Why there are no options.
@@ -33,22 +35,23 @@ pub enum WordFault {
 
 /// The options in the words of a command line, the first of which is the program's name.
 ///
-/// The defaults are 4 workers and no trees.
+/// The defaults are 4 workers, no trees, and JSON.
 pub fn parse_words(alloc: Global, words: &[String]) -> Result<Options, WordFault>
-    ensures ok { IfOk result (λ options.
-        options_for (map string_bytes words.now) ≡ Some (options.workers, options.tree)) }
+    ensures ok { IfOk result (λ options. options_for (map string_bytes words.now) ≡ Some options) }
     ensures refused { result ≡ Err WordFault.Refused → options_for (map string_bytes words.now) ≡ None }
 {
     match matches_of(alloc, words) {
         Ok(matches) => {
             let workers = workers_in(&matches);
-            let tree = tree_in(&matches);
+            let tree = flag_in(&matches, "tree");
+            let text = flag_in(&matches, "text");
             if workers < 1 || 64 < workers {
                 return Err(WordFault::Refused);
             }
             Ok(Options {
                 workers: workers as usize,
                 tree,
+                text,
             })
         }
         Err(error) => match error.kind() {
@@ -61,7 +64,7 @@ pub fn parse_words(alloc: Global, words: &[String]) -> Result<Options, WordFault
 /// The options that the process was started with. The contract can't say which words these were, but that the options
 /// are those of some words.
 pub fn options_of<R: Env + AllocGlobal>(rt: &R) -> Result<Options, WordFault>
-    ensures { IfOk result (λ options. AreOfWords options.workers options.tree) }
+    ensures { IfOk result (λ options. AreOfWords options) }
 {
     let Ok(words) = env::args(rt) else {
         return Err(WordFault::NoMemory);
@@ -82,6 +85,16 @@ pub fn word_code(fault: WordFault) -> u8
     }
 }
 
+/// An argument `--NAME` without a value.
+fn flag(alloc: Global, name: &str) -> Arg<'_>
+    ensures rule { rule_of result ≡ flag_rule name.entry.now }
+    ensures local { result.global ≡ false }
+{
+    Arg::new(alloc, name)
+        .long(name)
+        .action(ArgAction::SetTrue)
+}
+
 /// What `clap` finds in the words.
 fn matches_of<'a>(alloc: Global, words: &'a [String]) -> Result<ArgMatches<'a>, Error>
     ensures rows { IfOk result (λ m. rows_of (found_of m) ≡ rows_for (map string_bytes words.entry.now)) }
@@ -91,10 +104,12 @@ fn matches_of<'a>(alloc: Global, words: &'a [String]) -> Result<ArgMatches<'a>, 
         .long("workers")
         .value_parser(value_parser!(u8))
         .default_value("4");
-    let tree = Arg::new(alloc, "tree")
-        .long("tree")
-        .action(ArgAction::SetTrue);
-    let command = Command::new(alloc, "program").arg(workers)?.arg(tree)?;
+    let tree = flag(alloc, "tree");
+    let text = flag(alloc, "text");
+    let command = Command::new(alloc, "program")
+        .arg(workers)?
+        .arg(tree)?
+        .arg(text)?;
     command.try_get_matches_from(words)
 }
 
@@ -105,9 +120,9 @@ fn workers_in(matches: &ArgMatches<'_>) -> u8
     matches.get_one::<u8>("workers").unwrap_or(0)
 }
 
-/// Whether the matches ask for trees.
-fn tree_in(matches: &ArgMatches<'_>) -> bool
-    ensures { result ≡ flag_in (one_of (codes "tree") (rows_of (found_of matches.entry.now))) }
+/// Whether the matches have a flag.
+fn flag_in(matches: &ArgMatches<'_>, name: &str) -> bool
+    ensures { result ≡ flag_in (one_of name.now (rows_of (found_of matches.entry.now))) }
 {
-    matches.get_one::<bool>("tree").unwrap_or(false)
+    matches.get_one::<bool>(name).unwrap_or(false)
 }

@@ -5,8 +5,10 @@ endif
 let b:did_ftplugin = 1
 
 setlocal comments=:# commentstring=#\ %s
+" The settings of another type of file, which Vim may have loaded first, take `-` as part of a word.
+setlocal iskeyword=a-z,A-Z,48-57,_
 setlocal autoindent expandtab shiftwidth=2 softtabstop=2
 compiler hipac
 
-let b:undo_ftplugin = 'setlocal comments< commentstring< autoindent< expandtab< shiftwidth< softtabstop<'
+let b:undo_ftplugin = 'setlocal comments< commentstring< iskeyword< autoindent< expandtab< shiftwidth< softtabstop<'
       \ . ' makeprg< errorformat<'

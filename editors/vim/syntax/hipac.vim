@@ -4,6 +4,7 @@ if exists('b:current_syntax')
 endif
 
 syntax case match
+syntax iskeyword a-z,A-Z,48-57,_
 syntax sync fromstart
 
 " ---- reserved words

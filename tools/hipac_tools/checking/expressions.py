@@ -3,7 +3,7 @@
 from __future__ import annotations
 
 from ..language import HAVING, MOST_LEVELS, OF_A_LET, OF_A_ROW, OF_THE_OCCURRENCE, is_key_asked
-from ..printing import event_text
+from ..notation.event_texts import event_text
 from ..wording import listed
 from .faults import Place
 from .parts import (
@@ -103,6 +103,9 @@ def read_form(place: Place, scope: Scope, level: int) -> None:
     if not isinstance(place.node.value, list):
         raise place.wrong_shape(
             f"an expression is a number, a truth value, a text or a list [word, ..], and this is {kind_of(place.node)}")
+    if place.dialect.is_text and first_word(place.node) in OF_A_LET and not scope.forms.is_fourth:
+        name = place.node.value[1]
+        raise place.wrong_shape("a name alone as a value is of version 4", field_meant(place, name, scope))
     word, parts = form_at(place, scope.forms.expressions)
     check_level(place, level)
     if word in OF_THE_OCCURRENCE:
@@ -139,16 +142,22 @@ def value_at(place: Place, scope: Scope) -> None:
     """The name of a `let` that is known."""
     name = name_at(place, "the name of a `let`")
     if name not in scope.values:
-        raise place.bad_name(f"no `let` is called `{name}` here", which_value(name, scope))
+        raise place.bad_name(f"no `let` is called `{name}` here", which_value(place, name, scope))
 
 
-def which_value(name: str, scope: Scope) -> str:
+def which_value(place: Place, name: str, scope: Scope) -> str:
     """What may be meant by the name of a `let` that isn't known."""
     if name in scope.rows:
-        return f'`{name}` is a row, and a field of it is ["of", "{name}", field]'
+        return f"`{name}` is a row, and a field of it is {place.dialect.field_of(name)}"
     known = list(scope.values)
     there = names_there("let", known) if known else "no `let` is known here"
-    return scope.not_yet.get(name) or did_you_mean(name, known) or there
+    return scope.not_yet.get(name) or field_meant(place, name, scope) or did_you_mean(name, known) or there
+
+
+def field_meant(place: Place, name: str, scope: Scope) -> str:
+    """The field of a row that is known, where a name alone is a field's, as SQL has it."""
+    rows = [row for row in scope.rows.values() if name in row.class_read.kinds]
+    return f"did you mean {place.dialect.field_of(rows[-1].name, name)}?" if rows else ""
 
 
 def which_row(name: str, scope: Scope) -> str:
@@ -168,7 +177,8 @@ def read_of_occurrence(place: Place, word: str, parts: list[Place], scope: Scope
         if word in ("new", "old"):
             name_at(parts[1], "a field's name")
     if not scope.has_occurrence:
-        message = f"nothing has occurred in a transaction's own body: `{word}` always ends with A6 here"
+        asked = place.dialect.asked(place.node.value)
+        message = f"nothing has occurred in a transaction's own body: `{asked}` always ends with A6 here"
         scope.gathered.warn(place, message)
     elif word != "count" and scope.shapes is not None:
         warn_of_part(place, word, parts, scope)
@@ -184,7 +194,8 @@ def warn_of_part(place: Place, word: str, parts: list[Place], scope: Scope) -> N
         scope.gathered.warn(place, f"the rule's event has no part {number}: this always ends with A6", known)
     elif all(pattern[0] not in HAVING[word] for pattern in found):
         events = listed(list(dict.fromkeys(map(event_text, found))), "or")
-        message = f"part {number} of the rule's event is {events}, which has no `{word}`: this always ends with A6"
+        asked = place.dialect.asked(place.node.value)
+        message = f"part {number} of the rule's event is {events}, which has no `{asked}`: this always ends with A6"
         scope.gathered.warn(place, message)
     elif word in ("new", "old"):
         warn_of_field(parts[1], {pattern[1] for pattern in found if pattern[0] in HAVING[word]}, scope)

@@ -6,6 +6,7 @@ from dataclasses import dataclass
 from typing import Optional
 
 from ..positions import Node
+from .dialect import Dialect, JSON
 
 
 @dataclass(frozen=True)
@@ -47,19 +48,20 @@ class Faulty(Exception):
 
 @dataclass(frozen=True)
 class Place:
-    """A value of the script with its path, which is empty for the root."""
+    """A value of the script with its path, which is empty for the root, and how the script is written."""
 
     node: Node
     path: str = ""
+    dialect: Dialect = JSON
 
     def item(self, position: int) -> Place:
-        return Place(self.node.items[position], f"{self.path}/{position}")
+        return Place(self.node.items[position], f"{self.path}/{position}", self.dialect)
 
     def items(self) -> list[Place]:
         return [self.item(position) for position in range(len(self.node.items))]
 
     def member(self, name: str) -> Place:
-        return Place(self.node.members[name][1], f"{self.path}/{name}")
+        return Place(self.node.members[name][1], f"{self.path}/{name}", self.dialect)
 
     def note(self, text: str) -> Note:
         return Note(text, self.node.start, self.node.end)

@@ -11,9 +11,9 @@ from dataclasses import dataclass, field, replace
 from typing import Iterable, Mapping, Optional
 
 from ..language import (
-    GREATEST, LEAST, RULE_OPERATIONS, Form, has_one_part, is_next, is_single, over, shapes, statements,
+    GREATEST, LEAST, RULE_OPERATIONS, Form, is_next, is_single, over, shapes, statements,
 )
-from ..printing import aggregate_text
+from ..notation.statement_texts import aggregate_text
 from ..wording import counted
 from .faults import Place
 from .forms import Forms, RULE
@@ -24,8 +24,6 @@ from .scope import Scope
 Kinds = Mapping[str, Mapping[str, str]]
 """Of each class the kinds of its fields."""
 
-IN_A_SUB = 'a test in ["sub", [..], [["veto"]]] of its action vetoes then too: docs/SCRIPT.md, "Guards"'
-IF_CLOSED = 'with the seventh part "closed" it vetoes then too: docs/SCRIPT.md, "Closed rules"'
 OF_FIELD = {"int": INT, "bool": BOOL, "text": TEXT}
 
 
@@ -49,10 +47,11 @@ def hint_of_faults(rules: Iterable[list[Place]], items: Place, kinds: Kinds, is_
 def told(parts: list[Place], reader: Reader, forms: Forms) -> tuple[str, str]:
     """The hint for a guard, and what helps."""
     first, others = reader.risks[0], len({risk.place.path for risk in reader.risks}) - 1
-    text = aggregate_text(first.place.node.value, has_one_part(parts[1].node.value))
+    text = aggregate_text(first.place.node.value)
     message = f"`{parts[0].node.value}` doesn't veto if `{text}` {first.words} ({first.cause})"
     more = [f"{counted(others, 'more expression')} of it may end with a fault"] if others else []
-    return message, "\n".join(more + [IF_CLOSED if forms.is_fourth else IN_A_SUB])
+    dialect = first.place.dialect
+    return message, "\n".join(more + [dialect.if_closed if forms.is_fourth else dialect.in_a_sub])
 
 
 def has_veto(body: list[Form]) -> bool:

@@ -6,7 +6,7 @@ import re
 from dataclasses import dataclass
 from typing import Iterable, Iterator, Mapping, Optional
 
-from ..language import GREATEST, LEAST, MOST_NAME_BYTES, MOST_PLACE, NAME_LETTERS, counts, is_name
+from ..language import CLOSED, GREATEST, LEAST, MOST_NAME_BYTES, MOST_PLACE, NAME_LETTERS, counts, is_name
 from ..near import NO_HABITS, nearest
 from ..positions import Node, shortened
 from ..wording import listed
@@ -84,13 +84,17 @@ def count_of(number: int) -> str:
 
 
 def shape_at(place: Place, shape: Shape, hint: str = "", outside: Optional[Place] = None) -> list[Place]:
-    """The parts of a list of fixed parts; the hint is for a wrong number of them. `outside` is the list of such lists
-    in which it stands, if it stands in one."""
+    """The parts of a list of fixed parts; the hint is for a wrong number of them. A text has such a number only if the
+    form is of another version, and then the hint says all. `outside` is the list of such lists in which it stands, if
+    it stands in one."""
     written = f"{shape.what} is {shape.written()}"
     if not isinstance(place.node.value, list):
         bare = outside is not None and first_word(outside.node) is not None
         raise place.wrong_shape(f"{written}, and this is {kind_of(place.node)}", bare_shape(shape) if bare else "")
     if len(place.node.items) != len(shape.parts):
+        if place.dialect.is_text:
+            last = place.node.items[-1]
+            raise place.refused(f"S2 {place.path}", hint, at=last if last.value == CLOSED else None)
         raise place.wrong_shape(f"{written}: {count_of(len(shape.parts))}, and this has {len(place.node.items)}", hint)
     return place.items()
 
@@ -112,9 +116,12 @@ def form_at(place: Place, grammar: Grammar) -> tuple[str, list[Place]]:
     if not isinstance(word, str):
         raise place.wrong_shape(f"{grammar.what} begins with its word, and this begins with {kind_of(node.items[0])}",
                                 first_is_no_word(node, grammar))
-    if word not in grammar.words:
-        raise place.wrong_shape(f"{quoted(shortened(word))} begins no {grammar.named()}", *what_instead(word, grammar))
+    is_known = word in grammar.words
     parts = place.items()[1:]
+    if place.dialect.is_text and not (is_known and len(parts) in counts(grammar.words[word])):
+        raise place.wrong_shape(f"{place.dialect.later(word)} is of version 4")
+    if not is_known:
+        raise place.wrong_shape(f"{quoted(shortened(word))} begins no {grammar.named()}", *what_instead(word, grammar))
     if len(parts) not in counts(grammar.words[word]):
         raise place.wrong_shape(wrong_count(word, grammar, len(parts)), other_word(word, len(parts)))
     return word, parts

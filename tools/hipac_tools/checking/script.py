@@ -14,6 +14,7 @@ from ..language import (
 )
 from ..positions import Node, shortened
 from ..wording import listed
+from .dialect import Dialect, JSON
 from .events import Moments, read_event
 from .expressions import read_aggregate, read_class, read_over, read_predicate
 from .faults import Faulty, Place, Refused
@@ -44,12 +45,12 @@ class Script:
     warnings: list[Warned]
 
 
-def read_script(root: Node, is_live: bool = False) -> Script:
+def read_script(root: Node, is_live: bool = False, dialect: Dialect = JSON) -> Script:
     """Reads a script; raises Faulty with its faults, of which the first is the program's refusal. A live script is the
     beginning of a rule base that stays up."""
     gathered, script = Gathered(), None
     try:
-        script = read_parts(Place(root), gathered, is_live)
+        script = read_parts(Place(root, "", dialect), gathered, is_live)
     except Refused as refusal:
         gathered.faults.append(refusal.fault)
     except Enough:
@@ -382,7 +383,7 @@ def read_move(place: Place, clock: Clock, moments: Moments) -> None:
     due = len(moments.due(former, time))
     if due > MOST_MOMENTS:
         message = f"this move of the clock from {former} to {time} has more than {MOST_MOMENTS:,} due moments"
-        hint = "the moments are those that `at` and `every` name in any rule of the script"
+        hint = f"the moments are those that {place.dialect.moments} name in any rule of the script"
         raise place.over_limit("moments", message, hint)
 
 

@@ -33,8 +33,8 @@ def read_body(place: Place, scope: Scope, level: int = 1, what: str = "a body") 
 def read_statement(place: Place, scope: Scope, level: int) -> None:
     word, parts = form_at(place, scope.forms.statements)
     if word == "veto" and not scope.has_occurrence:
-        hint = 'a transaction\'s own body ends itself with ["abort"]'
-        raise place.wrong_shape('["veto"] stands only in a rule\'s action', hint)
+        hint = f"a transaction's own body ends itself with {place.dialect.abort}"
+        raise place.wrong_shape(f"{place.dialect.veto} stands only in a rule's action", hint)
     if level > MOST_LEVELS:
         message = f"statements nest at most {MOST_LEVELS} levels, and this is the first one at level {level}"
         raise place.over_limit("nesting", message)
@@ -184,17 +184,18 @@ def read_for(parts: list[Place], scope: Scope, level: int) -> None:
     if name not in queries:
         in_action = f"this rule has no query `{name}`"
         message = in_action if scope.has_occurrence else "a transaction's own body has no queries"
-        raise parts[0].bad_name(message, for_what_else(name, queries, scope))
+        raise parts[0].bad_name(message, for_what_else(parts[0], queries, scope))
     read_body(parts[1], scope, level + 1)
 
 
-def for_what_else(name: str, queries: list[str], scope: Scope) -> str:
+def for_what_else(place: Place, queries: list[str], scope: Scope) -> str:
+    name = place.node.value
     if name in scope.rows:
         return f"`{name}` is a variable, which is one row; `for` goes over a query's answer"
     if name in scope.values:
         return f"`{name}` is a `let`, which is one value; `for` goes over a query's answer"
     if not scope.has_occurrence:
-        return '`for` stands in a rule\'s action; here ["each", name, class, predicate, body] finds rows'
+        return f"`for` stands in a rule's action; here {place.dialect.each} finds rows"
     return did_you_mean(name, queries) or (names_there("query", queries) if queries else "its condition has no queries")
 
 

@@ -9,7 +9,7 @@ ghost use Rattle.hp_attempt.specs.Mapped.{attempt as attempt_of};
 ghost use Rattle.hp_fire.specs.Channels.{IsOf};
 
 use crate::speculate::pending::Tried;
-use crate::speculate::policy::ROOM;
+use crate::speculate::policy::CHANNEL_CAPACITY;
 use hp_rule::Library;
 use rtrb::{Consumer, Producer, Protocol, PushError, RingBuffer};
 use std::alloc::{AllocError, Global};
@@ -46,7 +46,7 @@ pub(crate) fn channel<'a>(
     ensures sender { IfOk result (λ ends. IsOf (library lib.entry.now) (sent ends.0)) }
     ensures receiver { IfOk result (λ ends. IsOf (library lib.entry.now) (received ends.1)) }
 {
-    let (mut sender, mut receiver) = RingBuffer::with_protocol::<Global, Soundness>(alloc, ROOM)?;
+    let (mut sender, mut receiver) = RingBuffer::with_protocol::<Global, Soundness>(alloc, CHANNEL_CAPACITY)?;
     sender.push_reserved(Sent::Library(lib));
     receiver.slots_beside(&mut sender);
     receiver.pop_known();

@@ -45,7 +45,7 @@ pub(crate) fn on_threads<
     let mut apart = || -> X
         requires { IsSync F.row × IsSend J.row × IsSend X.row × IsSome job × IfSome job (F.pre f.now) }
         ensures { IfSome job.entry (λ j. GivesFor F.Fn f.entry.now (j ∷ []) (result ∷ [])) }
-    { f(taken(&mut job)) };
+    { f(take_value(&mut job)) };
     let mut rest = || -> (Result<Vec<X>, AllocError>, Y)
         requires { AcceptsJobs F.Fn f.now jobs.items × H.pre besides.now × IsSend H.row × IsSend Y.row }
         ensures { IfOk result.0 (λ results. GivesFor F.Fn f.entry.now jobs.entry.items results.items)
@@ -74,7 +74,7 @@ fn alone<R: Threads, Y: Send + Drop, H: FnMut() -> Y + Send>(rt: &R, besides: &m
 }
 
 /// Takes what an option has.
-pub(crate) fn taken<J: Drop>(job: &mut Option<J>) -> J
+pub(crate) fn take_value<J: Drop>(job: &mut Option<J>) -> J
     requires { IsSome job.old }
     ensures { job.old ≡ Some result }
 {

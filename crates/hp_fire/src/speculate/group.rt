@@ -197,7 +197,7 @@ impl<
             stop_at_veto: self.stop_at_veto,
             width: self.width,
         };
-        progress.pending.drop_stale(view);
+        progress.pending.drop_first_and_stale(view);
         let Ok(start) = prepare(plan, self.alloc, view, &progress.pending) else {
             // Memory ran out: the owner runs the next task.
             return Ok(());

@@ -11,7 +11,7 @@ ghost use Rattle.hp_fire.specs.Groups.{AreSoundTries, AreOf};
 
 use crate::speculate::channel::{Receiver, receive};
 use crate::speculate::past::{Effort, Past};
-use crate::speculate::policy::ROOM;
+use crate::speculate::policy::CHANNEL_CAPACITY;
 use hp_attempt::{Attempt, holds};
 use hp_rule::Task;
 use hp_view::View;
@@ -66,7 +66,7 @@ impl Pending {
     }
 
     /// Drops the first attempt, and those whose reads don't hold in the view's cells.
-    pub(crate) fn drop_stale(&mut self, view: &View)
+    pub(crate) fn drop_first_and_stale(&mut self, view: &View)
         ensures { (library : ModelLibrary) → AreSound library self.old.attempts.items
             → AreSound library self.new.attempts.items }
     {
@@ -182,7 +182,7 @@ impl Pending {
         ensures sound { (library : ModelLibrary) → IsOf library (received receiver.old)
             → AreSound library self.old.attempts.items → AreSound library self.new.attempts.items }
     {
-        for _ in 0..ROOM {
+        for _ in 0..CHANNEL_CAPACITY {
             let Some(tried) = receive(receiver) else {
                 return;
             };

@@ -17,23 +17,23 @@ pub(crate) const ROW: u64 = 1;
 
 // The work that has to be left beside the longest task. To start two workers takes 60 us and four 110 us, which is
 // 2,500 to 5,000 operators, and they run at nine tenths of full speed at best.
-const PAYS: u64 = 8_000;
+const MIN_WORK: u64 = 8_000;
 
 // A wave pays if at least one in this number of its tasks is settled from its attempt.
-const KEPT: usize = 4;
+const MIN_KEPT_RATIO: usize = 4;
 
 /// After this number of conflicts in a row a worker tries no more tasks.
-pub(crate) const CONFLICTS: usize = 2;
+pub(crate) const MAX_CONFLICTS: usize = 2;
 
 /// To accept an attempt takes about as long as to copy this number of writes (estimated, not measured).
-pub(crate) const COPIES: usize = 32;
+pub(crate) const WRITES_PER_ACCEPT: usize = 32;
 
 /// How often the owner polls for the next attempt at the end of a wave: for some 50 us (estimated), about as long as a
 /// task takes that scans a few hundred objects.
-pub(crate) const POLLS: usize = 500;
+pub(crate) const MAX_POLLS: usize = 500;
 
 /// The capacity of a channel, in attempts.
-pub(crate) const ROOM: usize = 16;
+pub(crate) const CHANNEL_CAPACITY: usize = 16;
 
 /// Whether it pays to start workers for these tasks, by the costs of their rules' last firings. A task whose rule
 /// hasn't fired counts `mean`, the average cost of those that the owner has fired.
@@ -46,7 +46,7 @@ pub(crate) fn do_workers_pay(past: &Past, tasks: &[Task], mean: u64) -> bool {
         let cost = past.of(task.rule).unwrap_or(mean);
         all = all.saturating_add(cost);
         longest = longest.max(cost);
-        if all.saturating_sub(longest) >= PAYS {
+        if all.saturating_sub(longest) >= MIN_WORK {
             return true;
         }
     }
@@ -62,5 +62,5 @@ pub(crate) fn is_time_to_ask(fired: usize) -> bool {
 /// Whether waves that were to try `tried` tasks have paid, where `kept` tasks were settled from attempts. In a group in
 /// full conflict they don't: each settles one task.
 pub(crate) fn do_waves_pay(tried: usize, kept: usize) -> bool {
-    tried <= kept.saturating_mul(KEPT)
+    tried <= kept.saturating_mul(MIN_KEPT_RATIO)
 }

@@ -8,7 +8,7 @@ ghost use Rattle.hp_fire.specs.Groups.{IsWave, IsJob, AreOf};
 use crate::speculate::channel::Receiver;
 use crate::speculate::extents::frozen;
 use crate::speculate::pending::Pending;
-use crate::speculate::policy::COPIES;
+use crate::speculate::policy::WRITES_PER_ACCEPT;
 use crate::speculate::wave::{Job, Wave, jobs_for, kept_layers};
 use hp_board::{Board, Seat};
 use hp_rule::{Library, Task};
@@ -78,7 +78,7 @@ pub(crate) fn prepare<'a>(
         kept,
         snapshot,
         board,
-        early: view.written() <= left.saturating_mul(COPIES),
+        early: view.written() <= left.saturating_mul(WRITES_PER_ACCEPT),
     };
     let (jobs, receivers) = jobs_for(alloc, lib, &wave, seats)?;
     Ok(Start {

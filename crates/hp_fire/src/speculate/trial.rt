@@ -14,11 +14,11 @@ ghost use Rattle.hp_fire.specs.Groups.{AreSoundTries, IsAcceptedWithin, IsWave, 
 
 use crate::attempting::attempt_on;
 use crate::speculate::channel::Receiver;
-use crate::speculate::fork_join::{on_threads, taken};
+use crate::speculate::fork_join::{on_threads, take_value};
 use crate::speculate::gate::Gate;
 use crate::speculate::past::Effort;
 use crate::speculate::pending::Tried;
-use crate::speculate::policy::POLLS;
+use crate::speculate::policy::MAX_POLLS;
 use crate::speculate::progress::Progress;
 use crate::speculate::wave::{Job, Wave, hand_over, kept_layer};
 use crate::speculate::worker::Worker;
@@ -97,7 +97,7 @@ impl<
             ensures comes { OnOk result (ComesInWave (library self.entry.now.lib.now) wave.entry.now
                 view.entry.now progress.entry.now view.exit.now progress.exit.now) }
             ensures channels { AreOf (library self.entry.now.lib.now) receivers.exit.now.items }
-        { self.try_as_owner(wave, taken(&mut seat), view, progress, receivers) };
+        { self.try_as_owner(wave, take_value(&mut seat), view, progress, receivers) };
         let worker = |job| -> Vec<Tried>
             requires { IsSync R.row × IsSync G.row × IsSync F.row × IsWave wave.now
                 × IsJob (library self.now.lib.now) wave.now.board.deal job
@@ -137,7 +137,7 @@ impl<
         self.accept_each(&mut worker, view, progress, receivers)
     }
 
-    /// The same, once the owner's part has a worker.
+    /// Tries tasks by the owner's worker, and accepts attempts from the front as they arrive.
     fn accept_each(
         &self,
         worker: &mut Worker<'_>,
@@ -165,7 +165,7 @@ impl<
             progress.accept_sent(self.alloc, wave, view, receivers, wave.polls(1))?;
             worker.note_veto(progress.settled.end.is_some());
         }
-        progress.accept_sent(self.alloc, wave, view, receivers, wave.polls(POLLS))
+        progress.accept_sent(self.alloc, wave, view, receivers, wave.polls(MAX_POLLS))
     }
 
     /// A worker's part of a wave: it tries tasks until none is left, and sends the attempts. It returns those for which

@@ -4,7 +4,7 @@ ghost use Rattle.std.specs.Prelude.{◌≡◌, ◌<◌, IfOk, IfSome, length};
 ghost use Rattle.hp_board.specs.Deal.{IsSeatOf};
 ghost use Rattle.hp_fire.specs.Groups.{IsWorker};
 
-use crate::speculate::policy::CONFLICTS;
+use crate::speculate::policy::MAX_CONFLICTS;
 use crate::speculate::predecessors::Predecessors;
 use crate::speculate::wave::{Wave, boxed};
 use hp_attempt::Attempt;
@@ -65,7 +65,7 @@ impl<'a> Worker<'a> {
     /// Whether more attempts are in vain, or are likely to be: a veto has stopped the group, or the worker's last
     /// attempts were in conflict with predecessors.
     pub(crate) fn has_given_up(&self) -> bool {
-        self.is_stopped || self.predecessors.conflicts >= CONFLICTS
+        self.is_stopped || self.predecessors.conflicts >= MAX_CONFLICTS
     }
 
     /// Notes whether a veto has stopped the group. No attempt is accepted after a veto.

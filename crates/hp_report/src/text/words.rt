@@ -71,9 +71,9 @@ fn put_veto(
     ensures { OnOk result (Gains out.old out.new
         (spaced (cause_words (model.library_of names.now) (vetoed (model.veto veto.now))))) }
 {
-    let name = names.rule(veto.rule);
+    let name = names.rule(veto.rule());
     write!(out, " A9 {name}")?;
-    if let Some(message) = &veto.message {
+    if let Some(message) = veto.message() {
         out.push_str(" ")?;
         put_value(alloc, out, message)?;
     }

@@ -28,8 +28,8 @@ returns-in-Ok-clause-takes c = λ accepted. taken_written c.in-Ok.ensures.ok
 pub returns-in-Ok-clause-reads : goal.returns-in-Ok-clause-reads
 returns-in-Ok-clause-reads c = λ accepted. taken_adds c.in-Ok.ensures.ok
 
-pub returns-in-Ok-clause-so_it_was : goal.returns-in-Ok-clause-so_it_was
-returns-in-Ok-clause-so_it_was c = λ accepted. c.in-Ok.ensures.ok.so_it_was
+pub returns-in-Ok-clause-reads_held : goal.returns-in-Ok-clause-reads_held
+returns-in-Ok-clause-reads_held c = λ accepted. c.in-Ok.ensures.ok.reads_held
 
 pub returns-in-Err-clause-goes_on : goal.returns-in-Err-clause-goes_on
 returns-in-Err-clause-goes_on c = same_goes_on (forgotten c.read_count-before.result c.in-Err.ensures.err c.read_count-before.ensures c.forget_reads.ensures)

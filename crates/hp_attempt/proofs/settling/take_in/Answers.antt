@@ -9,5 +9,5 @@ returns-clause-ok c = record {
   covers = c.in_ok-record.ensures.covers;
   adds = c.record.ensures.reads;
   takes = subst (TakesIn c.record.new.view c.take_in.new.self) c.deref.ensures c.in_ok-take_in.ensures.ok;
-  so_it_was = c.in_ok-take_in.ensures.so_it_was;
+  reads_held = c.in_ok-take_in.ensures.reads_held;
 }

@@ -15,4 +15,4 @@ returns-in_err-said c = λ library level view.
 
 pub returns : goal.returns
 returns c = λ library level view.
-    runs_value (λ v. vetoes c.args.context.now.rule (Some v)) (value_of (environment c.args.context.now.env) (expression c.args.message.now)) (value c.in_ok-said.said) c.in_ok-said.ensures (c.vetoed.ensures library view)
+    runs_value (λ v. vetoes c.args.context.now.rule (Some v)) (value_of (environment c.args.context.now.env) (expression c.args.message.now)) (value c.in_ok-said.said) c.in_ok-said.ensures (c.in_ok-course.ensures library view)

@@ -3,37 +3,38 @@ use Rattle.hp_lines.specs.Live.{new_server, after}
 use Rattle.hp_lines.proofs.Kept.{begins_whole}
 use Rattle.hp_live.proofs.Fed.{served_on, open_by, stops_whole, stops_piece, begins_output, begins_end, begins_fed, output_end, output_closed, closed_by, status_closed, status_end, kept_left, whole_in_piece, whole_at_end, begun_in_piece, begun_at_end, short_piece}
 use Rattle.hp_report.specs.declared.fault.Fault.TheVariants.{NoMemory}
+use Rattle.hp_live.specs.Kept.{manner}
 use Rattle.hp_live.proofs.serving.serve.Goals as goal
 
 pub returns-in-Refused-clause-output : goal.returns-in-Refused-clause-output
 returns-in-Refused-clause-output g c =
     let s = c.loop.invariant.served in
-    output_closed _ _ _ _ c.args.options.tree s.bytes s.taken s.out (closed_by (after (new_server c.args.options.tree) s.bytes).stage c.status.result c.in-Refused.is (c.status.ensures _ s.at.stage_is))
+    output_closed _ _ _ _ (manner c.args.options) s.bytes s.taken s.out (closed_by (after (new_server (manner c.args.options)) s.bytes).stage c.status.result c.in-Refused.is (c.status.ensures _ s.at.stage_is))
 
 pub returns-in-Refused-clause-status : goal.returns-in-Refused-clause-status
 returns-in-Refused-clause-status g c =
     let s = c.loop.invariant.served in
-    status_closed _ _ c.args.options.tree s.bytes s.taken (closed_by (after (new_server c.args.options.tree) s.bytes).stage c.status.result c.in-Refused.is (c.status.ensures _ s.at.stage_is))
+    status_closed _ _ (manner c.args.options) s.bytes s.taken (closed_by (after (new_server (manner c.args.options)) s.bytes).stage c.status.result c.in-Refused.is (c.status.ensures _ s.at.stage_is))
 
 pub returns-in-Refused-clause-begins : goal.returns-in-Refused-clause-begins
 returns-in-Refused-clause-begins g c =
     let s = c.loop.invariant.served in
-    begins_output _ _ _ _ c.args.options.tree s.bytes s.taken (begins_whole _ _ _ s.out)
+    begins_output _ _ _ _ (manner c.args.options) s.bytes s.taken (begins_whole _ _ _ s.out)
 
 pub returns-in_err-server-in-Ok-clause-begins : goal.returns-in_err-server-in-Ok-clause-begins
 returns-in_err-server-in-Ok-clause-begins g c =
     let s = c.loop.invariant.served in
-    begins_fed _ _ _ _ _ _ c.args.options.tree s.bytes _ s.taken c.in-Ok.ensures.bytes.0 s.out (c.feed.ensures.begins _ s.at)
+    begins_fed _ _ _ _ _ _ (manner c.args.options) s.bytes _ s.taken c.in-Ok.ensures.bytes.0 s.out (c.feed.ensures.begins _ s.at)
 
 pub returns-in-Err-clause-begins : goal.returns-in-Err-clause-begins
 returns-in-Err-clause-begins g c =
     let s = c.loop.invariant.served in
-    begins_output _ _ _ _ c.args.options.tree s.bytes (kept_left _ _ _ s.bytes s.taken c.in-Err.ensures.bytes) (begins_whole _ _ _ s.out)
+    begins_output _ _ _ _ (manner c.args.options) s.bytes (kept_left _ _ _ s.bytes s.taken c.in-Err.ensures.bytes) (begins_whole _ _ _ s.out)
 
 pub loop-preserved : goal.loop-preserved
 loop-preserved g c =
     let s = c.loop.invariant.served in
-    let unrefused = open_by (after (new_server c.args.options.tree) s.bytes).stage c.status.result c.in_default.not-Refused (c.status.ensures _ s.at.stage_is) in
+    let unrefused = open_by (after (new_server (manner c.args.options)) s.bytes).stage c.status.result c.in_default.not-Refused (c.status.ensures _ s.at.stage_is) in
     let room : length c.read.new.buf ≡ 4096 = omega (arith, c.read.auto.buf, c.loop.invariant.room) in
     record {
       served =
@@ -45,7 +46,7 @@ loop-preserved g c =
 pub returns-clause-begins : goal.returns-clause-begins
 returns-clause-begins g c =
     let s = c.loop.invariant.served in
-    begins_output _ _ _ _ c.args.options.tree s.bytes s.taken (begins_whole _ _ _ s.out)
+    begins_output _ _ _ _ (manner c.args.options) s.bytes s.taken (begins_whole _ _ _ s.out)
 
 pub returns-in-Refused-clause-stops : goal.returns-in-Refused-clause-stops
 returns-in-Refused-clause-stops g c = c.loop.invariant.served.stops
@@ -53,20 +54,20 @@ returns-in-Refused-clause-stops g c = c.loop.invariant.served.stops
 pub returns-in_err-server-in-Ok-clause-stops : goal.returns-in_err-server-in-Ok-clause-stops
 returns-in_err-server-in-Ok-clause-stops g c =
     let s = c.loop.invariant.served in
-    let unrefused = open_by (after (new_server c.args.options.tree) s.bytes).stage c.status.result c.in_default.not-Refused (c.status.ensures _ s.at.stage_is) in
+    let unrefused = open_by (after (new_server (manner c.args.options)) s.bytes).stage c.status.result c.in_default.not-Refused (c.status.ensures _ s.at.stage_is) in
     let room : length c.read.new.buf ≡ 4096 = omega (arith, c.read.auto.buf, c.loop.invariant.room) in
     stops_piece _ _ _ _ s.bytes c.read.new.buf _ s.taken c.in-Ok.ensures.bytes.0 c.in-Ok.ensures.bound.0 room unrefused
 
 pub returns-in-Err-clause-stops : goal.returns-in-Err-clause-stops
 returns-in-Err-clause-stops g c =
     let s = c.loop.invariant.served in
-    let unrefused = open_by (after (new_server c.args.options.tree) s.bytes).stage c.status.result c.in_default.not-Refused (c.status.ensures _ s.at.stage_is) in
+    let unrefused = open_by (after (new_server (manner c.args.options)) s.bytes).stage c.status.result c.in_default.not-Refused (c.status.ensures _ s.at.stage_is) in
     stops_whole _ _ _ s.bytes (kept_left _ _ _ s.bytes s.taken c.in-Err.ensures.bytes) unrefused
 
 pub returns-in-Err-clause-at_once : goal.returns-in-Err-clause-at_once
 returns-in-Err-clause-at_once g c =
     let s = c.loop.invariant.served in
-    let unrefused = open_by (after (new_server c.args.options.tree) s.bytes).stage c.status.result c.in_default.not-Refused (c.status.ensures _ s.at.stage_is) in
+    let unrefused = open_by (after (new_server (manner c.args.options)) s.bytes).stage c.status.result c.in_default.not-Refused (c.status.ensures _ s.at.stage_is) in
     λ is. (s.bytes, kept_left _ _ _ s.bytes s.taken c.in-Err.ensures.bytes, s.out, unrefused)
 
 pub returns-clause-stops : goal.returns-clause-stops
@@ -77,7 +78,7 @@ returns-clause-stops g c = c.loop.invariant.served.stops
 pub returns-in_err-status-clause-begins : goal.returns-in_err-status-clause-begins
 returns-in_err-status-clause-begins g c =
     let s = c.loop.invariant.served in
-    begins_end _ _ _ _ _ c.args.options.tree s.bytes s.taken (c.ended.ensures.none c.if-ended.true) s.out (c.finish.ensures.begins _ s.at)
+    begins_end _ _ _ _ _ (manner c.args.options) s.bytes s.taken (c.ended.ensures.none c.if-ended.true) s.out (c.finish.ensures.begins _ s.at)
 
 pub returns-in_err-status-clause-stops : goal.returns-in_err-status-clause-stops
 returns-in_err-status-clause-stops g c = c.loop.invariant.served.stops
@@ -93,17 +94,17 @@ returns-in_err-status-clause-cut g c is = begun_at_end _ _ _ _ _ _ _ _ _ c.loop.
 pub returns-then-ended-clause-output : goal.returns-then-ended-clause-output
 returns-then-ended-clause-output g c =
     let s = c.loop.invariant.served in
-    output_end _ _ _ _ _ c.args.options.tree s.bytes s.taken (c.ended.ensures.none c.if-ended.true) s.out (c.in_ok-status.ensures.output _ s.at)
+    output_end _ _ _ _ _ (manner c.args.options) s.bytes s.taken (c.ended.ensures.none c.if-ended.true) s.out (c.in_ok-status.ensures.output _ s.at)
 
 pub returns-then-ended-clause-status : goal.returns-then-ended-clause-status
 returns-then-ended-clause-status g c =
     let s = c.loop.invariant.served in
-    status_end _ _ c.args.options.tree s.bytes c.in_ok-status.status s.taken (c.ended.ensures.none c.if-ended.true) (c.in_ok-status.ensures.status _ s.at)
+    status_end _ _ (manner c.args.options) s.bytes c.in_ok-status.status s.taken (c.ended.ensures.none c.if-ended.true) (c.in_ok-status.ensures.status _ s.at)
 
 pub returns-then-ended-clause-begins : goal.returns-then-ended-clause-begins
 returns-then-ended-clause-begins g c =
     let s = c.loop.invariant.served in
-    begins_end _ _ _ _ _ c.args.options.tree s.bytes s.taken (c.ended.ensures.none c.if-ended.true) s.out (begins_whole _ _ _ (c.in_ok-status.ensures.output _ s.at))
+    begins_end _ _ _ _ _ (manner c.args.options) s.bytes s.taken (c.ended.ensures.none c.if-ended.true) s.out (begins_whole _ _ _ (c.in_ok-status.ensures.output _ s.at))
 
 pub returns-then-ended-clause-stops : goal.returns-then-ended-clause-stops
 returns-then-ended-clause-stops g c = c.loop.invariant.served.stops

@@ -49,6 +49,9 @@ returns-clause-heard c =
     all_listed (library c.args.lib.now) (primitive c.args.prim.now) c.listed-number-items.result.now c.args.time c.loop-number.invariant.all c.loop-number.number-index past c.loop-number.invariant.heard c.in_ok-write.ensures.ok
 
 -- where memory runs out
+pub returns-in_err-task-clause-err : goal.returns-in_err-task-clause-err
+returns-in_err-task-clause-err c = on_err c.from_residual.result _ (reads_alone (only_reads_then c.args.view.now c.loop-number.view c.notify.new.view c.loop-number.invariant.only c.notify.ensures.only))
+
 pub returns-in_err-add-clause-err : goal.returns-in_err-add-clause-err
 returns-in_err-add-clause-err c = on_err c.from_residual-in_err-add.result _ (reads_alone (only_reads_then c.args.view.now c.loop-number.view c.notify.new.view c.loop-number.invariant.only c.notify.ensures.only))
 

@@ -2,8 +2,7 @@ use Rattle.std.proofs.Common.{rules, arith, ◌≡◌, ap, sym, subst, ◌∙◌
 use Rattle.std.proofs.lemmas.List.{take_all, map_push}
 use Rattle.std.specs.Prelude.{slice_get, unwrap_or, bytes_eq, IfOk}
 use Rattle.std.specs.Map.{lookup}
-use Rattle.std.specs.declared.vec.Vec.{Vec}
-use Rattle.std.specs.declared.alloc.Global.{Global}
+use Rattle.smallvec.specs.SmallVec.{SmallVec}
 use Rattle.hp_value.specs.declared.value.Value.{Value}
 use Rattle.hp_value.specs.Mapped.{value}
 use Rattle.hp_value.specs.Rows.{renewed}
@@ -16,10 +15,10 @@ pub loop-i-preserved : goal.loop-i-preserved
 loop-i-preserved c = elim c.match-get.branch [
   | in-Some+in_ok-clone+in_ok-push w ↦
       let given = given_in c.args.given.now in
-      let new : w.push.new.self.items ≡ c.loop-i.values.items ++ w.in_ok-clone.field-0 ∷ [] = w.in_ok-push.ensures.items in
+      let new : w.push.new.self.items ≡ c.loop-i.values.items ++ w.in_ok-clone.field-0 ∷ [] = w.in_ok-push.ensures.ok in
       let got : Some (w.in-Some.name.now, value w.in-Some.value.now) ≡ slice_get c.args.old.now c.loop-i.i = w.in-Some.ensures in
       let is : value w.in_ok-clone.field-0 ≡ unwrap_or (lookup (bytes_eq w.in-Some.name.now) (given_in c.args.given.now)) (value w.in-Some.value.now) = search rules in
-      ap (λ (vs : Vec Value Global). map value vs.items) w.values-is ∙ ap (map value) new ∙ map_push value c.loop-i.values.items w.in_ok-clone.field-0
+      ap (λ (vs : SmallVec Value). map value vs.items) w.values-is ∙ ap (map value) new ∙ map_push value c.loop-i.values.items w.in_ok-clone.field-0
       ∙ ap (λ vs. vs ++ value w.in_ok-clone.field-0 ∷ []) c.loop-i.invariant ∙ ap (λ x. changed_values given (take c.loop-i.i c.args.old.now) ++ x ∷ []) is
       ∙ sym (changed_more given c.args.old.now c.loop-i.i w.in-Some.name.now (value w.in-Some.value.now) got)
   | in_default w ↦

@@ -5,5 +5,5 @@ pub returns-clause-sound : goal.returns-clause-sound
 returns-clause-sound g c =
     sound_unit c.into_parts-reads.result.0 c.into_parts-reads.result.1.value c.in_ok-view.ensures.writes c.into_parts-reads.ensures.reads c.into_parts-reads.ensures.layer c.in_ok-report.ensures
 
-pub returns-clause-so_it_was : goal.returns-clause-so_it_was
-returns-clause-so_it_was g c = snapshot_held c.into_parts-reads.result.0 c.in_ok-view.ensures.base c.in_ok-report.ensures.goes_on.base c.into_parts-reads.ensures.so_it_was
+pub returns-clause-reads_held : goal.returns-clause-reads_held
+returns-clause-reads_held g c = snapshot_held c.into_parts-reads.result.0 c.in_ok-view.ensures.base c.in_ok-report.ensures.goes_on.base c.into_parts-reads.ensures.reads_held

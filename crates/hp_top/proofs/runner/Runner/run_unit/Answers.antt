@@ -7,10 +7,10 @@ use Rattle.hp_top.proofs.Keeping.{unit_keeps}
 use Rattle.hp_top.proofs.runner.Runner.run_unit.Goals as goal
 
 pub keep_lists-requires : goal.keep_lists-requires
-keep_lists-requires g c = subst (λ s. Holds (cells_in s) c.in_ok-attempt.attempt.reads) c.in_ok-snapshot.ensures c.in_ok-attempt.ensures.so_it_was
+keep_lists-requires g c = subst (λ s. Holds (cells_in s) c.in_ok-attempt.attempt.reads) c.in_ok-snapshot.ensures c.in_ok-attempt.ensures.reads_held
 
 pub returns-clause-ran : goal.returns-clause-ran
-returns-clause-ran g c = ran_unit c.in_ok-attempt.ensures.sound (c.in_ok-snapshot.ensures ∙ c.keep_indexes.ensures) c.in_ok-attempt.ensures.so_it_was
+returns-clause-ran g c = ran_unit c.in_ok-attempt.ensures.sound (c.in_ok-snapshot.ensures ∙ c.keep_indexes.ensures) c.in_ok-attempt.ensures.reads_held
     (c.in_ok-apply.ensures.ok ∙ ap (λ s. over (cells_in s) (changes c.in_ok-attempt.attempt.layer.value)) (c.keep_lists.ensures ∙ c.keep_indexes.ensures))
 
 pub returns-clause-replayed : goal.returns-clause-replayed

@@ -7,4 +7,4 @@ use Rattle.hp_value.proofs.occurrence.OccurrenceClone.clone.Goals as goal
 pub returns : goal.returns
 returns c =
     let f : List Primitive → Occurrence = λ ps. record { parts = ps; count = c.args.self.now.count } in
-    record { cases = ap f (clones_map primitive c.args.self.now.parts.items c.in_ok-clone.field-0.items c.in_ok-clone.ensures.cases.0) }
+    record { cases = ap f (clones_map primitive c.args.self.now.parts.items c.in_ok-clone.field-0.items c.in_ok-clone.ensures.cases) }

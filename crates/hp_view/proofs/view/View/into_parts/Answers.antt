@@ -3,5 +3,5 @@ use Rattle.hp_model.specs.Cells.{Holds}
 use Rattle.hp_store.specs.Stack.{cells_in}
 use Rattle.hp_view.proofs.view.View.into_parts.Goals as goal
 
-pub returns-clause-so_it_was : goal.returns-clause-so_it_was
-returns-clause-so_it_was c = subst (λ v. Holds (cells_in v.base) c.self.inside.reads) c.self.view_is c.self.invariant.held
+pub returns-clause-reads_held : goal.returns-clause-reads_held
+returns-clause-reads_held c = subst (λ v. Holds (cells_in v.base) c.self.inside.reads) c.self.view_is c.self.invariant.held

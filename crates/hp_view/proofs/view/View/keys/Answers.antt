@@ -21,8 +21,8 @@ returns-in-Some-clause-shows c =
     (c.in-Some.ensures.held (cells_in c.self.inside.base) c.self.invariant.held) (sym c.in-Some.ensures.known)
     (merged_over c.in_ok-under.ensures.items c.deref.ensures c.in_ok-keys.ensures)
 
-pub returns-in-Some-clause-so_it_was : goal.returns-in-Some-clause-so_it_was
-returns-in-Some-clause-so_it_was c = holds_from c.self.view_is c.self.invariant.held
+pub returns-in-Some-clause-reads_held : goal.returns-in-Some-clause-reads_held
+returns-in-Some-clause-reads_held c = holds_from c.self.view_is c.self.invariant.held
 
 first_keys : (c : goal.In_ok-note_keys) → NotedKeys (the_view c.self.inside) c.args.self.now c.args.class c.in_ok-keys-2.keys.items c.note_keys.new.self
 first_keys c =
@@ -42,5 +42,5 @@ returns-clause-only c = (first_keys c).only
 pub returns-clause-goes_on : goal.returns-clause-goes_on
 returns-clause-goes_on c = GoesOn-only (first_keys c).only
 
-pub returns-clause-so_it_was : goal.returns-clause-so_it_was
-returns-clause-so_it_was c = (first_keys c).held
+pub returns-clause-reads_held : goal.returns-clause-reads_held
+returns-clause-reads_held c = (first_keys c).held

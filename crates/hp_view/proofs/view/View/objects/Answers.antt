@@ -5,8 +5,8 @@ use Rattle.hp_view.proofs.Reading.{holds_from}
 use Rattle.hp_view.proofs.Wholes.{shows_beneath, told_map}
 use Rattle.hp_view.proofs.view.View.objects.Goals as goal
 
-pub returns-then-names_objects_of-clause-so_it_was : goal.returns-then-names_objects_of-clause-so_it_was
-returns-then-names_objects_of-clause-so_it_was c = holds_from c.self.view_is c.self.invariant.held
+pub returns-then-names_objects_of-clause-reads_held : goal.returns-then-names_objects_of-clause-reads_held
+returns-then-names_objects_of-clause-reads_held c = holds_from c.self.view_is c.self.invariant.held
 
 pub returns-clause-shows : goal.returns-clause-shows
 returns-clause-shows c =

@@ -8,8 +8,8 @@ use Rattle.hp_view.specs.Seeing.{now_in}
 use Rattle.hp_view.proofs.Reading.{holds_from}
 use Rattle.hp_view.proofs.view.View.part.Goals as goal
 
-pub returns-in_default-clause-so_it_was : goal.returns-in_default-clause-so_it_was
-returns-in_default-clause-so_it_was c = holds_from c.self.view_is c.self.invariant.held
+pub returns-in_default-clause-reads_held : goal.returns-in_default-clause-reads_held
+returns-in_default-clause-reads_held c = holds_from c.self.view_is c.self.invariant.held
 
 pub returns-then-branch-clause-shows : goal.returns-then-branch-clause-shows
 returns-then-branch-clause-shows c =

@@ -10,15 +10,15 @@ returns-then-is_some-clause-shows c =
     shows_covered (cell c.args.cell) c.self.view_is
     (some_seen _ _ (c.get.ensures ∙ ap (λ es. changes es (cell c.args.cell)) c.deref.ensures) ∙ sym c.is_some.ensures ∙ c.if-is_some.true)
 
-pub returns-then-is_some-clause-so_it_was : goal.returns-then-is_some-clause-so_it_was
-returns-then-is_some-clause-so_it_was c = holds_from c.self.view_is c.self.invariant.held
+pub returns-then-is_some-clause-reads_held : goal.returns-then-is_some-clause-reads_held
+returns-then-is_some-clause-reads_held c = holds_from c.self.view_is c.self.invariant.held
 
 pub returns-then-has_cell-clause-shows : goal.returns-then-has_cell-clause-shows
 returns-then-has_cell-clause-shows c =
     shows_again (cell c.args.cell) c.self.view_is c.self.invariant.held (sym c.has_cell.ensures ∙ c.if-has_cell.true)
 
-pub returns-then-has_cell-clause-so_it_was : goal.returns-then-has_cell-clause-so_it_was
-returns-then-has_cell-clause-so_it_was c = holds_from c.self.view_is c.self.invariant.held
+pub returns-then-has_cell-clause-reads_held : goal.returns-then-has_cell-clause-reads_held
+returns-then-has_cell-clause-reads_held c = holds_from c.self.view_is c.self.invariant.held
 
 first_read : (c : goal.In_ok-note_value) → Noted (the_view c.self.inside) c.args.self.now (cell c.args.cell) c.note_value.new.self
 first_read c =
@@ -38,5 +38,5 @@ returns-clause-only c = (first_read c).only
 pub returns-clause-goes_on : goal.returns-clause-goes_on
 returns-clause-goes_on c = GoesOn-only (first_read c).only
 
-pub returns-clause-so_it_was : goal.returns-clause-so_it_was
-returns-clause-so_it_was c = (first_read c).held
+pub returns-clause-reads_held : goal.returns-clause-reads_held
+returns-clause-reads_held c = (first_read c).held

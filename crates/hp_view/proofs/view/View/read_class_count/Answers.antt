@@ -21,8 +21,8 @@ returns-then-is_some-clause-shows c =
     let found = some_told c.keys.result c.keys.ensures.held again in
     shows_count_again c.args.class found.0.now c.self.view_is c.self.invariant.held (found.1 (cells_in c.self.inside.base) c.self.invariant.held) (sym c.keys.ensures.known ∙ again)
 
-pub returns-then-is_some-clause-so_it_was : goal.returns-then-is_some-clause-so_it_was
-returns-then-is_some-clause-so_it_was c = holds_from c.self.view_is c.self.invariant.held
+pub returns-then-is_some-clause-reads_held : goal.returns-then-is_some-clause-reads_held
+returns-then-is_some-clause-reads_held c = holds_from c.self.view_is c.self.invariant.held
 
 pub returns-then-not-has_read_written-clause-reads : goal.returns-then-not-has_read_written-clause-reads
 returns-then-not-has_read_written-clause-reads c =
@@ -37,8 +37,8 @@ returns-then-not-has_read_written-clause-reads c =
 pub returns-then-not-has_read_written-clause-shows : goal.returns-then-not-has_read_written-clause-shows
 returns-then-not-has_read_written-clause-shows c = on_ok c.read_keys.result (count_by_keys c.args.class c.self.view_is c.self.invariant.held) c.read_keys.ensures.reads
 
-pub returns-then-not-has_read_written-clause-so_it_was : goal.returns-then-not-has_read_written-clause-so_it_was
-returns-then-not-has_read_written-clause-so_it_was c = on_ok c.read_keys.result (held_by_keys c.args.class c.self.view_is c.self.invariant.held) c.read_keys.ensures.reads
+pub returns-then-not-has_read_written-clause-reads_held : goal.returns-then-not-has_read_written-clause-reads_held
+returns-then-not-has_read_written-clause-reads_held c = on_ok c.read_keys.result (held_by_keys c.args.class c.self.view_is c.self.invariant.held) c.read_keys.ensures.reads
 
 first_count : (c : goal.In_ok-note_count) → NotedCount (the_view c.self.inside) c.args.self.now c.args.class c.note_count.new.self
 first_count c =
@@ -62,5 +62,5 @@ returns-clause-only c = (first_count c).only
 pub returns-clause-goes_on : goal.returns-clause-goes_on
 returns-clause-goes_on c = GoesOn-only (first_count c).only
 
-pub returns-clause-so_it_was : goal.returns-clause-so_it_was
-returns-clause-so_it_was c = (first_count c).held
+pub returns-clause-reads_held : goal.returns-clause-reads_held
+returns-clause-reads_held c = (first_count c).held

@@ -17,8 +17,8 @@ returns-then-is_some-clause-shows c =
     let found = some_told c.keys.result c.keys.ensures.held again in
     shows_greatest_again c.args.class found.0.now c.args.greatest c.self.view_is c.self.invariant.held (found.1 (cells_in c.self.inside.base) c.self.invariant.held) (sym c.keys.ensures.known ∙ again) c.requires
 
-pub returns-then-is_some-clause-so_it_was : goal.returns-then-is_some-clause-so_it_was
-returns-then-is_some-clause-so_it_was c = holds_from c.self.view_is c.self.invariant.held
+pub returns-then-is_some-clause-reads_held : goal.returns-then-is_some-clause-reads_held
+returns-then-is_some-clause-reads_held c = holds_from c.self.view_is c.self.invariant.held
 
 pub returns-then-not-is_up_to-clause-reads : goal.returns-then-not-is_up_to-clause-reads
 returns-then-not-is_up_to-clause-reads c =
@@ -32,8 +32,8 @@ returns-then-not-is_up_to-clause-reads c =
 pub returns-then-not-is_up_to-clause-shows : goal.returns-then-not-is_up_to-clause-shows
 returns-then-not-is_up_to-clause-shows c = on_ok c.read_keys.result (shows_by_keys c.args.class c.args.greatest c.self.view_is c.self.invariant.held c.requires) c.read_keys.ensures.reads
 
-pub returns-then-not-is_up_to-clause-so_it_was : goal.returns-then-not-is_up_to-clause-so_it_was
-returns-then-not-is_up_to-clause-so_it_was c = on_ok c.read_keys.result (held_by_keys c.args.class c.self.view_is c.self.invariant.held) c.read_keys.ensures.reads
+pub returns-then-not-is_up_to-clause-reads_held : goal.returns-then-not-is_up_to-clause-reads_held
+returns-then-not-is_up_to-clause-reads_held c = on_ok c.read_keys.result (held_by_keys c.args.class c.self.view_is c.self.invariant.held) c.read_keys.ensures.reads
 
 first_greatest : (c : goal.In_ok-note_greatest) → NotedGreatest (the_view c.self.inside) c.args.self.now c.args.class c.args.greatest c.note_greatest.new.self
 first_greatest c =
@@ -55,5 +55,5 @@ returns-clause-only c = (first_greatest c).only
 pub returns-clause-goes_on : goal.returns-clause-goes_on
 returns-clause-goes_on c = GoesOn-only (first_greatest c).only
 
-pub returns-clause-so_it_was : goal.returns-clause-so_it_was
-returns-clause-so_it_was c = (first_greatest c).held
+pub returns-clause-reads_held : goal.returns-clause-reads_held
+returns-clause-reads_held c = (first_greatest c).held

@@ -15,22 +15,22 @@ use Rattle.hp_view.proofs.view.View.read_objects.Goals as goal
 pub returns-then-is_some-clause-shows : goal.returns-then-is_some-clause-shows
 returns-then-is_some-clause-shows c = λ objects are.
     let found = some_told c.in_ok-whole_beneath.field-0 c.in_ok-whole_beneath.ensures.held (sym c.is_some.ensures ∙ c.if-is_some.true) in
-    whole_still c.whole_beneath.ensures.only c.in_ok-whole_beneath.ensures.so_it_was found.1 are
+    whole_still c.whole_beneath.ensures.only c.in_ok-whole_beneath.ensures.reads_held found.1 are
 
 pub returns-clause-shows : goal.returns-clause-shows
 returns-clause-shows c = λ objects are.
-    read_by_rows (only_reads_then c.args.self.now c.whole_beneath.new.self c.keys.new.self c.whole_beneath.ensures.only c.keys.ensures.only) c.in_ok-keys.ensures.shows c.in_ok-keys.ensures.so_it_was
+    read_by_rows (only_reads_then c.args.self.now c.whole_beneath.new.self c.keys.new.self c.whole_beneath.ensures.only c.keys.ensures.only) c.in_ok-keys.ensures.shows c.in_ok-keys.ensures.reads_held
     c.read_rows.ensures.only
     (subst (All (λ key. Shows c.read_rows.new.self (object_cell c.args.class key) (now_in c.keys.new.self (object_cell c.args.class key)))) c.deref.ensures.value c.in_ok-read_rows.ensures.shows) are
 
 pub returns-then-is_some-clause-cells : goal.returns-then-is_some-clause-cells
 returns-then-is_some-clause-cells c =
     let found = some_told c.in_ok-whole_beneath.field-0 c.in_ok-whole_beneath.ensures.held (sym c.is_some.ensures ∙ c.if-is_some.true) in
-    cells_of_whole c.whole_beneath.ensures.only c.in_ok-whole_beneath.ensures.so_it_was found.1
+    cells_of_whole c.whole_beneath.ensures.only c.in_ok-whole_beneath.ensures.reads_held found.1
 
 pub returns-clause-cells : goal.returns-clause-cells
 returns-clause-cells c =
-    cells_by_rows (only_reads_then c.args.self.now c.whole_beneath.new.self c.keys.new.self c.whole_beneath.ensures.only c.keys.ensures.only) c.in_ok-keys.ensures.shows c.in_ok-keys.ensures.so_it_was
+    cells_by_rows (only_reads_then c.args.self.now c.whole_beneath.new.self c.keys.new.self c.whole_beneath.ensures.only c.keys.ensures.only) c.in_ok-keys.ensures.shows c.in_ok-keys.ensures.reads_held
     c.read_rows.ensures.only
     (subst (All (λ key. Shows c.read_rows.new.self (object_cell c.args.class key) (now_in c.keys.new.self (object_cell c.args.class key)))) c.deref.ensures.value c.in_ok-read_rows.ensures.shows)
 

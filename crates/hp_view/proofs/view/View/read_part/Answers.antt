@@ -20,14 +20,14 @@ returns-in-WasRead-clause-shows c = λ is_read objects now.
     let p = class_part c.args.part.now in
     subst (λ u. ShowsPart u c.args.class p objects) c.self.view_is ((part_was_told c.args.class p c.self.view_is c.self.invariant.held c.in-WasRead.ensures).shows objects now)
 
-pub returns-in-WasRead-clause-so_it_was : goal.returns-in-WasRead-clause-so_it_was
-returns-in-WasRead-clause-so_it_was c = holds_from c.self.view_is c.self.invariant.held
+pub returns-in-WasRead-clause-reads_held : goal.returns-in-WasRead-clause-reads_held
+returns-in-WasRead-clause-reads_held c = holds_from c.self.view_is c.self.invariant.held
 
-pub returns-in-IsTaken-clause-so_it_was : goal.returns-in-IsTaken-clause-so_it_was
-returns-in-IsTaken-clause-so_it_was c = holds_from c.self.view_is c.self.invariant.held
+pub returns-in-IsTaken-clause-reads_held : goal.returns-in-IsTaken-clause-reads_held
+returns-in-IsTaken-clause-reads_held c = holds_from c.self.view_is c.self.invariant.held
 
-pub returns-in_default-clause-so_it_was : goal.returns-in_default-clause-so_it_was
-returns-in_default-clause-so_it_was c = holds_from c.self.view_is c.self.invariant.held
+pub returns-in_default-clause-reads_held : goal.returns-in_default-clause-reads_held
+returns-in_default-clause-reads_held c = holds_from c.self.view_is c.self.invariant.held
 
 first_read : (c : goal.In_ok-note_part) → PartRead (the_view c.self.inside) c.args.self.now c.args.class (class_part c.args.part.now) c.note_part.new.self
 first_read c =
@@ -50,8 +50,8 @@ returns-clause-only c = (first_read c).only
 pub returns-clause-goes_on : goal.returns-clause-goes_on
 returns-clause-goes_on c = GoesOn-only (first_read c).only
 
-pub returns-clause-so_it_was : goal.returns-clause-so_it_was
-returns-clause-so_it_was c = (first_read c).held
+pub returns-clause-reads_held : goal.returns-clause-reads_held
+returns-clause-reads_held c = (first_read c).held
 
 pub returns-in-IsTaken-clause-found : goal.returns-in-IsTaken-clause-found
 returns-in-IsTaken-clause-found c = λ of free.

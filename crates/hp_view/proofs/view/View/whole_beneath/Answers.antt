@@ -12,14 +12,14 @@ pub returns-in-Some-clause-held : goal.returns-in-Some-clause-held
 returns-in-Some-clause-held c = λ base here.
     subst (AreObjects base c.args.class) (sym c.in_ok-try_clone.ensures) (c.in-Some.ensures.held base (subst (λ u. Holds base u.reads) (sym c.self.view_is) here))
 
-pub returns-in-Some-clause-so_it_was : goal.returns-in-Some-clause-so_it_was
-returns-in-Some-clause-so_it_was c = holds_from c.self.view_is c.self.invariant.held
+pub returns-in-Some-clause-reads_held : goal.returns-in-Some-clause-reads_held
+returns-in-Some-clause-reads_held c = holds_from c.self.view_is c.self.invariant.held
 
-pub returns-then-is_some-clause-so_it_was : goal.returns-then-is_some-clause-so_it_was
-returns-then-is_some-clause-so_it_was c = holds_from c.self.view_is c.self.invariant.held
+pub returns-then-is_some-clause-reads_held : goal.returns-then-is_some-clause-reads_held
+returns-then-is_some-clause-reads_held c = holds_from c.self.view_is c.self.invariant.held
 
-pub returns-in_default-2-clause-so_it_was : goal.returns-in_default-2-clause-so_it_was
-returns-in_default-2-clause-so_it_was c = holds_from c.self.view_is c.self.invariant.held
+pub returns-in_default-2-clause-reads_held : goal.returns-in_default-2-clause-reads_held
+returns-in_default-2-clause-reads_held c = holds_from c.self.view_is c.self.invariant.held
 
 whole : (c : goal.In_ok-note_objects) → AreObjects (cells_in c.self.inside.base) c.args.class c.in-Some-2.objects.value
 whole c = told_some (λ objects. AreObjects (cells_in c.self.inside.base) c.args.class objects.value) c.in-Some-2.is c.in_ok-objects.ensures.objects
@@ -43,6 +43,6 @@ returns-clause-only c = noted_only (objects_read c.args.class c.in-Some-2.object
 pub returns-clause-goes_on : goal.returns-clause-goes_on
 returns-clause-goes_on c = GoesOn-only (noted_only (objects_read c.args.class c.in-Some-2.objects.value) c.note_objects.new.self c.self.view_is (reads_are c))
 
-pub returns-clause-so_it_was : goal.returns-clause-so_it_was
-returns-clause-so_it_was c =
+pub returns-clause-reads_held : goal.returns-clause-reads_held
+returns-clause-reads_held c =
     noted_held (the_view c.self.inside) (objects_read c.args.class c.in-Some-2.objects.value) c.note_objects.new.self c.self.invariant.held (whole c) (reads_are c)

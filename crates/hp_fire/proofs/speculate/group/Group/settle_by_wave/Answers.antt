@@ -14,12 +14,12 @@ returns-then-not-is_wave_due g c = wave_none c.args.progress.now c.args.progress
 
 pub returns-in_default : goal.returns-in_default
 returns-in_default g c =
-    wave_none c.args.progress.now _ c.in_ok-share_beneath.ensures refl c.requires.going.0 c.requires.counted (c.drop_stale.ensures (library c.args.self.now.lib.now) c.requires.sound)
+    wave_none c.args.progress.now _ c.in_ok-share_beneath.ensures refl c.requires.going.0 c.requires.counted (c.drop_first_and_stale.ensures (library c.args.self.now.lib.now) c.requires.sound)
 
 pub wave-requires-clause-sound : goal.wave-requires-clause-sound
 wave-requires-clause-sound g c κs within =
     let lib = library c.args.self.now.lib.now in
-    subst (λ (p : Progress). AreSound lib p.pending.attempts.items) (sym c.begin_wave.ensures.same) (c.drop_stale.ensures lib c.requires.sound)
+    subst (λ (p : Progress). AreSound lib p.pending.attempts.items) (sym c.begin_wave.ensures.same) (c.drop_first_and_stale.ensures lib c.requires.sound)
 
 pub returns : goal.returns
 returns g c =

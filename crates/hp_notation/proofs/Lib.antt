@@ -1,0 +1,3 @@
+pub mod Placed
+pub mod WithPlaces
+pub mod Told
