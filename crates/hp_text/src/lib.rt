@@ -31,6 +31,7 @@ mod values;
 mod word;
 
 pub use error::ReadError;
+pub use mark::{Mark, reserved};
 pub use node::{Node, ScriptNode, offset};
 pub use paths::{Step, node_place, value_place};
 pub use place::{Place, place_at};

@@ -5,9 +5,9 @@ ghost use Rattle.hp_model.specs.NotationTokens.{spelling, reserved_word};
 ghost use Rattle.hp_text.specs.Mapped.{mark_view};
 ghost use Rattle.hp_text.specs.Words.{operand_word, mode_word, statement_word, operation_word};
 
-/// A reserved word or a symbol.
+/// A reserved word or a symbol of the notation.
 #[derive(Clone, Copy, Debug, PartialEq, Eq)]
-pub(crate) enum Mark {
+pub enum Mark {
     On,
     If,
     Do,
@@ -142,9 +142,9 @@ impl Mark {
     }
 }
 
-/// The reserved word that this is.
+/// The reserved word that `word` is, or `None` where it may be a name. A printer quotes the names that are reserved.
 #[tactic(auto, unfolding(hp_model::specs::NotationTokens::reserved_word))]
-pub(crate) fn reserved(word: &str) -> Option<Mark>
+pub fn reserved(word: &str) -> Option<Mark>
     ensures { option_map mark_view result ≡ reserved_word word.now }
 {
     match word {
@@ -162,7 +162,7 @@ pub(crate) fn reserved(word: &str) -> Option<Mark>
     }
 }
 
-/// The same without the words between the parts of rules and statements.
+/// The reserved word that this is, if it is none of those between the parts of rules and statements.
 fn operand_word(word: &str) -> Option<Mark>
     ensures { option_map mark_view result ≡ operand_word word.now }
 {
@@ -180,7 +180,7 @@ fn operand_word(word: &str) -> Option<Mark>
     }
 }
 
-/// The same without those of expressions too.
+/// The reserved word that this is, if it names a mode, or belongs to a statement.
 fn mode_word(word: &str) -> Option<Mark>
     ensures { option_map mark_view result ≡ mode_word word.now }
 {
@@ -194,7 +194,7 @@ fn mode_word(word: &str) -> Option<Mark>
     }
 }
 
-/// The same without the modes too.
+/// The reserved word that this is, if it belongs to a statement.
 fn statement_word(word: &str) -> Option<Mark>
     ensures { option_map mark_view result ≡ statement_word word.now }
 {
@@ -214,7 +214,7 @@ fn statement_word(word: &str) -> Option<Mark>
     }
 }
 
-/// The same without all but the words of what is done to a rule.
+/// The reserved word that this is, if it says what is done to a rule.
 fn operation_word(word: &str) -> Option<Mark>
     ensures { option_map mark_view result ≡ operation_word word.now }
 {
