@@ -10,7 +10,7 @@ use Rattle.hp_rule.specs.Mapped.{library}
 use Rattle.hp_ops.specs.Performs.{Performs}
 use Rattle.hp_fire.specs.Mapped.{context}
 use Rattle.hp_fire.proofs.Making.{makes_halt, delete_makes}
-use Rattle.hp_fire.proofs.engine.Engine.deleted.Goals as goal
+use Rattle.hp_fire.proofs.engine.Engine.delete_object.Goals as goal
 
 pub returns-in_err-key : goal.returns-in_err-key
 returns-in_err-key g c =

@@ -4,7 +4,7 @@ use Rattle.hp_rule.specs.Mapped.{library}
 use Rattle.hp_fire.specs.declared.speculate.progress.Progress.{Progress}
 use Rattle.hp_fire.specs.Groups.{ComesInWave}
 use Rattle.hp_fire.proofs.Coming.{comes_then, comes_put}
-use Rattle.hp_fire.proofs.speculate.group.Group.wave.Goals as goal
+use Rattle.hp_fire.proofs.speculate.group.Group.run_wave.Goals as goal
 
 pub returns : goal.returns
 returns g c =

@@ -7,7 +7,7 @@ use Rattle.hp_view.specs.Seeing.{Seeing, OnlyReads}
 use Rattle.hp_fire.specs.Mapped.{context}
 use Rattle.hp_fire.specs.Runs.{Looks}
 use Rattle.hp_fire.proofs.Making.{looks_of}
-use Rattle.hp_fire.proofs.engine.Engine.selected.Goals as goal
+use Rattle.hp_fire.proofs.engine.Engine.select_rows.Goals as goal
 
 pub returns : goal.returns
 returns g c =

@@ -9,7 +9,7 @@ use Rattle.hp_value.specs.Mapped.{environment, expression, value}
 use Rattle.hp_fire.specs.Mapped.{context}
 use Rattle.hp_fire.specs.Runs.{Runs}
 use Rattle.hp_fire.proofs.Making.{steps_halt, emit_runs}
-use Rattle.hp_fire.proofs.operations.emitted.Goals as goal
+use Rattle.hp_fire.proofs.operations.emit.Goals as goal
 
 pub returns-in_err-value : goal.returns-in_err-value
 returns-in_err-value c = λ view library level.

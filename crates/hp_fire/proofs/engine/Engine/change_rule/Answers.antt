@@ -6,7 +6,7 @@ use Rattle.hp_value.specs.Mapped.{rule_operation}
 use Rattle.hp_rule.specs.Mapped.{library}
 use Rattle.hp_fire.specs.Runs.{Runs}
 use Rattle.hp_fire.proofs.Making.{rule_halt, rule_runs}
-use Rattle.hp_fire.proofs.engine.Engine.rule_changed.Goals as goal
+use Rattle.hp_fire.proofs.engine.Engine.change_rule.Goals as goal
 
 pub returns-in_err-set_rule : goal.returns-in_err-set_rule
 returns-in_err-set_rule g c = λ level context.

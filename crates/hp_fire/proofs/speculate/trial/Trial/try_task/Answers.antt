@@ -6,7 +6,7 @@ use Rattle.hp_rule.specs.Mapped.{library, task}
 use Rattle.hp_store.specs.Stack.{Stack, cells_in}
 use Rattle.hp_attempt.specs.Mapped.{firing}
 use Rattle.hp_fire.specs.Runs.{RunsFiring}
-use Rattle.hp_fire.proofs.speculate.trial.Trial.attempted.Goals as goal
+use Rattle.hp_fire.proofs.speculate.trial.Trial.try_task.Goals as goal
 
 pub returns-clause-sound : goal.returns-clause-sound
 returns-clause-sound g c =

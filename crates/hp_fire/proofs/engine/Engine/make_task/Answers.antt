@@ -5,7 +5,7 @@ use Rattle.hp_rule.specs.Mapped.{library, task}
 use Rattle.hp_fire.specs.Runs.{Runs}
 use Rattle.hp_fire.specs.Statements.{below_at}
 use Rattle.hp_fire.proofs.Stating.{fire_halt, fire_runs}
-use Rattle.hp_fire.proofs.engine.Engine.fired.Goals as goal
+use Rattle.hp_fire.proofs.engine.Engine.make_task.Goals as goal
 
 pub returns-in_err-task-clause-starts : goal.returns-in_err-task-clause-starts
 returns-in_err-task-clause-starts g c = λ context.

@@ -12,7 +12,7 @@ use hp_value::Halt;
 use std::alloc::{AllocError, Global};
 
 /// A course, or the course that a cause ended before it did anything.
-pub(crate) fn settled(alloc: Global, given: Result<Course, Halt>) -> Result<Course, AllocError>
+pub(crate) fn or_aborted(alloc: Global, given: Result<Course, Halt>) -> Result<Course, AllocError>
     ensures { IfOk result (λ c. (library : Library) (work : Work) (old new : Seeing)
         → Steps library work old new given → Runs library work old new (course_in c)) }
 {

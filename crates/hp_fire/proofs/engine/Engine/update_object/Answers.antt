@@ -14,7 +14,7 @@ use Rattle.hp_ops.specs.Given.{given_in, keyed_in}
 use Rattle.hp_ops.specs.Performs.{Performs}
 use Rattle.hp_fire.specs.Mapped.{context}
 use Rattle.hp_fire.proofs.Making.{makes_halt, update_makes}
-use Rattle.hp_fire.proofs.engine.Engine.updated.Goals as goal
+use Rattle.hp_fire.proofs.engine.Engine.update_object.Goals as goal
 
 pub returns-in_err-key : goal.returns-in_err-key
 returns-in_err-key g c =

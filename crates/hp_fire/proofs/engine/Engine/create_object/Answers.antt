@@ -12,7 +12,7 @@ use Rattle.hp_rule.specs.Mapped.{assignment, library}
 use Rattle.hp_ops.specs.Performs.{Performs}
 use Rattle.hp_fire.specs.Mapped.{context}
 use Rattle.hp_fire.proofs.Making.{makes_halt, create_makes}
-use Rattle.hp_fire.proofs.engine.Engine.created.Goals as goal
+use Rattle.hp_fire.proofs.engine.Engine.create_object.Goals as goal
 
 pub returns-in_err-new : goal.returns-in_err-new
 returns-in_err-new g c =
