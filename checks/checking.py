@@ -5,8 +5,8 @@
 
 Of each script, of version 2 or 4, and every third one made so that each value is used as what it is:
 
-- The verdicts on depth and guards and all findings but the one of kinds are those that this script finds by itself.
-  That one names something in the script, and a script that is made so has none.
+- The verdicts on depth and guards and all findings but those of kinds are those that this script finds by itself.
+  Those name something in the script, each something else, and a script that is made so has none.
 - What hipac_check promises holds in the run, by its report with trees: after `kinds ok` nothing ends with A3 or A6, not
   even a condition; after a known depth nothing with A7; a guard that isn't closed and has no line `open` has no faulty
   condition, and no arithmetic ends its action; no rule fires that is never installed or never reached.
@@ -330,7 +330,7 @@ def check(commands, seed):
     if status != 0 or len(found) < 3 or found[0] not in ("kinds ok", "kinds unknown"):
         return f"status {status}, and it wrote {found[:3]}", {}
     kinds = [line for line in found if line.startswith("kind ")]
-    if len(kinds) != (found[0] == "kinds unknown") or not all(is_there(script, line) for line in kinds):
+    if bool(kinds) != (found[0] == "kinds unknown") or not all(is_there(script, line) for line in kinds):
         return f"{found[0]}, and the findings of kinds {kinds}", {}
     wanted = findings(script, found[0] == "kinds ok")
     if [line for line in found[1:] if line not in kinds] != wanted:
