@@ -25,7 +25,9 @@ use crate::course::Course;
 use crate::engine::Engine;
 use crate::halting::or_aborted;
 use crate::placing::one_task;
-use hp_ops::{create, delete, find_object, fire, given_values, new_object, set_rule, update};
+use hp_ops::{
+    GivenValues, create, delete, find_object, fire, given_values, new_object, set_rule, update,
+};
 use hp_query::{Aggregate, let_value, selected_rows};
 use hp_rule::{Assignment, RuleOperation, Task};
 use hp_tree::{Item, Operation};
@@ -84,7 +86,16 @@ impl<R> Engine<'_, R> {
         ensures { let statement = rules.update class (expression key.now) (map assignment pairs.now) in
             OperationIsMade self.now.lib.now context.now statement view.old view.new result }
     {
-        let (key, given) = given_values(self.alloc, self.lib, class, &context.env, key, pairs)?;
+        let mut given = GivenValues::new(self.alloc);
+        let key = given_values(
+            self.alloc,
+            self.lib,
+            class,
+            &context.env,
+            key,
+            pairs,
+            &mut given,
+        )?;
         update(self.alloc, view, class, key, &given)
     }
 

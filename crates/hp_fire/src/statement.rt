@@ -256,6 +256,7 @@ impl<R: Threads + Sync> Engine<'_, R> {
 
     /// Runs a statement `sub`.
     #[cycle(fire)]
+    #[inline(never)]
     fn sub_or_otherwise(
         &self,
         view: &mut View,
