@@ -103,7 +103,8 @@ pub(crate) fn note(
     found: &mut Vec<Finding>,
     checked: Result<(), KindError>,
 ) -> Result<(), AllocError>
-    ensures { (check : model.Judged ⊤) → Passes checked check → OnOk result (Notes found.old found.new (model.found check)) }
+    ensures { (check : model.Judged ⊤) → Passes checked check →
+        OnOk result (Notes found.old found.new (model.found check)) }
 {
     match checked {
         Ok(()) => Ok(()),
