@@ -16,7 +16,7 @@ use thiserror::Error;
 const MOST_READ: usize = 1_048_577;
 
 /// What a command line asks for.
-#[derive(Debug, PartialEq, Eq, Drop)]
+#[derive(Drop)]
 pub struct Asked {
     pub options: Options,
     /// The bytes of the script's file, if one is named. Of a file that is longer than a script may be these are the
