@@ -187,9 +187,10 @@ impl Server {
         ensures whole { OnOk result (W.has_failed writer.new ≡ false) }
         ensures read { result ≢ Err Fault.Read }
     {
+        let stage = Stage::Unopened;
         let mut server = Server {
             options,
-            stage: Stage::Unopened,
+            stage,
             line: file,
         };
         server.reply(rt, alloc, writer)?;
