@@ -86,9 +86,9 @@ FOLDERS = sorted({name.split("/")[0] for name in UNIT_TESTS})
 QUICK = 2 * (len(SCRIPTS) - 1) + 4 + len(UNIT_TESTS) + 2
 PROVED = QUICK + 7 + 2 * 5
 
-# The folders of tests in Python: the part of ./test that runs them, its script, and the program that it needs.
+# The folders of tests in Python: the part of ./test that runs them, its script, and how many programs it needs.
 PYTHON_TESTS = {
-    "tools/tests": ("tools", "tools/tests/run.py", 1),
+    "tools/tests": ("tools", "tools/tests/run.py", 2),
     "clients/python/tests": ("client", "clients/python/tests/run.py", 1),
     "examples/orders": ("client", "clients/python/tests/run.py", 1),
     "editors/tests": ("editors", "editors/tests/run.py", 0),
@@ -240,9 +240,9 @@ def counts_unittests(tree):
     """Of Python's tests each failure and each error counts, and what was skipped counts as passed."""
     said = "FAIL: test_one (tests.Some)\nRan 9 tests in 1.0s\n\nFAILED (failures=1, errors=2, skipped=1)\n"
     tree.note("run.py", f"1\n{said}")
-    expect_failure(tree, ["./test", "tools"], (1 + 6, 3), "FAIL: test_one (tests.Some)")
+    expect_failure(tree, ["./test", "tools"], (2 + 6, 3), "FAIL: test_one (tests.Some)")
     tree.note("run.py", "0\nRan 9 tests in 1.0s\n\nOK (skipped=1)\n")
-    expect(tree.run("./test", "tools")[2], "10 passed, 0 failed", "the count")
+    expect(tree.run("./test", "tools")[2], "11 passed, 0 failed", "the count")
 
 
 def catches_missing_programs(tree):

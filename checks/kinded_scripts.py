@@ -27,11 +27,12 @@ class KindedMaker(Version4Maker):
 
     def __init__(self, seed):
         super().__init__(seed)
+        # What the action that is made may read of its occurrence; and the kinds of the values of names.
         self.parts, self.sorts = [], {}
-        self.fired = [name for name in self.rule_names if self.chance(0.4)]
-        self.events = {name: self.event(0) for name in self.rule_names}
         # The rule that is made, and those before it.
         self.earlier = []
+        self.fired = [name for name in self.rule_names if self.chance(0.4)]
+        self.events = {name: self.event(0) for name in self.rule_names}
 
     def script(self):
         return {**super().script(), "depth": 8}
@@ -46,7 +47,8 @@ class KindedMaker(Version4Maker):
         return made
 
     def event(self, level):
-        return self.events[self.earlier[-1]] if self.in_rule and level == 0 else super().event(level)
+        """The event of the rule that is made, once there is one; before that, and for its parts, a random one."""
+        return self.events[self.earlier[-1]] if self.earlier and level == 0 else super().event(level)
 
     def goes_back(self, statement):
         """Whether a statement of an action may trigger the action's own rule or an earlier one."""

@@ -3,7 +3,8 @@
 
     checks/live_sessions.py [--sessions N] [--jobs N]
 
-Each session runs with 1 and 4 workers, with trees and without. Its input is cut into random pieces, each for one read.
+Each session runs with 1 and 4 workers, with trees and without, and once in three times with its script in a file
+(`--script`). Its input is cut into random pieces, each for one read.
 The answers to accepted lines, without their last lines, must be the report on their journal: the script whose items are
 the first line's followed by the accepted ones. So must the state in the answer to the last `["show"]`. A line that asks
 for a class's objects or for one object must have their lines in that state. Refused lines must have exactly their
@@ -197,10 +198,12 @@ class SessionMaker:
                 self.lines.append(Line(self.text_of(["show", *excerpt]), excerpt=excerpt))
 
     def input(self):
-        """The bytes of all lines. Some have a carriage return, and the last line may lack its line feed."""
+        """The bytes of the first line, and those of the later ones. Some have a carriage return, and the last line may
+        lack its line feed."""
         ends = [self.random.choice([b"\n", b"\n", b"\r\n"]) for _ in self.lines]
         ends[-1] = self.random.choice([b"", b"\n", b"\r\n"])
-        return b"".join(line.text + end for line, end in zip(self.lines, ends))
+        first, *later = (line.text + end for line, end in zip(self.lines, ends))
+        return first, b"".join(later)
 
     def pieces(self, given):
         """The same bytes, cut at random."""
@@ -290,16 +293,27 @@ def look_at_refusal(made, hipac):
 def session(seed, programs):
     """One session, with each number of workers, with trees and without."""
     made = SessionMaker(seed)
-    given, journal = made.input(), made.journal()
+    (first_line, later_lines), journal = made.input(), made.journal()
+    with tempfile.NamedTemporaryFile() as file:
+        file.write(json.dumps(made.script, indent=made.random.choice([None, 1])).encode())
+        file.flush()
+        compare(seed, programs, made, journal, (first_line + later_lines, later_lines, file.name))
+    look_at_refusal(made, programs.hipac)
+
+
+def compare(seed, programs, made, journal, ways):
+    """The session's answers are those by its journal. Its script is in its first line or in a file."""
+    all_lines, later_lines, name = ways
     for tree in ([], ["--tree"]):
         units, state = report_of(programs.hipac, journal, tree)
         for workers in ("1", "4"):
-            command = [*programs.live, "--workers", workers, *tree]
+            in_file = (seed + int(workers) + len(tree)) % 3 == 0
+            given = later_lines if in_file else all_lines
+            command = [*programs.live, "--workers", workers, *tree, *(["--script", name] if in_file else [])]
             whole = seed % 8 == int(workers) + len(tree)
             status, wrote, said = by_pipe(command, given) if whole else in_pieces(command, made.pieces(given))
             expect((status, said), (0, b""), "status and standard error")
             look_at(made, answers_of(wrote), units, state)
-    look_at_refusal(made, programs.hipac)
 
 
 # ---- cases by name
@@ -451,6 +465,58 @@ def refused_text(live):
         expect(by_pipe([*live, "--text"], f"{line}\nshow\n".encode()), wanted, f"answers to {line!r}")
 
 
+# Scripts in files, on lines of their own.
+FILE = json.dumps(json.loads(UP), indent=1)
+FILE_TEXT = UP_TEXT.replace(" rule", "\n\n# a rule\nrule").replace(" transaction", "\ntransaction")
+READ = "unit 1 committed\nok 1\n"
+
+# Each case: further words, the file, the input, the answers and the status.
+FILE_CASES = {
+    "file": ([], FILE, f'["show"]\n{change(5)}', f"{READ}{STATE}unit 2 committed\nemit 5\nok 2\n", 0),
+    "file, no line": ([], FILE, "", READ, 0),
+    "file, of one line": ([], UP, '["show"]\n', READ + STATE, 0),
+    "file, and a script as a line": ([], FILE, f'{UP}\n["show"]\n', f"{READ}refused S2 /\n{STATE}", 0),
+    "file, and an empty line": ([], FILE, '\n["show"]\n', f"{READ}refused S1\n{STATE}", 0),
+    "file, with carriage returns": ([], FILE.replace("\n", "\r\n"), '["show"]\r\n', READ + STATE, 0),
+    "file, the longest": ([], longest(FILE, MOST), '["show"]\n', READ + STATE, 0),
+    "file, S5 size": ([], longest(FILE, MOST + 1), '["show"]\n', "refused S5 size\n", 2),
+    "file, S5 size, far more": ([], longest(FILE, 4 * MOST), '["show"]\n', "refused S5 size\n", 2),
+    "file, S1, empty": ([], "", f"{UP}\n", "refused S1\n", 2),
+    "file, S1, cut off": ([], FILE[:-1], '["show"]\n', "refused S1\n", 2),
+    "file, S1, text": ([], FILE_TEXT, "show\n", "refused S1\n", 2),
+    "file, S4": ([], script([["tx", [["install", "nobody"]]]]), "", "refused S4 /items/0/1/0/1\n", 2),
+    "file of text": (["--text"], FILE_TEXT, "show\ntransaction { emit 7 }\n",
+                     f"{READ}{STATE}unit 2 committed\nemit 7\nok 2\n", 0),
+    "file of text, no line": (["--text"], FILE_TEXT, "", READ, 0),
+    "file of text, S1": (["--text"], "version 1\n# no class\n  clas", "show\n", "refused S1 3:3\n", 2),
+    "file of text, S4": (["--text"], "version 1\ntransaction {\n  install nobody\n}\n", "", "refused S4 3:11\n", 2),
+    "file of text, S1, JSON": (["--text"], FILE, "show\n", "refused S1 1:1\n", 2),
+}
+
+
+def file_case(live, words, file, given, answers, status):
+    """A session whose script is in a file."""
+    with tempfile.NamedTemporaryFile() as named:
+        named.write(file.encode())
+        named.flush()
+        found = by_pipe([*live, *words, "--script", named.name], given.encode())
+    expect(found, (status, answers.encode(), b""), "status, answers and standard error")
+
+
+def refused_files(live):
+    """A file that can't be read, or no name of one: nothing is read, and nothing is answered."""
+    for name in ("/nowhere/rules.json", "", TOP):
+        wanted = (3, b"", b"the script's file can't be read\n")
+        expect(by_pipe([*live, "--script", name], UP.encode()), wanted, f"with the file {name!r}")
+    for words in (["--script"], ["--script", "a", "--script", "b"], ["--script", "--tree"]):
+        expect(by_pipe([*live, *words], UP.encode()), (3, b"", b"command line refused\n"), f"with {words}")
+
+
+def hipac_has_no_file(hipac):
+    """hipac reads its script from standard input alone."""
+    expect(by_pipe([*hipac, "--script", "/dev/null"], UP.encode()), (3, b"", b"command line refused\n"), "by hipac")
+
+
 def case(live, given, answers, status):
     expect(by_pipe(live, given.encode()), (status, answers.encode(), b""), "status, answers and standard error")
 
@@ -555,8 +621,11 @@ def checks(programs, sessions):
         yield name, lambda given=given, answers=answers, status=status: case(live, given, answers, status)
     for name, (given, answers) in TEXT_CASES.items():
         yield name, lambda given=given, answers=answers: text_case(live, given, answers)
-    for look in (stored, trees, refused_text, refused_words, failed_read, failed_write, answers_at_once):
+    for name, how in FILE_CASES.items():
+        yield name, lambda how=how: file_case(live, *how)
+    for look in (stored, trees, refused_text, refused_words, refused_files, failed_read, failed_write, answers_at_once):
         yield look.__name__.replace("_", " "), lambda look=look: look(live)
+    yield "hipac has no file", lambda: hipac_has_no_file(programs.hipac)
     if "HIPAC_LIVE" not in os.environ:
         yield "the launcher", launcher
     for seed in range(sessions):

@@ -1,6 +1,6 @@
 //! Scripts, and the text of what a check of kinds finds in them.
 
-use hp_analysis::{KindError, Reason, Sort, Wanted, check_library, check_unit, infer};
+use hp_analysis::{KindFinding, Reason, Sort, Wanted, infer, kind_findings};
 use hp_rule::{Member, PathStep};
 use hp_script::{DecodeError, Script, decode};
 use hp_value::Kind;
@@ -70,32 +70,33 @@ fn reason_text(alloc: Global, reason: Reason) -> Result<String, AllocError> {
     format!(in alloc; "{reason:?}")
 }
 
-/// The finding's path and reason.
-fn error_text(alloc: Global, error: KindError) -> Result<String, AllocError> {
-    match error {
-        KindError::Memory => Err(AllocError),
-        KindError::Found(finding) => {
-            let mut text = String::new(alloc);
-            for step in &finding.path {
-                add_step(alloc, &mut text, step)?;
-            }
-            let why = reason_text(alloc, finding.reason)?;
-            format!(in alloc; "{text} {why}")
-        }
+/// The path and the reason of a finding, and the number of its unit if it is in one.
+fn add_finding(alloc: Global, text: &mut String, found: &KindFinding) -> Result<(), AllocError> {
+    if !text.is_empty() {
+        text.push_str(", ")?;
     }
+    if let Some(number) = found.unit {
+        let unit = format!(in alloc; "unit {number} ")?;
+        text.push_str(unit.as_str())?;
+    }
+    for step in &found.finding.path {
+        add_step(alloc, text, step)?;
+    }
+    let why = reason_text(alloc, found.finding.reason)?;
+    text.push_str(" ")?;
+    text.push_str(why.as_str())
 }
 
-/// `kinded`, or the first finding in the rules, or else that in the first transaction that has one.
+/// `kinded`, or all findings in the rules and in the transactions.
 pub fn verdict(alloc: Global, script: &Script) -> Result<String, AllocError> {
     let found = infer(alloc, &script.library, &script.items)?;
-    let declared = &found.declaration;
-    if let Err(error) = check_library(alloc, &script.library, declared) {
-        return error_text(alloc, error);
+    let all = kind_findings(alloc, &script.library, &found.declaration, &script.items)?;
+    if all.is_empty() {
+        return String::from_str(alloc, "kinded");
     }
-    for unit in &script.items {
-        if let Err(error) = check_unit(alloc, &script.library, declared, unit) {
-            return error_text(alloc, error);
-        }
+    let mut text = String::new(alloc);
+    for one in &all {
+        add_finding(alloc, &mut text, one)?;
     }
-    String::from_str(alloc, "kinded")
+    Ok(text)
 }

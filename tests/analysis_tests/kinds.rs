@@ -1,7 +1,7 @@
 //! Kinds: what is accepted, what is refused and where, and what is inferred.
 
 use super::fixtures::{script, sort_name, verdict};
-use hp_analysis::{Declaration, Sort, check_library, infer, is_kinded};
+use hp_analysis::{Declaration, Sort, infer, kind_findings, library_findings, unit_findings};
 use hp_value::Kind;
 use std::alloc::Global;
 use std::process::Abort;
@@ -132,7 +132,7 @@ fn tells_what_is_wanted_and_what_is_there(rt: HostRuntime) -> Result<(), Fail> {
         created,
         "",
         r#"["tx", [["emit", ["count"]]]]"#,
-        "/0/1 NoOccurrence",
+        "unit 1 /0/1 NoOccurrence",
     )
 }
 
@@ -177,8 +177,8 @@ fn expect_given<R: Abort + AllocGlobal>(
 fn demands_what_rules_use(rt: HostRuntime) -> Result<(), Fail> {
     expect_given(&rt, "true, 2", "kinded")?;
     expect_given(&rt, r#"true, 2, "more""#, "kinded")?;
-    expect_given(&rt, "true", "/0 TooFewArguments")?;
-    expect_given(&rt, r#"true, "2""#, "/0/2/1 int wanted, is text")
+    expect_given(&rt, "true", "unit 1 /0 TooFewArguments")?;
+    expect_given(&rt, r#"true, "2""#, "unit 1 /0/2/1 int wanted, is text")
 }
 
 #[test]
@@ -186,7 +186,13 @@ fn lets_statements_fire_what_reads_no_part(rt: HostRuntime) -> Result<(), Fail> 
     let created = r#"["create", "item"]"#;
     let fired = r#"["tx", [["install", "r"], ["fire", "r"]]]"#;
     expect(&rt, created, r#"["emit", ["count"]]"#, fired, "kinded")?;
-    expect(&rt, created, r#"["emit", ["id", 0]]"#, fired, "/1 NotFired")
+    expect(
+        &rt,
+        created,
+        r#"["emit", ["id", 0]]"#,
+        fired,
+        "unit 1 /1 NotFired",
+    )
 }
 
 #[test]
@@ -213,13 +219,60 @@ fn checks_against_what_is_declared(rt: HostRuntime) -> Result<(), Fail> {
     )?;
     let read = script(alloc, rules.as_str(), "")?;
     let mut declared = Declaration::new(alloc);
-    assert!(rt; check_library(alloc, &read.library, &declared).is_err());
+    assert!(rt; library_findings(alloc, &read.library, &declared)?.len() == 1);
     let sorts = vec![in alloc; Sort::Only(Kind::Int)]?;
     declared.declare(String::from_str(alloc, "paid")?, sorts)?;
-    assert!(rt; check_library(alloc, &read.library, &declared).is_ok());
-    assert!(rt; is_kinded(alloc, &read.library, &declared, &read.items)?);
+    assert!(rt; library_findings(alloc, &read.library, &declared)?.is_empty());
+    assert!(rt; kind_findings(alloc, &read.library, &declared, &read.items)?.is_empty());
     let sorts = vec![in alloc; Sort::Any]?;
     declared.declare(String::from_str(alloc, "paid")?, sorts)?;
-    assert!(rt; !is_kinded(alloc, &read.library, &declared, &read.items)?);
+    assert!(rt; !kind_findings(alloc, &read.library, &declared, &read.items)?.is_empty());
     Ok(())
+}
+
+#[test]
+fn checks_a_later_unit(rt: HostRuntime) -> Result<(), Fail> {
+    let alloc = rt.alloc();
+    let read = script(
+        alloc,
+        "",
+        r#"["tx", [["emit", ["count"]], ["emit", 1], ["emit", ["count"]]]]"#,
+    )?;
+    let declared = Declaration::new(alloc);
+    for unit in &read.items {
+        assert!(rt; unit_findings(alloc, &read.library, &declared, unit)?.len() == 2);
+    }
+    Ok(())
+}
+
+#[test]
+fn finds_all_of_a_statement(rt: HostRuntime) -> Result<(), Fail> {
+    let updated = r#"["update", "item"]"#;
+    expect(
+        &rt,
+        updated,
+        r#"["create", "item", true, [["stock", "a"], ["name", ["neg", false]]]], ["emit", ["arg", 0, 0]]"#,
+        "",
+        "/rules/0/5/0/2 int wanted, is bool, /rules/0/5/0/3/0/1 int wanted, is text, \
+         /rules/0/5/0/3/1/1/1 int wanted, is bool, /rules/0/5/1/1 OtherForm",
+    )?;
+    expect(
+        &rt,
+        r#"["signal", "paid"]"#,
+        r#"["emit", ["+", ["arg", 0, 0], ["arg", 0, 2]]]"#,
+        r#"["tx", [["signal", "paid", ["a"]], ["update", "item", 1, [["stock", ""]]]]]"#,
+        "unit 1 /0/2/0 int wanted, is text, unit 1 /0 TooFewArguments, unit 1 /1/3/0/1 int wanted, is text",
+    )
+}
+
+#[test]
+fn finds_all_inside_a_statement(rt: HostRuntime) -> Result<(), Fail> {
+    expect(
+        &rt,
+        r#"["update", "item"]"#,
+        r#"["if", 1, [["emit", ["time", 0]]], [["emit", ["+", ["old", 0, "name"], "a"]]]]"#,
+        r#"["tx", []], ["tx", [["sub", [["emit", ["count"]]], [["emit", ["count"]]]]]]"#,
+        "/rules/0/5/0/1 bool wanted, is int, /rules/0/5/0/2/0/1 OtherForm, \
+         /rules/0/5/0/3/0/1/1 int wanted, is text, unit 2 /0/1/0/1 NoOccurrence, unit 2 /0/2/0/1 NoOccurrence",
+    )
 }

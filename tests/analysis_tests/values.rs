@@ -97,6 +97,6 @@ fn a_value_that_is_used_says_what_a_signal_carries(rt: HostRuntime) -> Result<()
         given,
         adds,
         r#"["tx", [["signal", "go", ["one"]]]]"#,
-        "/0/2/0 int wanted, is text",
+        "unit 1 /0/2/0 int wanted, is text",
     )
 }

@@ -169,6 +169,10 @@ fn other_words_are_refused(rt: HostRuntime) -> Result<(), Fail> {
     assert_eq!(rt; asked(&rt, &["x"])?, Err(WordFault::Refused));
     assert_eq!(rt; asked(&rt, &["--text=true"])?, Err(WordFault::Refused));
     assert_eq!(rt; asked(&rt, &["--text", "--text"])?, Err(WordFault::Refused));
+    assert_eq!(rt;
+        asked(&rt, &["--script", "a.json"])?,
+        Err(WordFault::Refused)
+    );
     Ok(())
 }
 

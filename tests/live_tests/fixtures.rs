@@ -5,7 +5,7 @@ use std::io;
 use std::io::{Read, Write};
 
 /// A class, a rule that reports changes, and one that fires at 7 and 9.
-const SCRIPT: &str = r#"{
+pub const SCRIPT: &str = r#"{
   "version": 1,
   "classes": [["acct", [["bal", "int"]]]],
   "rules": [
@@ -105,12 +105,19 @@ fn one_line(alloc: Global, script: &str) -> Result<String, AllocError> {
     Ok(line)
 }
 
+/// The lines after the script.
+pub fn later_lines(alloc: Global) -> Result<String, AllocError> {
+    let mut input = String::from_str(alloc, UPDATE)?;
+    input.push_str("\r\n")?;
+    input.push_str(LINES)?;
+    Ok(input)
+}
+
 /// The script on one line, followed by the lines.
 pub fn session(alloc: Global) -> Result<String, AllocError> {
     let mut input = one_line(alloc, SCRIPT)?;
-    input.push_str(UPDATE)?;
-    input.push_str("\r\n")?;
-    input.push_str(LINES)?;
+    let lines = later_lines(alloc)?;
+    input.push_str(&lines)?;
     Ok(input)
 }
 
@@ -149,7 +156,7 @@ pub fn bytes_until(fails_at: usize) -> Steps {
 /// A device that gives its input and keeps its output.
 #[derive(Drop)]
 pub struct Device<'a> {
-    input: &'a [u8],
+    pub input: &'a [u8],
     pub output: Vec<u8>,
     steps: Steps,
     calls: usize,

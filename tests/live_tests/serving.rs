@@ -3,7 +3,7 @@
 use super::fixtures::{
     ANSWERS, EASY, FOURTH_ANSWERS, Steps, bytes_until, fourth_session, new_device, session,
 };
-use hp_live::{Fault, Options, Status, serve};
+use hp_live::{Fault, Options, Status, run};
 use hp_report::Watched;
 use std::process::Abort;
 use std::test::Fail;
@@ -24,7 +24,7 @@ fn served<R: AllocGlobal + Threads + Sync>(
         tree: false,
         text: false,
     };
-    let ended = serve(rt, alloc, &mut reader, &mut writer, options);
+    let ended = run(rt, alloc, None, &mut reader, &mut writer, options);
     (writer.into_inner().output, ended)
 }
 

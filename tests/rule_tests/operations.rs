@@ -6,8 +6,8 @@
 use super::fixtures::{class, rule, text};
 use hp_event::Pattern;
 use hp_ops::{
-    Given, create, delete, find_object, find_status, fire, given_values, new_object, set_rule,
-    trigger, update,
+    Given, GivenValues, create, delete, find_object, find_status, fire, given_values, new_object,
+    set_rule, trigger, update,
 };
 use hp_rule::{Assignment, CheckError, Coupling, EventExpr, Library, Rule, RuleOperation, Task};
 use hp_store::{Snapshot, Status};
@@ -257,7 +257,9 @@ fn made_row(
 fn given(alloc: Global, lib: &Library, field: &str, number: bool) -> Result<(Key, usize), Halt> {
     let pairs = assignments(alloc, field, number)?;
     let key = Expr::literal(Value::Int(9));
-    let (key, given) = given_values(alloc, lib, 0, &Env::new(None, &[], &[], 0), &key, &pairs)?;
+    let env = Env::new(None, &[], &[], 0);
+    let mut given = GivenValues::new(alloc);
+    let key = given_values(alloc, lib, 0, &env, &key, &pairs, &mut given)?;
     Ok((key, given.len()))
 }
 

@@ -74,6 +74,11 @@ FAULTY_SCRIPTS = [
         "expected a name for the row, found `where`",
         "`where` is a word of the notation; as a name it is in backquotes"),
     FaultyText(
+        "version 1\nrule r on update item\n  if some item i,\n     some item j\n  do {}",
+        "3:17",
+        "expected `where`, `if` or `do`, found `,`",
+        "each query has an `if` of its own, without a comma between"),
+    FaultyText(
         "version 1\nrule r on update item\n  if some item i where i.stock < 0\n  and some item j\n  do {}",
         "4:12",
         "expected `.`, an operator, `if` or `do`, found `item`",

@@ -126,6 +126,9 @@ fn evaluated<T: Threads + Sync>(
     let ran = run_items(rt, alloc, &library, &mut store, &items, workers);
     let units = ran.whole()?;
     let (objects, statuses) = final_state(alloc, &library, &store, &units)?;
+    // They aren't freed either: the program only writes the report now, and then ends.
+    mem::forget(items);
+    mem::forget(store);
     Ok(Report {
         library,
         units,

@@ -7,6 +7,8 @@ ghost use Rattle.hp_report.specs.Text.{Gains};
 ghost use Rattle.hp_rule.specs.Libraries as libraries;
 ghost use Rattle.hp_rule.specs.Mapped.{unit};
 ghost use Rattle.hp_analysis.specs.Declarations.{declared};
+ghost use Rattle.hp_analysis.specs.Findings.{finds_nothing};
+ghost use Rattle.hp_analysis.specs.FoundKinds.{kind_findings};
 ghost use Rattle.hp_analysis.specs.Depths.{library_depth};
 ghost use Rattle.hp_analysis.specs.Graphs.{seen};
 ghost use Rattle.hp_analysis.specs.Installed.{with_installed};
@@ -15,9 +17,9 @@ ghost use Rattle.hp_analysis.specs.Witness.{library_chain};
 ghost use Rattle.hp_analysis.specs.Checking.{check_output, findings_text, verdicts_of, have_no_opening, chain_by, IsChecked};
 ghost use Rattle.hipac_check.specs.Ends.{status_of};
 
-use crate::lines::{put_chain, put_idles, put_kind, put_openings};
+use crate::lines::{put_chain, put_idles, put_kind_lines, put_openings};
 use crate::verdicts::{put_depth, put_guards, put_kinds};
-use hp_analysis::{Declaration, Graph, first_finding, have_no_opening, infer};
+use hp_analysis::{Declaration, Graph, KindFinding, have_no_opening, infer, kind_findings};
 use hp_report::{Fault, ReadFault, Sink, Source, Status, read_up_to, write_text};
 use hp_rule::{Library, Unit};
 use hp_script::{DecodeError, decode, refusal_text};
@@ -168,6 +170,16 @@ fn is_closed(library: &Library, pass: bool) -> bool
     pass && have_no_opening(library.rules())
 }
 
+/// Whether nothing was found.
+fn is_kinded(all: &[KindFinding]) -> bool
+    ensures { result ≡ finds_nothing (kind_findings all.now) }
+{
+    match all {
+        [] => true,
+        [_, ..] => false,
+    }
+}
+
 /// Adds the verdicts: whether all values are used as what they are, and how deep the units' own firings nest.
 fn put_verdicts(
     alloc: Global,
@@ -197,14 +209,14 @@ fn findings(
     ensures { IfOk result (λ text. string_bytes text
         ≡ findings_text (script (libraries.library library.now) (map unit units.now)) (declared declaration.now)) }
 {
-    let found = first_finding(alloc, library, declaration, units)?;
+    let all = kind_findings(alloc, library, declaration, units)?;
     let graph = Graph::of_installed(alloc, library, units)?;
     let own = graph.longest_chain_of(alloc, units)?;
     let chain = chain_by(alloc, library, units, &graph, own)?;
     let reached = graph.reached(alloc, units)?;
     let mut text = String::new(alloc);
-    put_verdicts(alloc, &mut text, library, found.is_none(), own)?;
-    put_kind(&mut text, &found)?;
+    put_verdicts(alloc, &mut text, library, is_kinded(&all), own)?;
+    put_kind_lines(&mut text, &all)?;
     put_chain(&mut text, library.rules(), &chain)?;
     put_openings(&mut text, library.rules())?;
     put_idles(&mut text, graph.installed(), &reached, library.rules())?;

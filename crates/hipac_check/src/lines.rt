@@ -8,7 +8,7 @@ ghost use Rattle.hp_model.specs.Refusals.{to_member, to_item};
 ghost use Rattle.hp_model.specs.Output.{path_text};
 ghost use Rattle.hp_rule.specs.Statements.{rule};
 ghost use Rattle.hp_report.specs.Text.{Gains};
-ghost use Rattle.hp_analysis.specs.FoundFirst.{kind_finding};
+ghost use Rattle.hp_analysis.specs.FoundKinds.{kind_finding, kind_findings};
 ghost use Rattle.hp_analysis.specs.Guards as guards;
 ghost use Rattle.hp_analysis.specs.Openings as openings;
 ghost use Rattle.hp_analysis.specs.Kinded.{finding};
@@ -53,14 +53,14 @@ fn put_found(out: &mut String, found: &KindFinding) -> Result<(), AllocError>
     }
 }
 
-/// Adds the line of the first finding of kinds, if there is one.
-pub(crate) fn put_kind(out: &mut String, first: &Option<KindFinding>) -> Result<(), AllocError>
-    ensures { OnOk result (Gains out.old out.new (model.kind_lines (option_map kind_finding first.now))) }
+/// Adds a line for each finding of kinds.
+pub(crate) fn put_kind_lines(out: &mut String, all: &[KindFinding]) -> Result<(), AllocError>
+    ensures { OnOk result (Gains out.old out.new (model.kind_lines (kind_findings all.now))) }
 {
-    match first {
-        Some(found) => put_found(out, found),
-        None => Ok(()),
+    for found in all {
+        put_found(out, found)?;
     }
+    Ok(())
 }
 
 /// The name of the rule of this number; empty if there is none.

@@ -7,13 +7,12 @@ ghost use Rattle.hp_report.specs.Device.{Begins};
 ghost use Rattle.hp_report.specs.Exits.{code_of};
 ghost use Rattle.hp_lines.specs.Live as L;
 ghost use Rattle.hp_live.specs.Ends.{status_of};
-ghost use Rattle.hp_live.specs.Kept.{manner};
-ghost use Rattle.hp_words.specs.Words.{word_code_of};
-ghost use Rattle.hipac_live.specs.Asked.{manner_of};
+ghost use Rattle.hp_live.specs.Kept.{manner, bytes_of};
+ghost use Rattle.hipac_live.specs.Asked.{code_unasked, manner_of};
 
-use hp_live::{Fault, Options, exit_code, serve};
+use super::asked::{Asked, Unasked, unasked_code};
+use hp_live::{Fault, Options, exit_code, run};
 use hp_report::{Sink, Source};
-use hp_words::{WordFault, word_code};
 use std::alloc::Global;
 use std::thread::Threads;
 use thiserror::Error;
@@ -21,9 +20,9 @@ use thiserror::Error;
 /// Why the program ends before it has answered all lines.
 #[derive(Clone, Copy, Debug, PartialEq, Eq, Error)]
 pub enum Stop {
-    /// Its words gave no options.
+    /// Its words asked for nothing that can be done.
     #[error("{0}")]
-    Words(WordFault),
+    Words(Unasked),
     /// Its run met a fault.
     #[error("{0}")]
     Run(Fault),
@@ -32,7 +31,8 @@ pub enum Stop {
 /// How the program ends.
 #[derive(Clone, Copy, Debug, PartialEq, Eq)]
 pub struct Ended {
-    /// The exit status: 0 after all answers, 2 if the script was refused, 3 if the words were, 4 after a fault.
+    /// The exit status: 0 after all answers, 2 if the script was refused, 3 if the words were or their file can't be
+    /// read, 4 after a fault.
     pub code: u8,
     /// What is said on standard error, if anything.
     pub stop: Option<Stop>,
@@ -52,41 +52,42 @@ fn options_for(words: hp_words::Options) -> Options
 
 /// Runs the program with what its words gave.
 ///
-/// The reader and the writer must not have failed before. Without options no device is called.
+/// The reader and the writer must not have failed before. If the words asked for nothing, no device is called.
 pub fn program<T: Threads + Sync, R: Source, W: Sink>(
     rt: &T,
     alloc: Global,
-    asked: Result<hp_words::Options, WordFault>,
+    asked: Result<Asked, Unasked>,
     reader: &mut R,
     writer: &mut W,
 ) -> Ended
     requires reader { R.has_failed reader.old ≡ false }
     requires writer { W.has_failed writer.old ≡ false }
-    ensures refused { IfErr asked (λ fault. result.code ≡ word_code_of fault) }
+    ensures refused { IfErr asked (λ fault. result.code ≡ code_unasked fault) }
     ensures unread { OnErr asked (reader.new ≡ reader.old) }
     ensures unwritten { OnErr asked (writer.new ≡ writer.old) }
 
-    // At 0 and 2 it has written the definition's answers for all bytes up to the reader's end, with the trees that the
-    // options ask for; and in any case a prefix of them.
-    ensures code { IfOk asked (λ options. result.code ≢ 4 → IfSome (R.remaining reader.old) (λ input.
-        result.code ≡ code_of (Ok (status_of (manner_of options) input)))) }
-    ensures output { IfOk asked (λ options. result.code ≢ 4 → IfSome (R.remaining reader.old) (λ input.
-        Appends (W.contents writer.old) (W.contents writer.new) (L.output (manner_of options) input))) }
-    ensures begins { IfOk asked (λ options. IfSome (R.remaining reader.old) (λ input.
-        Begins (W.contents writer.old) (W.contents writer.new) (L.output (manner_of options) input))) }
+    // At 0 and 2 it has written the definition's answers for the script's file, if there is one, and all bytes up to
+    // the reader's end, with the trees that the options ask for; and in any case a prefix of them.
+    ensures code { IfOk asked (λ a. result.code ≢ 4 → IfSome (R.remaining reader.old) (λ input.
+        result.code ≡ code_of (Ok (status_of (manner_of a.options) (bytes_of a.script) input)))) }
+    ensures output { IfOk asked (λ a. result.code ≢ 4 → IfSome (R.remaining reader.old) (λ input. Appends
+        (W.contents writer.old) (W.contents writer.new) (L.output (manner_of a.options) (bytes_of a.script) input))) }
+    ensures begins { IfOk asked (λ a. IfSome (R.remaining reader.old) (λ input. Begins
+        (W.contents writer.old) (W.contents writer.new) (L.output (manner_of a.options) (bytes_of a.script) input))) }
     ensures read { R.has_failed reader.new ≡ true → result.code ≡ 4 }
     ensures write { W.has_failed writer.new ≡ true → result.code ≡ 4 }
 {
     match asked {
-        Ok(words) => {
-            let ended = serve(rt, alloc, reader, writer, options_for(words));
+        Ok(asked) => {
+            let options = options_for(asked.options);
+            let ended = run(rt, alloc, asked.script, reader, writer, options);
             Ended {
                 code: exit_code(&ended),
                 stop: ended.err().map(Stop::Run),
             }
         }
         Err(fault) => Ended {
-            code: word_code(fault),
+            code: unasked_code(fault),
             stop: Some(Stop::Words(fault)),
         },
     }

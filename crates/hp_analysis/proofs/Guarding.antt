@@ -1,15 +1,15 @@
 -- No arithmetic ends a guard that has no opening.
-use Rattle.std.proofs.Common.{◌≡◌, refl, sym, ap, ◌∙◌, ℕ, List, [], ◌∷◌, Bool, true, false, ◌&&◌, Option, Some, None}
-use Rattle.std.specs.Prelude.{⊤, not, is_none, if◌then◌else◌}
+use Rattle.std.proofs.Common.{◌≡◌, refl, sym, ◌∙◌, List, [], ◌∷◌, Bool, true, false, ◌&&◌, Option, Some, None}
+use Rattle.std.specs.Prelude.{is_none, option_map, if◌then◌else◌}
 use Rattle.std.specs.List.{AllByRecursion}
 use Rattle.hp_model.specs.Values.{Cause}
 use Rattle.hp_model.specs.Rules.{Rule, Library, rule_at}
 use Rattle.hp_model.specs.Tree.{Ending, committed, aborted, Condition, without_action, with_fault, with_action, with_later_action, Node, sub_node, fire_node, act_node, Items, no_items, operation, emission, detachment, node}
-use Rattle.hp_model.specs.Cascade.{TransactionReport, UnitReport, Script}
+use Rattle.hp_model.specs.Cascade.{TransactionReport, UnitReport}
 use Rattle.hp_model.specs.Endings.{Ended, whole_transaction, inner_node, condition_of, EndsOnlyBy, FaultsOnlyBy, NodeHasOnly, TreeHasOnly, ReportHasOnly}
 use Rattle.hp_model.specs.Kinds.{is_body_calm, is_condition_calm, is_node_calm, is_arithmetic, NotOfKinds, CauseOf, KindedCause}
 use Rattle.hp_model.proofs.KindUnits.{never_of_kinds}
-use Rattle.hp_analysis.specs.Guards.{is_open_guard, first_opening, opening, is_sure, is_node_sure, GuardCause, GuardsHold}
+use Rattle.hp_analysis.specs.Guards.{is_open_guard, first_opening, is_sure, is_node_sure, GuardCause, GuardsHold}
 
 -- ---- what only some causes end, only more causes end
 
@@ -83,3 +83,7 @@ module _ (library : Library) where
 
 pub guards_hold : GuardsHold
 guards_hold s d fit fits kinded units = units_by (KindedCause s.library) (GuardCause s.library) (guarded s.library) _ (never_of_kinds s d fit fits kinded units)
+
+pub mapped_none : {A B : Type 0} (f : A → B) (o : Option A) → is_none o ≡ is_none (option_map f o)
+mapped_none f None = refl
+mapped_none f (Some x) = refl

@@ -1,17 +1,17 @@
 -- A script installs no rule but those that are found; so it does the same if the others do nothing.
-use Rattle.std.proofs.Common.{arith, ◌≡◌, refl, sym, ap, ◌∙◌, subst, ℕ, zero, suc, ◌+◌, ◌-◌, ◌≤◌, List, [], ◌∷◌, length, map, Bool, true, false, ◌&&◌, Option, Some, None, nat_lt, IsTrue}
+use Rattle.std.proofs.Common.{arith, ◌≡◌, refl, sym, ◌∙◌, subst, ℕ, zero, suc, ◌+◌, List, [], ◌∷◌, map, Bool, true, false, ◌&&◌, Some, None, nat_lt, IsTrue}
 use Rattle.std.specs.Prelude.{if◌then◌else◌}
 use Rattle.std.specs.List.{AllByRecursion, list_all}
 use Rattle.std.proofs.lemmas.Bool.{and_parts, and_from}
-use Rattle.hp_model.specs.Rules.{Rule, Library, rule_at}
-use Rattle.hp_model.specs.Cascade.{Unit, Script}
+use Rattle.hp_model.specs.Rules.{Library, rule_at}
+use Rattle.hp_model.specs.Cascade.{Unit}
 use Rattle.hp_model.specs.Chains.{rule_within, unit_within, script_within, unit_triggers}
 use Rattle.hp_model.specs.Idle.{body_installs, unit_installs}
 use Rattle.hp_model.proofs.Idle.{others_are_idle, never_too_deep_by_idle}
 use Rattle.hp_model.proofs.Shallow.{bounds_grow}
-use Rattle.hp_analysis.specs.Sets.{no_rules, installs, gathered, is_within}
+use Rattle.hp_analysis.specs.Sets.{no_rules, installs, is_within}
 use Rattle.hp_analysis.specs.Reached.{has}
-use Rattle.hp_analysis.specs.Depths.{least_from, script_depth}
+use Rattle.hp_analysis.specs.Depths.{least_from}
 use Rattle.hp_analysis.specs.Installed.{installed, with_installed, InstalledSuffice, OthersDoNothing, KnownDepthHolds}
 use Rattle.hp_analysis.proofs.Reaching.{all_closed, gathered_each, spread_closed}
 

@@ -1,5 +1,5 @@
--- The checks of kinds pass exactly where the judgement holds.
-use Rattle.std.proofs.Common.{◌≡◌, refl, sym, ap, ap₂, ◌∙◌, ℕ, suc, Bool, true, false, ◌&&◌, List, [], ◌∷◌, ◌++◌, Option, Some, None, Result, Ok, Err}
+-- Nothing is found exactly where the judgement holds.
+use Rattle.std.proofs.Common.{◌≡◌, refl, sym, ap, ap₂, ◌∙◌, ℕ, suc, Bool, true, false, ◌&&◌, List, [], ◌∷◌, ◌++◌, map, Option, Some, None, Result, Ok, Err}
 use Rattle.std.specs.Prelude.{⊤, ◌||◌, bytes_eq, slice_get, is_some, option_map, unwrap_or, if◌then◌else◌}
 use Rattle.std.specs.Bool.{then_some}
 use Rattle.std.specs.Map.{lookup}
@@ -13,11 +13,8 @@ use Rattle.hp_model.specs.Cascade.{Unit, transaction, moment}
 use Rattle.hp_model.specs.Refusals.{Path, under_root, item_at}
 use Rattle.hp_model.specs.Kinds as K
 use Rattle.hp_model.specs.Kinds.{Sort, only, any, Declared, signature_of, is_fired, Columns, columns_by, Scope, with_name, with_sort, no_scope, is_only, meets, meet, only_if, common, all_assigned, assignments_kinded, arguments_kinded, statement_kinded, body_kinded, aggregate_sort, if_sorted, entries_kinded, with_entries, query_classes, rules_kinded, library_kinded, unit_kinded, is_given, gives_sort, sort_of}
-use Rattle.hp_analysis.specs.declared.kinds.finding.KindError.{KindError}
-use Rattle.hp_analysis.specs.declared.kinds.finding.KindError.TheVariants.{Found, Memory}
-use Rattle.hp_analysis.specs.Kinded.{Passes, Judges}
 use Rattle.hp_analysis.specs.Findings as F
-use Rattle.hp_analysis.specs.Findings.{Wanted, Reason, Reasoned, Judged, refused, placed, reasoned, suits, demanded, operand_sort, operands_sort, alike_check, ordered_check, comparable_check, comparison_sort, Reading, read_new, read_old, read_key, read_argument, read_time, argument_sort, read_sort, sort_with, sort_among, sort_at, row_field_sort, row_key_sort, count_sort, expression_check, kind_check, each_check, assignment_check, assignments_check, update_check, create_check, none_missing, next_demand, later_demands, argument_check, arguments_check, emission_check, query_known, both_check, own_check, statement_check, body_check, value_sort, count_check, sum_check, is_ordered, extreme_check, aggregate_check, value_check, first_scope, test_check, query_check, no_check, let_check, entry_check, entries_check, parts_check, rule_check, rules_check, library_check, unit_check, unset_field, no_such_field, no_such_argument, unknown_name, not_fired}
+use Rattle.hp_analysis.specs.Findings.{Wanted, Reason, Reasoned, Judged, found, finds_nothing, refused, placed, reasoned, suits, demanded, operand_sort, operands_sort, alike_check, ordered_check, comparable_check, comparison_sort, Reading, read_new, read_old, read_key, read_argument, read_time, argument_sort, read_sort, sort_with, sort_among, sort_at, row_field_sort, row_key_sort, count_sort, expression_check, kind_check, assignment_check, assignments_findings, update_findings, all_set, create_findings, none_missing, next_demand, later_demands, argument_check, arguments_findings, emission_check, query_known, single_check, own_findings, inner_findings, statement_findings, body_findings, value_sort, count_check, sum_check, is_ordered, extreme_check, aggregate_check, value_check, first_scope, test_check, entry_check, entries_findings, rule_findings, rules_findings, library_findings, unit_findings, unset_field, no_such_field, no_such_argument, unknown_name, not_fired}
 
 -- ---- results
 
@@ -29,12 +26,20 @@ abbrev pub passes : {A E : Type 0} → Result A E → Bool
 passes (Ok x) = true
 passes (Err e) = false
 
-then_passes : {E : Type 0} (a b : Result ⊤ E) → passes (a >>= λ _. b) ≡ (passes a && passes b)
-then_passes (Ok u) b = refl
-then_passes (Err e) b = refl
+-- nothing is found where a check passes
+pub found_nothing : {A : Type 0} (r : Judged A) → finds_nothing (found r) ≡ passes r
+found_nothing (Ok x) = refl
+found_nothing (Err f) = refl
 
-both_pass : {E : Type 0} (a b : Result ⊤ E) (x y : Bool) → passes a ≡ x → passes b ≡ y → passes (a >>= λ _. b) ≡ (x && y)
-both_pass a b x y e f = then_passes a b ∙ ap₂ (λ u v. u && v) e f
+pub both_nothing : {A : Type 0} (xs ys : List A) → finds_nothing (xs ++ ys) ≡ (finds_nothing xs && finds_nothing ys)
+both_nothing [] ys = refl
+both_nothing (x ∷ xs) ys = refl
+
+both_find : {A : Type 0} (xs ys : List A) (x y : Bool) → finds_nothing xs ≡ x → finds_nothing ys ≡ y → finds_nothing (xs ++ ys) ≡ (x && y)
+both_find xs ys x y e f = both_nothing xs ys ∙ ap₂ (λ u v. u && v) e f
+
+one_finds : {A : Type 0} (r : Judged A) (x : Bool) → passes r ≡ x → finds_nothing (found r) ≡ x
+one_finds r x e = found_nothing r ∙ e
 
 abbrev pub chosen : Bool → Path → Reason → Judged ⊤
 chosen b path reason = if b then Ok tt else refused path reason
@@ -369,35 +374,37 @@ assignment_judged library d scope fields path a = by (λ k. kind_judged library 
     by judged None = refl
     by judged (Some k) = judged k
 
-pairs_judged : (library : Library) (d : Declared) (scope : Scope) (fields : List Field) (path : Path) (before : List Assignment) (i : ℕ) (pairs : List Assignment)
-    → passes (each_check (λ _. assignment_check library d scope fields) path before i pairs) ≡ assignments_kinded library d scope fields pairs
-pairs_judged library d scope fields path before i [] = refl
-pairs_judged library d scope fields path before i (a ∷ pairs) =
-    both_pass (assignment_check library d scope fields (item_at path i) a) (each_check (λ _. assignment_check library d scope fields) path (before ++ a ∷ []) (suc i) pairs)
+pairs_judged : (library : Library) (d : Declared) (scope : Scope) (fields : List Field) (path : Path) (i : ℕ) (pairs : List Assignment)
+    → finds_nothing (assignments_findings library d scope fields path i pairs) ≡ assignments_kinded library d scope fields pairs
+pairs_judged library d scope fields path i [] = refl
+pairs_judged library d scope fields path i (a ∷ pairs) =
+    both_find (found (assignment_check library d scope fields (item_at path i) a)) (assignments_findings library d scope fields path (suc i) pairs)
     (is_given (kind_in fields a.field) (sort_of library d scope a.value)) (assignments_kinded library d scope fields pairs)
-    (assignment_judged library d scope fields (item_at path i) a) (pairs_judged library d scope fields path (before ++ a ∷ []) (suc i) pairs)
+    (one_finds (assignment_check library d scope fields (item_at path i) a) (is_given (kind_in fields a.field) (sort_of library d scope a.value)) (assignment_judged library d scope fields (item_at path i) a))
+    (pairs_judged library d scope fields path (suc i) pairs)
+
+kind_finds : (library : Library) (d : Declared) (scope : Scope) (k : Kind) (path : Path) (e : Expression) → finds_nothing (found (kind_check library d scope k path e)) ≡ is_only k (sort_of library d scope e)
+kind_finds library d scope k path e = one_finds (kind_check library d scope k path e) (is_only k (sort_of library d scope e)) (kind_judged library d scope k path e)
 
 update_judged : (library : Library) (d : Declared) (scope : Scope) (path : Path) (class : ℕ) (key : Expression) (pairs : List Assignment)
-    → passes (update_check library d scope path class key pairs) ≡ (is_only integer_kind (sort_of library d scope key) && assignments_kinded library d scope (class_at library class).fields pairs)
-unfolding update_check
+    → finds_nothing (update_findings library d scope path class key pairs) ≡ (is_only integer_kind (sort_of library d scope key) && assignments_kinded library d scope (class_at library class).fields pairs)
 update_judged library d scope path class key pairs =
-    both_pass (kind_check library d scope integer_kind (item_at path 2) key) (assignments_check library d scope (class_at library class).fields (item_at path 3) pairs)
+    both_find (found (kind_check library d scope integer_kind (item_at path 2) key)) (assignments_findings library d scope (class_at library class).fields (item_at path 3) 0 pairs)
     (is_only integer_kind (sort_of library d scope key)) (assignments_kinded library d scope (class_at library class).fields pairs)
-    (kind_judged library d scope integer_kind (item_at path 2) key) (pairs_judged library d scope (class_at library class).fields (item_at path 3) [] 0 pairs)
+    (kind_finds library d scope integer_kind (item_at path 2) key) (pairs_judged library d scope (class_at library class).fields (item_at path 3) 0 pairs)
 
 and_assoc : (a b c : Bool) → ((a && b) && c) ≡ (a && (b && c))
 and_assoc true b c = refl
 and_assoc false b c = refl
 
 create_judged : (library : Library) (d : Declared) (scope : Scope) (path : Path) (class : ℕ) (key : Expression) (pairs : List Assignment)
-    → passes (create_check library d scope path class key pairs)
+    → finds_nothing (create_findings library d scope path class key pairs)
     ≡ (is_only integer_kind (sort_of library d scope key) && (assignments_kinded library d scope (class_at library class).fields pairs && all_assigned (class_at library class).fields pairs))
-unfolding create_check
 create_judged library d scope path class key pairs =
     let fields = (class_at library class).fields in
-    both_pass (update_check library d scope path class key pairs) (chosen (all_assigned fields pairs) (item_at path 3) unset_field)
+    both_find (update_findings library d scope path class key pairs) (found (all_set (item_at path 3) fields pairs))
     (is_only integer_kind (sort_of library d scope key) && assignments_kinded library d scope fields pairs) (all_assigned fields pairs)
-    (update_judged library d scope path class key pairs) (choice (all_assigned fields pairs) (item_at path 3) unset_field)
+    (update_judged library d scope path class key pairs) (one_finds (all_set (item_at path 3) fields pairs) (all_assigned fields pairs) (choice (all_assigned fields pairs) (item_at path 3) unset_field))
     ∙ and_assoc (is_only integer_kind (sort_of library d scope key)) (assignments_kinded library d scope fields pairs) (all_assigned fields pairs)
 
 -- what is demanded of the next argument
@@ -428,12 +435,13 @@ none_missing_judged library d scope path [] = refl
 none_missing_judged library d scope path (s ∷ ss) = refl
 
 arguments_judged : (library : Library) (d : Declared) (scope : Scope) (path : Path) (i : ℕ) (ss : List Sort) (es : List Expression)
-    → passes (arguments_check library d scope path i ss es) ≡ arguments_kinded library d scope ss es
-arguments_judged library d scope path i ss [] = none_missing_judged library d scope path ss
+    → finds_nothing (arguments_findings library d scope path i ss es) ≡ arguments_kinded library d scope ss es
+arguments_judged library d scope path i ss [] = one_finds (none_missing path ss) (arguments_kinded library d scope ss []) (none_missing_judged library d scope path ss)
 arguments_judged library d scope path i ss (e ∷ es) =
-    both_pass (argument_check library d scope (next_demand ss) (item_at (item_at path 2) i) e) (arguments_check library d scope path (suc i) (later_demands ss) es)
+    both_find (found (argument_check library d scope (next_demand ss) (item_at (item_at path 2) i) e)) (arguments_findings library d scope path (suc i) (later_demands ss) es)
     (meets_demand (next_demand ss) (sort_of library d scope e)) (arguments_kinded library d scope (later_demands ss) es)
-    (argument_judged library d scope (next_demand ss) (item_at (item_at path 2) i) e) (arguments_judged library d scope path (suc i) (later_demands ss) es)
+    (one_finds (argument_check library d scope (next_demand ss) (item_at (item_at path 2) i) e) (meets_demand (next_demand ss) (sort_of library d scope e)) (argument_judged library d scope (next_demand ss) (item_at (item_at path 2) i) e))
+    (arguments_judged library d scope path (suc i) (later_demands ss) es)
     ∙ arguments_step library d scope ss e es
 
 emission_judged : (library : Library) (d : Declared) (scope : Scope) (path : Path) (e : Expression) → passes (emission_check library d scope path e) ≡ is_some (sort_of library d scope e)
@@ -467,153 +475,133 @@ query_judged : (path : Path) (o : Option ℕ) → passes (query_known path o) �
 query_judged path None = refl
 query_judged path (Some class) = refl
 
-two_judged : (a b : Judged ⊤) (x y : Bool) → passes a ≡ x → passes b ≡ y → passes (both_check a b) ≡ (x && y)
-unfolding both_check
-two_judged a b x y e f = both_pass a b x y e f
+-- a statement without statements in it
+plain_judged : {A : Type 0} (xs : List A) (x : Bool) → finds_nothing xs ≡ x → finds_nothing (xs ++ []) ≡ x
+plain_judged [] x e = e
+plain_judged (y ∷ ys) x e = e
 
-plain_judged : (a : Judged ⊤) (x : Bool) → passes a ≡ x → passes (both_check a (Ok tt)) ≡ x
-unfolding both_check
-plain_judged (Ok u) x e = e
-plain_judged (Err f) x e = e
+-- a statement's own findings, those of the statements in it, and those of the statements after it
+rest_judged : {A : Type 0} (own inner rest : List A) (x y : Bool) → finds_nothing (own ++ inner) ≡ x → finds_nothing rest ≡ y → finds_nothing (own ++ (inner ++ rest)) ≡ (x && y)
+rest_judged [] inner rest x y e f = both_find inner rest x y e f
+rest_judged (z ∷ own) inner rest x y e f = ap (λ b. b && y) e
 
 mutual
   pub statement_judged : (library : Library) (d : Declared) (scope : Scope) (queries : List (Name × ℕ)) (path : Path) (s : Statement)
-      → passes (statement_check library d scope queries path s) ≡ statement_kinded library d scope queries s
+      → finds_nothing (statement_findings library d scope queries path s) ≡ statement_kinded library d scope queries s
   statement_judged library d scope queries path (create class key pairs) =
-      plain_judged (create_check library d scope path class key pairs) (statement_kinded library d scope queries (create class key pairs)) (create_judged library d scope path class key pairs)
+      plain_judged (create_findings library d scope path class key pairs) (statement_kinded library d scope queries (create class key pairs)) (create_judged library d scope path class key pairs)
   statement_judged library d scope queries path (update class key pairs) =
-      plain_judged (update_check library d scope path class key pairs) (statement_kinded library d scope queries (update class key pairs)) (update_judged library d scope path class key pairs)
+      plain_judged (update_findings library d scope path class key pairs) (statement_kinded library d scope queries (update class key pairs)) (update_judged library d scope path class key pairs)
   statement_judged library d scope queries path (delete class key) =
-      plain_judged (kind_check library d scope integer_kind (item_at path 2) key) (statement_kinded library d scope queries (delete class key)) (kind_judged library d scope integer_kind (item_at path 2) key)
+      plain_judged (found (kind_check library d scope integer_kind (item_at path 2) key)) (statement_kinded library d scope queries (delete class key)) (kind_finds library d scope integer_kind (item_at path 2) key)
   statement_judged library d scope queries path (signal name arguments) =
-      plain_judged (arguments_check library d scope path 0 (signature_of d name) arguments) (statement_kinded library d scope queries (signal name arguments)) (arguments_judged library d scope path 0 (signature_of d name) arguments)
+      plain_judged (arguments_findings library d scope path 0 (signature_of d name) arguments) (statement_kinded library d scope queries (signal name arguments)) (arguments_judged library d scope path 0 (signature_of d name) arguments)
   statement_judged library d scope queries path (emit e) =
-      plain_judged (emission_check library d scope path e) (statement_kinded library d scope queries (emit e)) (emission_judged library d scope path e)
+      plain_judged (found (emission_check library d scope path e)) (statement_kinded library d scope queries (emit e)) (one_finds (emission_check library d scope path e) (is_some (sort_of library d scope e)) (emission_judged library d scope path e))
   statement_judged library d scope queries path (when e a b) =
-      two_judged (kind_check library d scope boolean_kind (item_at path 1) e)
-      (both_check (body_check library d scope queries (item_at path 2) 0 a) (body_check library d scope queries (item_at path 3) 0 b))
+      both_find (found (kind_check library d scope boolean_kind (item_at path 1) e))
+      (body_findings library d scope queries (item_at path 2) 0 a ++ body_findings library d scope queries (item_at path 3) 0 b)
       (is_only boolean_kind (sort_of library d scope e)) (body_kinded library d scope queries a && body_kinded library d scope queries b)
-      (kind_judged library d scope boolean_kind (item_at path 1) e)
-      (two_judged (body_check library d scope queries (item_at path 2) 0 a) (body_check library d scope queries (item_at path 3) 0 b)
+      (kind_finds library d scope boolean_kind (item_at path 1) e)
+      (both_find (body_findings library d scope queries (item_at path 2) 0 a) (body_findings library d scope queries (item_at path 3) 0 b)
       (body_kinded library d scope queries a) (body_kinded library d scope queries b)
       (body_judged library d scope queries (item_at path 2) 0 a) (body_judged library d scope queries (item_at path 3) 0 b))
   statement_judged library d scope queries path (each x class predicate body) =
-      two_judged (kind_check library d (with_name x class scope) boolean_kind (item_at path 3) predicate) (body_check library d (with_name x class scope) queries (item_at path 4) 0 body)
+      both_find (found (kind_check library d (with_name x class scope) boolean_kind (item_at path 3) predicate)) (body_findings library d (with_name x class scope) queries (item_at path 4) 0 body)
       (is_only boolean_kind (sort_of library d (with_name x class scope) predicate)) (body_kinded library d (with_name x class scope) queries body)
-      (kind_judged library d (with_name x class scope) boolean_kind (item_at path 3) predicate) (body_judged library d (with_name x class scope) queries (item_at path 4) 0 body)
+      (kind_finds library d (with_name x class scope) boolean_kind (item_at path 3) predicate) (body_judged library d (with_name x class scope) queries (item_at path 4) 0 body)
   statement_judged library d scope queries path (for_answer x body) =
       let inner = with_name x (unwrap_or (lookup (bytes_eq x) queries) 0) scope in
-      two_judged (query_known (item_at path 1) (lookup (bytes_eq x) queries)) (body_check library d inner queries (item_at path 2) 0 body)
+      both_find (found (query_known (item_at path 1) (lookup (bytes_eq x) queries))) (body_findings library d inner queries (item_at path 2) 0 body)
       (is_some (lookup (bytes_eq x) queries)) (body_kinded library d inner queries body)
-      (query_judged (item_at path 1) (lookup (bytes_eq x) queries)) (body_judged library d inner queries (item_at path 2) 0 body)
+      (one_finds (query_known (item_at path 1) (lookup (bytes_eq x) queries)) (is_some (lookup (bytes_eq x) queries)) (query_judged (item_at path 1) (lookup (bytes_eq x) queries)))
+      (body_judged library d inner queries (item_at path 2) 0 body)
   statement_judged library d scope queries path (with_object x class key body) =
-      two_judged (kind_check library d scope integer_kind (item_at path 3) key) (body_check library d (with_name x class scope) queries (item_at path 4) 0 body)
+      both_find (found (kind_check library d scope integer_kind (item_at path 3) key)) (body_findings library d (with_name x class scope) queries (item_at path 4) 0 body)
       (is_only integer_kind (sort_of library d scope key)) (body_kinded library d (with_name x class scope) queries body)
-      (kind_judged library d scope integer_kind (item_at path 3) key) (body_judged library d (with_name x class scope) queries (item_at path 4) 0 body)
+      (kind_finds library d scope integer_kind (item_at path 3) key) (body_judged library d (with_name x class scope) queries (item_at path 4) 0 body)
   statement_judged library d scope queries path (subtransaction a b) =
-      two_judged (own_check library d scope queries path (subtransaction a b))
-      (both_check (body_check library d scope queries (item_at path 1) 0 a) (body_check library d scope queries (item_at path 2) 0 b)) true (body_kinded library d scope queries a && body_kinded library d scope queries b) refl
-      (two_judged (body_check library d scope queries (item_at path 1) 0 a) (body_check library d scope queries (item_at path 2) 0 b)
+      both_find (body_findings library d scope queries (item_at path 1) 0 a) (body_findings library d scope queries (item_at path 2) 0 b)
       (body_kinded library d scope queries a) (body_kinded library d scope queries b)
-      (body_judged library d scope queries (item_at path 1) 0 a) (body_judged library d scope queries (item_at path 2) 0 b))
+      (body_judged library d scope queries (item_at path 1) 0 a) (body_judged library d scope queries (item_at path 2) 0 b)
   statement_judged library d scope queries path (let_value x a body) =
       let inner = with_sort x (unwrap_or (aggregate_sort library d scope a) any) scope in
-      two_judged (value_check library d scope (item_at path 2) a) (body_check library d inner queries (item_at path 3) 0 body)
+      both_find (found (value_check library d scope (item_at path 2) a)) (body_findings library d inner queries (item_at path 3) 0 body)
       (is_some (aggregate_sort library d scope a)) (body_kinded library d inner queries body)
-      (value_judged library d scope (item_at path 2) a) (body_judged library d inner queries (item_at path 3) 0 body)
+      (one_finds (value_check library d scope (item_at path 2) a) (is_some (aggregate_sort library d scope a)) (value_judged library d scope (item_at path 2) a))
+      (body_judged library d inner queries (item_at path 3) 0 body)
       ∙ held_kinded (aggregate_sort library d scope a) (λ s. body_kinded library d (with_sort x s scope) queries body)
   statement_judged library d scope queries path (veto_with e) =
-      plain_judged (emission_check library d scope path e) (statement_kinded library d scope queries (veto_with e)) (emission_judged library d scope path e)
-  statement_judged library d scope queries path abort = plain_judged (own_check library d scope queries path abort) true refl
-  statement_judged library d scope queries path veto = plain_judged (own_check library d scope queries path veto) true refl
-  statement_judged library d scope queries path (on_rule op n) = plain_judged (own_check library d scope queries path (on_rule op n)) true refl
-  statement_judged library d scope queries path (fire n) = plain_judged (own_check library d scope queries path (fire n)) (is_fired d n) (choice (is_fired d n) path not_fired)
+      plain_judged (found (emission_check library d scope path e)) (statement_kinded library d scope queries (veto_with e)) (one_finds (emission_check library d scope path e) (is_some (sort_of library d scope e)) (emission_judged library d scope path e))
+  statement_judged library d scope queries path abort = refl
+  statement_judged library d scope queries path veto = refl
+  statement_judged library d scope queries path (on_rule op n) = refl
+  statement_judged library d scope queries path (fire n) =
+      plain_judged (found (chosen (is_fired d n) path not_fired)) (is_fired d n) (one_finds (chosen (is_fired d n) path not_fired) (is_fired d n) (choice (is_fired d n) path not_fired))
 
   body_judged : (library : Library) (d : Declared) (scope : Scope) (queries : List (Name × ℕ)) (path : Path) (i : ℕ) (b : Body)
-      → passes (body_check library d scope queries path i b) ≡ body_kinded library d scope queries b
+      → finds_nothing (body_findings library d scope queries path i b) ≡ body_kinded library d scope queries b
   body_judged library d scope queries path i empty = refl
   body_judged library d scope queries path i (s then rest) =
-      both_pass (statement_check library d scope queries (item_at path i) s) (body_check library d scope queries path (suc i) rest)
+      rest_judged (own_findings library d scope queries (item_at path i) s) (inner_findings library d scope queries (item_at path i) s) (body_findings library d scope queries path (suc i) rest)
       (statement_kinded library d scope queries s) (body_kinded library d scope queries rest)
       (statement_judged library d scope queries (item_at path i) s) (body_judged library d scope queries path (suc i) rest)
 
 -- ---- rules
 
 module _ (library : Library) (d : Declared) where
-  -- an entry that is a query, with the scope after it
-  after_test : (path place : Path) (scope inner : Scope) (q : Query) (i : ℕ) (es : List Entry)
-      → value_in (entries_check library d path inner i es) ≡ then_some (entries_kinded library d inner es) (with_entries library d inner es)
-      → value_in ((test_check library d scope place q >>= λ _. Ok inner) >>= λ s. entries_check library d path s i es)
-      ≡ then_some (K.is_test library d scope q.name q.class q.predicate && entries_kinded library d inner es) (with_entries library d inner es)
-  after_test path place scope inner q i es later =
-      by (test_check library d scope place q) (K.is_test library d scope q.name q.class q.predicate) (kind_judged library d (with_name q.name q.class scope) boolean_kind place q.predicate)
-    where
-      by : (r : Judged ⊤) (b : Bool) → passes r ≡ b
-          → value_in ((r >>= λ _. Ok inner) >>= λ s. entries_check library d path s i es) ≡ then_some (b && entries_kinded library d inner es) (with_entries library d inner es)
-      by (Ok u) true e = later
-      by (Err f) false e = refl
-      by (Ok u) false e = cc
-      by (Err f) true e = cc
+  test_finds : (scope : Scope) (place : Path) (q : Query) → finds_nothing (found (test_check library d scope place q)) ≡ K.is_test library d scope q.name q.class q.predicate
+  test_finds scope place q = kind_finds library d (with_name q.name q.class scope) boolean_kind place q.predicate
 
-  -- the entries pass where they are kinded, and then give the scope after them
-  pub entries_given : (path : Path) (scope : Scope) (i : ℕ) (es : List Entry)
-      → value_in (entries_check library d path scope i es) ≡ then_some (entries_kinded library d scope es) (with_entries library d scope es)
-  unfolding query_check no_check let_check
-  entries_given path scope i [] = refl
-  entries_given path scope i (query_entry q ∷ es) =
-      after_test path (item_at (item_at path i) 2) scope (with_name q.name q.class scope) q (suc i) es (entries_given path (with_name q.name q.class scope) (suc i) es)
-  entries_given path scope i (no_entry q ∷ es) = after_test path (item_at (item_at path i) 3) scope scope q (suc i) es (entries_given path scope (suc i) es)
-  entries_given path scope i (let_entry x a ∷ es) =
-      by (aggregate_check library d scope (item_at (item_at path i) 2) a) (λ s. entries_given path (with_sort x s scope) (suc i) es)
-      ∙ ap given (aggregate_given library d scope (item_at (item_at path i) 2) a)
-    where
-      given : Option Sort → Option Scope
-      given o = then_some (if_sorted o (λ s. entries_kinded library d (with_sort x s scope) es)) (with_entries library d (with_sort x (unwrap_or o any) scope) es)
+  -- nothing is found in entries that are kinded
+  entries_judged : (path : Path) (scope : Scope) (i : ℕ) (es : List Entry) → finds_nothing (entries_findings library d path scope i es) ≡ entries_kinded library d scope es
+  entries_judged path scope i [] = refl
+  entries_judged path scope i (query_entry q ∷ es) =
+      both_find (found (test_check library d scope (item_at (item_at path i) 2) q)) (entries_findings library d path (with_name q.name q.class scope) (suc i) es)
+      (K.is_test library d scope q.name q.class q.predicate) (entries_kinded library d (with_name q.name q.class scope) es)
+      (test_finds scope (item_at (item_at path i) 2) q) (entries_judged path (with_name q.name q.class scope) (suc i) es)
+  entries_judged path scope i (no_entry q ∷ es) =
+      both_find (found (test_check library d scope (item_at (item_at path i) 3) q)) (entries_findings library d path scope (suc i) es)
+      (K.is_test library d scope q.name q.class q.predicate) (entries_kinded library d scope es)
+      (test_finds scope (item_at (item_at path i) 3) q) (entries_judged path scope (suc i) es)
+  entries_judged path scope i (let_entry x a ∷ es) =
+      let place = item_at (item_at path i) 2 in
+      let inner = with_sort x (unwrap_or (aggregate_sort library d scope a) any) scope in
+      both_find (found (value_check library d scope place a)) (entries_findings library d path inner (suc i) es)
+      (is_some (aggregate_sort library d scope a)) (entries_kinded library d inner es)
+      (one_finds (value_check library d scope place a) (is_some (aggregate_sort library d scope a)) (value_judged library d scope place a))
+      (entries_judged path inner (suc i) es)
+      ∙ held_kinded (aggregate_sort library d scope a) (λ s. entries_kinded library d (with_sort x s scope) es)
 
-      by : (r : Judged Sort) → ((s : Sort) → value_in (entries_check library d path (with_sort x s scope) (suc i) es) ≡ then_some (entries_kinded library d (with_sort x s scope) es) (with_entries library d (with_sort x s scope) es))
-          → value_in ((r >>= λ s. Ok (with_sort x s scope)) >>= λ inner. entries_check library d path inner (suc i) es) ≡ given (value_in r)
-      by (Ok s) later = later s
-      by (Err f) later = refl
-
-  rule_judged : (fired : Bool) (path : Path) (rule : Rule) → passes (rule_check library d fired path rule) ≡ K.rule_kinded library d fired rule
-  unfolding parts_check
+  rule_judged : (fired : Bool) (path : Path) (rule : Rule) → finds_nothing (rule_findings library d fired path rule) ≡ K.rule_kinded library d fired rule
   rule_judged fired path rule =
       let start = first_scope (columns_by fired rule.event) in
-      by (entries_check library d (item_at path 3) start 0 rule.condition) (entries_kinded library d start rule.condition) (with_entries library d start rule.condition)
-      (entries_given (item_at path 3) start 0 rule.condition)
-      (λ scope. body_judged library d scope (query_classes rule.condition) (item_at path 5) 0 rule.action)
-    where
-      by : (r : Judged Scope) (b : Bool) (after : Scope) → value_in r ≡ then_some b after
-          → ((scope : Scope) → passes (body_check library d scope (query_classes rule.condition) (item_at path 5) 0 rule.action) ≡ body_kinded library d scope (query_classes rule.condition) rule.action)
-          → passes (r >>= λ scope. body_check library d scope (query_classes rule.condition) (item_at path 5) 0 rule.action) ≡ (b && body_kinded library d after (query_classes rule.condition) rule.action)
-      by (Ok s) true after e later = later s ∙ ap (λ o. body_kinded library d (unwrap_or o after) (query_classes rule.condition) rule.action) e
-      by (Err f) false after e later = refl
-      by (Ok s) false after e later = cc
-      by (Err f) true after e later = cc
+      let after = with_entries library d start rule.condition in
+      let queries = query_classes rule.condition in
+      both_find (entries_findings library d (item_at path 3) start 0 rule.condition) (body_findings library d after queries (item_at path 5) 0 rule.action)
+      (entries_kinded library d start rule.condition) (body_kinded library d after queries rule.action)
+      (entries_judged (item_at path 3) start 0 rule.condition) (body_judged library d after queries (item_at path 5) 0 rule.action)
 
-rules_judged : (library : Library) (d : Declared) (path : Path) (n : ℕ) (rules : List Rule) → passes (rules_check library d path n rules) ≡ rules_kinded library d n rules
+rules_judged : (library : Library) (d : Declared) (path : Path) (n : ℕ) (rules : List Rule) → finds_nothing (rules_findings library d path n rules) ≡ rules_kinded library d n rules
 rules_judged library d path n [] = refl
 rules_judged library d path n (rule ∷ rules) =
-    both_pass (rule_check library d (is_fired d n) (item_at path n) rule) (rules_check library d path (suc n) rules)
+    both_find (rule_findings library d (is_fired d n) (item_at path n) rule) (rules_findings library d path (suc n) rules)
     (K.rule_kinded library d (is_fired d n) rule) (rules_kinded library d (suc n) rules)
     (rule_judged library d (is_fired d n) (item_at path n) rule) (rules_judged library d path (suc n) rules)
 
-pub library_passes : (library : Library) (d : Declared) → passes (library_check library d) ≡ library_kinded library d
-library_passes library d = rules_judged library d (under_root (F.rules_member)) 0 library.rules
+pub library_judged : (library : Library) (d : Declared) → finds_nothing (library_findings library d) ≡ library_kinded library d
+library_judged library d = rules_judged library d (under_root (F.rules_member)) 0 library.rules
 
-pub unit_passes : (library : Library) (d : Declared) (unit : Unit) → passes (unit_check library d unit) ≡ unit_kinded library d unit
-unit_passes library d (transaction now body) = body_judged library d no_scope [] [] 0 body
-unit_passes library d (moment t) = refl
+pub unit_judged : (library : Library) (d : Declared) (unit : Unit) → finds_nothing (unit_findings library d unit) ≡ unit_kinded library d unit
+unit_judged library d (transaction now body) = body_judged library d no_scope [] [] 0 body
+unit_judged library d (moment t) = refl
 
--- ---- the program's checks
+-- ---- the program's findings
 
-from_passes : (r : Judged ⊤) (b : Bool) → passes r ≡ b → (done : Result ⊤ KindError) → Passes done r → Judges done b
-from_passes r b e (Ok u) is = sym e ∙ ap passes is
-from_passes r b e (Err Memory) is = tt
-from_passes r b e (Err (Found f)) is = sym e ∙ ap passes is
+pub mapped_nothing : {A B : Type 0} (f : A → B) (xs : List A) → finds_nothing xs ≡ finds_nothing (map f xs)
+mapped_nothing f [] = refl
+mapped_nothing f (x ∷ xs) = refl
 
-pub library_judges : (library : Library) (d : Declared) (done : Result ⊤ KindError) → Passes done (library_check library d) → Judges done (library_kinded library d)
-library_judges library d done is = from_passes (library_check library d) (library_kinded library d) (library_passes library d) done is
-
-pub unit_judges : (library : Library) (d : Declared) (unit : Unit) (done : Result ⊤ KindError) → Passes done (unit_check library d unit) → Judges done (unit_kinded library d unit)
-unit_judges library d unit done is = from_passes (unit_check library d unit) (unit_kinded library d unit) (unit_passes library d unit) done is
+-- what is found judges as the definitions do
+pub judged_by : {A B : Type 0} (f : A → B) (xs : List A) (ys : List B) (b : Bool) → map f xs ≡ ys → finds_nothing ys ≡ b → finds_nothing xs ≡ b
+judged_by f xs ys b is e = mapped_nothing f xs ∙ ap finds_nothing is ∙ e

@@ -1,9 +1,6 @@
 -- The laws of kinds, for libraries and units as the program has them.
 use Rattle.std.proofs.Common.{◌≡◌, true, List, [], ◌∷◌, IsTrue}
-use Rattle.std.specs.Prelude.{⊤, Result, Ok, Err, OnOk}
 use Rattle.std.proofs.lemmas.Bool.{and_parts}
-use Rattle.hp_analysis.specs.Kinded.{Judges}
-use Rattle.hp_analysis.specs.declared.kinds.finding.KindError.{KindError}
 use Rattle.std.specs.List.{list_all, AllByRecursion}
 use Rattle.hp_model.specs.Cascade as C
 use Rattle.hp_model.specs.Kinds.{Declared, library_kinded, unit_kinded}
@@ -15,10 +12,6 @@ use Rattle.hp_analysis.specs.KindLaws.{script_kinded, KeepsKinds, NeverEndsOfKin
 
 pub unit_keeps : (l : Library) (d : Declared) (u : C.Unit) → unit_kinded (library l) d u ≡ true → KeepsKinds (library l) d u
 unit_keeps l d u kinded = λ kinds fits S fit declared. kinds_hold (library l) d (library_fits l) kinds u fits kinded S fit declared
-
-pub unit_keeps_if : (l : Library) (d : Declared) (u : C.Unit) (done : Result ⊤ KindError) → Judges done (unit_kinded (library l) d u) → OnOk done (KeepsKinds (library l) d u)
-unit_keeps_if l d u (Ok x) kinded = unit_keeps l d u kinded
-unit_keeps_if l d u (Err e) kinded = tt
 
 all_true : {A : Type 0} (p : A → _) (xs : List A) → list_all p xs ≡ true → AllByRecursion (λ x. IsTrue (p x)) xs
 all_true p [] is = tt

@@ -4,12 +4,11 @@ use Rattle.std.specs.Prelude.{if◌then◌else◌, Ok}
 use Rattle.std.specs.List.{list_all}
 use Rattle.std.proofs.lemmas.Bool.{and_parts, and_from, lt-ltb}
 use Rattle.std.proofs.lemmas.List.Folds.{list_all-append}
-use Rattle.hp_model.specs.Values.{ClassDef}
 use Rattle.hp_model.specs.Occurrences.{Primitive, created, updated, deleted, signalled, commit_reached}
 use Rattle.hp_model.specs.Rules.{Rule, Library, Statement, create, update, delete, signal, emit, when, each, for_answer, with_object, subtransaction, let_value, abort, veto, veto_with, on_rule, fire, Body, empty, ◌then◌}
 use Rattle.hp_model.specs.Checked.{Scope, library_check, action_scope, Names, knowing_row, knowing_value, names_of}
-use Rattle.hp_model.specs.Chains.{completes, triggers_from, signal_triggers, statement_triggers, body_triggers, may_detach, rule_triggers}
-use Rattle.hp_rule.specs.WellNamed.{IsWellNamed, knows_expression, knows_class, knows_row, knows_event, knows_aggregate, knows_entries, knows_statement, knows_body, knows_rule}
+use Rattle.hp_model.specs.Chains.{completes, triggers_from, signal_triggers, statement_triggers, body_triggers, may_detach}
+use Rattle.hp_rule.specs.WellNamed.{knows_expression, knows_class, knows_event, knows_aggregate, knows_entries, knows_statement, knows_body, knows_rule}
 use Rattle.hp_rule.proofs.WellNamedLemmas.{library_is_well_named}
 use Rattle.hp_model.specs.Idle.{idle_rule, idle_from}
 use Rattle.hp_analysis.specs.Reached.{has}

@@ -1,14 +1,14 @@
 -- The names of a condition in a scope.
-use Rattle.std.proofs.Common.{arith, ◌≡◌, refl, sym, ap, ap₂, ◌∙◌, ℕ, zero, suc, ◌+◌, List, [], ◌∷◌, ◌++◌, take, drop, map, Option, Some, None, Ok, bytes_eq, if◌then◌else◌}
+use Rattle.std.proofs.Common.{arith, ◌≡◌, refl, sym, ap, ap₂, ◌∙◌, ℕ, zero, suc, ◌+◌, List, [], ◌∷◌, ◌++◌, take, drop, map, Option, Some, None, append_assoc, bytes_eq, if◌then◌else◌}
 use Rattle.std.proofs.lemmas.List.{map-append}
 use Rattle.std.specs.Map.{lookup}
-use Rattle.hp_model.specs.Values.{Name, ◌>>=◌}
+use Rattle.hp_model.specs.Values.{Name}
 use Rattle.hp_query.specs.Mapped.{entry}
 use Rattle.hp_query.specs.declared.entry.Entry.{Entry as AnEntry}
 use Rattle.hp_model.specs.Rules.{Entry, query_entry, no_entry, let_entry, Library}
 use Rattle.hp_model.specs.Refusals.{Path, item_at}
-use Rattle.hp_model.specs.Kinds.{Sort, Declared, Columns, Scope}
-use Rattle.hp_analysis.specs.Findings.{Judged, entry_check, entries_check}
+use Rattle.hp_model.specs.Kinds.{Sort, Declared, Columns, Scope, with_entries}
+use Rattle.hp_analysis.specs.Findings.{Finding, found, entry_check, scope_then, entries_findings}
 use Rattle.hp_analysis.specs.Scopes.{rows_after, sorts_after, row_after, named_sort, scope_there, scope_after_entry}
 use Rattle.hp_analysis.specs.declared.kinds.sorts.NamedSort.{NamedSort}
 
@@ -57,13 +57,6 @@ scope_keep c es ns e =
     let make : List (Name × ℕ) → Scope = λ rows. record { columns = Some c; rows = rows; values = sorts_after [] (map named_sort ns) } in
     sym (ap make (rows_push [] es e))
 
--- the rest of the entries, after one that passed
-pub entries_step : (library : Library) (d : Declared) (path : Path) (scope inner after : Scope) (i : ℕ) (e : Entry) (rest : List Entry) → entry_check library d scope (item_at path i) e ≡ Ok inner → inner ≡ after
-    → entries_check library d path after (suc i) rest ≡ entries_check library d path scope i (e ∷ rest)
-entries_step library d path scope inner after i e rest passed same =
-    let later : Judged Scope → Judged Scope = λ r. r >>= λ s. entries_check library d path s (suc i) rest in
-    sym (ap later passed ∙ ap (λ s. entries_check library d path s (suc i) rest) same)
-
 -- the values after one more entry
 abbrev pub kept : Option NamedSort → List NamedSort → List NamedSort
 kept None ns = ns
@@ -78,16 +71,31 @@ take_next zero xs x rest h = ap (take 1) h
 take_next (suc i) [] x rest h = cc
 take_next (suc i) (y ∷ xs) x rest h = let e : suc i + 1 ≡ suc (i + 1) = omega arith in ap (λ n. take n (y ∷ xs)) e ∙ ap (λ l. y ∷ l) (take_next i xs x rest h)
 
-pub condition_step : (library : Library) (d : Declared) (path : Path) (c : Columns) (es : List AnEntry) (i : ℕ) (e : AnEntry) (ns ns' : List NamedSort) (n : Option NamedSort) → drop i es ≡ e ∷ drop (i + 1) es
-    → ns' ≡ kept n ns
-    → entry_check library d (scope_there c (map entry (take i es)) ns) (item_at path i) (entry e) ≡ Ok (scope_after_entry (scope_there c (map entry (take i es)) ns) (entry e) n)
-    → entries_check library d path (scope_there c (map entry (take (i + 1) es)) ns') (i + 1) (map entry (drop (i + 1) es)) ≡ entries_check library d path (scope_there c (map entry (take i es)) ns) i (map entry (drop i es))
-condition_step library d path c es i e ns ns' n split is passed =
-    let there = scope_there c (map entry (take i es)) ns in
-    let rest = map entry (drop (i + 1) es) in
+-- the scope after one more entry, whose value has this sort
+pub scope_step : (library : Library) (d : Declared) (c : Columns) (es : List AnEntry) (i : ℕ) (e : AnEntry) (ns ns' : List NamedSort) (n : Option NamedSort) → drop i es ≡ e ∷ drop (i + 1) es → ns' ≡ kept n ns
+    → scope_after_entry (scope_there c (map entry (take i es)) ns) (entry e) n ≡ scope_then library d (scope_there c (map entry (take i es)) ns) (entry e)
+    → scope_there c (map entry (take (i + 1) es)) ns' ≡ scope_then library d (scope_there c (map entry (take i es)) ns) (entry e)
+scope_step library d c es i e ns ns' n split is given =
     let taken : map entry (take (i + 1) es) ≡ map entry (take i es) ++ entry e ∷ [] = ap (map entry) (take_next i es e (drop (i + 1) es) split) ∙ map-append entry (take i es) (e ∷ []) in
-    let same : scope_after_entry there (entry e) n ≡ scope_there c (map entry (take (i + 1) es)) ns' = scope_next c (map entry (take i es)) ns (entry e) n ∙ sym (ap₂ (scope_there c) taken is) in
+    ap₂ (scope_there c) taken is ∙ sym (scope_next c (map entry (take i es)) ns (entry e) n) ∙ given
+
+-- what is found in one more entry, and in those after it
+pub entries_noted : (library : Library) (d : Declared) (path : Path) (there inner : Scope) (i : ℕ) (e : Entry) (before rest : List Entry) (old new whole : List Finding) → before ≡ e ∷ rest → inner ≡ scope_then library d there e
+    → new ≡ old ++ found (entry_check library d there (item_at path i) e) → old ++ entries_findings library d path there i before ≡ whole → new ++ entries_findings library d path inner (i + 1) rest ≡ whole
+entries_noted library d path there inner i e before rest old new whole split same gained kept =
     let next : i + 1 ≡ suc i = omega arith in
-    ap (λ k. entries_check library d path (scope_there c (map entry (take (i + 1) es)) ns') k rest) next
-    ∙ entries_step library d path there (scope_after_entry there (entry e) n) (scope_there c (map entry (take (i + 1) es)) ns') i (entry e) rest passed same
-    ∙ sym (ap (entries_check library d path there i) (ap (map entry) split))
+    let one = found (entry_check library d there (item_at path i) e) in
+    ap (λ k. new ++ entries_findings library d path inner k rest) next
+    ∙ ap₂ (λ fs s. fs ++ entries_findings library d path s (suc i) rest) gained same
+    ∙ append_assoc old one (entries_findings library d path (scope_then library d there e) (suc i) rest)
+    ∙ ap (λ es. old ++ entries_findings library d path there i es) (sym split) ∙ kept
+
+entries_then : (library : Library) (d : Declared) (scope : Scope) (e : Entry) (es : List Entry) → with_entries library d (scope_then library d scope e) es ≡ with_entries library d scope (e ∷ es)
+entries_then library d scope (query_entry q) es = refl
+entries_then library d scope (no_entry q) es = refl
+entries_then library d scope (let_entry x a) es = refl
+
+-- the scope after one more entry and those after it
+pub scope_noted : (library : Library) (d : Declared) (there inner whole : Scope) (e : Entry) (before rest : List Entry) → before ≡ e ∷ rest → inner ≡ scope_then library d there e → with_entries library d there before ≡ whole → with_entries library d inner rest ≡ whole
+scope_noted library d there inner whole e before rest split same kept =
+    ap (λ s. with_entries library d s rest) same ∙ entries_then library d there e rest ∙ ap (with_entries library d there) (sym split) ∙ kept

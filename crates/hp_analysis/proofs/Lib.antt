@@ -1,7 +1,8 @@
 pub mod Known
-pub mod First
+pub mod All
 pub mod Guarding
 pub mod Measuring
+pub mod Noting
 pub mod Only
 pub mod Installing
 pub mod Least

@@ -1,5 +1,5 @@
 -- A library in which the rules outside a set do nothing.
-use Rattle.std.proofs.Common.{◌≡◌, refl, ap, ap₂, ℕ, suc, List, [], ◌∷◌, length, map, Bool, true, false}
+use Rattle.std.proofs.Common.{◌≡◌, refl, ap, ℕ, suc, List, [], ◌∷◌, length, map, Bool, true, false}
 use Rattle.hp_model.specs.Rules.{Rule, Library}
 use Rattle.std.specs.Prelude.{if◌then◌else◌}
 use Rattle.hp_model.specs.Chains.{may_detach}

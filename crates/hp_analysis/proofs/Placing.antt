@@ -1,25 +1,21 @@
--- A finding names a place at which the judgement fails.
-use Rattle.std.proofs.Common.{◌≡◌, refl, sym, ap, ap₂, ◌∙◌, subst, ℕ, zero, suc, Bool, true, false, List, [], ◌∷◌, ◌++◌, take, Option, Some, None, Result, Ok, Err, append_assoc, append-nil, inl, inr, drop}
+-- Each finding names a place at which the judgement fails.
+use Rattle.std.proofs.Common.{◌≡◌, refl, sym, ap, ap₂, ◌∙◌, ℕ, zero, suc, Bool, true, false, List, [], ◌∷◌, ◌++◌, take, Option, Some, None, Ok, Err, append_assoc, append-nil, inl, inr, drop}
 use Rattle.std.specs.Prelude.{⊤, bytes_eq, slice_get, unwrap_or, if◌then◌else◌}
-use Rattle.std.specs.Bool.{then_some}
+use Rattle.std.specs.List.{AllByRecursion}
 use Rattle.std.specs.Map.{lookup}
 use Rattle.hp_model.specs.Values.{Name, Kind, integer_kind, boolean_kind, text_kind, Field, ◌>>=◌}
 use Rattle.hp_model.specs.Expressions.{Comparison, equal, unequal, less, at_most, greater, at_least, Expression, constant, arithmetic, negated, inverted, both, either, compared, field_of, key_of, new_field, old_field, key_in, argument, time_of, occurrence_count, value_named, time_now}
-use Rattle.hp_model.specs.Rules.{Query, Aggregate, count_over, sum_over, least_over, greatest_over, next_key, single, Entry, query_entry, no_entry, let_entry}
+use Rattle.hp_model.specs.Rules.{Aggregate, count_over, sum_over, least_over, greatest_over, next_key, single, Entry, query_entry, no_entry, let_entry}
 use Rattle.hp_model.specs.Rules.{Assignment, Statement, create, update, delete, signal, emit, when, each, for_answer, with_object, subtransaction, let_value, abort, veto, veto_with, on_rule, fire, Body, empty, ◌then◌, Rule, Library, class_at}
 use Rattle.hp_model.specs.Firing.{kind_in}
 use Rattle.hp_model.specs.Cascade.{Unit, transaction, moment}
 use Rattle.hp_model.specs.Refusals.{to_item, Path, under_root, item_at}
 use Rattle.hp_model.specs.Kinds as K
 use Rattle.hp_model.specs.Kinds.{Sort, only, any, Declared, signature_of, is_fired, Columns, columns_by, Scope, with_name, with_sort, no_scope, is_only, all_assigned, aggregate_sort, entries_kinded, with_entries, query_classes, sort_of}
-use Rattle.hp_analysis.specs.declared.kinds.finding.KindError.{KindError}
-use Rattle.hp_analysis.specs.declared.kinds.finding.KindError.TheVariants.{Found, Memory}
-use Rattle.hp_analysis.specs.Kinded.{Passes}
-use Rattle.hp_analysis.specs.Placed.{Places}
 use Rattle.hp_analysis.specs.Findings as F
-use Rattle.hp_analysis.specs.Findings.{Finding, Wanted, Reason, Reasoned, Judged, refused, placed, reasoned, suits, demanded, operand_sort, operands_sort, alike_check, ordered_check, comparable_check, comparison_sort, expression_check, kind_check, each_check, assignment_check, assignments_check, update_check, create_check, none_missing, next_demand, later_demands, argument_check, arguments_check, emission_check, query_known, both_check, own_check, inner_check, statement_check, body_check, value_sort, count_check, sum_check, is_ordered, extreme_check, aggregate_check, value_check, first_scope, test_check, query_check, no_check, let_check, entry_check, entries_check, parts_check, rule_check, rules_check, library_check, unit_check, rules_member, row_field_sort, row_key_sort, count_sort, read_new, read_old, read_key, read_argument, read_time}
-use Rattle.hp_analysis.specs.Parts.{Part, expression_part, statement_part, field_part, pairs_part, query_part, along, part_in_expression, part_in_aggregate, part_in_pair, part_in_pairs, part_in_arguments, statement_at, part_in_statement, part_in_body, part_in_entry, scope_after, part_in_condition, part_in_rule, part_in_rules, part_in_library, part_in_unit, is_wanted, IsRefused, IsPlacedIn}
-use Rattle.hp_analysis.proofs.Judging.{value_in, passes, chosen, sort_given, statement_judged, entries_given}
+use Rattle.hp_analysis.specs.Findings.{Finding, Wanted, Reason, Reasoned, Judged, found, finds_nothing, refused, placed, reasoned, suits, demanded, operand_sort, operands_sort, alike_check, ordered_check, comparable_check, comparison_sort, expression_check, kind_check, assignment_check, assignments_findings, update_findings, all_set, create_findings, none_missing, next_demand, later_demands, argument_check, arguments_findings, emission_check, query_known, single_check, own_findings, inner_findings, statement_findings, body_findings, value_sort, count_check, sum_check, is_ordered, extreme_check, aggregate_check, value_check, first_scope, test_check, entry_check, scope_then, entries_findings, rule_findings, rules_findings, library_findings, unit_findings, rules_member, row_field_sort, row_key_sort, count_sort, read_new, read_old, read_key, read_argument, read_time}
+use Rattle.hp_analysis.specs.Parts.{Part, expression_part, statement_part, field_part, pairs_part, query_part, along, part_in_expression, part_in_aggregate, part_in_pair, part_in_pairs, part_in_arguments, statement_at, part_in_statement, part_in_body, part_in_entry, part_in_condition, part_in_rule, part_in_rules, part_in_library, part_in_unit, is_wanted, IsRefused, ArePlaced}
+use Rattle.hp_analysis.proofs.Judging.{value_in, chosen, sort_given, statement_judged}
 
 -- ---- results that have a part
 
@@ -47,6 +43,22 @@ module _ (library : Library) (d : Declared) where
   located_deeper : {A : Type 0} (parts inner : Path → Option Part) (path : Path) (i : ℕ) (r : Judged A) → ((steps : Path) → parts (to_item i ∷ steps) ≡ inner steps) → Located library d inner (item_at path i) r → Located library d parts path r
   located_deeper parts inner path i (Ok x) same there = tt
   located_deeper parts inner path i (Err f) same there = deeper parts inner path i f same there
+
+  -- all findings of a list are
+  abbrev AllStand : (Path → Option Part) → Path → List Finding → Type 0
+  AllStand parts path = AllByRecursion (Standing parts path)
+
+  found_stand : {A : Type 0} (parts : Path → Option Part) (path : Path) (r : Judged A) → Located library d parts path r → AllStand parts path (found r)
+  found_stand parts path (Ok x) there = tt
+  found_stand parts path (Err f) there = (there, tt)
+
+  both_stand : (parts : Path → Option Part) (path : Path) (xs ys : List Finding) → AllStand parts path xs → AllStand parts path ys → AllStand parts path (xs ++ ys)
+  both_stand parts path [] ys first second = second
+  both_stand parts path (x ∷ xs) ys (here, first) second = (here, both_stand parts path xs ys first second)
+
+  stand_deeper : (parts inner : Path → Option Part) (path : Path) (i : ℕ) (fs : List Finding) → ((steps : Path) → parts (to_item i ∷ steps) ≡ inner steps) → AllStand inner (item_at path i) fs → AllStand parts path fs
+  stand_deeper parts inner path i [] same there = tt
+  stand_deeper parts inner path i (f ∷ fs) same (here, there) = (deeper parts inner path i f same here, stand_deeper parts inner path i fs same there)
 
   -- the part at the path itself
   here : (parts : Path → Option Part) (path : Path) (reason : Reason) (part : Part) → parts [] ≡ Some part → IsRefused library d part reason → Located {A = ⊤} library d parts path (refused path reason)
@@ -240,14 +252,17 @@ module _ (library : Library) (d : Declared) where
       by None is there = (to_item 0 ∷ [], field_part fields a.field, refl, refl, is)
       by (Some k) is there = located_deeper (λ steps. part_in_pair scope fields steps a) (In scope a.value) path 1 (kind_check library d scope k (item_at path 1) a.value) (λ steps. refl) (there k)
 
-  pairs_located : (scope : Scope) (fields : List Field) (path : Path) (whole before : List Assignment) (i : ℕ) (pairs : List Assignment) → drop i whole ≡ pairs
-      → Located library d (λ steps. part_in_pairs scope fields steps whole) path (each_check (λ _. assignment_check library d scope fields) path before i pairs)
-  pairs_located scope fields path whole before i [] is = tt
-  pairs_located scope fields path whole before i (a ∷ pairs) is =
-      located_then (λ steps. part_in_pairs scope fields steps whole) path (assignment_check library d scope fields (item_at path i) a) (λ _. each_check (λ _. assignment_check library d scope fields) path (before ++ a ∷ []) (suc i) pairs)
-      (located_deeper (λ steps. part_in_pairs scope fields steps whole) (λ steps. part_in_pair scope fields steps a) path i (assignment_check library d scope fields (item_at path i) a)
-      (λ steps. ap (λ o. along o (λ p. part_in_pair scope fields steps p)) (item_is i whole a pairs is)) (pair_located scope fields (item_at path i) a))
-      (λ _ _. pairs_located scope fields path whole (before ++ a ∷ []) (suc i) pairs (rest_is i whole a pairs is))
+  pairs_stand : (scope : Scope) (fields : List Field) (path : Path) (whole : List Assignment) (i : ℕ) (pairs : List Assignment) → drop i whole ≡ pairs
+      → AllStand (λ steps. part_in_pairs scope fields steps whole) path (assignments_findings library d scope fields path i pairs)
+  pairs_stand scope fields path whole i [] is = tt
+  pairs_stand scope fields path whole i (a ∷ pairs) is =
+      let parts : Path → Option Part = λ steps. part_in_pairs scope fields steps whole in
+      let check = assignment_check library d scope fields (item_at path i) a in
+      both_stand parts path (found check) (assignments_findings library d scope fields path (suc i) pairs)
+      (found_stand parts path check
+      (located_deeper parts (λ steps. part_in_pair scope fields steps a) path i check
+      (λ steps. ap (λ o. along o (λ p. part_in_pair scope fields steps p)) (item_is i whole a pairs is)) (pair_located scope fields (item_at path i) a)))
+      (pairs_stand scope fields path whole (suc i) pairs (rest_is i whole a pairs is))
 
   abbrev At : Scope → List (Name × ℕ) → Statement → Path → Option Part
   At scope queries s steps = part_in_statement library d scope queries steps s
@@ -255,23 +270,30 @@ module _ (library : Library) (d : Declared) where
   abbrev AtBody : Scope → List (Name × ℕ) → Body → Path → Option Part
   AtBody scope queries body steps = part_in_body library d scope queries steps body
 
-  update_located : (scope : Scope) (queries : List (Name × ℕ)) (path : Path) (s : Statement) (class : ℕ) (key : Expression) (pairs : List Assignment)
-      → ((steps : Path) → At scope queries s (to_item 2 ∷ steps) ≡ In scope key steps) → ((steps : Path) → At scope queries s (to_item 3 ∷ steps) ≡ part_in_pairs scope (class_at library class).fields steps pairs)
-      → Located library d (At scope queries s) path (update_check library d scope path class key pairs)
-  unfolding update_check
-  update_located scope queries path s class key pairs at_key at_pairs =
-      located_then (At scope queries s) path (kind_check library d scope integer_kind (item_at path 2) key) (λ _. assignments_check library d scope (class_at library class).fields (item_at path 3) pairs)
-      (located_deeper (At scope queries s) (In scope key) path 2 (kind_check library d scope integer_kind (item_at path 2) key) at_key (kind_located scope (item_at path 2) integer_kind key))
-      (λ _ _. located_deeper (At scope queries s) (λ steps. part_in_pairs scope (class_at library class).fields steps pairs) path 3 (assignments_check library d scope (class_at library class).fields (item_at path 3) pairs) at_pairs
-      (pairs_located scope (class_at library class).fields (item_at path 3) pairs [] 0 pairs refl))
+  kind_stand : (scope : Scope) (path : Path) (parts : Path → Option Part) (i : ℕ) (k : Kind) (e : Expression) → ((steps : Path) → parts (to_item i ∷ steps) ≡ In scope e steps)
+      → AllStand parts path (found (kind_check library d scope k (item_at path i) e))
+  kind_stand scope path parts i k e same =
+      let check = kind_check library d scope k (item_at path i) e in
+      found_stand parts path check (located_deeper parts (In scope e) path i check same (kind_located scope (item_at path i) k e))
 
-  create_located : (scope : Scope) (queries : List (Name × ℕ)) (path : Path) (class : ℕ) (key : Expression) (pairs : List Assignment)
-      → Located library d (At scope queries (create class key pairs)) path (create_check library d scope path class key pairs)
-  unfolding create_check
-  create_located scope queries path class key pairs =
-      located_then (At scope queries (create class key pairs)) path (update_check library d scope path class key pairs) (λ _. chosen (all_assigned (class_at library class).fields pairs) (item_at path 3) F.unset_field)
-      (update_located scope queries path (create class key pairs) class key pairs (λ steps. refl) (λ steps. refl))
-      (λ _ _. by (all_assigned (class_at library class).fields pairs) refl)
+  update_stand : (scope : Scope) (queries : List (Name × ℕ)) (path : Path) (s : Statement) (class : ℕ) (key : Expression) (pairs : List Assignment)
+      → ((steps : Path) → At scope queries s (to_item 2 ∷ steps) ≡ In scope key steps) → ((steps : Path) → At scope queries s (to_item 3 ∷ steps) ≡ part_in_pairs scope (class_at library class).fields steps pairs)
+      → AllStand (At scope queries s) path (update_findings library d scope path class key pairs)
+  update_stand scope queries path s class key pairs at_key at_pairs =
+      let fields = (class_at library class).fields in
+      both_stand (At scope queries s) path (found (kind_check library d scope integer_kind (item_at path 2) key)) (assignments_findings library d scope fields (item_at path 3) 0 pairs)
+      (kind_stand scope path (At scope queries s) 2 integer_kind key at_key)
+      (stand_deeper (At scope queries s) (λ steps. part_in_pairs scope fields steps pairs) path 3 (assignments_findings library d scope fields (item_at path 3) 0 pairs) at_pairs
+      (pairs_stand scope fields (item_at path 3) pairs 0 pairs refl))
+
+  create_stand : (scope : Scope) (queries : List (Name × ℕ)) (path : Path) (class : ℕ) (key : Expression) (pairs : List Assignment)
+      → AllStand (At scope queries (create class key pairs)) path (create_findings library d scope path class key pairs)
+  create_stand scope queries path class key pairs =
+      let fields = (class_at library class).fields in
+      let parts : Path → Option Part = At scope queries (create class key pairs) in
+      both_stand parts path (update_findings library d scope path class key pairs) (found (all_set (item_at path 3) fields pairs))
+      (update_stand scope queries path (create class key pairs) class key pairs (λ steps. refl) (λ steps. refl))
+      (found_stand parts path (all_set (item_at path 3) fields pairs) (by (all_assigned fields pairs) refl))
     where
       by : (b : Bool) → all_assigned (class_at library class).fields pairs ≡ b → Located library d (At scope queries (create class key pairs)) path (chosen b (item_at path 3) F.unset_field)
       by true is = tt
@@ -287,27 +309,32 @@ module _ (library : Library) (d : Declared) where
   argument_located scope path demand e =
       located_then (In scope e) path (expression_check library d scope path e) (demanded demand path) (expression_located scope path e) (λ s is. demand_located scope path e demand s (sort_is scope path e s is))
 
-  arguments_located : (scope : Scope) (queries : List (Name × ℕ)) (path : Path) (name : Name) (whole : List Expression) (i : ℕ) (ss : List Sort) (es : List Expression) → drop i whole ≡ es
-      → K.statement_kinded library d scope queries (signal name whole) ≡ false → Located library d (At scope queries (signal name whole)) path (arguments_check library d scope path i ss es)
-  arguments_located scope queries path name whole i [] [] is fails = tt
-  arguments_located scope queries path name whole i (s ∷ ss) [] is fails = here (At scope queries (signal name whole)) path F.too_few_arguments (statement_part scope queries (signal name whole)) refl fails
-  arguments_located scope queries path name whole i ss (e ∷ es) is fails =
-      located_then (At scope queries (signal name whole)) path (argument_check library d scope (next_demand ss) (item_at (item_at path 2) i) e) (λ _. arguments_check library d scope path (suc i) (later_demands ss) es)
-      (located_deeper (At scope queries (signal name whole)) (λ steps. part_in_arguments scope steps whole) path 2 (argument_check library d scope (next_demand ss) (item_at (item_at path 2) i) e) (λ steps. refl)
-      (located_deeper (λ steps. part_in_arguments scope steps whole) (In scope e) (item_at path 2) i (argument_check library d scope (next_demand ss) (item_at (item_at path 2) i) e)
-      (λ steps. ap (λ o. along o (λ p. part_in_expression scope steps p)) (item_is i whole e es is)) (argument_located scope (item_at (item_at path 2) i) (next_demand ss) e)))
-      (λ _ _. arguments_located scope queries path name whole (suc i) (later_demands ss) es (rest_is i whole e es is) fails)
+  -- where something is found later, something is found
+  found_later : {A : Type 0} (xs ys : List A) → finds_nothing ys ≡ false → finds_nothing (xs ++ ys) ≡ false
+  found_later [] ys is = is
+  found_later (x ∷ xs) ys is = refl
 
-  -- a check that fails shows that the statement isn't kinded
-  both_failed : (a b : Judged ⊤) (f : Finding) → a ≡ Err f → passes (both_check a b) ≡ false
-  unfolding both_check
-  both_failed a b f is = ap (λ (r : Judged ⊤). passes (r >>= λ _. b)) is
+  arguments_stand : (scope : Scope) (queries : List (Name × ℕ)) (path : Path) (name : Name) (whole : List Expression) (i : ℕ) (ss : List Sort) (es : List Expression) → drop i whole ≡ es
+      → (finds_nothing (arguments_findings library d scope path i ss es) ≡ false → K.statement_kinded library d scope queries (signal name whole) ≡ false)
+      → AllStand (At scope queries (signal name whole)) path (arguments_findings library d scope path i ss es)
+  arguments_stand scope queries path name whole i [] [] is fails = tt
+  arguments_stand scope queries path name whole i (s ∷ ss) [] is fails = (here (At scope queries (signal name whole)) path F.too_few_arguments (statement_part scope queries (signal name whole)) refl (fails refl), tt)
+  arguments_stand scope queries path name whole i ss (e ∷ es) is fails =
+      let parts : Path → Option Part = At scope queries (signal name whole) in
+      let check = argument_check library d scope (next_demand ss) (item_at (item_at path 2) i) e in
+      let rest = arguments_findings library d scope path (suc i) (later_demands ss) es in
+      both_stand parts path (found check) rest
+      (found_stand parts path check
+      (located_deeper parts (λ steps. part_in_arguments scope steps whole) path 2 check (λ steps. refl)
+      (located_deeper (λ steps. part_in_arguments scope steps whole) (In scope e) (item_at path 2) i check
+      (λ steps. ap (λ o. along o (λ p. part_in_expression scope steps p)) (item_is i whole e es is)) (argument_located scope (item_at (item_at path 2) i) (next_demand ss) e))))
+      (arguments_stand scope queries path name whole (suc i) (later_demands ss) es (rest_is i whole e es is) (λ later. fails (found_later (found check) rest later)))
 
-  if_failed : (scope : Scope) (queries : List (Name × ℕ)) (path : Path) (s : Statement) (r : Judged ⊤) → own_check library d scope queries path s ≡ r
-      → (K.statement_kinded library d scope queries s ≡ false → Located library d (At scope queries s) path r) → Located library d (At scope queries s) path r
-  if_failed scope queries path s (Ok u) is there = tt
-  if_failed scope queries path s (Err f) is there =
-      there (sym (statement_judged library d scope queries path s) ∙ both_failed (own_check library d scope queries path s) (inner_check library d scope queries path s) f is)
+  -- a statement in which something is found isn't kinded
+  if_found : (scope : Scope) (queries : List (Name × ℕ)) (path : Path) (s : Statement) (fs : List Finding) → statement_findings library d scope queries path s ≡ fs ++ [] → finds_nothing fs ≡ false
+      → K.statement_kinded library d scope queries s ≡ false
+  if_found scope queries path s [] is some = cc
+  if_found scope queries path s (f ∷ fs) is some = sym (statement_judged library d scope queries path s) ∙ ap finds_nothing is
 
   emission_located : (scope : Scope) (queries : List (Name × ℕ)) (path : Path) (s : Statement) (e : Expression) → ((steps : Path) → At scope queries s (to_item 1 ∷ steps) ≡ In scope e steps)
       → Located library d (At scope queries s) path (emission_check library d scope path e)
@@ -327,40 +354,42 @@ module _ (library : Library) (d : Declared) where
       by None is = (to_item 1 ∷ [], query_part queries x, refl, refl, is)
       by (Some class) is = tt
 
-  fire_located : (scope : Scope) (queries : List (Name × ℕ)) (path : Path) (n : ℕ) → Located library d (At scope queries (fire n)) path (own_check library d scope queries path (fire n))
+  fire_located : (scope : Scope) (queries : List (Name × ℕ)) (path : Path) (n : ℕ) → Located library d (At scope queries (fire n)) path (single_check library d scope queries path (fire n))
   fire_located scope queries path n = by (is_fired d n) refl
     where
       by : (b : Bool) → is_fired d n ≡ b → Located library d (At scope queries (fire n)) path (chosen b path F.not_fired)
       by true is = tt
       by false is = here (At scope queries (fire n)) path F.not_fired (statement_part scope queries (fire n)) refl is
 
-  own_located : (scope : Scope) (queries : List (Name × ℕ)) (path : Path) (s : Statement) → Located library d (At scope queries s) path (own_check library d scope queries path s)
-  own_located scope queries path (create class key pairs) = create_located scope queries path class key pairs
-  own_located scope queries path (update class key pairs) = update_located scope queries path (update class key pairs) class key pairs (λ steps. refl) (λ steps. refl)
-  own_located scope queries path (delete class key) = located_deeper (At scope queries (delete class key)) (In scope key) path 2 (kind_check library d scope integer_kind (item_at path 2) key) (λ steps. refl) (kind_located scope (item_at path 2) integer_kind key)
-  own_located scope queries path (signal name arguments) =
-      if_failed scope queries path (signal name arguments) (arguments_check library d scope path 0 (signature_of d name) arguments) refl
-      (arguments_located scope queries path name arguments 0 (signature_of d name) arguments refl)
-  own_located scope queries path (emit e) = emission_located scope queries path (emit e) e (λ steps. refl)
-  own_located scope queries path (when e a b) = located_deeper (At scope queries (when e a b)) (In scope e) path 1 (kind_check library d scope boolean_kind (item_at path 1) e) (λ steps. refl) (kind_located scope (item_at path 1) boolean_kind e)
-  own_located scope queries path (each x class predicate body) =
-      located_deeper (At scope queries (each x class predicate body)) (In (with_name x class scope) predicate) path 3 (kind_check library d (with_name x class scope) boolean_kind (item_at path 3) predicate) (λ steps. refl)
-      (kind_located (with_name x class scope) (item_at path 3) boolean_kind predicate)
-  own_located scope queries path (for_answer x body) = query_located scope queries path x body
-  own_located scope queries path (with_object x class key body) =
-      located_deeper (At scope queries (with_object x class key body)) (In scope key) path 3 (kind_check library d scope integer_kind (item_at path 3) key) (λ steps. refl) (kind_located scope (item_at path 3) integer_kind key)
-  own_located scope queries path (subtransaction a b) = tt
-  own_located scope queries path (let_value x a body) =
-      located_deeper (At scope queries (let_value x a body)) (InAggregate scope a) path 2 (value_check library d scope (item_at path 2) a) (λ steps. refl) (value_located scope (item_at path 2) a)
-  own_located scope queries path (veto_with e) = emission_located scope queries path (veto_with e) e (λ steps. refl)
-  own_located scope queries path abort = tt
-  own_located scope queries path veto = tt
-  own_located scope queries path (on_rule op n) = tt
-  own_located scope queries path (fire n) = fire_located scope queries path n
+  abbrev OwnStand : Scope → List (Name × ℕ) → Path → Statement → Type 0
+  OwnStand scope queries path s = AllStand (At scope queries s) path (own_findings library d scope queries path s)
 
-  both_located : (parts : Path → Option Part) (path : Path) (a b : Judged ⊤) → Located library d parts path a → Located library d parts path b → Located library d parts path (both_check a b)
-  unfolding both_check
-  both_located parts path a b first second = located_then parts path a (λ _. b) first (λ _ _. second)
+  -- of a statement that evaluates or names one thing
+  one_stand : (scope : Scope) (queries : List (Name × ℕ)) (path : Path) (s : Statement) → Located library d (At scope queries s) path (single_check library d scope queries path s)
+      → AllStand (At scope queries s) path (found (single_check library d scope queries path s))
+  one_stand scope queries path s there = found_stand (At scope queries s) path (single_check library d scope queries path s) there
+
+  own_stand : (scope : Scope) (queries : List (Name × ℕ)) (path : Path) (s : Statement) → OwnStand scope queries path s
+  own_stand scope queries path (create class key pairs) = create_stand scope queries path class key pairs
+  own_stand scope queries path (update class key pairs) = update_stand scope queries path (update class key pairs) class key pairs (λ steps. refl) (λ steps. refl)
+  own_stand scope queries path (delete class key) = kind_stand scope path (At scope queries (delete class key)) 2 integer_kind key (λ steps. refl)
+  own_stand scope queries path (signal name arguments) =
+      arguments_stand scope queries path name arguments 0 (signature_of d name) arguments refl
+      (if_found scope queries path (signal name arguments) (arguments_findings library d scope path 0 (signature_of d name) arguments) refl)
+  own_stand scope queries path (emit e) = one_stand scope queries path (emit e) (emission_located scope queries path (emit e) e (λ steps. refl))
+  own_stand scope queries path (when e a b) = kind_stand scope path (At scope queries (when e a b)) 1 boolean_kind e (λ steps. refl)
+  own_stand scope queries path (each x class predicate body) = kind_stand (with_name x class scope) path (At scope queries (each x class predicate body)) 3 boolean_kind predicate (λ steps. refl)
+  own_stand scope queries path (for_answer x body) = one_stand scope queries path (for_answer x body) (query_located scope queries path x body)
+  own_stand scope queries path (with_object x class key body) = kind_stand scope path (At scope queries (with_object x class key body)) 3 integer_kind key (λ steps. refl)
+  own_stand scope queries path (subtransaction a b) = tt
+  own_stand scope queries path (let_value x a body) =
+      one_stand scope queries path (let_value x a body)
+      (located_deeper (At scope queries (let_value x a body)) (InAggregate scope a) path 2 (value_check library d scope (item_at path 2) a) (λ steps. refl) (value_located scope (item_at path 2) a))
+  own_stand scope queries path (veto_with e) = one_stand scope queries path (veto_with e) (emission_located scope queries path (veto_with e) e (λ steps. refl))
+  own_stand scope queries path abort = tt
+  own_stand scope queries path veto = tt
+  own_stand scope queries path (on_rule op n) = tt
+  own_stand scope queries path (fire n) = one_stand scope queries path (fire n) (fire_located scope queries path n)
 
   -- the statements from an index on
   abbrev body_from : ℕ → Body → Body
@@ -383,37 +412,44 @@ module _ (library : Library) (d : Declared) where
   later_is (suc i) (t then more) s rest is = later_is i more s rest is
 
   mutual
-    inner_located : (scope : Scope) (queries : List (Name × ℕ)) (path : Path) (s : Statement) → Located library d (At scope queries s) path (inner_check library d scope queries path s)
-    inner_located scope queries path (when e a b) =
-        both_located (At scope queries (when e a b)) path (body_check library d scope queries (item_at path 2) 0 a) (body_check library d scope queries (item_at path 3) 0 b)
-        (located_deeper (At scope queries (when e a b)) (AtBody scope queries a) path 2 (body_check library d scope queries (item_at path 2) 0 a) (λ steps. refl) (body_located scope queries (item_at path 2) a 0 a (from_start a)))
-        (located_deeper (At scope queries (when e a b)) (AtBody scope queries b) path 3 (body_check library d scope queries (item_at path 3) 0 b) (λ steps. refl) (body_located scope queries (item_at path 3) b 0 b (from_start b)))
-    inner_located scope queries path (each x class predicate body) =
+    inner_stand : (scope : Scope) (queries : List (Name × ℕ)) (path : Path) (s : Statement) → AllStand (At scope queries s) path (inner_findings library d scope queries path s)
+    inner_stand scope queries path (when e a b) =
+        let parts : Path → Option Part = At scope queries (when e a b) in
+        both_stand parts path (body_findings library d scope queries (item_at path 2) 0 a) (body_findings library d scope queries (item_at path 3) 0 b)
+        (stand_deeper parts (AtBody scope queries a) path 2 (body_findings library d scope queries (item_at path 2) 0 a) (λ steps. refl) (body_stand scope queries (item_at path 2) a 0 a (from_start a)))
+        (stand_deeper parts (AtBody scope queries b) path 3 (body_findings library d scope queries (item_at path 3) 0 b) (λ steps. refl) (body_stand scope queries (item_at path 3) b 0 b (from_start b)))
+    inner_stand scope queries path (each x class predicate body) =
         let inner = with_name x class scope in
-        located_deeper (At scope queries (each x class predicate body)) (AtBody inner queries body) path 4 (body_check library d inner queries (item_at path 4) 0 body) (λ steps. refl) (body_located inner queries (item_at path 4) body 0 body (from_start body))
-    inner_located scope queries path (for_answer x body) =
+        stand_deeper (At scope queries (each x class predicate body)) (AtBody inner queries body) path 4 (body_findings library d inner queries (item_at path 4) 0 body) (λ steps. refl) (body_stand inner queries (item_at path 4) body 0 body (from_start body))
+    inner_stand scope queries path (for_answer x body) =
         let inner = with_name x (unwrap_or (lookup (bytes_eq x) queries) 0) scope in
-        located_deeper (At scope queries (for_answer x body)) (AtBody inner queries body) path 2 (body_check library d inner queries (item_at path 2) 0 body) (λ steps. refl) (body_located inner queries (item_at path 2) body 0 body (from_start body))
-    inner_located scope queries path (with_object x class key body) =
+        stand_deeper (At scope queries (for_answer x body)) (AtBody inner queries body) path 2 (body_findings library d inner queries (item_at path 2) 0 body) (λ steps. refl) (body_stand inner queries (item_at path 2) body 0 body (from_start body))
+    inner_stand scope queries path (with_object x class key body) =
         let inner = with_name x class scope in
-        located_deeper (At scope queries (with_object x class key body)) (AtBody inner queries body) path 4 (body_check library d inner queries (item_at path 4) 0 body) (λ steps. refl) (body_located inner queries (item_at path 4) body 0 body (from_start body))
-    inner_located scope queries path (subtransaction a b) =
-        both_located (At scope queries (subtransaction a b)) path (body_check library d scope queries (item_at path 1) 0 a) (body_check library d scope queries (item_at path 2) 0 b)
-        (located_deeper (At scope queries (subtransaction a b)) (AtBody scope queries a) path 1 (body_check library d scope queries (item_at path 1) 0 a) (λ steps. refl) (body_located scope queries (item_at path 1) a 0 a (from_start a)))
-        (located_deeper (At scope queries (subtransaction a b)) (AtBody scope queries b) path 2 (body_check library d scope queries (item_at path 2) 0 b) (λ steps. refl) (body_located scope queries (item_at path 2) b 0 b (from_start b)))
-    inner_located scope queries path (let_value x a body) =
+        stand_deeper (At scope queries (with_object x class key body)) (AtBody inner queries body) path 4 (body_findings library d inner queries (item_at path 4) 0 body) (λ steps. refl) (body_stand inner queries (item_at path 4) body 0 body (from_start body))
+    inner_stand scope queries path (subtransaction a b) =
+        let parts : Path → Option Part = At scope queries (subtransaction a b) in
+        both_stand parts path (body_findings library d scope queries (item_at path 1) 0 a) (body_findings library d scope queries (item_at path 2) 0 b)
+        (stand_deeper parts (AtBody scope queries a) path 1 (body_findings library d scope queries (item_at path 1) 0 a) (λ steps. refl) (body_stand scope queries (item_at path 1) a 0 a (from_start a)))
+        (stand_deeper parts (AtBody scope queries b) path 2 (body_findings library d scope queries (item_at path 2) 0 b) (λ steps. refl) (body_stand scope queries (item_at path 2) b 0 b (from_start b)))
+    inner_stand scope queries path (let_value x a body) =
         let inner = with_sort x (unwrap_or (aggregate_sort library d scope a) any) scope in
-        located_deeper (At scope queries (let_value x a body)) (AtBody inner queries body) path 3 (body_check library d inner queries (item_at path 3) 0 body) (λ steps. refl) (body_located inner queries (item_at path 3) body 0 body (from_start body))
-    inner_located scope queries path s = tt
+        stand_deeper (At scope queries (let_value x a body)) (AtBody inner queries body) path 3 (body_findings library d inner queries (item_at path 3) 0 body) (λ steps. refl) (body_stand inner queries (item_at path 3) body 0 body (from_start body))
+    inner_stand scope queries path s = tt
 
-    body_located : (scope : Scope) (queries : List (Name × ℕ)) (path : Path) (whole : Body) (i : ℕ) (b : Body) → body_from i whole ≡ b → Located library d (AtBody scope queries whole) path (body_check library d scope queries path i b)
-    body_located scope queries path whole i empty is = tt
-    body_located scope queries path whole i (s then rest) is =
-        located_then (AtBody scope queries whole) path (statement_check library d scope queries (item_at path i) s) (λ _. body_check library d scope queries path (suc i) rest)
-        (located_deeper (AtBody scope queries whole) (At scope queries s) path i (statement_check library d scope queries (item_at path i) s)
-        (λ steps. ap (λ o. along o (λ t. part_in_statement library d scope queries steps t)) (statement_is i whole s rest is))
-        (both_located (At scope queries s) (item_at path i) (own_check library d scope queries (item_at path i) s) (inner_check library d scope queries (item_at path i) s) (own_located scope queries (item_at path i) s) (inner_located scope queries (item_at path i) s)))
-        (λ _ _. body_located scope queries path whole (suc i) rest (later_is i whole s rest is))
+    body_stand : (scope : Scope) (queries : List (Name × ℕ)) (path : Path) (whole : Body) (i : ℕ) (b : Body) → body_from i whole ≡ b → AllStand (AtBody scope queries whole) path (body_findings library d scope queries path i b)
+    body_stand scope queries path whole i empty is = tt
+    body_stand scope queries path whole i (s then rest) is =
+        let parts : Path → Option Part = AtBody scope queries whole in
+        let own = own_findings library d scope queries (item_at path i) s in
+        let inner = inner_findings library d scope queries (item_at path i) s in
+        let later = body_findings library d scope queries path (suc i) rest in
+        let same : (steps : Path) → parts (to_item i ∷ steps) ≡ At scope queries s steps = λ steps. ap (λ o. along o (λ t. part_in_statement library d scope queries steps t)) (statement_is i whole s rest is) in
+        both_stand parts path own (inner ++ later)
+        (stand_deeper parts (At scope queries s) path i own same (own_stand scope queries (item_at path i) s))
+        (both_stand parts path inner later
+        (stand_deeper parts (At scope queries s) path i inner same (inner_stand scope queries (item_at path i) s))
+        (body_stand scope queries path whole (suc i) rest (later_is i whole s rest is)))
 
   -- ---- rules
 
@@ -434,95 +470,66 @@ module _ (library : Library) (d : Declared) where
   AtEntry scope e steps = part_in_entry scope steps e
 
   entry_located : (scope : Scope) (path : Path) (e : Entry) → Located library d (AtEntry scope e) path (entry_check library d scope path e)
-  unfolding query_check no_check let_check
   entry_located scope path (query_entry q) =
       let inner = with_name q.name q.class scope in
-      located_then (AtEntry scope (query_entry q)) path (test_check library d scope (item_at path 2) q) (λ _. Ok inner)
-      (located_deeper (AtEntry scope (query_entry q)) (In inner q.predicate) path 2 (test_check library d scope (item_at path 2) q) (λ steps. refl) (kind_located inner (item_at path 2) boolean_kind q.predicate)) (λ _ _. tt)
+      located_deeper (AtEntry scope (query_entry q)) (In inner q.predicate) path 2 (test_check library d scope (item_at path 2) q) (λ steps. refl) (kind_located inner (item_at path 2) boolean_kind q.predicate)
   entry_located scope path (no_entry q) =
       let inner = with_name q.name q.class scope in
-      located_then (AtEntry scope (no_entry q)) path (test_check library d scope (item_at path 3) q) (λ _. Ok scope)
-      (located_deeper (AtEntry scope (no_entry q)) (In inner q.predicate) path 3 (test_check library d scope (item_at path 3) q) (λ steps. refl) (kind_located inner (item_at path 3) boolean_kind q.predicate)) (λ _ _. tt)
+      located_deeper (AtEntry scope (no_entry q)) (In inner q.predicate) path 3 (test_check library d scope (item_at path 3) q) (λ steps. refl) (kind_located inner (item_at path 3) boolean_kind q.predicate)
   entry_located scope path (let_entry x a) =
-      located_then (AtEntry scope (let_entry x a)) path (aggregate_check library d scope (item_at path 2) a) (λ s. Ok (with_sort x s scope))
-      (located_deeper (AtEntry scope (let_entry x a)) (InAggregate scope a) path 2 (aggregate_check library d scope (item_at path 2) a) (λ steps. refl) (aggregate_located scope (item_at path 2) a)) (λ _ _. tt)
-
-  -- the scope that a passed check gives
-  some_scope : (b : Bool) (s after : Scope) → Some s ≡ then_some b after → s ≡ after
-  some_scope true s after e = ap (λ o. unwrap_or o after) e
-  some_scope false s after e = cc
-
-  entries_after : (path : Path) (scope : Scope) (i : ℕ) (es : List Entry) (after : Scope) → entries_check library d path scope i es ≡ Ok after → after ≡ with_entries library d scope es
-  entries_after path scope i es after is =
-      some_scope (entries_kinded library d scope es) after (with_entries library d scope es) (sym (ap value_in is) ∙ entries_given library d path scope i es)
-
-  then_none : {A : Type 0} (r : Judged A) (x : A) → r ≡ Ok x → (r >>= λ y. Ok y) ≡ Ok x
-  then_none (Ok y) x is = is
-  then_none (Err f) x is = cc
-
-  entry_after : (path : Path) (scope : Scope) (i : ℕ) (e : Entry) (after : Scope) → entry_check library d scope (item_at path i) e ≡ Ok after → after ≡ with_entries library d scope (e ∷ [])
-  entry_after path scope i e after is = entries_after path scope i (e ∷ []) after (then_none (entry_check library d scope (item_at path i) e) after is)
+      located_deeper (AtEntry scope (let_entry x a)) (InAggregate scope a) path 2 (value_check library d scope (item_at path 2) a) (λ steps. refl) (value_located scope (item_at path 2) a)
 
   module _ (c : Columns) where
     abbrev start : Scope
     start = first_scope c
 
-    condition_located : (path : Path) (whole : List Entry) (i : ℕ) (scope : Scope) (es : List Entry) → drop i whole ≡ es → scope ≡ with_entries library d start (take i whole)
-        → Located library d (λ steps. part_in_condition library d c steps whole) path (entries_check library d path scope i es)
-    condition_located path whole i scope [] is earlier = tt
-    condition_located path whole i scope (e ∷ es) is earlier =
-        located_then (λ steps. part_in_condition library d c steps whole) path (entry_check library d scope (item_at path i) e) (λ inner. entries_check library d path inner (suc i) es)
-        (located_deeper (λ steps. part_in_condition library d c steps whole) (AtEntry scope e) path i (entry_check library d scope (item_at path i) e)
-        (λ steps. ap₂ (λ o s. along o (λ e. part_in_entry s steps e)) (item_is i whole e es is) (sym earlier)) (entry_located scope (item_at path i) e))
-        (λ inner passed. condition_located path whole (suc i) inner es (rest_is i whole e es is)
-        (entry_after path scope i e inner passed ∙ ap (λ s. with_entries library d s (e ∷ [])) earlier ∙ sym (one_more start (take i whole) e) ∙ ap (with_entries library d start) (take_next i whole e es is)))
+    condition_stand : (path : Path) (whole : List Entry) (i : ℕ) (scope : Scope) (es : List Entry) → drop i whole ≡ es → scope ≡ with_entries library d start (take i whole)
+        → AllStand (λ steps. part_in_condition library d c steps whole) path (entries_findings library d path scope i es)
+    condition_stand path whole i scope [] is earlier = tt
+    condition_stand path whole i scope (e ∷ es) is earlier =
+        let parts : Path → Option Part = λ steps. part_in_condition library d c steps whole in
+        let check = entry_check library d scope (item_at path i) e in
+        let inner = scope_then library d scope e in
+        both_stand parts path (found check) (entries_findings library d path inner (suc i) es)
+        (found_stand parts path check
+        (located_deeper parts (AtEntry scope e) path i check
+        (λ steps. ap₂ (λ o s. along o (λ e. part_in_entry s steps e)) (item_is i whole e es is) (sym earlier)) (entry_located scope (item_at path i) e)))
+        (condition_stand path whole (suc i) inner es (rest_is i whole e es is)
+        (ap (λ s. with_entries library d s (e ∷ [])) earlier ∙ sym (one_more start (take i whole) e) ∙ ap (with_entries library d start) (take_next i whole e es is)))
 
-  rule_located : (fired : Bool) (path : Path) (rule : Rule) → Located library d (λ steps. part_in_rule library d fired steps rule) path (rule_check library d fired path rule)
-  unfolding parts_check
-  rule_located fired path rule =
+  rule_stand : (fired : Bool) (path : Path) (rule : Rule) → AllStand (λ steps. part_in_rule library d fired steps rule) path (rule_findings library d fired path rule)
+  rule_stand fired path rule =
       let c = columns_by fired rule.event in
       let queries = query_classes rule.condition in
-      located_then (λ steps. part_in_rule library d fired steps rule) path (entries_check library d (item_at path 3) (first_scope c) 0 rule.condition) (λ scope. body_check library d scope queries (item_at path 5) 0 rule.action)
-      (located_deeper (λ steps. part_in_rule library d fired steps rule) (λ steps. part_in_condition library d c steps rule.condition) path 3 (entries_check library d (item_at path 3) (first_scope c) 0 rule.condition) (λ steps. refl)
-      (condition_located c (item_at path 3) rule.condition 0 (first_scope c) rule.condition refl refl))
-      (λ scope passed. located_deeper (λ steps. part_in_rule library d fired steps rule) (AtBody scope queries rule.action) path 5 (body_check library d scope queries (item_at path 5) 0 rule.action)
-      (λ steps. ap (λ s. part_in_body library d s queries steps rule.action) (sym (entries_after (item_at path 3) (first_scope c) 0 rule.condition scope passed)))
-      (body_located scope queries (item_at path 5) rule.action 0 rule.action (from_start rule.action)))
+      let scope = with_entries library d (first_scope c) rule.condition in
+      let parts : Path → Option Part = λ steps. part_in_rule library d fired steps rule in
+      let asked = entries_findings library d (item_at path 3) (first_scope c) 0 rule.condition in
+      let acting = body_findings library d scope queries (item_at path 5) 0 rule.action in
+      both_stand parts path asked acting
+      (stand_deeper parts (λ steps. part_in_condition library d c steps rule.condition) path 3 asked (λ steps. refl) (condition_stand c (item_at path 3) rule.condition 0 (first_scope c) rule.condition refl refl))
+      (stand_deeper parts (AtBody scope queries rule.action) path 5 acting (λ steps. refl) (body_stand scope queries (item_at path 5) rule.action 0 rule.action (from_start rule.action)))
 
-  rules_located : (path : Path) (n : ℕ) (rules : List Rule) → drop n library.rules ≡ rules → Located library d (part_in_rules library d) path (rules_check library d path n rules)
-  rules_located path n [] is = tt
-  rules_located path n (rule ∷ rules) is =
-      located_then (part_in_rules library d) path (rule_check library d (is_fired d n) (item_at path n) rule) (λ _. rules_check library d path (suc n) rules)
-      (located_deeper (part_in_rules library d) (λ steps. part_in_rule library d (is_fired d n) steps rule) path n (rule_check library d (is_fired d n) (item_at path n) rule)
-      (λ steps. ap (λ o. along o (λ r. part_in_rule library d (is_fired d n) steps r)) (item_is n library.rules rule rules is)) (rule_located (is_fired d n) (item_at path n) rule))
-      (λ _ _. rules_located path (suc n) rules (rest_is n library.rules rule rules is))
+  rules_stand : (path : Path) (n : ℕ) (rules : List Rule) → drop n library.rules ≡ rules → AllStand (part_in_rules library d) path (rules_findings library d path n rules)
+  rules_stand path n [] is = tt
+  rules_stand path n (rule ∷ rules) is =
+      both_stand (part_in_rules library d) path (rule_findings library d (is_fired d n) (item_at path n) rule) (rules_findings library d path (suc n) rules)
+      (stand_deeper (part_in_rules library d) (λ steps. part_in_rule library d (is_fired d n) steps rule) path n (rule_findings library d (is_fired d n) (item_at path n) rule)
+      (λ steps. ap (λ o. along o (λ r. part_in_rule library d (is_fired d n) steps r)) (item_is n library.rules rule rules is)) (rule_stand (is_fired d n) (item_at path n) rule))
+      (rules_stand path (suc n) rules (rest_is n library.rules rule rules is))
 
 -- ---- libraries and units
 
-pub library_placed : (library : Library) (d : Declared) → IsPlacedIn library d (part_in_library library d) (library_check library d)
-library_placed library d = by (library_check library d) (rules_located library d (under_root rules_member) 0 library.rules refl)
-  where
-    by : (r : Judged ⊤) → Located library d (part_in_rules library d) (under_root rules_member) r → IsPlacedIn library d (part_in_library library d) r
-    by (Ok u) there = tt
-    by (Err f) (steps, part, is, found, fails) = (part, ap (part_in_library library d) is ∙ found, fails)
+module _ (library : Library) (d : Declared) where
+  -- what stands below a path is placed
+  all_placed : (parts whole : Path → Option Part) (path : Path) → ((steps : Path) → whole (path ++ steps) ≡ parts steps) → (fs : List Finding) → AllByRecursion (Stands library d parts path) fs → ArePlaced library d whole fs
+  all_placed parts whole path same [] there = tt
+  all_placed parts whole path same (f ∷ fs) ((steps, part, is, found, fails), there) = ((part, ap whole is ∙ same steps ∙ found, fails), all_placed parts whole path same fs there)
 
-pub unit_placed : (library : Library) (d : Declared) (unit : Unit) → IsPlacedIn library d (λ path. part_in_unit library d path unit) (unit_check library d unit)
-unit_placed library d (moment t) = tt
-unit_placed library d (transaction now body) = by (unit_check library d (transaction now body)) (body_located library d no_scope [] [] body 0 body (from_start library d body))
-  where
-    by : (r : Judged ⊤) → Located library d (λ steps. part_in_body library d no_scope [] steps body) [] r → IsPlacedIn library d (λ path. part_in_unit library d path (transaction now body)) r
-    by (Ok u) there = tt
-    by (Err f) (steps, part, is, found, fails) = (part, ap (λ path. part_in_body library d no_scope [] path body) is ∙ found, fails)
+  pub library_placed : ArePlaced library d (part_in_library library d) (library_findings library d)
+  library_placed = all_placed (part_in_rules library d) (part_in_library library d) (under_root rules_member) (λ steps. refl) (library_findings library d) (rules_stand library d (under_root rules_member) 0 library.rules refl)
 
--- ---- the program's checks
-
-places : (library : Library) (d : Declared) (parts : Path → Option Part) (r : Judged ⊤) → IsPlacedIn library d parts r → (done : Result ⊤ KindError) → Passes done r → Places library d parts done
-places library d parts r there (Ok u) is = tt
-places library d parts r there (Err Memory) is = tt
-places library d parts r there (Err (Found f)) is = subst (λ (j : Judged ⊤). IsPlacedIn library d parts j) is there
-
-pub library_places : (library : Library) (d : Declared) (done : Result ⊤ KindError) → Passes done (library_check library d) → Places library d (part_in_library library d) done
-library_places library d done is = places library d (part_in_library library d) (library_check library d) (library_placed library d) done is
-
-pub unit_places : (library : Library) (d : Declared) (unit : Unit) (done : Result ⊤ KindError) → Passes done (unit_check library d unit) → Places library d (λ path. part_in_unit library d path unit) done
-unit_places library d unit done is = places library d (λ path. part_in_unit library d path unit) (unit_check library d unit) (unit_placed library d unit) done is
+  pub unit_placed : (unit : Unit) → ArePlaced library d (λ path. part_in_unit library d path unit) (unit_findings library d unit)
+  unit_placed (moment t) = tt
+  unit_placed (transaction now body) =
+      all_placed (λ steps. part_in_body library d no_scope [] steps body) (λ path. part_in_unit library d path (transaction now body)) [] (λ steps. refl) (body_findings library d no_scope [] [] 0 body)
+      (body_stand library d no_scope [] [] body 0 body (from_start library d body))

@@ -1,5 +1,5 @@
 -- The least closed set of rules that has what units trigger; no other rule fires.
-use Rattle.std.proofs.Common.{arith, ◌≡◌, refl, sym, ap, ◌∙◌, subst, ℕ, zero, suc, ◌+◌, ◌<◌, ◌≤◌, List, [], ◌∷◌, length, map, Bool, true, false, ◌&&◌, Option, Some, None, length-set, IsTrue}
+use Rattle.std.proofs.Common.{arith, ◌≡◌, refl, sym, ap, ◌∙◌, subst, ℕ, zero, suc, ◌+◌, ◌<◌, ◌≤◌, List, [], ◌∷◌, length, map, Bool, true, false, ◌&&◌, Option, Some, None, length-set}
 use Rattle.std.specs.Prelude.{if◌then◌else◌, slice_set, not, is_none}
 use Rattle.std.specs.List.{AllByRecursion, list_all, slice_index_or}
 use Rattle.std.specs.Option.{option_map_or}
@@ -11,8 +11,8 @@ use Rattle.hp_model.specs.Cascade.{Unit, Transaction, transactions_of, run_unit}
 use Rattle.hp_model.specs.Chains.{rule_triggers, unit_triggers, IsClosed, IsTaskReached, FiresReached}
 use Rattle.hp_model.proofs.Reached.{others_never_fire}
 use Rattle.hp_analysis.specs.Sets.{marked, no_rules, targets, gathered, begun, outside_from, is_within}
-use Rattle.hp_analysis.specs.Reached.{has, united_from, leading_out, IsClosedSet, HasBegun, closure, reached, IsReached, ReachedIsLeast, UnreachedNeverFire}
-use Rattle.hp_analysis.proofs.Within.{within_set, within_marked, none_within, swap_and, marked_length}
+use Rattle.hp_analysis.specs.Reached.{has, united_from, leading_out, IsClosedSet, HasBegun, closure, reached, ReachedIsLeast, UnreachedNeverFire}
+use Rattle.hp_analysis.proofs.Within.{within_set, within_marked, swap_and, marked_length}
 
 -- ---- sets that grow
 

@@ -1,11 +1,10 @@
 -- A chain that is given as a reason is a path of the triggering graph.
-use Rattle.std.proofs.Common.{arith, ◌≡◌, refl, sym, ap, ◌∙◌, subst, ℕ, zero, suc, ◌+◌, ◌<◌, ◌≤◌, ◌==◌, List, [], ◌∷◌, length, map, Bool, true, false, ◌&&◌, Option, Some, None, IsTrue, nat_lt, eq-eqb}
+use Rattle.std.proofs.Common.{arith, ◌≡◌, refl, sym, ap, ◌∙◌, subst, ℕ, zero, suc, ◌+◌, ◌<◌, ◌≤◌, ◌==◌, List, [], ◌∷◌, length, map, Bool, true, false, ◌&&◌, Option, Some, None, IsTrue, eq-eqb}
 use Rattle.std.proofs.lemmas.Bool.{and_parts, eqb-true}
-use Rattle.std.specs.Prelude.{if◌then◌else◌, slice_set, not, is_none, Ok, ◌||◌}
+use Rattle.std.specs.Prelude.{if◌then◌else◌, slice_set, not, is_none, ◌||◌}
 use Rattle.std.specs.List.{list_all, list_any, slice_index_or}
 use Rattle.std.specs.Option.{option_map_or}
 use Rattle.hp_model.specs.Rules.{Rule, no_rule, Library, rule_at}
-use Rattle.hp_model.specs.Checked.{library_check}
 use Rattle.hp_model.specs.Chains.{rule_triggers, rule_within}
 use Rattle.hp_analysis.specs.Sets.{marked, no_rules, targets, outside_from, is_within}
 use Rattle.hp_analysis.specs.Reached.{has}

@@ -10,8 +10,8 @@ use Rattle.hp_model.specs.Refusals.{Path, to_member, to_item, Refusal}
 use Rattle.hp_model.specs.Decode.{script_of}
 use Rattle.hp_model.specs.Output.{path_text, refusal_text}
 use Rattle.hp_analysis.specs.Depths.{library_depth, script_depth}
-use Rattle.hp_analysis.specs.Findings.{Wanted, of_kind, of_known_kind, of_ordered_kind, Reason, unsuited, no_occurrence, no_such_part, other_form, no_such_field, no_such_argument, too_few_arguments, unset_field, unknown_name, not_fired}
-use Rattle.hp_analysis.specs.FirstFinding.{KindFinding, first_finding}
+use Rattle.hp_analysis.specs.Findings.{Wanted, of_kind, of_known_kind, of_ordered_kind, Reason, unsuited, no_occurrence, no_such_part, other_form, no_such_field, no_such_argument, too_few_arguments, unset_field, unknown_name, not_fired, finds_nothing}
+use Rattle.hp_analysis.specs.KindFindings.{KindFinding, kind_findings}
 use Rattle.hp_analysis.specs.Guards.{Opening, by_condition, by_action, opening}
 use Rattle.hp_analysis.specs.Installed.{installed, with_installed}
 use Rattle.hp_analysis.specs.Reached.{has, reached}
@@ -33,7 +33,7 @@ abbrev pub guards_line : (closed : Bool) → Bytes
 guards_line true = line 0 (codes "guards" ∷ codes "closed" ∷ [])
 guards_line false = line 0 (codes "guards" ∷ codes "unknown" ∷ [])
 
--- ---- the first finding of kinds
+-- ---- findings of kinds
 
 abbrev pub kind_word : Kind → Bytes
 kind_word integer_kind = codes "int"
@@ -69,9 +69,8 @@ place_words (Some n) path = codes "unit" ∷ decimal n ∷ path_text path ∷ []
 abbrev pub found_line : KindFinding → Bytes
 found_line f = line 0 (codes "kind" ∷ (place_words f.unit f.finding.path ++ reason_text f.finding.reason ∷ []))
 
-abbrev pub kind_lines : Option KindFinding → Bytes
-kind_lines None = []
-kind_lines (Some f) = found_line f
+abbrev pub kind_lines : List KindFinding → Bytes
+kind_lines fs = flat_map found_line fs
 
 -- ---- chains
 
@@ -130,10 +129,10 @@ verdicts_of library pass own =
     kinds_line pass ++ (depth_line library.depth_limit (library_depth library) own ++ guards_line (pass && have_no_opening library.rules))
 
 -- a line for each finding
-abbrev pub lines_text : Script → Option KindFinding → Bytes
-lines_text script found =
+abbrev pub lines_text : Script → List KindFinding → Bytes
+lines_text script all =
     let rules = script.library.rules in
-    kind_lines found
+    kind_lines all
     ++ (chain_lines rules (chain_by script (script_depth (with_installed script)))
     ++ (opening_lines 0 rules
     ++ idle_lines (installed script.library script.units) (reached (with_installed script).library script.units) 0 rules))
@@ -141,8 +140,8 @@ lines_text script found =
 -- by what is declared of signals and of the rules that statements may fire
 abbrev pub findings_text : Script → Declared → Bytes
 findings_text script d =
-    let found = first_finding script.library d script.units in
-    verdicts_of script.library (is_none found) (script_depth (with_installed script)) ++ lines_text script found
+    let all = kind_findings script.library d script.units in
+    verdicts_of script.library (finds_nothing all) (script_depth (with_installed script)) ++ lines_text script all
 
 abbrev pub check_text : Result Script Refusal → Declared → Bytes
 check_text (Err r) d = refusal_text r

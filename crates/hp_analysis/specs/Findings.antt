@@ -1,6 +1,7 @@
--- Where a library or a body isn't kinded. Each check passes, or gives the first finding, in the order in which the parts
--- of a script stand: the place of an expression or a statement, and why it is refused there.
-use Rattle.std.specs.Prelude.{ℕ, suc, Bool, ⊤, List, [], ◌∷◌, ◌++◌, Option, Some, None, Result, Ok, Err, codes, bytes_eq, slice_get, is_some, unwrap_or, if◌then◌else◌}
+-- Where a library or a body isn't kinded: the findings of all its parts, in the order in which they stand in a script. A
+-- finding is the place of an expression or a statement, and why it is refused there. An expression, an aggregate or an
+-- assignment has at most one: the first in it.
+use Rattle.std.specs.Prelude.{ℕ, suc, Bool, true, false, ⊤, List, [], ◌∷◌, ◌++◌, Option, Some, None, Result, Ok, Err, codes, bytes_eq, slice_get, is_some, unwrap_or, if◌then◌else◌}
 use Rattle.std.specs.Map.{lookup}
 use Rattle.hp_model.specs.Values.{Name, Kind, integer_kind, boolean_kind, text_kind, Field, kind_of, ◌>>=◌}
 use Rattle.hp_model.specs.Events.{Pattern, on_create, on_update, on_delete, on_signal, at_moment, every_moment}
@@ -10,7 +11,7 @@ use Rattle.hp_model.specs.Rules.{Assignment, Statement, create, update, delete, 
 use Rattle.hp_model.specs.Firing.{kind_in}
 use Rattle.hp_model.specs.Cascade.{Unit, transaction, moment}
 use Rattle.hp_model.specs.Refusals.{Path, under_root, item_at}
-use Rattle.hp_model.specs.Kinds.{Sort, only, any, Declared, signature_of, is_fired, Columns, columns_by, Scope, with_name, with_sort, no_scope, is_only, are_ordered, meets, all_assigned, aggregate_sort, query_classes}
+use Rattle.hp_model.specs.Kinds.{Sort, only, any, Declared, signature_of, is_fired, Columns, columns_by, Scope, with_name, with_sort, no_scope, is_only, are_ordered, meets, all_assigned, aggregate_sort, with_entries, query_classes}
 
 -- ---- findings
 
@@ -57,6 +58,15 @@ Reasoned A = Result A Reason
 -- a value, or the first finding
 abbrev pub Judged : Type 0 → Type 0
 Judged A = Result A Finding
+
+-- the finding of a check that fails
+abbrev pub found : {A : Type 0} → Judged A → List Finding
+found (Ok x) = []
+found (Err f) = f ∷ []
+
+abbrev pub finds_nothing : {A : Type 0} → List A → Bool
+finds_nothing [] = true
+finds_nothing (x ∷ xs) = false
 
 abbrev pub refused : {A : Type 0} → Path → Reason → Judged A
 refused path reason = Err (record { path = path; reason = reason })
@@ -254,11 +264,6 @@ aggregate_check library d scope path (greatest_over x class predicate term) = ex
 aggregate_check library d scope path (next_key class) = Ok (only integer_kind)
 aggregate_check library d scope path (single e) = expression_check library d scope path e
 
--- the items of a list from an index, each checked with the items before it
-abbrev pub each_check : {A : Type 0} → (List A → Path → A → Judged ⊤) → Path → List A → ℕ → List A → Judged ⊤
-each_check check path before i [] = Ok tt
-each_check check path before i (x ∷ xs) = check before (item_at path i) x >>= λ _. each_check check path (before ++ x ∷ []) (suc i) xs
-
 -- ---- statements
 
 unfoldable pub assignment_check : Library → Declared → Scope → List Field → Path → Assignment → Judged ⊤
@@ -266,18 +271,24 @@ assignment_check library d scope fields path a = do
   k ← placed (item_at path 0) (reasoned no_such_field (kind_in fields a.field))
   kind_check library d scope k (item_at path 1) a.value
 
-abbrev pub assignments_check : Library → Declared → Scope → List Field → Path → List Assignment → Judged ⊤
-assignments_check library d scope fields path pairs = each_check (λ _. assignment_check library d scope fields) path [] 0 pairs
+-- the assignments from an index on
+abbrev pub assignments_findings : Library → Declared → Scope → List Field → Path → ℕ → List Assignment → List Finding
+assignments_findings library d scope fields path i [] = []
+assignments_findings library d scope fields path i (a ∷ pairs) =
+    found (assignment_check library d scope fields (item_at path i) a) ++ assignments_findings library d scope fields path (suc i) pairs
 
-unfoldable pub update_check : Library → Declared → Scope → Path → (class : ℕ) → Expression → List Assignment → Judged ⊤
-update_check library d scope path class key pairs = do
-  _ ← kind_check library d scope integer_kind (item_at path 2) key
-  assignments_check library d scope (class_at library class).fields (item_at path 3) pairs
+abbrev pub update_findings : Library → Declared → Scope → Path → (class : ℕ) → Expression → List Assignment → List Finding
+update_findings library d scope path class key pairs =
+    found (kind_check library d scope integer_kind (item_at path 2) key)
+    ++ assignments_findings library d scope (class_at library class).fields (item_at path 3) 0 pairs
 
-unfoldable pub create_check : Library → Declared → Scope → Path → (class : ℕ) → Expression → List Assignment → Judged ⊤
-create_check library d scope path class key pairs = do
-  _ ← update_check library d scope path class key pairs
-  if all_assigned (class_at library class).fields pairs then Ok tt else refused (item_at path 3) unset_field
+-- each field is set
+abbrev pub all_set : Path → List Field → List Assignment → Judged ⊤
+all_set path fields pairs = if all_assigned fields pairs then Ok tt else refused path unset_field
+
+abbrev pub create_findings : Library → Declared → Scope → Path → (class : ℕ) → Expression → List Assignment → List Finding
+create_findings library d scope path class key pairs =
+    update_findings library d scope path class key pairs ++ found (all_set (item_at path 3) (class_at library class).fields pairs)
 
 -- the sort of the first argument that is left, and the others
 abbrev pub next_demand : List Sort → Option Sort
@@ -299,10 +310,11 @@ none_missing path [] = Ok tt
 none_missing path (s ∷ ss) = refused path too_few_arguments
 
 -- the arguments of a signal from an index on, of which the first have these sorts
-abbrev pub arguments_check : Library → Declared → Scope → Path → ℕ → List Sort → List Expression → Judged ⊤
-arguments_check library d scope path i ss [] = none_missing path ss
-arguments_check library d scope path i ss (e ∷ es) =
-    argument_check library d scope (next_demand ss) (item_at (item_at path 2) i) e >>= λ _. arguments_check library d scope path (suc i) (later_demands ss) es
+abbrev pub arguments_findings : Library → Declared → Scope → Path → ℕ → List Sort → List Expression → List Finding
+arguments_findings library d scope path i ss [] = found (none_missing path ss)
+arguments_findings library d scope path i ss (e ∷ es) =
+    found (argument_check library d scope (next_demand ss) (item_at (item_at path 2) i) e)
+    ++ arguments_findings library d scope path (suc i) (later_demands ss) es
 
 unfoldable pub emission_check : Library → Declared → Scope → Path → Expression → Judged ⊤
 emission_check library d scope path e = do
@@ -319,50 +331,49 @@ abbrev pub query_known : Path → Option ℕ → Judged ⊤
 query_known path None = refused path unknown_name
 query_known path (Some class) = Ok tt
 
--- one check after another
-unfoldable pub both_check : (first second : Judged ⊤) → Judged ⊤
-both_check first second = do
-  _ ← first
-  second
+-- what a statement itself evaluates or names, where that is one thing
+abbrev pub single_check : Library → Declared → Scope → List (Name × ℕ) → Path → Statement → Judged ⊤
+single_check library d scope queries path (delete class key) = kind_check library d scope integer_kind (item_at path 2) key
+single_check library d scope queries path (emit e) = emission_check library d scope path e
+single_check library d scope queries path (when e then_body else_body) = kind_check library d scope boolean_kind (item_at path 1) e
+single_check library d scope queries path (each x class predicate body) = kind_check library d (with_name x class scope) boolean_kind (item_at path 3) predicate
+single_check library d scope queries path (for_answer x body) = query_known (item_at path 1) (lookup (bytes_eq x) queries)
+single_check library d scope queries path (with_object x class key body) = kind_check library d scope integer_kind (item_at path 3) key
+single_check library d scope queries path (let_value x a body) = value_check library d scope (item_at path 2) a
+single_check library d scope queries path (veto_with e) = emission_check library d scope path e
+single_check library d scope queries path (fire n) = if is_fired d n then Ok tt else refused path not_fired
+single_check library d scope queries path s = Ok tt
 
--- what a statement itself evaluates, and what it names: all but the statements in it
-abbrev pub own_check : Library → Declared → Scope → List (Name × ℕ) → Path → Statement → Judged ⊤
-own_check library d scope queries path (create class key pairs) = create_check library d scope path class key pairs
-own_check library d scope queries path (update class key pairs) = update_check library d scope path class key pairs
-own_check library d scope queries path (delete class key) = kind_check library d scope integer_kind (item_at path 2) key
-own_check library d scope queries path (signal name arguments) = arguments_check library d scope path 0 (signature_of d name) arguments
-own_check library d scope queries path (emit e) = emission_check library d scope path e
-own_check library d scope queries path (when e then_body else_body) = kind_check library d scope boolean_kind (item_at path 1) e
-own_check library d scope queries path (each x class predicate body) = kind_check library d (with_name x class scope) boolean_kind (item_at path 3) predicate
-own_check library d scope queries path (for_answer x body) = query_known (item_at path 1) (lookup (bytes_eq x) queries)
-own_check library d scope queries path (with_object x class key body) = kind_check library d scope integer_kind (item_at path 3) key
-own_check library d scope queries path (let_value x a body) = value_check library d scope (item_at path 2) a
-own_check library d scope queries path (veto_with e) = emission_check library d scope path e
-own_check library d scope queries path (fire n) = if is_fired d n then Ok tt else refused path not_fired
-own_check library d scope queries path s = Ok tt
+-- what a statement itself evaluates and names: all but the statements in it
+abbrev pub own_findings : Library → Declared → Scope → List (Name × ℕ) → Path → Statement → List Finding
+own_findings library d scope queries path (create class key pairs) = create_findings library d scope path class key pairs
+own_findings library d scope queries path (update class key pairs) = update_findings library d scope path class key pairs
+own_findings library d scope queries path (signal name arguments) = arguments_findings library d scope path 0 (signature_of d name) arguments
+own_findings library d scope queries path s = found (single_check library d scope queries path s)
 
 abbrev mutual
   -- the statements in a statement
-  pub inner_check : Library → Declared → Scope → List (Name × ℕ) → Path → Statement → Judged ⊤
-  inner_check library d scope queries path (when e then_body else_body) =
-      both_check (body_check library d scope queries (item_at path 2) 0 then_body) (body_check library d scope queries (item_at path 3) 0 else_body)
-  inner_check library d scope queries path (each x class predicate body) = body_check library d (with_name x class scope) queries (item_at path 4) 0 body
-  inner_check library d scope queries path (for_answer x body) = body_check library d (with_name x (unwrap_or (lookup (bytes_eq x) queries) 0) scope) queries (item_at path 2) 0 body
-  inner_check library d scope queries path (with_object x class key body) = body_check library d (with_name x class scope) queries (item_at path 4) 0 body
-  inner_check library d scope queries path (subtransaction body otherwise) =
-      both_check (body_check library d scope queries (item_at path 1) 0 body) (body_check library d scope queries (item_at path 2) 0 otherwise)
-  inner_check library d scope queries path (let_value x a body) =
-      body_check library d (with_sort x (unwrap_or (aggregate_sort library d scope a) any) scope) queries (item_at path 3) 0 body
-  inner_check library d scope queries path s = Ok tt
+  pub inner_findings : Library → Declared → Scope → List (Name × ℕ) → Path → Statement → List Finding
+  inner_findings library d scope queries path (when e then_body else_body) =
+      body_findings library d scope queries (item_at path 2) 0 then_body ++ body_findings library d scope queries (item_at path 3) 0 else_body
+  inner_findings library d scope queries path (each x class predicate body) = body_findings library d (with_name x class scope) queries (item_at path 4) 0 body
+  inner_findings library d scope queries path (for_answer x body) = body_findings library d (with_name x (unwrap_or (lookup (bytes_eq x) queries) 0) scope) queries (item_at path 2) 0 body
+  inner_findings library d scope queries path (with_object x class key body) = body_findings library d (with_name x class scope) queries (item_at path 4) 0 body
+  inner_findings library d scope queries path (subtransaction body otherwise) =
+      body_findings library d scope queries (item_at path 1) 0 body ++ body_findings library d scope queries (item_at path 2) 0 otherwise
+  inner_findings library d scope queries path (let_value x a body) =
+      body_findings library d (with_sort x (unwrap_or (aggregate_sort library d scope a) any) scope) queries (item_at path 3) 0 body
+  inner_findings library d scope queries path s = []
 
   -- the statements of a body from an index on, in the scope, and with these classes of the rule's queries
-  pub body_check : Library → Declared → Scope → List (Name × ℕ) → Path → ℕ → Body → Judged ⊤
-  body_check library d scope queries path i empty = Ok tt
-  body_check library d scope queries path i (s then rest) =
-      both_check (own_check library d scope queries (item_at path i) s) (inner_check library d scope queries (item_at path i) s) >>= λ _. body_check library d scope queries path (suc i) rest
+  pub body_findings : Library → Declared → Scope → List (Name × ℕ) → Path → ℕ → Body → List Finding
+  body_findings library d scope queries path i empty = []
+  body_findings library d scope queries path i (s then rest) =
+      own_findings library d scope queries (item_at path i) s
+      ++ (inner_findings library d scope queries (item_at path i) s ++ body_findings library d scope queries path (suc i) rest)
 
-abbrev pub statement_check : Library → Declared → Scope → List (Name × ℕ) → Path → Statement → Judged ⊤
-statement_check library d scope queries path s = both_check (own_check library d scope queries path s) (inner_check library d scope queries path s)
+abbrev pub statement_findings : Library → Declared → Scope → List (Name × ℕ) → Path → Statement → List Finding
+statement_findings library d scope queries path s = own_findings library d scope queries path s ++ inner_findings library d scope queries path s
 
 -- ---- rules, libraries and units
 
@@ -374,54 +385,43 @@ first_scope columns = record { columns = Some columns; rows = []; values = [] }
 abbrev pub test_check : Library → Declared → Scope → Path → Query → Judged ⊤
 test_check library d scope path q = kind_check library d (with_name q.name q.class scope) boolean_kind path q.predicate
 
--- an entry, and the scope after it
-unfoldable pub query_check : Library → Declared → Scope → Path → Query → Judged Scope
-query_check library d scope path q = do
-  _ ← test_check library d scope (item_at path 2) q
-  Ok (with_name q.name q.class scope)
+abbrev pub entry_check : Library → Declared → Scope → Path → Entry → Judged ⊤
+entry_check library d scope path (query_entry q) = test_check library d scope (item_at path 2) q
+entry_check library d scope path (no_entry q) = test_check library d scope (item_at path 3) q
+entry_check library d scope path (let_entry x a) = value_check library d scope (item_at path 2) a
 
-unfoldable pub no_check : Library → Declared → Scope → Path → Query → Judged Scope
-no_check library d scope path q = do
-  _ ← test_check library d scope (item_at path 3) q
-  Ok scope
+-- the scope after an entry; the value of a refused aggregate has any sort
+abbrev pub scope_then : Library → Declared → Scope → Entry → Scope
+scope_then library d scope e = with_entries library d scope (e ∷ [])
 
-unfoldable pub let_check : Library → Declared → Scope → Path → Name → Aggregate → Judged Scope
-let_check library d scope path x a = do
-  s ← aggregate_check library d scope (item_at path 2) a
-  Ok (with_sort x s scope)
-
-abbrev pub entry_check : Library → Declared → Scope → Path → Entry → Judged Scope
-entry_check library d scope path (query_entry q) = query_check library d scope path q
-entry_check library d scope path (no_entry q) = no_check library d scope path q
-entry_check library d scope path (let_entry x a) = let_check library d scope path x a
-
--- the entries of a condition from an index on, and the scope after them
-abbrev pub entries_check : Library → Declared → Path → Scope → ℕ → List Entry → Judged Scope
-entries_check library d path scope i [] = Ok scope
-entries_check library d path scope i (e ∷ es) = entry_check library d scope (item_at path i) e >>= λ inner. entries_check library d path inner (suc i) es
+-- the entries of a condition from an index on
+abbrev pub entries_findings : Library → Declared → Path → Scope → ℕ → List Entry → List Finding
+entries_findings library d path scope i [] = []
+entries_findings library d path scope i (e ∷ es) =
+    found (entry_check library d scope (item_at path i) e) ++ entries_findings library d path (scope_then library d scope e) (suc i) es
 
 -- the condition and the action of a rule
-unfoldable pub parts_check : Library → Declared → Columns → Path → Rule → Judged ⊤
-parts_check library d columns path rule = do
-  scope ← entries_check library d (item_at path 3) (first_scope columns) 0 rule.condition
-  body_check library d scope (query_classes rule.condition) (item_at path 5) 0 rule.action
+abbrev pub parts_findings : Library → Declared → Columns → Path → Rule → List Finding
+parts_findings library d columns path rule =
+    entries_findings library d (item_at path 3) (first_scope columns) 0 rule.condition
+    ++ body_findings library d (with_entries library d (first_scope columns) rule.condition) (query_classes rule.condition) (item_at path 5) 0 rule.action
 
-abbrev pub rule_check : Library → Declared → (fired : Bool) → Path → Rule → Judged ⊤
-rule_check library d fired path rule = parts_check library d (columns_by fired rule.event) path rule
+abbrev pub rule_findings : Library → Declared → (fired : Bool) → Path → Rule → List Finding
+rule_findings library d fired path rule = parts_findings library d (columns_by fired rule.event) path rule
 
 -- the rules from a number on
-abbrev pub rules_check : Library → Declared → Path → ℕ → List Rule → Judged ⊤
-rules_check library d path n [] = Ok tt
-rules_check library d path n (rule ∷ rules) = rule_check library d (is_fired d n) (item_at path n) rule >>= λ _. rules_check library d path (suc n) rules
+abbrev pub rules_findings : Library → Declared → Path → ℕ → List Rule → List Finding
+rules_findings library d path n [] = []
+rules_findings library d path n (rule ∷ rules) = rule_findings library d (is_fired d n) (item_at path n) rule ++ rules_findings library d path (suc n) rules
 
 abbrev pub rules_member : Name
 rules_member = codes "rules"
 
--- by its path in the script
-abbrev pub library_check : Library → Declared → Judged ⊤
-library_check library d = rules_check library d (under_root rules_member) 0 library.rules
+-- by their paths in the script
+abbrev pub library_findings : Library → Declared → List Finding
+library_findings library d = rules_findings library d (under_root rules_member) 0 library.rules
 
--- by its path in the body
-abbrev pub unit_check : Library → Declared → Unit → Judged ⊤
-unit_check library d (transaction now body) = body_check library d no_scope [] [] 0 body
-unit_check library d (moment t) = Ok tt
+-- by their paths in the body
+abbrev pub unit_findings : Library → Declared → Unit → List Finding
+unit_findings library d (transaction now body) = body_findings library d no_scope [] [] 0 body
+unit_findings library d (moment t) = []

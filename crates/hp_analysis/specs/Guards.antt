@@ -1,11 +1,11 @@
 -- Guards: rules that may veto; and which of them may let pass what they are to veto, since arithmetic ends them.
-use Rattle.std.specs.Prelude.{ℕ, Bool, true, false, not, ◌&&◌, ◌||◌, IsTrue, ⊤, Option, Some, None, is_none, if◌then◌else◌, ◌≡◌}
+use Rattle.std.specs.Prelude.{Bool, true, false, not, ◌&&◌, ◌||◌, IsTrue, ⊤, Option, Some, None, is_none, if◌then◌else◌, ◌≡◌}
 use Rattle.std.specs.List.{AllByRecursion}
 use Rattle.hp_model.specs.Values.{Cause}
 use Rattle.hp_model.specs.Rules.{Statement, when, each, for_answer, with_object, subtransaction, let_value, veto, veto_with, Body, empty, ◌then◌, Rule, Library, rule_at}
 use Rattle.hp_model.specs.Tree.{Node, sub_node, fire_node, act_node}
 use Rattle.hp_model.specs.Ranges.{IsFitLibrary, unit_fits}
-use Rattle.hp_model.specs.Cascade.{Unit, Script, evaluate}
+use Rattle.hp_model.specs.Cascade.{Script, evaluate}
 use Rattle.hp_model.specs.Endings.{Ended, whole_transaction, inner_node, condition_of, ReportHasOnly}
 use Rattle.hp_model.specs.Kinds.{Declared, is_condition_calm, is_body_calm, library_kinded, unit_kinded, NotOfKinds, is_arithmetic}
 

@@ -1,5 +1,5 @@
 -- Which rules a script may ever install, and the library in which the others do nothing.
-use Rattle.std.specs.Prelude.{ℕ, Bool, List, length, map, Option, Some, ◌≡◌, if◌then◌else◌}
+use Rattle.std.specs.Prelude.{ℕ, Bool, List, length, map, Some, ◌≡◌, if◌then◌else◌}
 use Rattle.std.specs.List.{AllByRecursion}
 use Rattle.hp_model.specs.Rules.{Rule, Library}
 use Rattle.hp_model.specs.Cascade.{Unit, Script, evaluate}

@@ -1,5 +1,6 @@
 -- What the types of `kinds` stand for in the definitions, and the results of its checks.
-use Rattle.std.specs.Prelude.{Bool, true, false, ◌≡◌, ⊤, Result, Ok, Err}
+use Rattle.std.specs.Prelude.{◌≡◌, ⊤, List, map, ◌++◌, Result, Ok, Err}
+use Rattle.std.specs.Global.{Vec}
 use Rattle.hp_model.specs.Kinds as K
 use Rattle.hp_value.specs.Mapped.{kind}
 use Rattle.hp_rule.specs.Places.{path}
@@ -62,8 +63,9 @@ Gives f (Err e) check = Fails e check
 abbrev pub Passes : Result ⊤ KindError → Judged ⊤ → Type 0
 Passes done check = Gives (λ u. u) done check
 
--- the check passes exactly if the judgement holds, unless memory ran out
-abbrev pub Judges : Result ⊤ KindError → Bool → Type 0
-Judges (Ok u) holds = holds ≡ true
-Judges (Err (Found f)) holds = holds ≡ false
-Judges (Err Memory) holds = ⊤
+abbrev pub findings : List Finding → List F.Finding
+findings = map finding
+
+-- these were added to the findings
+abbrev pub Notes : Vec Finding → Vec Finding → List F.Finding → Type 0
+Notes old new fs = findings new.items ≡ findings old.items ++ fs

@@ -12,12 +12,11 @@ pub mod Openings
 pub mod Measures
 pub mod Declarations
 pub mod Findings
-pub mod FirstFinding
-pub mod FoundFirst
+pub mod KindFindings
+pub mod FoundKinds
 pub mod KindLaws
 pub mod Kinded
 pub mod Parts
-pub mod Placed
 pub mod Places
 pub mod Readings
 pub mod Scopes

@@ -1,8 +1,7 @@
 -- How far from 0 the values of calm expressions are, in one pass: what the program computes.
-use Rattle.std.specs.Prelude.{ℕ, ◌+◌, ◌*◌, ◌^◌, ◌≤◌, ◌&&◌, ⊤, Bool, Option, Some, None, if◌then◌else◌}
-use Rattle.hp_model.specs.Values.{Value, integer}
-use Rattle.hp_model.specs.Expressions.{Arithmetic, plus, minus, times, quotient, remainder, Expression, constant, arithmetic, negated, inverted, both, either, compared, occurrence_count}
-use Rattle.hp_model.specs.Kinds.{bounded_by, known_divisor, quotient_bound, magnitude, is_small, is_nonzero, is_calm}
+use Rattle.std.specs.Prelude.{ℕ, ◌+◌, ◌*◌, ◌^◌, ◌≤◌, ◌&&◌, ⊤, Option, Some, None, if◌then◌else◌}
+use Rattle.hp_model.specs.Expressions.{Arithmetic, plus, minus, times, quotient, remainder, Expression, arithmetic, negated, inverted, both, either, compared, occurrence_count}
+use Rattle.hp_model.specs.Kinds.{bounded_by, known_divisor, quotient_bound, magnitude, is_small, is_nonzero}
 
 -- a bound, if it is small
 abbrev pub small : Option ℕ → Option (Option ℕ)

@@ -1,16 +1,16 @@
 -- What stands at a place of a library or a body, with what is known there; and that it is rightly refused.
-use Rattle.std.specs.Prelude.{◌⊎◌, ℕ, zero, suc, Bool, true, false, ◌≡◌, ⊤, List, [], ◌∷◌, take, Option, Some, None, Ok, Err, bytes_eq, slice_get, unwrap_or}
-use Rattle.std.specs.List.{slice_index_or}
+use Rattle.std.specs.Prelude.{◌⊎◌, ℕ, zero, suc, Bool, true, false, ◌≡◌, List, [], ◌∷◌, take, Option, Some, None, bytes_eq, slice_get, unwrap_or}
+use Rattle.std.specs.List.{slice_index_or, AllByRecursion}
 use Rattle.std.specs.Map.{lookup}
 use Rattle.hp_model.specs.Values.{Name, integer_kind, boolean_kind, text_kind, Field}
 use Rattle.hp_model.specs.Expressions.{Expression, arithmetic, negated, inverted, both, either, compared}
-use Rattle.hp_model.specs.Rules.{Aggregate, count_over, sum_over, least_over, greatest_over, next_key, single, Entry, query_entry, no_entry, let_entry}
+use Rattle.hp_model.specs.Rules.{Aggregate, count_over, sum_over, least_over, greatest_over, single, Entry, query_entry, no_entry, let_entry}
 use Rattle.hp_model.specs.Rules.{Assignment, Statement, create, update, delete, signal, emit, when, each, for_answer, with_object, subtransaction, let_value, veto_with, Body, empty, ◌then◌, Rule, Library, class_at}
 use Rattle.hp_model.specs.Firing.{kind_in}
 use Rattle.hp_model.specs.Cascade.{Unit, transaction, moment}
 use Rattle.hp_model.specs.Refusals.{to_member, to_item, Path}
 use Rattle.hp_model.specs.Kinds.{Sort, only, any, Declared, is_fired, Columns, columns_by, Scope, with_name, with_sort, no_scope, is_only, all_assigned, aggregate_sort, with_entries, query_classes, sort_of, statement_kinded}
-use Rattle.hp_analysis.specs.Findings.{Wanted, of_kind, of_known_kind, of_ordered_kind, Reason, unsuited, Finding, Judged, first_scope}
+use Rattle.hp_analysis.specs.Findings.{Wanted, of_kind, of_known_kind, of_ordered_kind, Reason, unsuited, Finding, first_scope}
 
 -- ---- parts
 
@@ -186,6 +186,5 @@ IsRefused library d (query_part queries x) reason = lookup (bytes_eq x) queries 
 abbrev pub IsPlaced : Library → Declared → (Path → Option Part) → Finding → Type 0
 IsPlaced library d parts f = (part : Part) × (parts f.path ≡ Some part) × IsRefused library d part f.reason
 
-abbrev pub IsPlacedIn : Library → Declared → (Path → Option Part) → Judged ⊤ → Type 0
-IsPlacedIn library d parts (Ok u) = ⊤
-IsPlacedIn library d parts (Err f) = IsPlaced library d parts f
+abbrev pub ArePlaced : Library → Declared → (Path → Option Part) → List Finding → Type 0
+ArePlaced library d parts = AllByRecursion (IsPlaced library d parts)

@@ -88,11 +88,14 @@ sort_there s path e = F.expression_check (library s) (declared s) (scope_in s) p
 abbrev pub kind_there : Scope → Kind → Path → E.Expression → Judged (Unit {0})
 kind_there s k path e = F.kind_check (library s) (declared s) (scope_in s) k path e
 
-abbrev pub own_there : Scope → Path → R.Statement → Judged (Unit {0})
-own_there s path statement = F.own_check (library s) (declared s) (scope_in s) (queries s) path statement
+abbrev pub single_there : Scope → Path → R.Statement → Judged (Unit {0})
+single_there s path statement = F.single_check (library s) (declared s) (scope_in s) (queries s) path statement
 
-abbrev pub inner_there : Scope → Path → R.Statement → Judged (Unit {0})
-inner_there s path statement = F.inner_check (library s) (declared s) (scope_in s) (queries s) path statement
+abbrev pub own_there : Scope → Path → R.Statement → List F.Finding
+own_there s path statement = F.own_findings (library s) (declared s) (scope_in s) (queries s) path statement
 
-abbrev pub body_there : Scope → Path → R.Body → Judged (Unit {0})
-body_there s path body = F.body_check (library s) (declared s) (scope_in s) (queries s) path 0 body
+abbrev pub inner_there : Scope → Path → R.Statement → List F.Finding
+inner_there s path statement = F.inner_findings (library s) (declared s) (scope_in s) (queries s) path statement
+
+abbrev pub body_there : Scope → Path → R.Body → List F.Finding
+body_there s path body = F.body_findings (library s) (declared s) (scope_in s) (queries s) path 0 body

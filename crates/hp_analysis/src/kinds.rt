@@ -1,12 +1,12 @@
 //! Kinds: that each value is used as what it is, read off the rule base alone.
 
 mod aggregate;
+pub(crate) mod all;
 pub(crate) mod check;
 mod columns;
 pub(crate) mod declaration;
 mod expr;
 pub(crate) mod finding;
-pub(crate) mod first;
 pub(crate) mod infer;
 mod part;
 mod rows;

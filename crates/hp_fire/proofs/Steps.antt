@@ -251,6 +251,20 @@ module _ {A : Type 0} {library : Library} {work : A → Work} {whole : Work} whe
   pub loop_ends : {left : List A} {v w : Seeing} {so_far : Answer} → left ≡ [] → Loop library work whole left v w so_far → Runs library whole v w so_far
   loop_ends {left} {v} {w} {so_far} none l = loop_end library work whole (subst (λ xs. Loop library work whole xs v w so_far) none l)
 
+-- a list of one
+pub only_runs : {A : Type 0} {library : Library} (work : A → Work) (whole : Work) (x : A) {v w : Seeing} {a : Answer} → ((S : State) → whole S ≡ for_each (x ∷ []) work S) → Runs library (work x) v w a → Runs library whole v w a
+only_runs {library = library} work whole x {v} {w} {a} same r = by (is_done a.end) refl
+  where
+    by : (b : Bool) → is_done a.end ≡ b → Runs library whole v w a
+    by true e = loop_end library work whole (loop_more library work whole (done_if a.end e) (loop_begin library work whole (x ∷ []) v same) r)
+    by false e = loop_halt library work whole e (loop_begin library work whole (x ∷ []) v same) r
+
+-- a body of one statement
+pub lone_runs : {library : Library} (level : Level) (context : Context) (ss : List Stmt) (s : Stmt) {v w : Seeing} {a : Answer} → ss ≡ s ∷ [] → Runs library (run_statement (statement s) level context) v w a → Runs library (run_body (body_in ss) level context) v w a
+lone_runs level context ss s is r =
+    only_runs (λ x. run_statement (statement x) level context) (run_body (body_in ss) level context) s
+    (λ S. body_each level context ss S ∙ ap (λ xs. for_each xs (λ x. run_statement (statement x) level context) S) is) r
+
 some_of : (o : Option Veto) → is_some o ≡ true → (r : Veto) × (o ≡ Some r)
 some_of None h = cc
 some_of (Some r) h = (r, refl)

@@ -1,6 +1,6 @@
 -- Lemmas on mapped trees and courses.
 use Rattle.std.proofs.Common.{◌≡◌, refl, ap, ◌∙◌, List, [], ◌∷◌, ◌++◌, append_assoc, append-nil}
-use Rattle.hp_model.specs.Tree.{Items, append}
+use Rattle.hp_model.specs.Tree.{Items, no_items, append}
 use Rattle.hp_tree.specs.declared.node.Item.{Item}
 use Rattle.hp_tree.specs.declared.node.Item.TheVariants.{Operation as AnOperation, Emit, Node' as ANode}
 use Rattle.hp_tree.specs.Mapped.{before, items_in}
@@ -17,6 +17,10 @@ before-append (ANode what end shape all) rest more = refl
 pub items-append : (xs ys : List Item) → items_in (xs ++ ys) ≡ append (items_in xs) (items_in ys)
 items-append [] ys = refl
 items-append (i ∷ xs) ys = ap (before i) (items-append xs ys) ∙ before-append i (items_in xs) (items_in ys)
+
+-- an item before the items of an answer
+pub item_first : (i : Item) (a : Answer) → record { end = a.end; queued = a.queued; detached = a.detached; items = before i a.items } ≡ A.followed (A.tells (items_in (i ∷ []))) a
+item_first i a k = record { end = a.end; queued = a.queued; detached = a.detached; items = before-append i no_items a.items k }
 
 -- one firing after another
 pub firings_more : (a : Answer) (f : FiringAnswer) (fs : List FiringAnswer) → with_firings (with_firings a (f ∷ [])) fs ≡ with_firings a (f ∷ fs)

@@ -19,7 +19,7 @@ use crate::attempting::attempt_on;
 use crate::context::Context;
 use crate::course::{Course, GroupOutcome};
 use crate::engine::Engine;
-use crate::settling::settled;
+use crate::halting::or_aborted;
 use crate::speculate::{Effort, Gate, Group, NoGate, Past};
 use hp_attempt::{Attempt, Outcome};
 use hp_ops::trigger;
@@ -67,7 +67,7 @@ impl<R: Threads + Sync> Engine<'_, R> {
     {
         let tasks = trigger(self.alloc, view, self.lib, prim, depth, time);
         let result = self.start(view, tasks, depth);
-        settled(self.alloc, result)
+        or_aborted(self.alloc, result)
     }
 
     /// Fires a task on the view, as a subtransaction.
@@ -77,7 +77,7 @@ impl<R: Threads + Sync> Engine<'_, R> {
         ensures { IfOk result (λ o. RunsFiring (library self.now.lib.now)
             (λ S. fire_task (library self.now.lib.now) S (task_of task.now)) view.old view.new (firing_of o)) }
     {
-        self.firing(view, task)
+        self.fire_task(view, task)
     }
 
     /// Fires the tasks of a group on the view, as siblings. If `stop_at_veto` is set, nothing fires after a vetoed
@@ -118,7 +118,7 @@ impl<R: Threads + Sync> Engine<'_, R> {
         >
             requires { IsSync R.row }
             ensures { IfOk result (TaskFires self.entry.now.lib.now task.now view.old view.new) }
-        { self.inside(effort, width).firing(view, task) };
+        { self.inside(effort, width).fire_task(view, task) };
         let group = Group {
             rt: self.rt,
             alloc: self.alloc,
@@ -183,6 +183,6 @@ pub fn run_task<R: Threads + Sync>(
     let past = Past::new(alloc, lib, width);
     let engine = Engine::new(rt, alloc, lib, width, &past);
     let mut view = View::new(alloc, snapshot)?;
-    let outcome = engine.firing(&mut view, task)?;
+    let outcome = engine.fire_task(&mut view, task)?;
     attempt_on(view, task, outcome)
 }

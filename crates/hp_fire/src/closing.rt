@@ -118,7 +118,8 @@ fn as_part(alloc: Global, what: What, course: Course, after: End) -> Result<Cour
     } = course;
     let queued = queued_after(alloc, &end, queued);
     let detached = detached_after(alloc, &end, detached)?;
-    let mut around = Vec::with_capacity(alloc, 1)?;
+    // With space for the operation that set it off, which is put before it.
+    let mut around = Vec::with_capacity(alloc, 2)?;
     around.push_reserved(Item::Node(Node {
         what,
         end: ending(end),

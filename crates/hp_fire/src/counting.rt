@@ -47,7 +47,10 @@ impl<'a> Counting<'a> {
 
     // Adds the cost of the rows, for each of which this number of operators runs.
     fn add_rows(&self, operators: u64, effort: &Effort) {
-        effort.add(self.rows.saturating_mul(operators.saturating_add(ROW)));
+        // Most conditions look at no row, and to add takes a locked instruction.
+        if self.rows > 0 {
+            effort.add(self.rows.saturating_mul(operators.saturating_add(ROW)));
+        }
     }
 
     fn count_rows(&mut self, rows: usize)

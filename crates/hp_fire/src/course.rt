@@ -1,9 +1,9 @@
 //! The results of statements, signals and groups.
 
-ghost use Rattle.std.specs.Prelude.{◌≡◌, ◌++◌, IsTrue, IfOk, OnOk, [], length};
-ghost use Rattle.hp_model.specs.Answers.{ended, followed, is_done};
+ghost use Rattle.std.specs.Prelude.{◌≡◌, ◌++◌, IsTrue, IfOk, OnOk, [], length, option_to_list};
+ghost use Rattle.hp_model.specs.Answers.{ended, followed, is_done, tells};
 ghost use Rattle.hp_model.specs.Tree.{no_items};
-ghost use Rattle.hp_tree.specs.Mapped.{before};
+ghost use Rattle.hp_tree.specs.Mapped.{before, items_in};
 ghost use Rattle.hp_fire.specs.Mapped.{course, end};
 ghost use Rattle.hp_fire.specs.Mapped as mapped;
 
@@ -84,13 +84,13 @@ impl Course {
         }
     }
 
-    /// A course of one item, with space for `more` items after it.
-    pub(crate) fn of_item(alloc: Global, item: Item, more: usize) -> Result<Course, AllocError>
+    /// A course of one item.
+    pub(crate) fn of_item(alloc: Global, item: Item) -> Result<Course, AllocError>
         ensures { IfOk result (λ c. course c
             ≡ record { end = end End.Done; queued = []; detached = []; items = before item no_items }) }
     {
-        let mut items = Vec::with_capacity(alloc, more.saturating_add(1))?;
-        items.push(item)?;
+        let mut items = Vec::with_capacity(alloc, 1)?;
+        items.push_reserved(item);
         Ok(Course {
             end: End::Done,
             queued: Vec::new(alloc),
@@ -115,6 +115,20 @@ impl Course {
             × (self.now.items.items ≡ []) }
     {
         self.queued.is_empty() && self.detached.is_empty() && self.items.is_empty()
+    }
+
+    /// Puts an item, if there is one, before the others. After an error the course is as before.
+    pub(crate) fn begin_with(&mut self, item: Option<Item>) -> Result<(), AllocError>
+        ensures { OnOk result (course self.new
+            ≡ followed (tells (items_in (option_to_list item))) (course self.old)) }
+    {
+        let Some(item) = item else {
+            return Ok(());
+        };
+        // Exactly, since a report keeps the list.
+        self.items.reserve_exact(1)?;
+        self.items.insert(0, item)?;
+        Ok(())
     }
 
     /// Appends the course that followed this one. After an error a part may have been added.

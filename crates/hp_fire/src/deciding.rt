@@ -112,12 +112,12 @@ impl<R> Engine<'_, R> {
         match verdict {
             Verdict::Satisfied(found) => self.follow_satisfied(task, found),
             Verdict::Unsatisfied => {
-                let what = fired(task, ConditionEnd::WithoutAction);
+                let what = node_for(task, ConditionEnd::WithoutAction);
                 let outcome = without_effects(self.alloc, what, None)?;
                 Ok(Decision::Over(outcome))
             }
             Verdict::Faulty(cause) => {
-                let what = fired(task, ConditionEnd::WithFault(cause));
+                let what = node_for(task, ConditionEnd::WithFault(cause));
                 let veto = fault_veto(self.alloc, self.lib, task.rule)?;
                 let outcome = without_effects(self.alloc, what, veto)?;
                 Ok(Decision::Over(outcome))
@@ -132,7 +132,7 @@ impl<R> Engine<'_, R> {
     {
         match action_coupling(self.lib, task.rule) {
             Coupling::Immediate => {
-                let what = fired(task, ConditionEnd::WithAction);
+                let what = node_for(task, ConditionEnd::WithAction);
                 Ok(Decision::Acts(what, Found::Own(found)))
             }
             place => {
@@ -144,7 +144,7 @@ impl<R> Engine<'_, R> {
 }
 
 /// The node of a condition's firing.
-fn fired(task: &Task, condition: ConditionEnd) -> What
+fn node_for(task: &Task, condition: ConditionEnd) -> What
     ensures { what_of result ≡ fire_node task.now.rule (coupling task.now.place) (condition_end condition) }
 {
     What::Fire {
@@ -155,11 +155,13 @@ fn fired(task: &Task, condition: ConditionEnd) -> What
 }
 
 /// A firing without effects, which has only its node and perhaps a veto.
+#[inline(never)]
 fn without_effects(alloc: Global, what: What, veto: Option<Veto>) -> Result<Outcome, AllocError>
     ensures { let veto = option_map veto_in veto in
         IfOk result (λ o. firing o ≡ standing (what_of what) veto) }
 {
-    let mut tree = Vec::with_capacity(alloc, 1)?;
+    // With space for the operation that set it off, which is put before it.
+    let mut tree = Vec::with_capacity(alloc, 2)?;
     tree.push_reserved(Item::Node(Node {
         what,
         end: Ending::Committed,
@@ -174,6 +176,7 @@ fn without_effects(alloc: Global, what: What, veto: Option<Veto>) -> Result<Outc
 }
 
 /// The firing of a satisfied condition whose action is queued or detached.
+#[inline(never)]
 fn later(
     alloc: Global,
     task: &Task,
@@ -195,7 +198,7 @@ fn later(
         occurrence,
     };
     let placed = place_tasks(alloc, one_task(alloc, action)?)?;
-    let mut outcome = without_effects(alloc, fired(task, ConditionEnd::WithLaterAction), None)?;
+    let mut outcome = without_effects(alloc, node_for(task, ConditionEnd::WithLaterAction), None)?;
     outcome.queued = placed.queued;
     outcome.detached = placed.detached;
     Ok(outcome)

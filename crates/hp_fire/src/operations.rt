@@ -1,31 +1,33 @@
 //! The part of statements before their event is signalled.
 
-ghost use Rattle.std.specs.Prelude.{◌≡◌, IfOk, map};
+ghost use Rattle.std.specs.Prelude.{◌≡◌, IfOk, map, option_to_list};
 ghost use Rattle.hp_model.specs.Tree.{without_detachments};
 ghost use Rattle.hp_model.specs.Transactions.{Work};
 ghost use Rattle.hp_model.specs.Rules as rules;
 ghost use Rattle.hp_model.specs.Firing as model;
 ghost use Rattle.hp_model.specs.Firing.{Level, level_at, values_of, boolean_value};
 ghost use Rattle.hp_model.specs.Conditions as conditions;
-ghost use Rattle.hp_model.specs.Answers.{tells};
 ghost use Rattle.hp_model.specs.Operations.{operation_items};
 ghost use Rattle.hp_value.specs.Mapped.{Meets, environment, expression, keyed_row, primitive, rule_operation};
 ghost use Rattle.hp_value.specs.Mapped.{value as value_of};
 ghost use Rattle.hp_query.specs.Mapped.{aggregate as aggregate_of, keyed_rows};
 ghost use Rattle.hp_rule.specs.Mapped.{assignment, library, task as task_of};
+ghost use Rattle.hp_tree.specs.Mapped.{items_in};
 ghost use Rattle.hp_view.specs.Seeing.{Seeing};
-ghost use Rattle.hp_fire.specs.Mapped.{context as context_in, course as course_in};
+ghost use Rattle.hp_fire.specs.Mapped.{context as context_in};
 ghost use Rattle.hp_fire.specs.Runs.{AreReady, Steps, Looks, Made};
 ghost use Rattle.hp_fire.specs.Signals.{signal_of};
 ghost use Rattle.hp_fire.specs.Statements.{OperationIsMade, TasksStart};
 
 use crate::context::Context;
 use crate::counting::Counting;
-use crate::course::{Course, End};
+use crate::course::Course;
 use crate::engine::Engine;
+use crate::halting::or_aborted;
 use crate::placing::one_task;
-use crate::settling::settled;
-use hp_ops::{create, delete, find_object, fire, given_values, new_object, set_rule, update};
+use hp_ops::{
+    GivenValues, create, delete, find_object, fire, given_values, new_object, set_rule, update,
+};
 use hp_query::{Aggregate, let_value, selected_rows};
 use hp_rule::{Assignment, RuleOperation, Task};
 use hp_tree::{Item, Operation};
@@ -55,7 +57,8 @@ pub(crate) struct Binding<'a> {
 
 impl<R> Engine<'_, R> {
     /// Creates the object of a statement `create`. The answer is the occurrence to signal.
-    pub(crate) fn created(
+    #[inline(never)]
+    pub(crate) fn create_object(
         &self,
         view: &mut View,
         context: &Context<'_>,
@@ -71,7 +74,8 @@ impl<R> Engine<'_, R> {
     }
 
     /// Sets the fields of a statement `update`. The answer is the occurrence to signal.
-    pub(crate) fn updated(
+    #[inline(never)]
+    pub(crate) fn update_object(
         &self,
         view: &mut View,
         context: &Context<'_>,
@@ -82,12 +86,22 @@ impl<R> Engine<'_, R> {
         ensures { let statement = rules.update class (expression key.now) (map assignment pairs.now) in
             OperationIsMade self.now.lib.now context.now statement view.old view.new result }
     {
-        let (key, given) = given_values(self.alloc, self.lib, class, &context.env, key, pairs)?;
+        let mut given = GivenValues::new(self.alloc);
+        let key = given_values(
+            self.alloc,
+            self.lib,
+            class,
+            &context.env,
+            key,
+            pairs,
+            &mut given,
+        )?;
         update(self.alloc, view, class, key, &given)
     }
 
     /// Deletes the object of a statement `delete`. The answer is the occurrence to signal.
-    pub(crate) fn deleted(
+    #[inline(never)]
+    pub(crate) fn delete_object(
         &self,
         view: &mut View,
         context: &Context<'_>,
@@ -102,7 +116,8 @@ impl<R> Engine<'_, R> {
     }
 
     /// Installs, enables, disables or removes a rule.
-    pub(crate) fn rule_changed(
+    #[inline(never)]
+    pub(crate) fn change_rule(
         &self,
         view: &mut View,
         operation: RuleOperation,
@@ -114,12 +129,13 @@ impl<R> Engine<'_, R> {
     {
         set_rule(self.alloc, view, self.lib, operation, rule)?;
         let item = Item::Operation(Operation::OnRule { operation, rule });
-        let course = Course::of_item(self.alloc, item, 0)?;
+        let course = Course::of_item(self.alloc, item)?;
         Ok(course)
     }
 
-    /// The task of a statement `fire`, as a list.
-    pub(crate) fn fired(
+    /// Makes the task of a statement `fire`, as a list.
+    #[inline(never)]
+    pub(crate) fn make_task(
         &self,
         view: &mut View,
         rule: RuleNo,
@@ -136,8 +152,8 @@ impl<R> Engine<'_, R> {
         Ok(tasks)
     }
 
-    /// All rows of a statement `each`.
-    pub(crate) fn selected(
+    /// Reads all rows of a statement `each`.
+    pub(crate) fn select_rows(
         &self,
         view: &mut View,
         context: &Context<'_>,
@@ -218,8 +234,9 @@ pub(crate) fn is_true(alloc: Global, env: &Env<'_>, expr: &Expr) -> Result<bool,
     Ok(value.as_bool()?)
 }
 
-/// The occurrence of a statement `signal`.
-pub(crate) fn signalled(
+/// Makes the occurrence of a statement `signal`.
+#[inline(never)]
+pub(crate) fn make_signal(
     alloc: Global,
     env: &Env<'_>,
     name: &str,
@@ -238,62 +255,57 @@ pub(crate) fn signalled(
 }
 
 /// Emits the value of a statement `emit`.
-pub(crate) fn emitted(alloc: Global, context: &Context<'_>, expr: &Expr) -> Result<Course, Halt>
+#[inline(never)]
+pub(crate) fn emit(alloc: Global, context: &Context<'_>, expr: &Expr) -> Result<Course, Halt>
     ensures { (view : Seeing) (lib : rules.Library) (level : Level)
         → let statement = rules.emit (expression expr.now) in
         Steps lib (model.run_statement statement level (context_in context.now)) view view result }
 {
     let value = expr.eval(alloc, &context.env)?;
-    let course = Course::of_item(alloc, Item::Emit(value), 0)?;
+    let course = Course::of_item(alloc, Item::Emit(value))?;
     Ok(course)
 }
 
 /// The course of a statement that made an occurrence and signalled it: its operation, if it is one, and then what the
 /// signal did. A cause for which the signal ended aborts the transaction.
-pub(crate) fn operated_course(
+pub(crate) fn event_course(
     alloc: Global,
-    prim: &Prim,
+    prim: Prim,
     given: Result<Course, Halt>,
 ) -> Result<Course, Halt>
     ensures { (library : rules.Library) (level : Level) (work : Work) (old middle new : Seeing)
-        → Made library level work old middle (primitive prim.now)
-        → Steps library (model.signal_in level (primitive prim.now)) middle new given
+        → Made library level work old middle (primitive prim)
+        → Steps library (model.signal_in level (primitive prim)) middle new given
         → Steps library work old new result }
 {
-    let mut course = operation_course(alloc, prim)?;
-    let more = settled(alloc, given)?;
-    course.join(more)?;
+    let operation = operation_item(prim);
+    let mut course = or_aborted(alloc, given)?;
+    course.begin_with(operation)?;
     Ok(course)
 }
 
-/// The course of an operation. An occurrence that isn't an operation gives an empty one.
-fn operation_course(alloc: Global, prim: &Prim) -> Result<Course, AllocError>
-    ensures { IfOk result (λ c. course_in c ≡ tells (without_detachments (operation_items (primitive prim.now)))) }
+/// The item of an operation. An occurrence that isn't an operation has none.
+fn operation_item(prim: Prim) -> Option<Item>
+    ensures { items_in (option_to_list result) ≡ without_detachments (operation_items (primitive prim)) }
 {
     let operation = match prim {
-        Prim::Create { class, key, new } => Operation::Create {
-            class: *class,
-            key: *key,
-            new: new.clone()?,
-        },
+        Prim::Create { class, key, new } => Operation::Create { class, key, new },
         Prim::Update {
             class,
             key,
-            old: _,
+            old: _old,
             new,
-        } => Operation::Update {
-            class: *class,
-            key: *key,
-            new: new.clone()?,
-        },
-        Prim::Delete { class, key, old: _ } => Operation::Delete {
-            class: *class,
-            key: *key,
-        },
-        Prim::Signal { .. } | Prim::Commit | Prim::Time(_) => {
-            return Ok(Course::ended(alloc, End::Done));
-        }
+        } => Operation::Update { class, key, new },
+        Prim::Delete {
+            class,
+            key,
+            old: _old,
+        } => Operation::Delete { class, key },
+        Prim::Signal {
+            name: _name,
+            args: _args,
+        } => return None,
+        Prim::Commit | Prim::Time(_) => return None,
     };
-    // Mostly at most one firing follows an operation.
-    Course::of_item(alloc, Item::Operation(operation), 1)
+    Some(Item::Operation(operation))
 }

@@ -33,6 +33,7 @@ pub(crate) struct Placed {
 }
 
 /// Divides new tasks by their coupling modes. The order within each kind stays.
+#[inline(never)]
 pub(crate) fn place_tasks(alloc: Global, tasks: Vec<Task>) -> Result<Placed, AllocError>
     ensures immediate { IfOk result (λ p. map task_of p.immediate.items
         ≡ filter (λ (t : ModelTask). is_immediate t.place) (map task_of tasks.items)) }
@@ -131,6 +132,7 @@ pub fn group_course(alloc: Global, group: GroupOutcome) -> Result<Course, AllocE
 }
 
 /// The course of a signal: the tasks that it queued and detached, and then its group.
+#[inline(never)]
 pub(crate) fn placed_course(
     alloc: Global,
     placed: Placed,

@@ -41,13 +41,13 @@ impl<R: Threads + Sync> Engine<'_, R> {
         }
         let tasks = match single_immediate(tasks) {
             Ok(task) => {
-                let outcome = self.firing(view, &task)?;
+                let outcome = self.fire_task(view, &task)?;
                 return Ok(firing_course(outcome));
             }
             Err(tasks) => tasks,
         };
         let placed = place_tasks(self.alloc, tasks)?;
-        let group = self.group(view, &placed.immediate, depth)?;
+        let group = self.fire_group(view, &placed.immediate, depth)?;
         let course = placed_course(self.alloc, placed, group)?;
         Ok(course)
     }
@@ -57,7 +57,12 @@ impl<R: Threads + Sync> Engine<'_, R> {
     // Inlined, its temporaries would be cleared for each signal that fires a single task, too.
     #[cycle(fire)]
     #[inline(never)]
-    fn group(&self, view: &mut View, tasks: &[Task], depth: u8) -> Result<GroupOutcome, AllocError>
+    fn fire_group(
+        &self,
+        view: &mut View,
+        tasks: &[Task],
+        depth: u8,
+    ) -> Result<GroupOutcome, AllocError>
         requires { All (λ t. t.depth ≡ depth + 1) tasks.now }
         ensures { IfOk result (SiblingsFire self.now.lib.now true tasks.now view.old view.new) }
     {
@@ -69,7 +74,7 @@ impl<R: Threads + Sync> Engine<'_, R> {
             ensures { IfOk result (TaskFires self.entry.now.lib.now task.now view.old view.new) }
         {
             let _depth = depth;
-            self.inside(effort, width).firing(view, task)
+            self.inside(effort, width).fire_task(view, task)
         };
         let group = Group {
             rt: self.rt,
@@ -89,7 +94,7 @@ impl<R: Threads + Sync> Engine<'_, R> {
 
     /// Fires a task. Its rule's action runs as a subtransaction.
     #[cycle(fire)]
-    pub(crate) fn firing(&self, view: &mut View, task: &Task) -> Result<Outcome, AllocError>
+    pub(crate) fn fire_task(&self, view: &mut View, task: &Task) -> Result<Outcome, AllocError>
         ensures { IfOk result (TaskFires self.now.lib.now task.now view.old view.new) }
     {
         self.effort.add(FIRING);

@@ -9,6 +9,7 @@ mod extents;
 mod fork_join;
 mod gate;
 mod group;
+mod index;
 mod past;
 mod pending;
 mod policy;

@@ -14,8 +14,8 @@ use crate::closing::close_sub;
 use crate::context::Context;
 use crate::course::{Course, End};
 use crate::engine::Engine;
-use crate::operations::{Binding, Selection, emitted, is_true, operated_course, signalled};
-use crate::settling::settled;
+use crate::halting::or_aborted;
+use crate::operations::{Binding, Selection, emit, event_course, is_true, make_signal};
 use crate::speculate::STATEMENT;
 use crate::vetoes::run_veto;
 use hp_ops::trigger;
@@ -38,10 +38,29 @@ impl<R: Threads + Sync> Engine<'_, R> {
         ensures { IfOk result (λ c. BodyRuns self.now.lib.now context.now (body_in body.now) view.old view.new c) }
     {
         self.effort.add(STATEMENT.saturating_mul(body.len() as u64));
+        if let [only] = body {
+            let given = self.statement(view, only, context);
+            return or_aborted(self.alloc, given);
+        }
+        self.in_order(view, body, context)
+    }
+
+    /// Runs the statements of a body one after another, up to the first that isn't done.
+    // Apart, since a body of one statement needs none of its temporaries.
+    #[cycle(fire)]
+    #[inline(never)]
+    fn in_order(
+        &self,
+        view: &mut View,
+        body: &[Stmt],
+        context: &Context<'_>,
+    ) -> Result<Course, AllocError>
+        ensures { IfOk result (λ c. BodyRuns self.now.lib.now context.now (body_in body.now) view.old view.new c) }
+    {
         let mut so_far = Course::ended(self.alloc, End::Done);
         for stmt in body {
             let result = self.statement(view, stmt, context);
-            let more = settled(self.alloc, result)?;
+            let more = or_aborted(self.alloc, result)?;
             so_far.join(more)?;
             if !so_far.is_done() {
                 return Ok(so_far);
@@ -57,22 +76,34 @@ impl<R: Threads + Sync> Engine<'_, R> {
     {
         match stmt {
             Stmt::Create { class, key, pairs } => {
-                let made = self.created(view, context, *class, key, pairs);
-                self.operated(view, made, context)
+                self.signal_event(
+                    self.create_object(view, context, *class, key, pairs),
+                    view,
+                    context,
+                )
             }
             Stmt::Update { class, key, pairs } => {
-                let made = self.updated(view, context, *class, key, pairs);
-                self.operated(view, made, context)
+                self.signal_event(
+                    self.update_object(view, context, *class, key, pairs),
+                    view,
+                    context,
+                )
             }
             Stmt::Delete { class, key } => {
-                let made = self.deleted(view, context, *class, key);
-                self.operated(view, made, context)
+                self.signal_event(
+                    self.delete_object(view, context, *class, key),
+                    view,
+                    context,
+                )
             }
             Stmt::Signal { name, arguments } => {
-                let made = signalled(self.alloc, &context.env, name, arguments);
-                self.operated(view, made, context)
+                self.signal_event(
+                    make_signal(self.alloc, &context.env, name, arguments),
+                    view,
+                    context,
+                )
             }
-            Stmt::Emit(value) => emitted(self.alloc, context, value),
+            Stmt::Emit(value) => emit(self.alloc, context, value),
             Stmt::If {
                 condition,
                 then_body,
@@ -117,17 +148,18 @@ impl<R: Threads + Sync> Engine<'_, R> {
             } => self.with_let(view, name, aggregate, body, context),
             Stmt::Abort => Ok(Course::ended(self.alloc, End::Abort(Cause::Asked))),
             Stmt::Veto(message) => run_veto(self.alloc, context, message),
-            Stmt::OnRule { operation, rule } => self.rule_changed(view, *operation, *rule),
+            Stmt::OnRule { operation, rule } => self.change_rule(view, *operation, *rule),
             Stmt::Fire(rule) => {
-                let tasks = self.fired(view, *rule, context.depth, context.env.time);
+                let tasks = self.make_task(view, *rule, context.depth, context.env.time);
                 self.start(view, tasks, context.depth)
             }
         }
     }
 
     // Most kinds of statements have functions of their own, which keeps the stack frame of a level of statements small:
-    // a frame holds the temporaries of all its arms and clears them on entry, whichever arm runs. The larger ones of the
-    // rarer kinds are never inlined, and nor is a group of firings (`group`).
+    // a frame holds the temporaries of all its arms and clears them on entry, whichever arm runs. So the larger ones of
+    // the rarer kinds are never inlined, and nor are a group of firings (`fire_group`) and what operations do before
+    // their event is signalled.
 
     /// Runs a statement `if`.
     #[cycle(fire)]
@@ -172,7 +204,7 @@ impl<R: Threads + Sync> Engine<'_, R> {
             class,
             predicate,
         } = selection;
-        let rows = self.selected(view, context, variable, class, predicate)?;
+        let rows = self.select_rows(view, context, variable, class, predicate)?;
         self.each_row(view, body, variable, &rows, context)
     }
 
@@ -224,6 +256,7 @@ impl<R: Threads + Sync> Engine<'_, R> {
 
     /// Runs a statement `sub`.
     #[cycle(fire)]
+    #[inline(never)]
     fn sub_or_otherwise(
         &self,
         view: &mut View,
@@ -273,10 +306,10 @@ impl<R: Threads + Sync> Engine<'_, R> {
     /// Signals what a statement has made: the event of an operation, or the signal of a statement `signal`. A cause for
     /// which it was not made ends the statement.
     #[cycle(fire)]
-    fn operated(
+    fn signal_event(
         &self,
-        view: &mut View,
         made: Result<Prim, Halt>,
+        view: &mut View,
         context: &Context<'_>,
     ) -> Result<Course, Halt>
         ensures { (work : Work) (before : Seeing) → let level = level_in self.now.lib.now context.now in
@@ -293,6 +326,6 @@ impl<R: Threads + Sync> Engine<'_, R> {
             context.env.time,
         );
         let result = self.start(view, tasks, context.depth);
-        operated_course(self.alloc, &prim, result)
+        event_course(self.alloc, prim, result)
     }
 }

@@ -20,6 +20,7 @@ use std::alloc::{AllocError, Global};
 // ---- statements
 
 /// Runs a statement `veto`, perhaps with a message. A fault of the message ends the statement, and nothing is vetoed.
+#[inline(never)]
 pub(crate) fn run_veto(
     alloc: Global,
     context: &Context<'_>,
@@ -49,11 +50,7 @@ fn veto_saying(alloc: Global, context: &Context<'_>, message: &Expr) -> Result<C
 }
 
 /// The course of a veto. In the body of a script a veto does nothing; a checked body has none.
-fn vetoed(
-    alloc: Global,
-    rule: Option<RuleNo>,
-    message: Option<Value>,
-) -> Result<Course, AllocError>
+fn vetoed(alloc: Global, rule: Option<RuleNo>, message: Option<Value>) -> Result<Course, AllocError>
     ensures { IfOk result (λ c. (lib : ModelLibrary) (view : Seeing)
         → Runs lib (vetoes rule (option_map value message)) view view (course_in c)) }
 {

@@ -1,9 +1,10 @@
 -- What is written for bytes that come in pieces: the answers to their lines.
-use Rattle.std.proofs.Common.{◌≡◌, ◌==◌, ℕ, suc, nat_lt, Bool, true, false, cond, List, [], ◌∷◌, ◌++◌, length, take, inl, inr, refl, sym, ap, ◌∙◌, append_assoc, arith}
+use Rattle.std.proofs.Common.{◌≡◌, ◌==◌, ℕ, suc, nat_lt, Bool, true, false, cond, List, [], ◌∷◌, ◌++◌, length, take, Option, Some, None, inl, inr, refl, sym, ap, ◌∙◌, append_assoc, arith}
 use Rattle.std.proofs.lemmas.Bool.{cases_lt, lt-ltb, le-ltb}
 use Rattle.std.proofs.lemmas.List.{take_all, take-append-le, length-take-le, length-append}
+use Rattle.hp_model.specs.Report.{Bytes}
 use Rattle.hp_lines.specs.Lines.{Line, begun, lines_from, lines_of, kept_with}
-use Rattle.hp_lines.specs.Live.{Manner, Stage, unopened, closed, Answer, answer, answers, stage_after, output, Server, new_server, reply, answered, grown, byte_output, next, piece_output, after, end_output}
+use Rattle.hp_lines.specs.Live.{Manner, Stage, unopened, closed, Answer, answer, answers, stage_after, lines_by, output, Server, reply, answered, grown, byte_output, next, piece_output, after, end_output, input_output, stage_at_end, opening_output, opened_server}
 use Rattle.hp_lines.proofs.Lines.{kept_answer}
 
 -- ---- pieces
@@ -18,15 +19,8 @@ after-append d (x ∷ a) b = after-append (next d x) a b
 
 -- ---- lines
 
--- all that is written for bytes up to the end
-abbrev pub in_all : Server → List ℕ → List ℕ
-in_all d xs = piece_output d xs ++ end_output (after d xs)
-
-abbrev pub stage_in_all : Server → List ℕ → Stage
-stage_in_all d xs = let e = after d xs in stage_after e.manner e.stage (begun e.line)
-
-pub in_all-append : (d : Server) (a b : List ℕ) → in_all d (a ++ b) ≡ piece_output d a ++ in_all (after d a) b
-in_all-append d a b =
+pub input-append : (d : Server) (a b : List ℕ) → input_output d (a ++ b) ≡ piece_output d a ++ input_output (after d a) b
+input-append d a b =
     ap (λ (e : Server). piece_output d (a ++ b) ++ end_output e) (after-append d a b)
     ∙ ap (λ (l : List ℕ). l ++ end_output (after (after d a) b)) (output-append d a b)
     ∙ append_assoc (piece_output d a) (piece_output (after d a) b) (end_output (after (after d a) b))
@@ -70,53 +64,57 @@ output_of_begun manner stage (x ∷ line) = ap (λ (l : List ℕ). l ++ []) (rep
 -- by whether a byte ends the line
 by_end : (b : Bool) (manner : Manner) (stage : Stage) (line : Line) (x : ℕ) (xs : List ℕ)
     → (reply (at manner stage line) ++ piece_output (answered (at manner stage line)) xs) ++ end_output (after (answered (at manner stage line)) xs) ≡ answers manner stage (line ∷ lines_from [] xs)
-    → in_all (grown (at manner stage line) x) xs ≡ answers manner stage (lines_from (line ++ x ∷ []) xs)
+    → input_output (grown (at manner stage line) x) xs ≡ answers manner stage (lines_from (line ++ x ∷ []) xs)
     → (cond b (reply (at manner stage line)) [] ++ piece_output (cond b (answered (at manner stage line)) (grown (at manner stage line) x)) xs) ++ end_output (after (cond b (answered (at manner stage line)) (grown (at manner stage line) x)) xs)
     ≡ answers manner stage (cond b (line ∷ lines_from [] xs) (lines_from (line ++ x ∷ []) xs))
 by_end true manner stage line x xs ends goes_on = ends
 by_end false manner stage line x xs ends goes_on = goes_on
 
 stage_by_end : (b : Bool) (manner : Manner) (stage : Stage) (line : Line) (x : ℕ) (xs : List ℕ)
-    → stage_in_all (answered (at manner stage line)) xs ≡ stage_after manner stage (line ∷ lines_from [] xs)
-    → stage_in_all (grown (at manner stage line) x) xs ≡ stage_after manner stage (lines_from (line ++ x ∷ []) xs)
-    → stage_in_all (cond b (answered (at manner stage line)) (grown (at manner stage line) x)) xs ≡ stage_after manner stage (cond b (line ∷ lines_from [] xs) (lines_from (line ++ x ∷ []) xs))
+    → stage_at_end (answered (at manner stage line)) xs ≡ stage_after manner stage (line ∷ lines_from [] xs)
+    → stage_at_end (grown (at manner stage line) x) xs ≡ stage_after manner stage (lines_from (line ++ x ∷ []) xs)
+    → stage_at_end (cond b (answered (at manner stage line)) (grown (at manner stage line) x)) xs ≡ stage_after manner stage (cond b (line ∷ lines_from [] xs) (lines_from (line ++ x ∷ []) xs))
 stage_by_end true manner stage line x xs ends goes_on = ends
 stage_by_end false manner stage line x xs ends goes_on = goes_on
 
-pub in_all_from : (manner : Manner) (stage : Stage) (line : Line) (xs : List ℕ) → in_all (at manner stage line) xs ≡ answers manner stage (lines_from line xs)
-in_all_from manner stage line [] = output_of_begun manner stage line
-in_all_from manner stage line (x ∷ xs) =
+pub input_from : (manner : Manner) (stage : Stage) (line : Line) (xs : List ℕ) → input_output (at manner stage line) xs ≡ answers manner stage (lines_from line xs)
+input_from manner stage line [] = output_of_begun manner stage line
+input_from manner stage line (x ∷ xs) =
     let d = at manner stage line in
     let a = answer manner stage line in
     by_end (x == 10) manner stage line x xs
     (append_assoc (reply d) (piece_output (answered d) xs) (end_output (after (answered d) xs))
-    ∙ ap (λ (l : List ℕ). l ++ in_all (answered d) xs) (reply_kept manner stage line)
-    ∙ ap (λ (e : Server). (a.body ++ a.last) ++ in_all e xs) (answered_kept manner stage line)
-    ∙ ap (λ (l : List ℕ). (a.body ++ a.last) ++ l) (in_all_from manner a.stage [] xs))
-    (ap (λ (e : Server). in_all e xs) (grown_kept manner stage line x) ∙ in_all_from manner stage (line ++ x ∷ []) xs)
+    ∙ ap (λ (l : List ℕ). l ++ input_output (answered d) xs) (reply_kept manner stage line)
+    ∙ ap (λ (e : Server). (a.body ++ a.last) ++ input_output e xs) (answered_kept manner stage line)
+    ∙ ap (λ (l : List ℕ). (a.body ++ a.last) ++ l) (input_from manner a.stage [] xs))
+    (ap (λ (e : Server). input_output e xs) (grown_kept manner stage line x) ∙ input_from manner stage (line ++ x ∷ []) xs)
 
 -- what is written for an input is the answers to its lines
-pub in_all_of : (manner : Manner) (input : List ℕ) → in_all (new_server manner) input ≡ output manner input
-in_all_of manner input = in_all_from manner unopened [] input
+pub input_of : (manner : Manner) (script : Option Bytes) (input : List ℕ) → opening_output manner script ++ input_output (opened_server manner script) input ≡ output manner script input
+input_of manner None input = input_from manner unopened [] input
+input_of manner (Some script) input =
+    let a = answer manner unopened script in
+    ap (λ (l : List ℕ). (a.body ++ a.last) ++ l) (input_from manner a.stage [] input)
 
 -- ---- the stage in the end
 
-stage_of_begun : (manner : Manner) (stage : Stage) (line : Line) → stage_in_all (at manner stage line) [] ≡ stage_after manner stage (begun line)
+stage_of_begun : (manner : Manner) (stage : Stage) (line : Line) → stage_at_end (at manner stage line) [] ≡ stage_after manner stage (begun line)
 stage_of_begun manner stage [] = refl
 stage_of_begun manner stage (x ∷ line) = ap (λ (a : Answer). a.stage) (kept_answer manner stage (x ∷ line))
 
-pub stage_from : (manner : Manner) (stage : Stage) (line : Line) (xs : List ℕ) → stage_in_all (at manner stage line) xs ≡ stage_after manner stage (lines_from line xs)
+pub stage_from : (manner : Manner) (stage : Stage) (line : Line) (xs : List ℕ) → stage_at_end (at manner stage line) xs ≡ stage_after manner stage (lines_from line xs)
 stage_from manner stage line [] = stage_of_begun manner stage line
 stage_from manner stage line (x ∷ xs) =
     let d = at manner stage line in
     stage_by_end (x == 10) manner stage line x xs
-    (ap (λ (e : Server). stage_in_all e xs) (answered_kept manner stage line) ∙ stage_from manner (answer manner stage line).stage [] xs)
-    (ap (λ (e : Server). stage_in_all e xs) (grown_kept manner stage line x) ∙ stage_from manner stage (line ++ x ∷ []) xs)
+    (ap (λ (e : Server). stage_at_end e xs) (answered_kept manner stage line) ∙ stage_from manner (answer manner stage line).stage [] xs)
+    (ap (λ (e : Server). stage_at_end e xs) (grown_kept manner stage line x) ∙ stage_from manner stage (line ++ x ∷ []) xs)
 
-pub stage_of : (manner : Manner) (input : List ℕ) → stage_in_all (new_server manner) input ≡ stage_after manner unopened (lines_of input)
-stage_of manner input = stage_from manner unopened [] input
+pub stage_of : (manner : Manner) (script : Option Bytes) (input : List ℕ) → stage_at_end (opened_server manner script) input ≡ stage_after manner unopened (lines_by script input)
+stage_of manner None input = stage_from manner unopened [] input
+stage_of manner (Some script) input = stage_from manner (answer manner unopened script).stage [] input
 
-pub stage-append : (d : Server) (a b : List ℕ) → stage_in_all d (a ++ b) ≡ stage_in_all (after d a) b
+pub stage-append : (d : Server) (a b : List ℕ) → stage_at_end d (a ++ b) ≡ stage_at_end (after d a) b
 stage-append d a b = ap (λ (e : Server). stage_after e.manner e.stage (begun e.line)) (after-append d a b)
 
 -- ---- after a refused script
@@ -141,22 +139,22 @@ silent_by : (b : Bool) (manner : Manner) (line : Line) → cond b (reply (shut m
 silent_by true manner line = refl
 silent_by false manner line = refl
 
-shut_writes : (manner : Manner) (line : Line) (xs : List ℕ) → in_all (shut manner line) xs ≡ []
+shut_writes : (manner : Manner) (line : Line) (xs : List ℕ) → input_output (shut manner line) xs ≡ []
 shut_writes manner line [] = closed_answers manner (begun line)
 shut_writes manner line (x ∷ xs) =
     let d = shut manner line in
     ap (λ (l : List ℕ). (l ++ piece_output (next d x) xs) ++ end_output (after (next d x) xs)) (silent_by (x == 10) manner line)
-    ∙ ap (λ (e : Server). in_all e xs) (shut_by (x == 10) manner line x)
+    ∙ ap (λ (e : Server). input_output e xs) (shut_by (x == 10) manner line x)
     ∙ shut_writes manner (cond (x == 10) [] (kept_with line x)) xs
 
-shut_stays : (manner : Manner) (line : Line) (xs : List ℕ) → stage_in_all (shut manner line) xs ≡ closed
+shut_stays : (manner : Manner) (line : Line) (xs : List ℕ) → stage_at_end (shut manner line) xs ≡ closed
 shut_stays manner line [] = closed_stage manner (begun line)
 shut_stays manner line (x ∷ xs) =
-    ap (λ (e : Server). stage_in_all e xs) (shut_by (x == 10) manner line x) ∙ shut_stays manner (cond (x == 10) [] (kept_with line x)) xs
+    ap (λ (e : Server). stage_at_end e xs) (shut_by (x == 10) manner line x) ∙ shut_stays manner (cond (x == 10) [] (kept_with line x)) xs
 
 -- nothing more is written for an input whose script was refused
-pub closed_writes : (d : Server) (xs : List ℕ) → d.stage ≡ closed → in_all d xs ≡ []
-closed_writes d xs is = ap (λ stage. in_all (record { manner = d.manner; stage = stage; line = d.line }) xs) is ∙ shut_writes d.manner d.line xs
+pub closed_writes : (d : Server) (xs : List ℕ) → d.stage ≡ closed → input_output d xs ≡ []
+closed_writes d xs is = ap (λ stage. input_output (record { manner = d.manner; stage = stage; line = d.line }) xs) is ∙ shut_writes d.manner d.line xs
 
-pub closed_stays : (d : Server) (xs : List ℕ) → d.stage ≡ closed → stage_in_all d xs ≡ closed
-closed_stays d xs is = ap (λ stage. stage_in_all (record { manner = d.manner; stage = stage; line = d.line }) xs) is ∙ shut_stays d.manner d.line xs
+pub closed_stays : (d : Server) (xs : List ℕ) → d.stage ≡ closed → stage_at_end d xs ≡ closed
+closed_stays d xs is = ap (λ stage. stage_at_end (record { manner = d.manner; stage = stage; line = d.line }) xs) is ∙ shut_stays d.manner d.line xs

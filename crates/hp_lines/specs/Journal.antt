@@ -76,7 +76,8 @@ pub record Replays (manner : Manner) (first : Line) (later : List Line) (journal
   pub report_is : text_of manner.with_tree (Ok script)
       ≡ ((answer manner unopened first).body ++ accepted_bodies manner (opened_by manner first) later) ++ final_text base.library base.state.objects base.state.rules
 
--- where a rule base is running after lines, a journal of the lines replays to it
+-- where a rule base is running after lines, a journal of the lines replays to it; the first of them is the input's first
+-- line, or the bytes of a script's file (`lines_by`)
 abbrev pub AcceptedLinesReplay : Type 0
 AcceptedLinesReplay = (manner : Manner) (first : Line) (later : List Line) (journal : Data) (base : RuleBase)
     → stage_after manner unopened (first ∷ later) ≡ up base → IsJournal manner first later journal → Replays manner first later journal base

@@ -1,5 +1,5 @@
 -- The answers of a running rule manager to lines.
-use Rattle.std.specs.Prelude.{ℕ, ◌+◌, ◌==◌, Bool, List, [], ◌∷◌, ◌++◌, length, codes, decimal, Result, Ok, Err, if◌then◌else◌}
+use Rattle.std.specs.Prelude.{ℕ, ◌+◌, ◌==◌, Bool, List, [], ◌∷◌, ◌++◌, length, codes, decimal, Option, Some, None, Result, Ok, Err, if◌then◌else◌}
 use Rattle.hp_model.specs.Rules.{Library}
 use Rattle.hp_model.specs.State.{State, initial_state}
 use Rattle.hp_model.specs.Cascade.{run_units}
@@ -92,9 +92,14 @@ abbrev pub stage_after : Manner → Stage → List Line → Stage
 stage_after manner stage [] = stage
 stage_after manner stage (l ∷ ls) = stage_after manner (answer manner stage l).stage ls
 
+-- the lines of a run: a script's file is the first of them, whatever bytes it has, and the lines of the input follow
+abbrev pub lines_by : (script : Option Bytes) → List ℕ → List Line
+lines_by None input = lines_of input
+lines_by (Some script) input = script ∷ lines_of input
+
 -- all that is written for an input
-abbrev pub output : Manner → List ℕ → Bytes
-output manner input = answers manner unopened (lines_of input)
+abbrev pub output : Manner → (script : Option Bytes) → List ℕ → Bytes
+output manner script input = answers manner unopened (lines_by script input)
 
 -- ---- the same, byte by byte
 
@@ -136,3 +141,22 @@ after s (x ∷ xs) = after (next s x) xs
 -- what is written at the end of the input: the answer to a last line without a line feed
 abbrev pub end_output : Server → Bytes
 end_output s = answers s.manner s.stage (begun s.line)
+
+-- what is written for an input, up to its end, and the stage after it
+abbrev pub input_output : Server → List ℕ → Bytes
+input_output s input = piece_output s input ++ end_output (after s input)
+
+abbrev pub stage_at_end : Server → List ℕ → Stage
+stage_at_end s input = let e = after s input in stage_after e.manner e.stage (begun e.line)
+
+-- ---- before the input
+
+-- what is written for a script's file
+abbrev pub opening_output : Manner → (script : Option Bytes) → Bytes
+opening_output manner None = []
+opening_output manner (Some script) = reply (record { manner = manner; stage = unopened; line = script })
+
+-- the server that takes the input: a script's file has been answered
+abbrev pub opened_server : Manner → (script : Option Bytes) → Server
+opened_server manner None = new_server manner
+opened_server manner (Some script) = answered (record { manner = manner; stage = unopened; line = script })

@@ -7,12 +7,14 @@ ghost use Rattle.hp_lines.specs.Snapshots.{AlikeAnswer, SnapshotsAnswer};
 /// Accepted lines replay as one script, whose items are those of the first line and then the accepted ones. The
 /// answers, without their last lines, are the text of the units in the script's report, and the state is the script's
 /// final state. The script's JSON, and a text that stands for it, is read as the script, unless it is longer than a
-/// script may be. This holds for lines of JSON and for lines of text.
+/// script may be. This holds for lines of JSON and for lines of text, and where the bytes of a script's file are the
+/// first line.
 pub fn accepted_lines_replay()
     ensures { AcceptedLinesReplay }
 {}
 
-/// The answers byte by byte, with those at the end of the input, are the answers to the input's lines.
+/// The answer to a script's file, if there is one, and then the answers byte by byte, with those at the end of the
+/// input, are the answers to the file and the input's lines.
 pub fn bytes_are_lines()
     ensures { BytesAreLines }
 {}
@@ -22,7 +24,7 @@ pub fn pieces_compose()
     ensures { PiecesCompose }
 {}
 
-/// The first line is read as a script.
+/// The first line, or a script's file, is read as a script.
 pub fn scripts_are_read()
     ensures { ScriptsAreRead }
 {}

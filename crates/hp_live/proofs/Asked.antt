@@ -12,7 +12,6 @@ use Rattle.hp_lines.specs.Live as L
 use Rattle.hp_live.specs.Kept.{StandsFor, IsStage, Answers}
 use Rattle.hp_live.specs.Running.{ran_base}
 use Rattle.hp_live.specs.declared.base.RuleBase.{RuleBase}
-use Rattle.hp_live.specs.declared.server.Stage.{Stage}
 use Rattle.hp_live.specs.declared.server.Stage.TheVariants.{Up}
 
 -- a line is read with what is kept as with what that stands for

@@ -1,13 +1,13 @@
 -- A kept rule base, and what it stands for.
-use Rattle.std.proofs.Common.{◌≡◌, refl, sym, ap, subst, ◌∙◌, ℕ, ◌+◌, ◌≤◌, List, [], ◌∷◌, ◌++◌, map, take, length, arith}
-use Rattle.std.proofs.lemmas.List.{take_all, length-map}
+use Rattle.std.proofs.Common.{◌≡◌, refl, ap, subst, ◌∙◌, List, [], ◌∷◌, ◌++◌, map, length, arith}
+use Rattle.std.proofs.lemmas.List.{take_all}
 use Rattle.hp_model.specs.Rules.{Library}
 use Rattle.hp_model.specs.State as S
 use Rattle.hp_model.specs.State.{State, IsOrdered, RuleState, Objects}
 use Rattle.hp_model.specs.Cascade.{Unit, UnitReport, run_units}
 use Rattle.hp_model.specs.Cells.{Cells, cells}
 use Rattle.hp_model.specs.Laws.{replay_units}
-use Rattle.hp_model.specs.Report.{Bytes, objects_text, rules_text}
+use Rattle.hp_model.specs.Report.{Bytes, objects_text}
 use Rattle.hp_model.specs.Soundness.{LeadsTo}
 use Rattle.hp_report.specs.declared.report.RuleStatus.{RuleStatus}
 use Rattle.hp_report.specs.Mapped.{status, rule_state}

@@ -1,13 +1,14 @@
 -- The answers to bytes that arrive in pieces.
-use Rattle.std.proofs.Common.{◌≡◌, ◌≢◌, ◌≤◌, ℕ, suc, drop-cons, ◌+◌, ◌<◌, List, [], ◌∷◌, ◌++◌, length, take, drop, length-take-le, slice_index_or, Option, Some, None, IfSome, Bool, false, refl, sym, ap, subst, ◌∙◌, append-nil, arith}
+use Rattle.std.proofs.Common.{◌≡◌, ◌≢◌, ◌≤◌, ℕ, suc, drop-cons, ◌+◌, ◌<◌, List, [], ◌∷◌, ◌++◌, length, take, drop, length-take-le, slice_index_or, Option, Some, None, IfSome, Bool, true, false, cond, ◌==◌, refl, sym, ap, subst, ◌∙◌, append-nil, arith}
 use Rattle.std.specs.Io.KnownBytes.{Appends, Consumes, Keeps, IsAtEnd}
 use Rattle.std.proofs.Math.Seq.{take-suc}
 use Rattle.std.proofs.lemmas.List.{take-append-drop}
 use Rattle.std.proofs.KnownBytes.{Appends-trans, Consumes-trans}
+use Rattle.hp_model.specs.Report.{Bytes}
 use Rattle.hp_report.specs.Device.{Begins}
 use Rattle.hp_lines.specs.Live as L
-use Rattle.hp_lines.specs.Live.{piece_output, after, byte_output, next, end_output, new_server, output, closed, unopened}
-use Rattle.hp_lines.proofs.Pieces.{output-append, after-append, in_all, in_all-append, in_all_of, stage_in_all, stage_of, stage-append, closed_writes, closed_stays}
+use Rattle.hp_lines.specs.Live.{piece_output, after, byte_output, next, answered, grown, end_output, input_output, stage_at_end, closed}
+use Rattle.hp_lines.proofs.Pieces.{output-append, after-append, input-append, input_of, stage-append, stage_of, closed_writes, closed_stays}
 use Rattle.hp_lines.proofs.Kept.{begins_more, begins_on}
 use Rattle.hp_live.specs.Kept.{IsServer, FirstAnswers, ReadSoFar, WholeAnswers, AnswersBegun, StopsAtRefusal}
 use Rattle.hp_live.specs.Ends.{status_at, status_of}
@@ -95,19 +96,21 @@ stops_piece left rest more first bytes buf n taken next fits room unrefused = re
 }
 
 -- the answers to all that was read were written
-pub record Served (left rest : Option (List ℕ)) (lost : Bool) (old new : Option (List ℕ)) (failed : Bool) (first : L.Server) (now : Server) : Type 0 where
+pub record Served (left rest : Option (List ℕ)) (old new : Option (List ℕ)) (first : L.Server) (now : Server) : Type 0 where
   pub bytes : List ℕ
   pub taken : Consumes left rest bytes
-  pub sound : lost ≡ false
   pub out : Appends old new (piece_output first bytes)
   pub at : IsServer now (after first bytes)
-  pub whole : failed ≡ false
-  pub stops : StopsAtRefusal left rest first
+  pub stops : first.stage ≢ closed → StopsAtRefusal left rest first
+
+-- of each server that the kept one stands for
+abbrev pub ServedFrom : (left rest : Option (List ℕ)) (old new : Option (List ℕ)) (before now : Server) → Type 0
+ServedFrom left rest old new before now = (d : L.Server) → IsServer before d → Served left rest old new d now
 
 -- by what was read before a piece
-abbrev so_far : (left rest more : Option (List ℕ)) (lost : Bool) (old mid : Option (List ℕ)) (was : Bool) (first : L.Server) (now : Server) (piece : List ℕ)
-    → Served left rest lost old mid was first now → Consumes rest more piece → length piece ≤ 4096 → ReadSoFar left more old mid first
-so_far left rest more lost old mid was first now piece s taken short = record {
+abbrev so_far : (left rest more : Option (List ℕ)) (old mid : Option (List ℕ)) (first : L.Server) (now : Server) (piece : List ℕ)
+    → Served left rest old mid first now → Consumes rest more piece → length piece ≤ 4096 → ReadSoFar left more old mid first
+so_far left rest more old mid first now piece s taken short = record {
   before = s.bytes;
   piece = piece;
   taken = Consumes-trans left rest more s.bytes piece s.taken taken;
@@ -116,9 +119,9 @@ so_far left rest more lost old mid was first now piece s taken short = record {
 }
 
 -- at no piece, as no byte was read since
-abbrev nothing_more : (left rest : Option (List ℕ)) (lost : Bool) (old mid : Option (List ℕ)) (was : Bool) (first : L.Server) (now : Server)
-    → Served left rest lost old mid was first now → ReadSoFar left rest old mid first
-nothing_more left rest lost old mid was first now s = record {
+abbrev nothing_more : (left rest : Option (List ℕ)) (old mid : Option (List ℕ)) (first : L.Server) (now : Server)
+    → Served left rest old mid first now → ReadSoFar left rest old mid first
+nothing_more left rest old mid first now s = record {
   before = s.bytes;
   piece = [];
   taken = subst (Consumes left rest) (sym (append-nil s.bytes)) s.taken;
@@ -126,99 +129,108 @@ nothing_more left rest lost old mid was first now s = record {
   out = s.out;
 }
 
-none_written : (a b : Option (List ℕ)) → a ≡ b → Appends a b []
+pub none_written : (a b : Option (List ℕ)) → a ≡ b → Appends a b []
 none_written None b same = tt
 none_written (Some xs) None same = cc
 none_written (Some xs) (Some ys) same = let is : xs ≡ ys = cc in sym is ∙ sym (append-nil xs)
 
 -- memory ran out in a piece
-pub whole_in_piece : (left rest more : Option (List ℕ)) (lost : Bool) (old mid new : Option (List ℕ)) (was : Bool) (first : L.Server) (now : Server) (piece : List ℕ)
-    → Served left rest lost old mid was first now → Consumes rest more piece → length piece ≤ 4096
+pub whole_in_piece : (left rest more : Option (List ℕ)) (old mid new : Option (List ℕ)) (first : L.Server) (now : Server) (piece : List ℕ)
+    → Served left rest old mid first now → Consumes rest more piece → length piece ≤ 4096
     → ((d : L.Server) → IsServer now d → FirstAnswers mid new d piece) → WholeAnswers left more old new first
-whole_in_piece left rest more lost old mid new was first now piece s taken short answered =
-    record { between = mid; so_far = so_far left rest more lost old mid was first now piece s taken short; more = answered (after first s.bytes) s.at }
+whole_in_piece left rest more old mid new first now piece s taken short answered =
+    record { between = mid; so_far = so_far left rest more old mid first now piece s taken short; more = answered (after first s.bytes) s.at }
 
 -- memory ran out after all pieces
-pub whole_at_end : (left rest : Option (List ℕ)) (lost : Bool) (old mid new : Option (List ℕ)) (was : Bool) (first : L.Server) (now : Server)
-    → Served left rest lost old mid was first now → mid ≡ new → WholeAnswers left rest old new first
-whole_at_end left rest lost old mid new was first now s same = record {
+pub whole_at_end : (left rest : Option (List ℕ)) (old mid new : Option (List ℕ)) (first : L.Server) (now : Server)
+    → Served left rest old mid first now → mid ≡ new → WholeAnswers left rest old new first
+whole_at_end left rest old mid new first now s same = record {
   between = mid;
-  so_far = nothing_more left rest lost old mid was first now s;
+  so_far = nothing_more left rest old mid first now s;
   more = record { fed = []; unfed = []; parts = refl; out = none_written mid new same };
 }
 
 -- a write failed in a piece
-pub begun_in_piece : (left rest more : Option (List ℕ)) (lost : Bool) (old mid new : Option (List ℕ)) (was : Bool) (first : L.Server) (now : Server) (piece : List ℕ)
-    → Served left rest lost old mid was first now → Consumes rest more piece → length piece ≤ 4096
+pub begun_in_piece : (left rest more : Option (List ℕ)) (old mid new : Option (List ℕ)) (first : L.Server) (now : Server) (piece : List ℕ)
+    → Served left rest old mid first now → Consumes rest more piece → length piece ≤ 4096
     → ((d : L.Server) → IsServer now d → Begins mid new (piece_output d piece)) → AnswersBegun left more old new first
-begun_in_piece left rest more lost old mid new was first now piece s taken short begins = record {
+begun_in_piece left rest more old mid new first now piece s taken short begins = record {
   between = mid;
-  so_far = so_far left rest more lost old mid was first now piece s taken short;
+  so_far = so_far left rest more old mid first now piece s taken short;
   more = begins_more mid new (piece_output (after first s.bytes) piece) (end_output (after (after first s.bytes) piece)) (begins (after first s.bytes) s.at);
 }
 
 -- a write failed at the end
-pub begun_at_end : (left rest : Option (List ℕ)) (lost : Bool) (old mid new : Option (List ℕ)) (was : Bool) (first : L.Server) (now : Server)
-    → Served left rest lost old mid was first now → ((d : L.Server) → IsServer now d → Begins mid new (end_output d)) → AnswersBegun left rest old new first
-begun_at_end left rest lost old mid new was first now s begins = record {
+pub begun_at_end : (left rest : Option (List ℕ)) (old mid new : Option (List ℕ)) (first : L.Server) (now : Server)
+    → Served left rest old mid first now → ((d : L.Server) → IsServer now d → Begins mid new (end_output d)) → AnswersBegun left rest old new first
+begun_at_end left rest old mid new first now s begins = record {
   between = mid;
-  so_far = nothing_more left rest lost old mid was first now s;
+  so_far = nothing_more left rest old mid first now s;
   more = begins (after first s.bytes) s.at;
 }
 
+none_taken : (left : Option (List ℕ)) → Consumes left left []
+none_taken None = tt
+none_taken (Some xs) = refl
+
+-- before the first read
+pub served_first : (left : Option (List ℕ)) (old : Option (List ℕ)) (now : Server) → ServedFrom left left old old now now
+served_first left old now d here = record {
+  bytes = [];
+  taken = none_taken left;
+  out = none_written old old refl;
+  at = here;
+  stops = stops_whole left left d [] (none_taken left);
+}
+
 -- the same after one more read
-pub served_on : (left rest more : Option (List ℕ)) (lost gone : Bool) (old mid new : Option (List ℕ)) (was is : Bool) (first : L.Server) (now then : Server) (piece : List ℕ)
-    → Served left rest lost old mid was first now → Consumes rest more piece → gone ≡ false
-    → ((d : L.Server) → IsServer now d → Appends mid new (piece_output d piece)) → ((d : L.Server) → IsServer now d → IsServer then (after d piece)) → is ≡ false
+pub served_on : (left rest more : Option (List ℕ)) (old mid new : Option (List ℕ)) (first : L.Server) (now then : Server) (piece : List ℕ)
+    → Served left rest old mid first now → Consumes rest more piece
+    → ((d : L.Server) → IsServer now d → Appends mid new (piece_output d piece)) → ((d : L.Server) → IsServer now d → IsServer then (after d piece))
     → StopsAtRefusal left more first
-    → Served left more gone old new is first then
-served_on left rest more lost gone old mid new was is first now then piece s taken sound out at whole stops = record {
+    → Served left more old new first then
+served_on left rest more old mid new first now then piece s taken out at stops = record {
   bytes = s.bytes ++ piece;
   taken = Consumes-trans left rest more s.bytes piece s.taken taken;
-  sound = sound;
   out = subst (Appends old new) (sym (output-append first s.bytes piece)) (Appends-trans old mid new (piece_output first s.bytes) (piece_output (after first s.bytes) piece) s.out (out (after first s.bytes) s.at));
   at = subst (IsServer then) (sym (after-append first s.bytes piece)) (at (after first s.bytes) s.at);
-  whole = whole;
-  stops = stops;
+  stops = λ unshut. stops;
 }
 
 -- the answers to the bytes so far are a prefix of the output
-pub begins_output : (left rest old new : Option (List ℕ)) (manner : L.Manner) (bytes : List ℕ) → Consumes left rest bytes → Begins old new (piece_output (new_server manner) bytes)
-    → IfSome left (λ input. Begins old new (output manner input))
-begins_output None rest old new manner bytes taken begins = tt
-begins_output (Some input) None old new manner bytes taken begins = absurd taken
-begins_output (Some input) (Some r) old new manner bytes taken begins =
-    let d = new_server manner in
-    let all : piece_output d bytes ++ in_all (after d bytes) r ≡ output manner input = sym (in_all-append d bytes r) ∙ ap (in_all d) (sym taken) ∙ in_all_of manner input in
-    subst (Begins old new) all (begins_more old new (piece_output d bytes) (in_all (after d bytes) r) begins)
+pub begins_output : (left rest old new : Option (List ℕ)) (d : L.Server) (bytes : List ℕ) → Consumes left rest bytes → Begins old new (piece_output d bytes)
+    → IfSome left (λ input. Begins old new (input_output d input))
+begins_output None rest old new d bytes taken begins = tt
+begins_output (Some input) None old new d bytes taken begins = absurd taken
+begins_output (Some input) (Some r) old new d bytes taken begins =
+    let all : piece_output d bytes ++ input_output (after d bytes) r ≡ input_output d input = sym (input-append d bytes r) ∙ ap (input_output d) (sym taken) in
+    subst (Begins old new) all (begins_more old new (piece_output d bytes) (input_output (after d bytes) r) begins)
 
 -- the answers to all bytes, followed by those at their end, are the output, and each prefix is one of it
-pub begins_end : (left rest old mid new : Option (List ℕ)) (manner : L.Manner) (bytes : List ℕ) → Consumes left rest bytes → IsAtEnd rest → Appends old mid (piece_output (new_server manner) bytes)
-    → Begins mid new (end_output (after (new_server manner) bytes)) → IfSome left (λ input. Begins old new (output manner input))
-begins_end None rest old mid new manner bytes taken ended out begins = tt
-begins_end (Some input) None old mid new manner bytes taken ended out begins = absurd taken
-begins_end (Some input) (Some r) old mid new manner bytes taken ended out begins =
+pub begins_end : (left rest old mid new : Option (List ℕ)) (d : L.Server) (bytes : List ℕ) → Consumes left rest bytes → IsAtEnd rest → Appends old mid (piece_output d bytes)
+    → Begins mid new (end_output (after d bytes)) → IfSome left (λ input. Begins old new (input_output d input))
+begins_end None rest old mid new d bytes taken ended out begins = tt
+begins_end (Some input) None old mid new d bytes taken ended out begins = absurd taken
+begins_end (Some input) (Some r) old mid new d bytes taken ended out begins =
     let whole : bytes ≡ input = sym (append-nil bytes) ∙ ap (λ (l : List ℕ). bytes ++ l) (sym ended) ∙ sym taken in
-    subst (Begins old new) (in_all_of manner bytes ∙ ap (output manner) whole) (begins_on old mid new (piece_output (new_server manner) bytes) (end_output (after (new_server manner) bytes)) out begins)
+    subst (Begins old new) (ap (input_output d) whole) (begins_on old mid new (piece_output d bytes) (end_output (after d bytes)) out begins)
 
-pub output_end : (left rest old mid new : Option (List ℕ)) (manner : L.Manner) (bytes : List ℕ) → Consumes left rest bytes → IsAtEnd rest → Appends old mid (piece_output (new_server manner) bytes)
-    → Appends mid new (end_output (after (new_server manner) bytes)) → IfSome left (λ input. Appends old new (output manner input))
-output_end None rest old mid new manner bytes taken ended out last = tt
-output_end (Some input) None old mid new manner bytes taken ended out last = absurd taken
-output_end (Some input) (Some r) old mid new manner bytes taken ended out last =
+pub output_end : (left rest old mid new : Option (List ℕ)) (d : L.Server) (bytes : List ℕ) → Consumes left rest bytes → IsAtEnd rest → Appends old mid (piece_output d bytes)
+    → Appends mid new (end_output (after d bytes)) → IfSome left (λ input. Appends old new (input_output d input))
+output_end None rest old mid new d bytes taken ended out last = tt
+output_end (Some input) None old mid new d bytes taken ended out last = absurd taken
+output_end (Some input) (Some r) old mid new d bytes taken ended out last =
     let whole : bytes ≡ input = sym (append-nil bytes) ∙ ap (λ (l : List ℕ). bytes ++ l) (sym ended) ∙ sym taken in
-    subst (Appends old new) (in_all_of manner bytes ∙ ap (output manner) whole) (Appends-trans old mid new (piece_output (new_server manner) bytes) (end_output (after (new_server manner) bytes)) out last)
+    subst (Appends old new) (ap (input_output d) whole) (Appends-trans old mid new (piece_output d bytes) (end_output (after d bytes)) out last)
 
 -- if the script was refused, the output is complete
-pub output_closed : (left rest old new : Option (List ℕ)) (manner : L.Manner) (bytes : List ℕ) → Consumes left rest bytes → Appends old new (piece_output (new_server manner) bytes)
-    → (after (new_server manner) bytes).stage ≡ closed → IfSome left (λ input. Appends old new (output manner input))
-output_closed None rest old new manner bytes taken out shut = tt
-output_closed (Some input) None old new manner bytes taken out shut = absurd taken
-output_closed (Some input) (Some r) old new manner bytes taken out shut =
-    let d = new_server manner in
-    let all : piece_output d bytes ≡ output manner input =
-    sym (append-nil (piece_output d bytes)) ∙ ap (λ (l : List ℕ). piece_output d bytes ++ l) (sym (closed_writes (after d bytes) r shut)) ∙ sym (in_all-append d bytes r) ∙ ap (in_all d) (sym taken)
-    ∙ in_all_of manner input in
+pub output_closed : (left rest old new : Option (List ℕ)) (d : L.Server) (bytes : List ℕ) → Consumes left rest bytes → Appends old new (piece_output d bytes)
+    → (after d bytes).stage ≡ closed → IfSome left (λ input. Appends old new (input_output d input))
+output_closed None rest old new d bytes taken out shut = tt
+output_closed (Some input) None old new d bytes taken out shut = absurd taken
+output_closed (Some input) (Some r) old new d bytes taken out shut =
+    let all : piece_output d bytes ≡ input_output d input =
+    sym (append-nil (piece_output d bytes)) ∙ ap (λ (l : List ℕ). piece_output d bytes ++ l) (sym (closed_writes (after d bytes) r shut)) ∙ sym (input-append d bytes r) ∙ ap (input_output d) (sym taken) in
     subst (Appends old new) all out
 
 closed_of : (s : L.Stage) → status_at s ≡ Refused → s ≡ closed
@@ -230,21 +242,20 @@ closed_of L.closed e = refl
 pub closed_by : (s : L.Stage) (status : Status) → status ≡ Refused → status ≡ status_at s → s ≡ closed
 closed_by s status is known = closed_of s (sym known ∙ is)
 
-pub status_closed : (left rest : Option (List ℕ)) (manner : L.Manner) (bytes : List ℕ) → Consumes left rest bytes → (after (new_server manner) bytes).stage ≡ closed
-    → IfSome left (λ input. Refused ≡ status_of manner input)
-status_closed None rest manner bytes taken shut = tt
-status_closed (Some input) None manner bytes taken shut = absurd taken
-status_closed (Some input) (Some r) manner bytes taken shut =
-    let d = new_server manner in
-    ap status_at (sym (closed_stays (after d bytes) r shut) ∙ sym (stage-append d bytes r) ∙ ap (stage_in_all d) (sym taken) ∙ stage_of manner input)
+pub status_closed : (left rest : Option (List ℕ)) (d : L.Server) (bytes : List ℕ) → Consumes left rest bytes → (after d bytes).stage ≡ closed
+    → IfSome left (λ input. Refused ≡ status_at (stage_at_end d input))
+status_closed None rest d bytes taken shut = tt
+status_closed (Some input) None d bytes taken shut = absurd taken
+status_closed (Some input) (Some r) d bytes taken shut =
+    ap status_at (sym (closed_stays (after d bytes) r shut) ∙ sym (stage-append d bytes r) ∙ ap (stage_at_end d) (sym taken))
 
-pub status_end : (left rest : Option (List ℕ)) (manner : L.Manner) (bytes : List ℕ) (status : Status) → Consumes left rest bytes → IsAtEnd rest → status ≡ status_at (stage_in_all (new_server manner) bytes)
-    → IfSome left (λ input. status ≡ status_of manner input)
-status_end None rest manner bytes status taken ended known = tt
-status_end (Some input) None manner bytes status taken ended known = absurd taken
-status_end (Some input) (Some r) manner bytes status taken ended known =
+pub status_end : (left rest : Option (List ℕ)) (d : L.Server) (bytes : List ℕ) (status : Status) → Consumes left rest bytes → IsAtEnd rest → status ≡ status_at (stage_at_end d bytes)
+    → IfSome left (λ input. status ≡ status_at (stage_at_end d input))
+status_end None rest d bytes status taken ended known = tt
+status_end (Some input) None d bytes status taken ended known = absurd taken
+status_end (Some input) (Some r) d bytes status taken ended known =
     let whole : bytes ≡ input = sym (append-nil bytes) ∙ ap (λ (l : List ℕ). bytes ++ l) (sym ended) ∙ sym taken in
-    known ∙ ap status_at (stage_of manner bytes) ∙ ap (status_of manner) whole
+    known ∙ ap (λ (l : List ℕ). status_at (stage_at_end d l)) whole
 
 -- ---- the rest after reads
 
@@ -256,9 +267,48 @@ kept_left (Some input) (Some r) None bytes taken keeps = absurd keeps
 kept_left (Some input) (Some r) (Some q) bytes taken keeps = taken ∙ ap (λ (l : List ℕ). bytes ++ l) (sym keeps)
 
 -- what was written for a piece is a prefix of the output
-pub begins_fed : (left rest more old mid new : Option (List ℕ)) (manner : L.Manner) (bytes piece : List ℕ) → Consumes left rest bytes → Consumes rest more piece → Appends old mid (piece_output (new_server manner) bytes)
-    → Begins mid new (piece_output (after (new_server manner) bytes) piece) → IfSome left (λ input. Begins old new (output manner input))
-begins_fed left rest more old mid new manner bytes piece taken next out begins =
-    let d = new_server manner in
-    begins_output left more old new manner (bytes ++ piece) (Consumes-trans left rest more bytes piece taken next)
+pub begins_fed : (left rest more old mid new : Option (List ℕ)) (d : L.Server) (bytes piece : List ℕ) → Consumes left rest bytes → Consumes rest more piece → Appends old mid (piece_output d bytes)
+    → Begins mid new (piece_output (after d bytes) piece) → IfSome left (λ input. Begins old new (input_output d input))
+begins_fed left rest more old mid new d bytes piece taken next out begins =
+    begins_output left more old new d (bytes ++ piece) (Consumes-trans left rest more bytes piece taken next)
     (subst (Begins old new) (sym (output-append d bytes piece)) (begins_on old mid new (piece_output d bytes) (piece_output (after d bytes) piece) out begins))
+
+-- a server that was closed stays so
+next_closed : (b : Bool) (d : L.Server) (x : ℕ) → d.stage ≡ closed → (cond b (answered d) (grown d x)).stage ≡ closed
+next_closed true d x shut = ap (λ (stage : L.Stage). (L.answer d.manner stage d.line).stage) shut
+next_closed false d x shut = shut
+
+pub stays_closed : (d : L.Server) (bytes : List ℕ) → d.stage ≡ closed → (after d bytes).stage ≡ closed
+stays_closed d [] shut = shut
+stays_closed d (x ∷ xs) shut = stays_closed (next d x) xs (next_closed (x == 10) d x shut)
+
+-- ---- after a script's file
+
+-- a server whose first line is the file's bytes
+abbrev pub holding : L.Manner → Bytes → L.Server
+holding manner script = record { manner = manner; stage = L.unopened; line = script }
+
+-- the answer to the file and those to the input are the output
+pub output_by : (left old mid new : Option (List ℕ)) (manner : L.Manner) (script : Option Bytes) → Appends old mid (L.opening_output manner script)
+    → IfSome left (λ input. Appends mid new (input_output (L.opened_server manner script) input)) → IfSome left (λ input. Appends old new (L.output manner script input))
+output_by None old mid new manner script opened out = tt
+output_by (Some input) old mid new manner script opened out =
+    subst (Appends old new) (input_of manner script input) (Appends-trans old mid new (L.opening_output manner script) (input_output (L.opened_server manner script) input) opened out)
+
+pub begins_by : (left old mid new : Option (List ℕ)) (manner : L.Manner) (script : Option Bytes) → Appends old mid (L.opening_output manner script)
+    → IfSome left (λ input. Begins mid new (input_output (L.opened_server manner script) input)) → IfSome left (λ input. Begins old new (L.output manner script input))
+begins_by None old mid new manner script opened out = tt
+begins_by (Some input) old mid new manner script opened out =
+    subst (Begins old new) (input_of manner script input) (begins_on old mid new (L.opening_output manner script) (input_output (L.opened_server manner script) input) opened out)
+
+-- what was written of the answer to the file is a prefix of the output
+pub begins_opening : (left old new : Option (List ℕ)) (manner : L.Manner) (script : Option Bytes) → Begins old new (L.opening_output manner script)
+    → IfSome left (λ input. Begins old new (L.output manner script input))
+begins_opening None old new manner script begins = tt
+begins_opening (Some input) old new manner script begins =
+    subst (Begins old new) (input_of manner script input) (begins_more old new (L.opening_output manner script) (input_output (L.opened_server manner script) input) begins)
+
+pub status_by : (left : Option (List ℕ)) (manner : L.Manner) (script : Option Bytes) (status : Status) → IfSome left (λ input. status ≡ status_at (stage_at_end (L.opened_server manner script) input))
+    → IfSome left (λ input. status ≡ status_of manner script input)
+status_by None manner script status is = tt
+status_by (Some input) manner script status is = is ∙ ap status_at (stage_of manner script input)

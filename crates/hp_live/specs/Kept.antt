@@ -1,5 +1,7 @@
 -- What the program keeps of a rule base, and what that stands for.
-use Rattle.std.specs.Prelude.{◌≡◌, ◌≢◌, ◌≤◌, ⊤, ℕ, List, ◌++◌, length, Option, string_bytes, Bool, false}
+use Rattle.std.specs.Prelude.{◌≡◌, ◌≢◌, ◌≤◌, ⊤, ℕ, List, ◌++◌, length, Option, string_bytes}
+use Rattle.std.specs.Option.{option_map}
+use Rattle.std.specs.declared.vec.Vec.{Vec}
 use Rattle.std.specs.declared.string.String.{String}
 use Rattle.std.specs.declared.alloc.Global.{Global}
 use Rattle.std.specs.Io.KnownBytes.{Appends, Consumes}
@@ -41,6 +43,10 @@ pub record IsServer (kept : Server) (s : L.Server) : Type 0 where
   pub manner_is : manner kept.options ≡ s.manner
   pub stage_is : IsStage kept.stage s.stage
   pub line_is : kept.line.items ≡ s.line
+
+-- the bytes of a script's file, if there is one
+abbrev pub bytes_of : Option (Vec ℕ Global) → Option Bytes
+bytes_of = option_map (λ script. script.items)
 
 -- the text is the answer, and the kept stage stands for the next one
 pub record Answers (text : String Global) (kept : Stage) (a : L.Answer) : Type 0 where

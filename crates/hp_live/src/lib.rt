@@ -1,7 +1,7 @@
 //! A rule manager that stays up: lines in, answers out.
 //!
-//! The first line is a script, each later one an item, or `["show"]`. `specs/Live.antt` of `hp_lines` defines the
-//! answers. `AllocError` means that memory ran out.
+//! The first line is a script, unless a file has it; each later one is an item, or `["show"]`. `specs/Live.antt` of
+//! `hp_lines` defines the answers. `AllocError` means that memory ran out.
 #![tactic(auto)]
 
 mod base;
@@ -12,4 +12,4 @@ mod serving;
 pub use hp_report::{Fault, Status, exit_code};
 pub use options::Options;
 pub use server::Server;
-pub use serving::serve;
+pub use serving::{run, serve};

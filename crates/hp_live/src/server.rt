@@ -1,6 +1,6 @@
 //! Answers lines one after another.
 
-ghost use Rattle.std.specs.Prelude.{◌≡◌, ◌≢◌, ◌↔◌, ◌++◌, List, ℕ, IfOk, OnOk, Ok, string_bytes, true, false};
+ghost use Rattle.std.specs.Prelude.{◌≡◌, ◌≢◌, ◌↔◌, ◌++◌, List, ℕ, IfOk, OnOk, Ok, Some, string_bytes, true, false};
 ghost use Rattle.std.specs.Io.KnownBytes.{Appends};
 ghost use Rattle.hp_report.specs.Device.{Begins};
 ghost use Rattle.hp_script.specs.Mapped.{timed_script};
@@ -8,7 +8,7 @@ ghost use Rattle.hp_notation.specs.Readings.{timed_script_in};
 ghost use Rattle.hp_lines.specs.Lines.{begun};
 ghost use Rattle.hp_lines.specs.Live as L;
 ghost use Rattle.hp_live.specs.Ends.{status_at};
-ghost use Rattle.hp_live.specs.Kept.{StandsFor, IsStage, IsServer, manner, Answers, FirstAnswers};
+ghost use Rattle.hp_live.specs.Kept.{StandsFor, IsStage, IsServer, manner, bytes_of, Answers, FirstAnswers};
 
 use crate::base::RuleBase;
 use crate::options::Options;
@@ -90,7 +90,14 @@ fn answer_later<T: Threads + Sync>(
     ensures { IfOk result (λ text. (now : L.RuleBase) →
         StandsFor base.old now → Answers text (Stage.Up base.new) (L.answer (manner options) (L.up now) line.now)) }
 {
-    match read_request(alloc, base.version, &base.library, base.clock, line, options.text) {
+    match read_request(
+        alloc,
+        base.version,
+        &base.library,
+        base.clock,
+        line,
+        options.text,
+    ) {
         Ok(Request::Item(schedule)) => base.run(rt, alloc, schedule, options),
         Ok(Request::Show(excerpt)) => base.show(alloc, excerpt),
         Err(Unread::Refused(refusal)) => Ok(refusal),
@@ -130,6 +137,64 @@ impl Server {
             stage: Stage::Unopened,
             line: Vec::new(alloc),
         }
+    }
+
+    /// A server that has answered a script's file, if there is one. The bytes of the file are answered as a first line
+    /// is, and may be on many lines; then the first line of the input is an item. Without a file it is a new server.
+    ///
+    /// The writer must not have failed before. After an error what was written is a prefix of the answer; after
+    /// `Fault::NoMemory` it is nothing.
+    pub fn open<T: Threads + Sync, W: Sink>(
+        rt: &T,
+        alloc: Global,
+        script: Option<Vec<u8>>,
+        writer: &mut W,
+        options: Options,
+    ) -> Result<Server, Fault>
+        requires { W.has_failed writer.old ≡ false }
+        ensures output { OnOk result (Appends (W.contents writer.old) (W.contents writer.new)
+            (L.opening_output (manner options) (bytes_of script))) }
+        ensures next { IfOk result (λ server. IsServer server (L.opened_server (manner options) (bytes_of script))) }
+        ensures begins { Begins (W.contents writer.old) (W.contents writer.new)
+            (L.opening_output (manner options) (bytes_of script)) }
+        ensures memory { result ≡ Err Fault.NoMemory → writer.new ≡ writer.old }
+        ensures write { result ≡ Err Fault.Write ↔ (W.has_failed writer.new ≡ true) }
+        ensures whole { OnOk result (W.has_failed writer.new ≡ false) }
+        ensures read { result ≢ Err Fault.Read }
+    {
+        match script {
+            Some(file) => Server::open_by_file(rt, alloc, file, writer, options),
+            None => Ok(Server::new(alloc, options)),
+        }
+    }
+
+    /// A server that has answered a script's file.
+    fn open_by_file<T: Threads + Sync, W: Sink>(
+        rt: &T,
+        alloc: Global,
+        file: Vec<u8>,
+        writer: &mut W,
+        options: Options,
+    ) -> Result<Server, Fault>
+        requires { W.has_failed writer.old ≡ false }
+        ensures output { OnOk result (Appends (W.contents writer.old) (W.contents writer.new)
+            (L.opening_output (manner options) (Some file.items))) }
+        ensures next { IfOk result (λ server. IsServer server (L.opened_server (manner options) (Some file.items))) }
+        ensures begins { Begins (W.contents writer.old) (W.contents writer.new)
+            (L.opening_output (manner options) (Some file.items)) }
+        ensures memory { result ≡ Err Fault.NoMemory → writer.new ≡ writer.old }
+        ensures write { result ≡ Err Fault.Write ↔ (W.has_failed writer.new ≡ true) }
+        ensures whole { OnOk result (W.has_failed writer.new ≡ false) }
+        ensures read { result ≢ Err Fault.Read }
+    {
+        let stage = Stage::Unopened;
+        let mut server = Server {
+            options,
+            stage,
+            line: file,
+        };
+        server.reply(rt, alloc, writer)?;
+        Ok(server)
     }
 
     /// The status of a run that ends at this point: `Refused` if the script was refused.

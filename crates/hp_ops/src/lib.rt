@@ -14,6 +14,6 @@ mod steps;
 
 pub use finding::{find_object, find_status};
 pub use objects::{create, delete, update};
-pub use rows::{Given, given_values, new_object};
+pub use rows::{Given, GivenValues, given_values, new_object};
 pub use rules::set_rule;
 pub use signals::{fire, trigger};

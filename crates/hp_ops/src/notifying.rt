@@ -201,6 +201,8 @@ fn share(
 /// Steps a rule's detector. The answer is the occurrence of its event, if it occurs, and what the detector knows next.
 ///
 /// The detector's cell is read, and not written.
+// Inlined, its temporaries would be cleared for each event that doesn't look back, too.
+#[inline(never)]
 fn step_detector(
     alloc: Global,
     view: &mut View,

@@ -49,7 +49,9 @@ pub fn new_object(
     Ok(KeyedRow { key, row })
 }
 
-/// The key and the values that an `update` gives, evaluated and tested in the same order.
+/// The key that an `update` gives, and in `given` the values, evaluated and tested in the same order. After an error
+/// `given` may hold them, too.
+// A list that were returned would be moved several times.
 pub fn given_values<'a>(
     alloc: Global,
     lib: &Library,
@@ -57,17 +59,17 @@ pub fn given_values<'a>(
     env: &Env<'_>,
     key: &Expr,
     pairs: &'a [Assignment],
-) -> Result<(Key, GivenValues<'a>), Halt>
-    ensures { Meets (λ k. keyed_in k.0 k.1.items) result
+    given: &mut GivenValues<'a>,
+) -> Result<Key, Halt>
+    ensures { Meets (λ k. keyed_in k given.new.items) result
         (model.keyed_row (environment env.now) (expression key.now) (map assignment pairs.now)
         (model.checked_kinds (class_at (library lib.now) class).fields)) }
 {
     let key = key.eval(alloc, env)?;
-    let given = assigned(alloc, env, pairs)?;
+    *given = assigned(alloc, env, pairs)?;
     let key = key.as_int()?;
-    let fields = class_fields(alloc, lib, class)?;
-    check_kinds(&fields, &given)?;
-    Ok((key, given))
+    check_kinds(fields_in(lib, class), given)?;
+    Ok(key)
 }
 
 /// The values that a statement gives, each with its field's name.
@@ -96,6 +98,16 @@ fn class_fields(alloc: Global, lib: &Library, class: ClassNo) -> Result<Arc<Vec<
     match lib.class(class) {
         Some(found) => Ok(Arc::try_clone(&found.fields)?),
         None => Ok(Arc::new(alloc, Vec::new(alloc))?),
+    }
+}
+
+/// The fields of a class, by reference; none if the library has no such class.
+fn fields_in(lib: &Library, class: ClassNo) -> &[Field]
+    ensures { map field result.now ≡ (class_at (library lib.now) class).fields }
+{
+    match lib.class(class) {
+        Some(found) => &found.fields,
+        None => &[],
     }
 }
 

@@ -5,6 +5,7 @@ pub mod Moments
 pub mod Readings
 pub mod Overs
 pub mod Parsed
+pub mod Integers
 pub mod ItemScopes
 pub mod OwnBodies
 pub mod Timed

@@ -62,7 +62,7 @@ fn fields_at(alloc: Global, place: &Place<'_>, value: &Value) -> Result<Vec<Fiel
     ensures { Gives (λ fields. map field fields.items) result (fields_at (steps place.now) (view value.now)) }
 {
     let values = short_list_at(alloc, place, MAX_FIELDS, Limit::Fields, value)?;
-    let mut fields = Vec::new(alloc);
+    let mut fields = Vec::with_capacity(alloc, values.len())?;
     for (i, value) in values.iter().enumerate() {
         let field = field_at(alloc, &place.item(i), fields.as_slice(), value)?;
         fields.push(field)?;
@@ -99,7 +99,7 @@ pub(crate) fn classes_at(
     ensures few { IfOk result (λ classes. length classes.items ≤ 64) }
 {
     let values = short_list_at(alloc, place, MAX_CLASSES, Limit::Classes, value)?;
-    let mut classes = Vec::new(alloc);
+    let mut classes = Vec::with_capacity(alloc, values.len())?;
     for (i, value) in values.iter().enumerate() {
         let class = class_at(alloc, &place.item(i), classes.as_slice(), value)?;
         classes.push(class)?;

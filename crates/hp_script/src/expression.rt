@@ -1,6 +1,11 @@
 //! Expressions.
 
+ghost use Rattle.std.specs.Prelude.{◌≡◌, Ok, IfSome};
 ghost use Rattle.serde_json.specs.View.{view};
+ghost use Rattle.hp_model.specs.Values as V;
+ghost use Rattle.hp_model.specs.Expressions.{constant};
+ghost use Rattle.hp_model.specs.Refusals.{Path};
+ghost use Rattle.hp_model.specs.Scopes as S;
 ghost use Rattle.hp_model.specs.ExpressionGrammar.{operands_at, expression_from, expression_within, expression_at};
 ghost use Rattle.hp_value.specs.Mapped.{expression};
 ghost use Rattle.hp_rule.specs.Places.{steps};
@@ -13,12 +18,25 @@ use crate::leaf::leaf_at;
 use crate::refusal::{DecodeError, Refusal};
 use crate::setting::Setting;
 use hp_rule::{Limit, Place};
-use hp_value::Expr;
+use hp_value::{Expr, Value as Constant};
 use serde_json::Value;
 use std::alloc::Global;
 
 /// The most levels that an expression may have.
 const MAX_LEVELS: usize = 16;
+
+/// The integer in a value, if it is an expression of at most `levels` levels. Most operands of scripts are integers, and
+/// so need no form.
+#[tactic(auto, using(crate::proofs::Integers::integer_read))]
+fn plain_integer(levels: usize, value: &Value) -> Option<i64>
+    ensures { IfSome result (λ z. (setting : S.Setting) (path : Path) →
+        expression_within setting levels path (view value.now) ≡ Ok (constant (V.integer z))) }
+{
+    if levels == 0 {
+        return None;
+    }
+    value.as_i64()
+}
 
 /// The expression at a place of a form, each of whose operands has at most `levels` levels.
 #[cycle(expression)]
@@ -93,6 +111,9 @@ fn operand_at(
     ensures { Gives (λ e. expression e.value) result
         (expression_within (setting_view setting.now) levels (steps place.now) (view value.now)) }
 {
+    if let Some(integer) = plain_integer(levels, value) {
+        return Ok(Box::new(alloc, Expr::literal(Constant::Int(integer)))?);
+    }
     let operand = expression_within(alloc, place, setting, levels, value)?;
     Ok(Box::new(alloc, operand)?)
 }

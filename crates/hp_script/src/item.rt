@@ -158,7 +158,7 @@ pub(crate) fn units_at(
 {
     let values = list_at(alloc, place, value)?;
     let mut schedule = Schedule {
-        units: Vec::new(alloc),
+        units: Vec::with_capacity(alloc, values.len())?,
         clock: 0,
     };
     for (i, value) in values.iter().enumerate() {

@@ -2,7 +2,7 @@
 use Rattle.std.specs.Prelude.{◌≡◌, ℕ, pos, List, [], ◌∷◌, codes, Bool, true, false, ◌&&◌, nat_le, Option, Some, None, if◌then◌else◌}
 use Rattle.std.specs.Option.{option_map_or}
 use Rattle.std.specs.Str.{bytes_eq}
-use Rattle.clap.specs.Words.{App, Kinds, Row, Rule, fault_of, matches_of, new_app, new_rule, one_of, with_rule}
+use Rattle.clap.specs.Words.{App, Kinds, Row, Rule, fault_of, first_of, matches_of, new_app, new_rule, one_of, with_rule}
 use Rattle.clap.specs.Walk.{byte_or_zero}
 use Rattle.clap.specs.declared.builder.ArgAction.TheVariants.{SetTrue}
 use Rattle.clap.specs.declared.builder.value_parser.ValueParser.TheVariants as parser
@@ -22,17 +22,25 @@ workers_rule = record (new_rule (codes "workers")) {
 abbrev pub flag_rule : (name : List ℕ) → Rule
 flag_rule name = record (new_rule name) { long = Some name; action = Some SetTrue }
 
+-- `--script FILE`
+abbrev pub script_rule : Rule
+script_rule = record (new_rule (codes "script")) { long = Some (codes "script") }
+
 -- a command with `[--workers N] [--tree] [--text]`, whose name no text shows
-abbrev pub app : App
-app = with_rule (with_rule (with_rule (new_app (codes "program")) workers_rule) (flag_rule (codes "tree"))) (flag_rule (codes "text"))
+abbrev pub plain_app : App
+plain_app = with_rule (with_rule (with_rule (new_app (codes "program")) workers_rule) (flag_rule (codes "tree"))) (flag_rule (codes "text"))
+
+-- the same with `[--script FILE]`, for a program that takes it
+abbrev pub app : (takes_script : Bool) → App
+app takes_script = if takes_script then with_rule plain_app script_rule else plain_app
 
 -- the row of each argument
-unfoldable pub rows_for : List (List ℕ) → List Row
-rows_for words = matches_of app words
+unfoldable pub rows_for : (takes_script : Bool) → List (List ℕ) → List Row
+rows_for takes_script words = matches_of (app takes_script) words
 
 -- the kinds of error, one of which is the answer; none if the words are accepted
-unfoldable pub faults_for : List (List ℕ) → Kinds
-faults_for words = fault_of app words
+unfoldable pub faults_for : (takes_script : Bool) → List (List ℕ) → Kinds
+faults_for takes_script words = fault_of (app takes_script) words
 
 abbrev pub number_in : Option (List ℕ) → ℕ
 number_in o = option_map_or byte_or_zero o 0
@@ -40,30 +48,38 @@ number_in o = option_map_or byte_or_zero o 0
 abbrev pub flag_in : Option (List ℕ) → Bool
 flag_in o = option_map_or (λ t. bytes_eq t (codes "true")) o false
 
-abbrev pub workers_for : List (List ℕ) → ℕ
-workers_for words = number_in (one_of (codes "workers") (rows_for words))
+abbrev pub workers_in : List Row → ℕ
+workers_in rows = number_in (one_of (codes "workers") rows)
 
-abbrev pub has_flag : (name : List ℕ) → List (List ℕ) → Bool
-has_flag name words = flag_in (one_of name (rows_for words))
+abbrev pub has_flag : (name : List ℕ) → List Row → Bool
+has_flag name rows = flag_in (one_of name rows)
 
-abbrev pub is_empty_list : {A : Type 0} → List A → Bool
-is_empty_list [] = true
-is_empty_list (x ∷ xs) = false
-
--- the words are accepted, and the number of workers is 1 to 64
-abbrev pub are_taken : List (List ℕ) → Bool
-are_taken words = is_empty_list (faults_for words) && (nat_le 1 (workers_for words) && nat_le (workers_for words) 64)
-
--- the number of workers, whether trees are wanted, and whether scripts are in the text notation
-abbrev pub options_for : List (List ℕ) → Option Options
-options_for words =
-    if are_taken words
-    then Some (record { workers = workers_for words; tree = has_flag (codes "tree") words; text = has_flag (codes "text") words })
+-- the number of workers, which is 1 to 64, whether trees are wanted, and whether scripts are in the text notation
+abbrev pub options_in : List Row → Option Options
+options_in rows =
+    if nat_le 1 (workers_in rows) && nat_le (workers_in rows) 64
+    then Some (record { workers = workers_in rows; tree = has_flag (codes "tree") rows; text = has_flag (codes "text") rows })
     else None
+
+-- if the words are accepted
+abbrev pub accepted : {A : Type 0} → Kinds → Option A → Option A
+accepted [] o = o
+accepted (kind ∷ kinds) o = None
+
+abbrev pub options_for : (takes_script : Bool) → List (List ℕ) → Option Options
+options_for takes_script words = accepted (faults_for takes_script words) (options_in (rows_for takes_script words))
+
+-- the name of the script's file
+abbrev pub script_for : List (List ℕ) → Option (List ℕ)
+script_for words = first_of (codes "script") (rows_for true words)
 
 -- the options of some command line
 abbrev pub AreOfWords : Options → Type 0
-AreOfWords options = (words : List (List ℕ)) × (options_for words ≡ Some options)
+AreOfWords options = (words : List (List ℕ)) × (options_for false words ≡ Some options)
+
+-- the options and the script's file of some command line
+abbrev pub AreOfLiveWords : Options → Option (List ℕ) → Type 0
+AreOfLiveWords options script = (words : List (List ℕ)) × (options_for true words ≡ Some options) × (script ≡ script_for words)
 
 -- the program's exit status without options
 abbrev pub word_code_of : WordFault → ℕ

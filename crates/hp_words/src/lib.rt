@@ -5,4 +5,7 @@
 
 mod words;
 
-pub use words::{Options, WordFault, options_of, parse_words, word_code};
+pub use words::{
+    LiveOptions, Options, WordFault, live_options_of, options_of, parse_live_words, parse_words,
+    word_code,
+};

@@ -1,12 +1,15 @@
 //! The words of the command line.
 
-ghost use Rattle.std.specs.Prelude.{◌≡◌, map, string_bytes, codes, IfOk, Some, None, false};
-ghost use Rattle.clap.specs.Words.{one_of, rows_of, found_of, rule_of, FailsBy};
-ghost use Rattle.hp_words.specs.Words.{rows_for, faults_for, flag_rule, number_in, flag_in, options_for, AreOfWords, word_code_of};
+ghost use Rattle.std.specs.Prelude.{◌≡◌, ◌≢◌, map, string_bytes, codes, IfOk, IfErr, Some, None, true, false};
+ghost use Rattle.std.specs.Option.{option_map};
+ghost use Rattle.clap.specs.Words.{one_of, first_of, rows_of, found_of, rule_of, app_of, kind_of, FailsBy};
+ghost use Rattle.hp_words.specs.Words.{app, plain_app, rows_for, faults_for, flag_rule, number_in, flag_in, options_in, options_for};
+ghost use Rattle.hp_words.specs.Words.{script_for, AreOfWords, AreOfLiveWords, word_code_of};
+ghost use Rattle.hp_words.specs.declared.words.WordFault.TheVariants.{NoMemory};
 
 use clap::error::ErrorKind;
 use clap::{Arg, ArgAction, ArgMatches, Command, Error, value_parser};
-use std::alloc::Global;
+use std::alloc::{AllocError, Global};
 use std::env;
 use std::env::Env;
 use thiserror::Error as ThisError;
@@ -22,6 +25,14 @@ pub struct Options {
     pub text: bool,
 }
 
+/// The options of a rule base that stays up.
+#[derive(Debug, PartialEq, Eq, Drop)]
+pub struct LiveOptions {
+    pub options: Options,
+    /// The name of the file that has the script, if one is given. Else the first line is the script.
+    pub script: Option<String>,
+}
+
 /// Why there are no options.
 #[derive(Clone, Copy, Debug, PartialEq, Eq, ThisError)]
 pub enum WordFault {
@@ -33,38 +44,47 @@ pub enum WordFault {
     NoMemory,
 }
 
+impl From<AllocError> for WordFault {
+    ghost from_gives = { λ _ fault. fault ≡ NoMemory };
+
+    fn from(_error: AllocError) -> WordFault {
+        WordFault::NoMemory
+    }
+}
+
 /// The options in the words of a command line, the first of which is the program's name.
 ///
 /// The defaults are 4 workers, no trees, and JSON.
 pub fn parse_words(alloc: Global, words: &[String]) -> Result<Options, WordFault>
-    ensures ok { IfOk result (λ options. options_for (map string_bytes words.now) ≡ Some options) }
-    ensures refused { result ≡ Err WordFault.Refused → options_for (map string_bytes words.now) ≡ None }
+    ensures ok { IfOk result (λ options. options_for false (map string_bytes words.now) ≡ Some options) }
+    ensures refused { result ≡ Err WordFault.Refused → options_for false (map string_bytes words.now) ≡ None }
 {
-    match matches_of(alloc, words) {
-        Ok(matches) => {
-            let workers = workers_in(&matches);
-            let tree = flag_in(&matches, "tree");
-            let text = flag_in(&matches, "text");
-            if workers < 1 || 64 < workers {
-                return Err(WordFault::Refused);
-            }
-            Ok(Options {
-                workers: workers as usize,
-                tree,
-                text,
-            })
-        }
-        Err(error) => match error.kind() {
-            ErrorKind::OutOfMemory => Err(WordFault::NoMemory),
-            _ => Err(WordFault::Refused),
-        },
+    match matches_of(alloc, words, false) {
+        Ok(matches) => options_in(&matches),
+        Err(error) => Err(fault_by(&error)),
     }
 }
 
-/// The options that the process was started with. The contract can't say which words these were, but that the options
-/// are those of some words.
-pub fn options_of<R: Env + AllocGlobal>(rt: &R) -> Result<Options, WordFault>
-    ensures { IfOk result (λ options. AreOfWords options) }
+/// The same for a rule base that stays up, whose words may name the file of its script.
+pub fn parse_live_words(alloc: Global, words: &[String]) -> Result<LiveOptions, WordFault>
+    ensures ok { IfOk result (λ live. options_for true (map string_bytes words.now) ≡ Some live.options) }
+    ensures script { IfOk result (λ live.
+        option_map string_bytes live.script ≡ script_for (map string_bytes words.now)) }
+    ensures refused { result ≡ Err WordFault.Refused → options_for true (map string_bytes words.now) ≡ None }
+{
+    match matches_of(alloc, words, true) {
+        Ok(matches) => {
+            let options = options_in(&matches)?;
+            let script = script_in(alloc, &matches)?;
+            Ok(LiveOptions { options, script })
+        }
+        Err(error) => Err(fault_by(&error)),
+    }
+}
+
+/// The words that the process was started with.
+fn own_words<R: Env + AllocGlobal>(rt: &R) -> Result<Vec<String>, WordFault>
+    ensures { IfErr result (λ fault. fault ≡ WordFault.NoMemory) }
 {
     let Ok(words) = env::args(rt) else {
         return Err(WordFault::NoMemory);
@@ -72,7 +92,24 @@ pub fn options_of<R: Env + AllocGlobal>(rt: &R) -> Result<Options, WordFault>
     let Ok(words) = words.collect::<Vec<String>>(rt.alloc()) else {
         return Err(WordFault::NoMemory);
     };
+    Ok(words)
+}
+
+/// The options that the process was started with. The contract can't say which words these were, but that the options
+/// are those of some words.
+pub fn options_of<R: Env + AllocGlobal>(rt: &R) -> Result<Options, WordFault>
+    ensures { IfOk result (λ options. AreOfWords options) }
+{
+    let words = own_words(rt)?;
     parse_words(rt.alloc(), words.as_slice())
+}
+
+/// The same for a rule base that stays up.
+pub fn live_options_of<R: Env + AllocGlobal>(rt: &R) -> Result<LiveOptions, WordFault>
+    ensures { IfOk result (λ live. AreOfLiveWords live.options (option_map string_bytes live.script)) }
+{
+    let words = own_words(rt)?;
+    parse_live_words(rt.alloc(), words.as_slice())
 }
 
 /// The exit status of the program without options: 3 if the words were refused, 4 if memory ran out.
@@ -90,15 +127,12 @@ fn flag(alloc: Global, name: &str) -> Arg<'_>
     ensures rule { rule_of result ≡ flag_rule name.entry.now }
     ensures local { result.global ≡ false }
 {
-    Arg::new(alloc, name)
-        .long(name)
-        .action(ArgAction::SetTrue)
+    Arg::new(alloc, name).long(name).action(ArgAction::SetTrue)
 }
 
-/// What `clap` finds in the words.
-fn matches_of<'a>(alloc: Global, words: &'a [String]) -> Result<ArgMatches<'a>, Error>
-    ensures rows { IfOk result (λ m. rows_of (found_of m) ≡ rows_for (map string_bytes words.entry.now)) }
-    ensures kinds { FailsBy (faults_for (map string_bytes words.entry.now)) result }
+/// The command of each program.
+fn plain_command<'a>(alloc: Global) -> Result<Command<'a>, AllocError>
+    ensures { IfOk result (λ command. app_of command ≡ plain_app) }
 {
     let workers = Arg::new(alloc, "workers")
         .long("workers")
@@ -106,11 +140,63 @@ fn matches_of<'a>(alloc: Global, words: &'a [String]) -> Result<ArgMatches<'a>, 
         .default_value("4");
     let tree = flag(alloc, "tree");
     let text = flag(alloc, "text");
-    let command = Command::new(alloc, "program")
+    Command::new(alloc, "program")
         .arg(workers)?
         .arg(tree)?
-        .arg(text)?;
+        .arg(text)
+}
+
+/// The command, which takes the name of a script's file if `takes_script` says so.
+fn command_for<'a>(alloc: Global, takes_script: bool) -> Result<Command<'a>, AllocError>
+    ensures { IfOk result (λ command. app_of command ≡ app takes_script) }
+{
+    let command = plain_command(alloc)?;
+    if takes_script {
+        return command.arg(Arg::new(alloc, "script").long("script"));
+    }
+    Ok(command)
+}
+
+/// What `clap` finds in the words.
+fn matches_of<'a>(
+    alloc: Global,
+    words: &'a [String],
+    takes_script: bool,
+) -> Result<ArgMatches<'a>, Error>
+    ensures rows { IfOk result (λ m. rows_of (found_of m) ≡ rows_for takes_script (map string_bytes words.entry.now)) }
+    ensures kinds { FailsBy (faults_for takes_script (map string_bytes words.entry.now)) result }
+{
+    let command = command_for(alloc, takes_script)?;
     command.try_get_matches_from(words)
+}
+
+/// Why `clap` gave no matches.
+fn fault_by(error: &Error) -> WordFault
+    ensures { result ≡ WordFault.Refused → kind_of error.now ≢ ErrorKind.OutOfMemory }
+{
+    match error.kind() {
+        ErrorKind::OutOfMemory => WordFault::NoMemory,
+        _ => WordFault::Refused,
+    }
+}
+
+/// The options in the matches, unless the number of workers isn't 1 to 64.
+fn options_in(matches: &ArgMatches<'_>) -> Result<Options, WordFault>
+    ensures ok { IfOk result (λ options. options_in (rows_of (found_of matches.entry.now)) ≡ Some options) }
+    ensures refused { result ≡ Err WordFault.Refused → options_in (rows_of (found_of matches.entry.now)) ≡ None }
+    ensures memory { result ≢ Err WordFault.NoMemory }
+{
+    let workers = workers_in(matches);
+    let tree = flag_in(matches, "tree");
+    let text = flag_in(matches, "text");
+    if workers < 1 || 64 < workers {
+        return Err(WordFault::Refused);
+    }
+    Ok(Options {
+        workers: workers as usize,
+        tree,
+        text,
+    })
 }
 
 /// The number of workers in the matches, or 0 if there is none.
@@ -125,4 +211,15 @@ fn flag_in(matches: &ArgMatches<'_>, name: &str) -> bool
     ensures { result ≡ flag_in (one_of name.now (rows_of (found_of matches.entry.now))) }
 {
     matches.get_one::<bool>(name).unwrap_or(false)
+}
+
+/// The file's name in the matches, if there is one.
+fn script_in(alloc: Global, matches: &ArgMatches<'_>) -> Result<Option<String>, AllocError>
+    ensures { IfOk result (λ name.
+        option_map string_bytes name ≡ first_of (codes "script") (rows_of (found_of matches.entry.now))) }
+{
+    match matches.get_str("script") {
+        Some(name) => Ok(Some(String::from_str(alloc, name)?)),
+        None => Ok(None),
+    }
 }

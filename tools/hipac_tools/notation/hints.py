@@ -89,6 +89,8 @@ def at_symbol(a: Around) -> str:
         return "brackets choose a part, and stand before the point: `event[1].arg(0)`"
     if a.found == "{" and a.wanted == ("`version`",):
         return "this looks like JSON: the name of a script as text ends with `.rules`"
+    if a.found == "," and a.wants("`if`") and a.wants("`do`"):
+        return "each query has an `if` of its own, without a comma between"
     if a.found == "," and a.before.is_named() and a.wants("a statement"):
         return "a statement has one name"
     if a.found == ":" and a.wanted == ("`=`",):

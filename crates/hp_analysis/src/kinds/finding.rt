@@ -1,8 +1,9 @@
 //! Why an expression or a statement is refused, and where.
 
-ghost use Rattle.std.specs.Prelude.{◌≡◌};
+ghost use Rattle.std.specs.Prelude.{◌≡◌, ⊤, OnOk};
 ghost use Rattle.hp_rule.specs.Places.{steps};
-ghost use Rattle.hp_analysis.specs.Kinded.{IsFinding, reason};
+ghost use Rattle.hp_analysis.specs.Findings as model;
+ghost use Rattle.hp_analysis.specs.Kinded.{IsFinding, Passes, Notes, reason};
 ghost use Rattle.hp_analysis.specs.declared.kinds.finding.KindError.TheVariants.{Memory};
 
 use crate::kinds::sort::Sort;
@@ -65,7 +66,7 @@ pub struct Finding {
 /// Why a check of kinds failed.
 #[derive(Debug, Drop)]
 pub enum KindError {
-    /// What was checked isn't kinded; this is the first finding.
+    /// An expression, an aggregate or an assignment is refused; this is the first finding in it.
     Found(Finding),
     /// Memory ran out: the check didn't finish.
     Memory,
@@ -94,5 +95,23 @@ pub(crate) fn found(alloc: Global, place: &Place<'_>, why: Reason) -> KindError
     match place.path(alloc) {
         Ok(path) => KindError::Found(Finding { path, reason: why }),
         Err(_) => KindError::Memory,
+    }
+}
+
+/// Adds the finding of a check, if it failed. An error means that memory ran out.
+pub(crate) fn note(
+    found: &mut Vec<Finding>,
+    checked: Result<(), KindError>,
+) -> Result<(), AllocError>
+    ensures { (check : model.Judged ⊤) → Passes checked check →
+        OnOk result (Notes found.old found.new (model.found check)) }
+{
+    match checked {
+        Ok(()) => Ok(()),
+        Err(KindError::Found(finding)) => {
+            found.push(finding)?;
+            Ok(())
+        }
+        Err(KindError::Memory) => Err(AllocError),
     }
 }

@@ -1,30 +1,29 @@
-//! Rules.
+//! What is refused of rules.
 
-ghost use Rattle.std.specs.Prelude.{◌≡◌, map};
-ghost use Rattle.hp_query.specs.Mapped.{query, aggregate, entry};
-ghost use Rattle.hp_model.specs.Kinds.{query_classes};
-ghost use Rattle.hp_model.specs.Rules.{query_entry, no_entry, let_entry};
+ghost use Rattle.std.specs.Prelude.{◌≡◌, IfOk, OnOk, map};
+ghost use Rattle.hp_query.specs.Mapped.{entry};
+ghost use Rattle.hp_model.specs.Kinds.{query_classes, with_entries};
 ghost use Rattle.hp_rule.specs.Statements.{rule};
 ghost use Rattle.hp_rule.specs.Places.{steps};
 ghost use Rattle.hp_rule.specs.Libraries as libraries;
 ghost use Rattle.hp_analysis.specs.Findings as model;
-ghost use Rattle.hp_analysis.specs.Kinded.{Gives, Passes};
+ghost use Rattle.hp_analysis.specs.Kinded.{Passes, Notes};
 ghost use Rattle.hp_analysis.specs.Declarations.{declared};
 ghost use Rattle.hp_analysis.specs.Places.{columns};
 ghost use Rattle.hp_analysis.specs.Scopes.{library, scope_in, scope_there, scope_after_entry};
 ghost use Rattle.hp_analysis.specs.Scopes.{declared as declared_in};
 
-use crate::kinds::aggregate::{aggregate_sort, check_test};
+use crate::kinds::aggregate::check_test;
 use crate::kinds::columns::Columns;
 use crate::kinds::declaration::Declaration;
-use crate::kinds::finding::KindError;
+use crate::kinds::finding::{Finding, KindError, note};
 use crate::kinds::rows::Rows;
 use crate::kinds::scope::Scope;
 use crate::kinds::sorts::{NamedSort, Sorts};
-use crate::kinds::statement::check_body;
-use hp_query::{Aggregate, Entry, Query};
+use crate::kinds::statement::{check_value, find_in_body, held_sort};
+use hp_query::Entry;
 use hp_rule::{Library, Place, Rule};
-use std::alloc::Global;
+use std::alloc::{AllocError, Global};
 
 /// A library, and what is declared of its signals.
 #[derive(Clone, Copy)]
@@ -61,71 +60,34 @@ impl<'a> Base<'a> {
     }
 }
 
-/// Checks a query, and gives no value.
-#[tactic(auto, unfolding(crate::specs::Findings::query_check))]
-fn check_query(
-    scope: &Scope<'_>,
-    place: &Place<'_>,
-    asked: &Query,
-) -> Result<Option<NamedSort>, KindError>
-    ensures { Gives (λ n. scope_after_entry (scope_in scope.now) (query_entry (query asked.now)) n) result
-        (model.query_check (library scope.now) (declared_in scope.now) (scope_in scope.now) (steps place.now)
-        (query asked.now)) }
-{
-    check_test(scope, &place.item(2), asked)?;
-    Ok(None)
-}
-
-/// Checks a query that is to have no answer, and gives no value.
-#[tactic(auto, unfolding(crate::specs::Findings::no_check))]
-fn check_no(
-    scope: &Scope<'_>,
-    place: &Place<'_>,
-    asked: &Query,
-) -> Result<Option<NamedSort>, KindError>
-    ensures { Gives (λ n. scope_after_entry (scope_in scope.now) (no_entry (query asked.now)) n) result
-        (model.no_check (library scope.now) (declared_in scope.now) (scope_in scope.now) (steps place.now)
-        (query asked.now)) }
-{
-    check_test(scope, &place.item(3), asked)?;
-    Ok(None)
-}
-
-/// Checks a value, and gives its sort.
-#[tactic(auto, unfolding(crate::specs::Findings::let_check))]
-fn check_let(
-    scope: &Scope<'_>,
-    place: &Place<'_>,
-    name: &str,
-    computed: &Aggregate,
-) -> Result<Option<NamedSort>, KindError>
-    ensures { Gives (λ n. scope_after_entry (scope_in scope.now)
-        (let_entry name.now (aggregate computed.now)) n) result
-        (model.let_check (library scope.now) (declared_in scope.now) (scope_in scope.now) (steps place.now)
-        name.now (aggregate computed.now)) }
-{
-    let sort = aggregate_sort(scope, &place.item(2), computed)?;
-    let name = String::from_str(scope.alloc, name)?;
-    Ok(Some(NamedSort { name, sort }))
-}
-
-/// Checks an entry of a rule's condition, and gives the sort of its value, if it has one.
-fn check_entry(
-    scope: &Scope<'_>,
-    place: &Place<'_>,
-    checked: &Entry,
-) -> Result<Option<NamedSort>, KindError>
-    ensures { Gives (λ n. scope_after_entry (scope_in scope.now) (entry checked.now) n) result
-        (model.entry_check (library scope.now) (declared_in scope.now) (scope_in scope.now) (steps place.now)
-        (entry checked.now)) }
+/// Checks an entry of a rule's condition.
+fn check_entry(scope: &Scope<'_>, place: &Place<'_>, checked: &Entry) -> Result<(), KindError>
+    ensures { Passes result (model.entry_check (library scope.now) (declared_in scope.now) (scope_in scope.now)
+        (steps place.now) (entry checked.now)) }
 {
     match checked {
-        Entry::Query(asked) => check_query(scope, place, asked),
-        Entry::No(asked) => check_no(scope, place, asked),
-        Entry::Let {
-            name,
-            aggregate: computed,
-        } => check_let(scope, place, name.as_str(), computed),
+        Entry::Query(asked) => check_test(scope, &place.item(2), asked),
+        Entry::No(asked) => check_test(scope, &place.item(3), asked),
+        Entry::Let { aggregate, .. } => check_value(scope, &place.item(2), aggregate),
+    }
+}
+
+/// The value of an entry, with its sort: any, if the entry is refused.
+fn named_sort(
+    scope: &Scope<'_>,
+    place: &Place<'_>,
+    asked: &Entry,
+) -> Result<Option<NamedSort>, AllocError>
+    ensures { IfOk result (λ n. scope_after_entry (scope_in scope.now) (entry asked.now) n
+        ≡ model.scope_then (library scope.now) (declared_in scope.now) (scope_in scope.now) (entry asked.now)) }
+{
+    match asked {
+        Entry::Query(_) | Entry::No(_) => Ok(None),
+        Entry::Let { name, aggregate } => {
+            let sort = held_sort(scope, &place.item(2), aggregate)?;
+            let name = String::from_str(scope.alloc, name.as_str())?;
+            Ok(Some(NamedSort { name, sort }))
+        }
     }
 }
 
@@ -137,89 +99,123 @@ fn check_next(
     found: &[NamedSort],
     place: &Place<'_>,
     next: &Entry,
-) -> Result<Option<NamedSort>, KindError>
+) -> Result<(), KindError>
     ensures { let there = scope_there (columns known.now) (map entry before.now) found.now in
-        Gives (λ n. scope_after_entry there (entry next.now) n) result
-        (model.entry_check (libraries.library base.entry.library.now) (declared base.entry.declared.now) there
-        (steps place.now) (entry next.now)) }
+        Passes result (model.entry_check (libraries.library base.entry.library.now) (declared base.entry.declared.now)
+        there (steps place.now) (entry next.now)) }
 {
     let scope = base.asked(known, before, found);
     check_entry(&scope, place, next)
 }
 
-/// Checks the condition of a rule, and gives the sorts of its values.
-fn check_condition(
+/// The value of the entry of a rule's condition after these entries, with the sorts of their values.
+fn next_value(
+    base: Base<'_>,
+    known: &Columns<'_>,
+    before: &[Entry],
+    found: &[NamedSort],
+    place: &Place<'_>,
+    next: &Entry,
+) -> Result<Option<NamedSort>, AllocError>
+    ensures { let there = scope_there (columns known.now) (map entry before.now) found.now in
+        IfOk result (λ n. scope_after_entry there (entry next.now) n
+        ≡ model.scope_then (libraries.library base.entry.library.now) (declared base.entry.declared.now)
+        there (entry next.now)) }
+{
+    let scope = base.asked(known, before, found);
+    named_sort(&scope, place, next)
+}
+
+/// Adds what is refused of the condition of a rule, and gives the sorts of its values.
+fn find_in_condition(
     base: Base<'_>,
     known: &Columns<'_>,
     place: &Place<'_>,
     entries: &[Entry],
-) -> Result<Vec<NamedSort>, KindError>
-    ensures { Gives (λ ns. scope_there (columns known.now) (map entry entries.now) ns.items) result
-        (model.entries_check (libraries.library base.entry.library.now) (declared base.entry.declared.now)
-        (steps place.now) (model.first_scope (columns known.now)) 0 (map entry entries.now)) }
+    notes: &mut Vec<Finding>,
+) -> Result<Vec<NamedSort>, AllocError>
+    ensures notes { OnOk result (Notes notes.old notes.new
+        (model.entries_findings (libraries.library base.entry.library.now) (declared base.entry.declared.now)
+        (steps place.now) (model.first_scope (columns known.now)) 0 (map entry entries.now))) }
+    ensures scope { IfOk result (λ ns. scope_there (columns known.now) (map entry entries.now) ns.items
+        ≡ with_entries (libraries.library base.entry.library.now) (declared base.entry.declared.now)
+        (model.first_scope (columns known.now)) (map entry entries.now)) }
 {
     let mut found = Vec::new(base.alloc);
     for (i, entry) in entries.iter().enumerate() {
         let here = place.item(i);
-        if let Some(named) = check_next(base, known, &entries[..i], &found, &here, entry)? {
+        let before = &entries[..i];
+        note(notes, check_next(base, known, before, &found, &here, entry))?;
+        if let Some(named) = next_value(base, known, before, &found, &here, entry)? {
             found.push(named)?;
         }
     }
     Ok(found)
 }
 
-/// Checks the action of a rule, with the sorts of its condition's values.
-fn check_action(
+/// Adds what is refused of the action of a rule, with the sorts of its condition's values.
+fn find_in_action(
     base: Base<'_>,
     known: &Columns<'_>,
     found: &[NamedSort],
     place: &Place<'_>,
     whole: &Rule,
-) -> Result<(), KindError>
+    notes: &mut Vec<Finding>,
+) -> Result<(), AllocError>
     ensures { let acting = rule whole.now in
-        Passes result (model.body_check (libraries.library base.entry.library.now)
+        OnOk result (Notes notes.old notes.new (model.body_findings (libraries.library base.entry.library.now)
         (declared base.entry.declared.now) (scope_there (columns known.now) acting.condition found.now)
-        (query_classes acting.condition) (steps place.now) 0 acting.action) }
+        (query_classes acting.condition) (steps place.now) 0 acting.action)) }
 {
     let scope = base.asked(known, &whole.condition, found);
-    check_body(&whole.action, &scope, place)
+    find_in_body(&whole.action, &scope, place, notes)
 }
 
-/// Checks the condition and the action of a rule.
-#[tactic(auto, unfolding(crate::specs::Findings::parts_check))]
-fn check_parts(
+/// Adds what is refused of the condition and the action of a rule.
+fn find_in_parts(
     base: Base<'_>,
     known: &Columns<'_>,
     place: &Place<'_>,
     whole: &Rule,
-) -> Result<(), KindError>
-    ensures { Passes result (model.parts_check (libraries.library base.entry.library.now)
-        (declared base.entry.declared.now) (columns known.now) (steps place.now) (rule whole.now)) }
+    notes: &mut Vec<Finding>,
+) -> Result<(), AllocError>
+    ensures { OnOk result (Notes notes.old notes.new
+        (model.parts_findings (libraries.library base.entry.library.now)
+        (declared base.entry.declared.now) (columns known.now) (steps place.now) (rule whole.now))) }
 {
-    let found = check_condition(base, known, &place.item(3), &whole.condition)?;
-    check_action(base, known, &found, &place.item(5), whole)
+    let found = find_in_condition(base, known, &place.item(3), &whole.condition, notes)?;
+    find_in_action(base, known, &found, &place.item(5), whole, notes)
 }
 
-/// Checks a rule, which statements may fire or not.
-fn check_rule(base: Base<'_>, fired: bool, place: &Place<'_>, whole: &Rule) -> Result<(), KindError>
-    ensures { Passes result (model.rule_check (libraries.library base.entry.library.now)
-        (declared base.entry.declared.now) fired (steps place.now) (rule whole.now)) }
+/// Adds what is refused of a rule, which statements may fire or not.
+fn find_in_rule(
+    base: Base<'_>,
+    fired: bool,
+    place: &Place<'_>,
+    whole: &Rule,
+    notes: &mut Vec<Finding>,
+) -> Result<(), AllocError>
+    ensures { OnOk result (Notes notes.old notes.new
+        (model.rule_findings (libraries.library base.entry.library.now)
+        (declared base.entry.declared.now) fired (steps place.now) (rule whole.now))) }
 {
     let known = Columns::of_rule(base.alloc, fired, &whole.event)?;
-    check_parts(base, &known, place, whole)
+    find_in_parts(base, &known, place, whole, notes)
 }
 
-/// Checks rules.
-pub(crate) fn check_rules(
+/// Adds what is refused of rules.
+pub(crate) fn find_in_rules(
     base: Base<'_>,
     place: &Place<'_>,
     rules: &[Rule],
-) -> Result<(), KindError>
-    ensures { Passes result (model.rules_check (libraries.library base.entry.library.now)
-        (declared base.entry.declared.now) (steps place.now) 0 (map rule rules.now)) }
+    notes: &mut Vec<Finding>,
+) -> Result<(), AllocError>
+    ensures { OnOk result (Notes notes.old notes.new
+        (model.rules_findings (libraries.library base.entry.library.now)
+        (declared base.entry.declared.now) (steps place.now) 0 (map rule rules.now))) }
 {
     for (n, rule) in rules.iter().enumerate() {
-        check_rule(base, base.declared.is_fired(n), &place.item(n), rule)?;
+        find_in_rule(base, base.declared.is_fired(n), &place.item(n), rule, notes)?;
     }
     Ok(())
 }

@@ -1,6 +1,6 @@
-//! Statements and bodies.
+//! What is refused of statements and bodies.
 
-ghost use Rattle.std.specs.Prelude.{◌≡◌, ⊤, IfOk, map, option_map, unwrap_or, bytes_eq};
+ghost use Rattle.std.specs.Prelude.{◌≡◌, IfOk, OnOk, map, option_map, unwrap_or, bytes_eq};
 ghost use Rattle.std.specs.List.{list_any};
 ghost use Rattle.std.specs.Map.{lookup};
 ghost use Rattle.hp_value.specs.Mapped.{expression, field, kind};
@@ -11,13 +11,12 @@ ghost use Rattle.hp_rule.specs.Statements.{assignment, statement, body_in};
 ghost use Rattle.hp_rule.specs.Places.{steps};
 ghost use Rattle.hp_model.specs.Kinds as kinds;
 ghost use Rattle.hp_analysis.specs.Findings as model;
-ghost use Rattle.hp_analysis.specs.Kinded.{sort, Gives, Passes};
-ghost use Rattle.hp_analysis.specs.Scopes.{library, declared, scope_in, queries, own_there, inner_there, body_there};
-ghost use Rattle.hp_analysis.specs.Findings.{Judged};
+ghost use Rattle.hp_analysis.specs.Kinded.{sort, Gives, Passes, Notes};
+ghost use Rattle.hp_analysis.specs.Scopes.{library, declared, scope_in, queries, single_there, own_there, inner_there, body_there};
 
 use crate::kinds::aggregate::aggregate_sort;
 use crate::kinds::expr::{check_kind, check_suits, sort_of};
-use crate::kinds::finding::{KindError, Reason, found};
+use crate::kinds::finding::{Finding, KindError, Reason, found, note};
 use crate::kinds::part::{fields_of, kind_in};
 use crate::kinds::rows::first_class;
 use crate::kinds::scope::Scope;
@@ -77,39 +76,38 @@ fn later_demands(demands: &[Sort]) -> &[Sort]
     }
 }
 
-/// Checks the arguments of a signal.
-fn check_arguments(
+/// Checks that no argument is missing.
+fn check_none_missing(alloc: Global, place: &Place<'_>, demands: &[Sort]) -> Result<(), KindError>
+    ensures { Passes result (model.none_missing (steps place.now) (map sort demands.now)) }
+{
+    match demands {
+        [] => Ok(()),
+        [..] => Err(found(alloc, place, Reason::TooFewArguments)),
+    }
+}
+
+/// Adds what is refused of the arguments of a signal.
+fn find_in_arguments(
     scope: &Scope<'_>,
     place: &Place<'_>,
     signature: &[Sort],
     arguments: &[Expr],
-) -> Result<(), KindError>
-    ensures { Passes result (model.arguments_check (library scope.now) (declared scope.now) (scope_in scope.now)
-        (steps place.now) 0 (map sort signature.now) (map expression arguments.now)) }
+    notes: &mut Vec<Finding>,
+) -> Result<(), AllocError>
+    ensures { OnOk result (Notes notes.old notes.new
+        (model.arguments_findings (library scope.now) (declared scope.now) (scope_in scope.now)
+        (steps place.now) 0 (map sort signature.now) (map expression arguments.now))) }
 {
     let list = place.item(2);
     let mut demands = signature;
     for (i, argument) in arguments.iter().enumerate() {
-        check_argument(scope, &list.item(i), next_demand(demands), argument)?;
+        note(
+            notes,
+            check_argument(scope, &list.item(i), next_demand(demands), argument),
+        )?;
         demands = later_demands(demands);
     }
-    if !demands.is_empty() {
-        return Err(found(scope.alloc, place, Reason::TooFewArguments));
-    }
-    Ok(())
-}
-
-/// Checks a statement that gives a signal.
-fn check_signal(
-    scope: &Scope<'_>,
-    place: &Place<'_>,
-    name: &str,
-    arguments: &[Expr],
-) -> Result<(), KindError>
-    ensures { Passes result (own_there scope.now (steps place.now)
-        (rules.signal name.now (map expression arguments.now))) }
-{
-    check_arguments(scope, place, scope.declared.signature(name), arguments)
+    note(notes, check_none_missing(scope.alloc, place, demands))
 }
 
 /// The kind of the field that an assignment sets.
@@ -143,41 +141,40 @@ fn check_assignment(
     check_kind(scope, &place.item(1), wanted, &pair.value)
 }
 
-/// Checks the assignments of a statement on an object with these fields.
-fn check_assignments(
+/// Adds what is refused of the assignments of a statement on an object with these fields.
+fn find_in_assignments(
     scope: &Scope<'_>,
     place: &Place<'_>,
     fields: &[Field],
     pairs: &[Assignment],
-) -> Result<(), KindError>
-    ensures { Passes result (model.assignments_check (library scope.now) (declared scope.now) (scope_in scope.now)
-        (map field fields.now) (steps place.now) (map assignment pairs.now)) }
+    notes: &mut Vec<Finding>,
+) -> Result<(), AllocError>
+    ensures { OnOk result (Notes notes.old notes.new
+        (model.assignments_findings (library scope.now) (declared scope.now) (scope_in scope.now)
+        (map field fields.now) (steps place.now) 0 (map assignment pairs.now))) }
 {
     for (i, pair) in pairs.iter().enumerate() {
-        check_assignment(scope, &place.item(i), fields, pair)?;
+        note(notes, check_assignment(scope, &place.item(i), fields, pair))?;
     }
     Ok(())
 }
 
-/// Checks the key and the assignments of a statement.
-#[tactic(auto, unfolding(crate::specs::Findings::update_check))]
-fn check_update(
+/// Adds what is refused of the key and the assignments of a statement.
+fn find_in_update(
     scope: &Scope<'_>,
     place: &Place<'_>,
     class: ClassNo,
     key: &Expr,
     pairs: &[Assignment],
-) -> Result<(), KindError>
-    ensures { Passes result (model.update_check (library scope.now) (declared scope.now) (scope_in scope.now)
-        (steps place.now) class (expression key.now) (map assignment pairs.now)) }
+    notes: &mut Vec<Finding>,
+) -> Result<(), AllocError>
+    ensures { OnOk result (Notes notes.old notes.new
+        (model.update_findings (library scope.now) (declared scope.now) (scope_in scope.now)
+        (steps place.now) class (expression key.now) (map assignment pairs.now))) }
 {
-    check_kind(scope, &place.item(2), Kind::Int, key)?;
-    check_assignments(
-        scope,
-        &place.item(3),
-        fields_of(scope.library, class),
-        pairs,
-    )
+    note(notes, check_kind(scope, &place.item(2), Kind::Int, key))?;
+    let fields = fields_of(scope.library, class);
+    find_in_assignments(scope, &place.item(3), fields, pairs, notes)
 }
 
 /// Whether an assignment sets this field.
@@ -204,23 +201,41 @@ fn are_all_assigned(fields: &[Field], pairs: &[Assignment]) -> bool
     true
 }
 
-/// Checks a statement that creates an object.
-#[tactic(auto, unfolding(crate::specs::Findings::create_check))]
-fn check_create(
+/// Checks that each field is set.
+fn check_all_set(
+    alloc: Global,
+    place: &Place<'_>,
+    fields: &[Field],
+    pairs: &[Assignment],
+) -> Result<(), KindError>
+    ensures { Passes result
+        (model.all_set (steps place.now) (map field fields.now) (map assignment pairs.now)) }
+{
+    if are_all_assigned(fields, pairs) {
+        return Ok(());
+    }
+    Err(found(alloc, place, Reason::UnsetField))
+}
+
+/// Adds what is refused of a statement that creates an object.
+fn find_in_create(
     scope: &Scope<'_>,
     place: &Place<'_>,
     class: ClassNo,
     key: &Expr,
     pairs: &[Assignment],
-) -> Result<(), KindError>
-    ensures { Passes result (model.create_check (library scope.now) (declared scope.now) (scope_in scope.now)
-        (steps place.now) class (expression key.now) (map assignment pairs.now)) }
+    notes: &mut Vec<Finding>,
+) -> Result<(), AllocError>
+    ensures { OnOk result (Notes notes.old notes.new
+        (model.create_findings (library scope.now) (declared scope.now) (scope_in scope.now)
+        (steps place.now) class (expression key.now) (map assignment pairs.now))) }
 {
-    check_update(scope, place, class, key, pairs)?;
-    if !are_all_assigned(fields_of(scope.library, class), pairs) {
-        return Err(found(scope.alloc, &place.item(3), Reason::UnsetField));
-    }
-    Ok(())
+    find_in_update(scope, place, class, key, pairs, notes)?;
+    let fields = fields_of(scope.library, class);
+    note(
+        notes,
+        check_all_set(scope.alloc, &place.item(3), fields, pairs),
+    )
 }
 
 /// Checks that an emitted expression has a sort.
@@ -235,7 +250,11 @@ fn check_emission(scope: &Scope<'_>, place: &Place<'_>, emitted: &Expr) -> Resul
 
 /// Checks that an aggregate has a sort.
 #[tactic(auto, unfolding(crate::specs::Findings::value_check))]
-fn check_value(scope: &Scope<'_>, place: &Place<'_>, computed: &Aggregate) -> Result<(), KindError>
+pub(crate) fn check_value(
+    scope: &Scope<'_>,
+    place: &Place<'_>,
+    computed: &Aggregate,
+) -> Result<(), KindError>
     ensures { Passes result (model.value_check (library scope.now) (declared scope.now) (scope_in scope.now)
         (steps place.now) (aggregate computed.now)) }
 {
@@ -245,7 +264,11 @@ fn check_value(scope: &Scope<'_>, place: &Place<'_>, computed: &Aggregate) -> Re
 
 /// The sort of an aggregate's value in its statement's body; any sort if the aggregate is refused.
 #[tactic(auto, using(crate::proofs::Judging::aggregate_given))]
-fn held_sort(scope: &Scope<'_>, place: &Place<'_>, computed: &Aggregate) -> Result<Sort, AllocError>
+pub(crate) fn held_sort(
+    scope: &Scope<'_>,
+    place: &Place<'_>,
+    computed: &Aggregate,
+) -> Result<Sort, AllocError>
     ensures { IfOk result (λ s. sort s ≡ unwrap_or
         (kinds.aggregate_sort (library scope.now) (declared scope.now) (scope_in scope.now) (aggregate computed.now))
         kinds.any) }
@@ -259,7 +282,7 @@ fn held_sort(scope: &Scope<'_>, place: &Place<'_>, computed: &Aggregate) -> Resu
 
 /// Checks that a statement may fire a rule.
 fn check_fire(scope: &Scope<'_>, place: &Place<'_>, rule: u32) -> Result<(), KindError>
-    ensures { Passes result (own_there scope.now (steps place.now) (rules.fire rule)) }
+    ensures { Passes result (single_there scope.now (steps place.now) (rules.fire rule)) }
 {
     if scope.declared.is_fired(rule as usize) {
         return Ok(());
@@ -278,15 +301,12 @@ fn check_query_name(scope: &Scope<'_>, place: &Place<'_>, query: &str) -> Result
     }
 }
 
-/// Checks what a statement itself evaluates, and what it names: all but the statements in it.
-fn check_own(s: &Stmt, scope: &Scope<'_>, place: &Place<'_>) -> Result<(), KindError>
-    ensures { Passes result (own_there scope.now (steps place.now) (statement s.now)) }
+/// Checks what a statement itself evaluates or names, where that is one thing.
+fn check_single(s: &Stmt, scope: &Scope<'_>, place: &Place<'_>) -> Result<(), KindError>
+    ensures { Passes result (single_there scope.now (steps place.now) (statement s.now)) }
 {
     match s {
-        Stmt::Create { class, key, pairs } => check_create(scope, place, *class, key, pairs),
-        Stmt::Update { class, key, pairs } => check_update(scope, place, *class, key, pairs),
         Stmt::Delete { key, .. } => check_kind(scope, &place.item(2), Kind::Int, key),
-        Stmt::Signal { name, arguments } => check_signal(scope, place, name, arguments),
         Stmt::Emit(value) | Stmt::Veto(Some(value)) => check_emission(scope, place, value),
         Stmt::If { condition, .. } => check_kind(scope, &place.item(1), Kind::Bool, condition),
         Stmt::Each {
@@ -302,23 +322,46 @@ fn check_own(s: &Stmt, scope: &Scope<'_>, place: &Place<'_>) -> Result<(), KindE
         Stmt::With { key, .. } => check_kind(scope, &place.item(3), Kind::Int, key),
         Stmt::Let { aggregate, .. } => check_value(scope, &place.item(2), aggregate),
         Stmt::Fire(rule) => check_fire(scope, place, *rule),
+        Stmt::Create { .. } | Stmt::Update { .. } | Stmt::Signal { .. } => Ok(()),
         Stmt::Sub { .. } | Stmt::Abort | Stmt::Veto(None) | Stmt::OnRule { .. } => Ok(()),
     }
 }
 
-/// The first finding of two checks.
-#[tactic(auto, unfolding(crate::specs::Findings::both_check))]
-fn both(first: Result<(), KindError>, second: Result<(), KindError>) -> Result<(), KindError>
-    ensures { (a b : Judged ⊤) → Passes first a → Passes second b → Passes result (model.both_check a b) }
+/// Adds what is refused of what a statement itself evaluates and names: all but the statements in it.
+fn find_own(
+    s: &Stmt,
+    scope: &Scope<'_>,
+    place: &Place<'_>,
+    notes: &mut Vec<Finding>,
+) -> Result<(), AllocError>
+    ensures { OnOk result (Notes notes.old notes.new
+        (own_there scope.now (steps place.now) (statement s.now))) }
 {
-    first?;
-    second
+    match s {
+        Stmt::Create { class, key, pairs } => {
+            find_in_create(scope, place, *class, key, pairs, notes)
+        }
+        Stmt::Update { class, key, pairs } => {
+            find_in_update(scope, place, *class, key, pairs, notes)
+        }
+        Stmt::Signal { name, arguments } => {
+            let signature = scope.declared.signature(name);
+            find_in_arguments(scope, place, signature, arguments, notes)
+        }
+        _ => note(notes, check_single(s, scope, place)),
+    }
 }
 
-/// Checks the statements in a statement.
+/// Adds what is refused of the statements in a statement.
 #[cycle(kinded)]
-fn check_inner(s: &Stmt, scope: &Scope<'_>, place: &Place<'_>) -> Result<(), KindError>
-    ensures { Passes result (inner_there scope.now (steps place.now) (statement s.now)) }
+fn find_inside(
+    s: &Stmt,
+    scope: &Scope<'_>,
+    place: &Place<'_>,
+    notes: &mut Vec<Finding>,
+) -> Result<(), AllocError>
+    ensures { OnOk result (Notes notes.old notes.new
+        (inner_there scope.now (steps place.now) (statement s.now))) }
 {
     match s {
         Stmt::If {
@@ -326,73 +369,64 @@ fn check_inner(s: &Stmt, scope: &Scope<'_>, place: &Place<'_>) -> Result<(), Kin
             else_body,
             ..
         } => {
-            let first = check_body(then_body, scope, &place.item(2));
-            let second = check_body(else_body, scope, &place.item(3));
-            both(first, second)
+            find_in_body(then_body, scope, &place.item(2), notes)?;
+            find_in_body(else_body, scope, &place.item(3), notes)
         }
         Stmt::Each {
             variable,
             class,
             body,
             ..
-        } => check_body(
-            body,
-            &(&*scope).bound(variable.as_str(), *class),
-            &place.item(4),
-        ),
+        } => {
+            let inner = (&*scope).bound(variable.as_str(), *class);
+            find_in_body(body, &inner, &place.item(4), notes)
+        }
         Stmt::For { query, body } => {
             let class = first_class(scope.condition, query.as_str()).unwrap_or(0);
-            check_body(
-                body,
-                &(&*scope).bound(query.as_str(), class),
-                &place.item(2),
-            )
+            let inner = (&*scope).bound(query.as_str(), class);
+            find_in_body(body, &inner, &place.item(2), notes)
         }
         Stmt::With {
             variable,
             class,
             body,
             ..
-        } => check_body(
-            body,
-            &(&*scope).bound(variable.as_str(), *class),
-            &place.item(4),
-        ),
+        } => {
+            let inner = (&*scope).bound(variable.as_str(), *class);
+            find_in_body(body, &inner, &place.item(4), notes)
+        }
         Stmt::Let {
             name,
             aggregate: computed,
             body,
         } => {
             let given = held_sort(scope, &place.item(2), computed)?;
-            check_body(
-                body,
-                &(&*scope).holding(name.as_str(), given),
-                &place.item(3),
-            )
+            let inner = (&*scope).holding(name.as_str(), given);
+            find_in_body(body, &inner, &place.item(3), notes)
         }
         Stmt::Sub { body, otherwise } => {
-            let first = check_body(body, scope, &place.item(1));
-            let second = check_body(otherwise, scope, &place.item(2));
-            both(first, second)
+            find_in_body(body, scope, &place.item(1), notes)?;
+            find_in_body(otherwise, scope, &place.item(2), notes)
         }
         _ => Ok(()),
     }
 }
 
-/// Checks a body.
+/// Adds what is refused of the statements of a body.
 #[cycle(kinded)]
-#[tactic(auto, unfolding(crate::specs::Findings::both_check))]
-pub(crate) fn check_body(
+pub(crate) fn find_in_body(
     body: &[Stmt],
     scope: &Scope<'_>,
     place: &Place<'_>,
-) -> Result<(), KindError>
-    ensures { Passes result (body_there scope.now (steps place.now) (body_in body.now)) }
+    notes: &mut Vec<Finding>,
+) -> Result<(), AllocError>
+    ensures { OnOk result (Notes notes.old notes.new
+        (body_there scope.now (steps place.now) (body_in body.now))) }
 {
     for (i, s) in body.iter().enumerate() {
         let here = place.item(i);
-        check_own(s, scope, &here)?;
-        check_inner(s, scope, &here)?;
+        find_own(s, scope, &here, notes)?;
+        find_inside(s, scope, &here, notes)?;
     }
     Ok(())
 }

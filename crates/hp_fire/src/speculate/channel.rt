@@ -46,7 +46,10 @@ pub(crate) fn channel<'a>(
     ensures sender { IfOk result (λ ends. IsOf (library lib.entry.now) (sent ends.0)) }
     ensures receiver { IfOk result (λ ends. IsOf (library lib.entry.now) (received ends.1)) }
 {
-    let (mut sender, mut receiver) = RingBuffer::with_protocol::<Global, Soundness>(alloc, CHANNEL_CAPACITY)?;
+    let (mut sender, mut receiver) = RingBuffer::with_protocol::<Global, Soundness>(
+        alloc,
+        CHANNEL_CAPACITY,
+    )?;
     sender.push_reserved(Sent::Library(lib));
     receiver.slots_beside(&mut sender);
     receiver.pop_known();

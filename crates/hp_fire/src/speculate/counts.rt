@@ -4,6 +4,7 @@ ghost use Rattle.std.specs.Prelude.{◌≡◌, ◌+◌, ◌^◌, ◌<◌, ◌≤
 ghost use Rattle.std.specs.List.{slice_index_or};
 ghost use Rattle.hp_fire.specs.Groups.{IsRetried};
 
+use crate::speculate::index::GroupIndex;
 use hp_attempt::Attempt;
 use std::alloc::{AllocError, Global};
 use std::collections::VecDeque;
@@ -57,9 +58,9 @@ impl Counts {
         ensures same { self.new ≡ record self.old { retried = self.new.retried } }
         ensures retried { IsRetried self.new done }
     {
-        for place in 0..attempts.len() {
-            if attempts[place].is_none() {
-                mark(&mut self.retried, done.saturating_add(place));
+        for slot in 0..attempts.len() {
+            if attempts[slot].is_none() {
+                mark(&mut self.retried, done.saturating_add(slot));
             }
         }
         mark(&mut self.retried, done);
@@ -78,11 +79,11 @@ impl Counts {
 }
 
 // Marks a task as tried again.
-fn mark(retried: &mut Vec<bool>, number: usize)
-    ensures { slice_index_or retried.new.items number true ≡ true }
+fn mark(retried: &mut Vec<bool>, index: GroupIndex)
+    ensures { slice_index_or retried.new.items index true ≡ true }
 {
-    if let Some(place) = retried.get_mut(number) {
-        *place = true;
+    if let Some(retried) = retried.get_mut(index) {
+        *retried = true;
     }
 }
 

@@ -209,13 +209,13 @@ impl<
             jobs,
             mut receivers,
         } = start;
-        self.wave(&wave, (seat, jobs), &mut receivers, view, progress)
+        self.run_wave(&wave, (seat, jobs), &mut receivers, view, progress)
     }
 
     /// Workers and the owner try the tasks that aren't settled, while the owner accepts the front of the attempts.
     ///
     /// An error means that memory ran out while the owner accepted attempts.
-    fn wave(
+    fn run_wave(
         &self,
         wave: &Wave<'_>,
         seats: (Seat, Vec<Job<'_>>),

@@ -10,6 +10,7 @@ ghost use Rattle.hp_fire.specs.Channels.{IsOf};
 ghost use Rattle.hp_fire.specs.Groups.{AreSoundTries, AreOf};
 
 use crate::speculate::channel::{Receiver, receive};
+use crate::speculate::index::GroupIndex;
 use crate::speculate::past::{Effort, Past};
 use crate::speculate::policy::CHANNEL_CAPACITY;
 use hp_attempt::{Attempt, holds};
@@ -22,7 +23,7 @@ use std::collections::VecDeque;
 #[derive(Drop)]
 pub(crate) struct Tried {
     /// The task's index in its group.
-    pub(crate) place: usize,
+    pub(crate) index: GroupIndex,
     /// The attempt.
     pub(crate) attempt: Attempt,
     /// The cost of the attempt.
@@ -53,8 +54,8 @@ impl Pending {
     /// Whether several tasks have no attempt whose reads hold in the view's cells.
     pub(crate) fn lacks_several(&self, view: &View) -> bool {
         let mut lacks_one = false;
-        for place in &self.attempts {
-            if may_stand(place, view) {
+        for slot in &self.attempts {
+            if may_stand(slot, view) {
                 continue;
             }
             if lacks_one {
@@ -70,9 +71,9 @@ impl Pending {
         ensures { (library : ModelLibrary) → AreSound library self.old.attempts.items
             → AreSound library self.new.attempts.items }
     {
-        for place in 0..self.attempts.len() {
-            if place == 0 || !may_stand(&self.attempts[place], view) {
-                self.attempts[place] = None;
+        for slot in 0..self.attempts.len() {
+            if slot == 0 || !may_stand(&self.attempts[slot], view) {
+                self.attempts[slot] = None;
             }
         }
     }
@@ -82,22 +83,22 @@ impl Pending {
         ensures { (library : ModelLibrary) → AreSound library self.old.attempts.items
             → AreSound library self.new.attempts.items }
     {
-        let first = self.settled();
+        let first = self.settled_count();
         self.set_cost(first, 0);
         drop(self.attempts.pop_front());
     }
 
     // Sets the cost of the last attempt at a task of the group.
-    fn set_cost(&mut self, place: usize, cost: u64)
+    fn set_cost(&mut self, index: GroupIndex, cost: u64)
         ensures { self.new.attempts ≡ self.old.attempts }
     {
-        if let Some(last) = self.costs.get_mut(place) {
+        if let Some(last) = self.costs.get_mut(index) {
             *last = cost;
         }
     }
 
     // The number of settled tasks of the group.
-    fn settled(&self) -> usize {
+    fn settled_count(&self) -> usize {
         self.costs.len().saturating_sub(self.attempts.len())
     }
 
@@ -107,25 +108,25 @@ impl Pending {
             → IsSound library (attempt_of tried.attempt) → AreSound library self.new.attempts.items }
     {
         let Tried {
-            place,
+            index,
             attempt,
             cost,
         } = tried;
-        let settled = self.settled();
-        if place < settled {
+        let settled = self.settled_count();
+        if index < settled {
             return;
         }
-        self.set_cost(place, cost);
-        self.set_attempt(place - settled, attempt);
+        self.set_cost(index, cost);
+        self.set_attempt(index - settled, attempt);
     }
 
-    // Stores the attempt at a task that isn't settled; such tasks are numbered from 0.
-    fn set_attempt(&mut self, number: usize, attempt: Attempt)
+    // Stores the attempt at a task that isn't settled. The first of those has slot 0.
+    fn set_attempt(&mut self, slot: usize, attempt: Attempt)
         ensures { (library : ModelLibrary) → AreSound library self.old.attempts.items
             → IsSound library (attempt_of attempt) → AreSound library self.new.attempts.items }
     {
-        if number < self.attempts.len() {
-            self.attempts[number] = Some(attempt);
+        if slot < self.attempts.len() {
+            self.attempts[slot] = Some(attempt);
         }
     }
 
@@ -203,7 +204,7 @@ impl Pending {
 
 // A list without attempts.
 fn no_attempts(alloc: Global, tasks: usize) -> Result<VecDeque<Option<Attempt>>, AllocError>
-    ensures { IfOk result (λ places. (library : ModelLibrary) → AreSound library places.items) }
+    ensures { IfOk result (λ slots. (library : ModelLibrary) → AreSound library slots.items) }
 {
     let mut attempts = VecDeque::new(alloc);
     for _ in 0..tasks {
@@ -213,8 +214,8 @@ fn no_attempts(alloc: Global, tasks: usize) -> Result<VecDeque<Option<Attempt>>,
 }
 
 // Whether there is an attempt whose reads hold in the view's cells.
-fn may_stand(place: &Option<Attempt>, view: &View) -> bool {
-    match place {
+fn may_stand(slot: &Option<Attempt>, view: &View) -> bool {
+    match slot {
         Some(attempt) => holds(&attempt.reads, view),
         None => false,
     }

@@ -3,6 +3,7 @@
 ghost use Rattle.std.specs.Prelude.{◌+◌, ◌^◌, ◌<◌, length};
 ghost use Rattle.hp_board.specs.Passes.{IsPassOf};
 
+use crate::speculate::index::WaveIndex;
 use crate::speculate::wave::Wave;
 use hp_attempt::Attempt;
 use hp_board::Pass;
@@ -40,7 +41,7 @@ impl Predecessors {
         &mut self,
         alloc: Global,
         wave: &Wave<'_>,
-        number: usize,
+        number: WaveIndex,
         mut pass: Pass<Arc<Layer>>,
     ) -> (Result<Snapshot, AllocError>, Pass<Arc<Layer>>)
         requires number { number < length wave.now.board.cells }
@@ -65,7 +66,7 @@ impl Predecessors {
     pub(crate) fn note(
         &mut self,
         wave: &Wave<'_>,
-        number: usize,
+        number: WaveIndex,
         attempt: &Attempt,
         mut pass: Pass<Arc<Layer>>,
     ) -> Pass<Arc<Layer>>
@@ -89,7 +90,7 @@ impl Predecessors {
     // found later.
     fn take_in_next(
         &mut self,
-        predecessor: usize,
+        predecessor: WaveIndex,
         layer: &Layer,
         later: &mut Layer,
     ) -> Result<(), AllocError>

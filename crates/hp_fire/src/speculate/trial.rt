@@ -16,6 +16,7 @@ use crate::attempting::attempt_on;
 use crate::speculate::channel::Receiver;
 use crate::speculate::fork_join::{on_threads, take_value};
 use crate::speculate::gate::Gate;
+use crate::speculate::index::{GroupIndex, WaveIndex};
 use crate::speculate::past::Effort;
 use crate::speculate::pending::Tried;
 use crate::speculate::policy::MAX_POLLS;
@@ -213,7 +214,7 @@ impl<
 
     /// Tries the task of a number, and posts what it wrote. If an attempt at the task is kept, its layer is posted
     /// instead. A worker that has given up still draws numbers, so that no other worker tries in vain what is left.
-    fn try_number(&self, worker: &mut Worker<'_>, number: usize) -> Option<Tried>
+    fn try_number(&self, worker: &mut Worker<'_>, number: WaveIndex) -> Option<Tried>
         requires fires { All (MayFire F.Fn self.now.fire.now) worker.old.wave.now.tasks.now }
         requires firings { Fires F.Fn self.now.fire.now (library self.now.lib.now) }
         requires worker { IsWorker worker.old }
@@ -230,15 +231,20 @@ impl<
             worker.post(number, layer);
             return None;
         }
-        let place = wave.done.saturating_add(number);
-        self.gate.started(place);
-        let tried = self.try_place(worker, number, place);
-        self.gate.ended(place);
+        let index = wave.done.saturating_add(number);
+        self.gate.started(index);
+        let tried = self.try_index(worker, number, index);
+        self.gate.ended(index);
         tried
     }
 
     /// Tries the task of a number, at this index in its group. `None` means that memory ran out.
-    fn try_place(&self, worker: &mut Worker<'_>, number: usize, place: usize) -> Option<Tried>
+    fn try_index(
+        &self,
+        worker: &mut Worker<'_>,
+        number: WaveIndex,
+        index: GroupIndex,
+    ) -> Option<Tried>
         requires fires { All (MayFire F.Fn self.now.fire.now) worker.old.wave.now.tasks.now }
         requires firings { Fires F.Fn self.now.fire.now (library self.now.lib.now) }
         requires worker { IsWorker worker.old }
@@ -248,30 +254,25 @@ impl<
         ensures sound { IfSome result (λ t. IsSound (library self.now.lib.now) (attempt_of t.attempt)) }
     {
         let tasks = worker.wave.tasks;
-        if place >= tasks.len() {
+        if index >= tasks.len() {
             return None;
         }
         let start = worker.start_of(number).ok()?;
         let effort = Effort::new();
-        let attempt = self.attempted(start, &tasks[place], &effort).ok()?;
+        let attempt = self.try_task(start, &tasks[index], &effort).ok()?;
         if !worker.post(number, &attempt.layer) {
             return None;
         }
         worker.note(number, &attempt);
         Some(Tried {
-            place,
+            index,
             attempt,
             cost: effort.so_far(),
         })
     }
 
     /// The attempt at a task: it fires on a view of its start, in which the attempt's reads then held.
-    fn attempted(
-        &self,
-        start: Snapshot,
-        task: &Task,
-        effort: &Effort,
-    ) -> Result<Attempt, AllocError>
+    fn try_task(&self, start: Snapshot, task: &Task, effort: &Effort) -> Result<Attempt, AllocError>
         requires fires { MayFire F.Fn self.now.fire.now task.now }
         requires firings { Fires F.Fn self.now.fire.now (library self.now.lib.now) }
         ensures sound { IfOk result (λ a. IsSound (library self.now.lib.now) (attempt_of a)) }

@@ -11,6 +11,7 @@ ghost use Rattle.hp_fire.specs.Channels.{IsOf};
 ghost use Rattle.hp_fire.specs.Groups.{AreSoundTries, IsJob, AreOf};
 
 use crate::speculate::channel::{Receiver, Sender, channel, send};
+use crate::speculate::index::WaveIndex;
 use crate::speculate::pending::Tried;
 use hp_attempt::Attempt;
 use hp_board::{Board, Posted, Seat};
@@ -108,8 +109,8 @@ pub(crate) fn kept_layers(
     if !is_any_kept(attempts) {
         return Ok(layers);
     }
-    for place in attempts {
-        match place {
+    for slot in attempts {
+        match slot {
             Some(attempt) => layers.push(Some(Arc::try_clone(&attempt.layer)?))?,
             None => layers.push(None)?,
         }
@@ -119,8 +120,8 @@ pub(crate) fn kept_layers(
 
 // Whether an attempt is kept.
 fn is_any_kept(attempts: &VecDeque<Option<Attempt>>) -> bool {
-    for place in attempts {
-        if place.is_some() {
+    for slot in attempts {
+        if slot.is_some() {
             return true;
         }
     }
@@ -128,7 +129,7 @@ fn is_any_kept(attempts: &VecDeque<Option<Attempt>>) -> bool {
 }
 
 /// What the kept attempt at a task wrote, if there is one.
-pub(crate) fn kept_layer<'a>(wave: &'a Wave<'_>, number: usize) -> Option<&'a Arc<Layer>> {
+pub(crate) fn kept_layer<'a>(wave: &'a Wave<'_>, number: WaveIndex) -> Option<&'a Arc<Layer>> {
     wave.kept.get(number)?.as_ref()
 }
 

@@ -4,6 +4,7 @@ ghost use Rattle.std.specs.Prelude.{◌≡◌, ◌<◌, IfOk, IfSome, length};
 ghost use Rattle.hp_board.specs.Deal.{IsSeatOf};
 ghost use Rattle.hp_fire.specs.Groups.{IsWorker};
 
+use crate::speculate::index::WaveIndex;
 use crate::speculate::policy::MAX_CONFLICTS;
 use crate::speculate::predecessors::Predecessors;
 use crate::speculate::wave::{Wave, boxed};
@@ -50,7 +51,7 @@ impl<'a> Worker<'a> {
     }
 
     /// Draws the number of a task that no other worker draws; `None` if all were drawn.
-    pub(crate) fn draw(&mut self) -> Option<usize>
+    pub(crate) fn draw(&mut self) -> Option<WaveIndex>
         requires { IsWorker self.old }
         ensures worker { IsWorker self.new }
         ensures wave { self.new.wave ≡ self.old.wave }
@@ -79,7 +80,7 @@ impl<'a> Worker<'a> {
 
     /// The start of a task: the wave's snapshot, under the layers that the task's predecessors have posted so far, in
     /// order.
-    pub(crate) fn start_of(&mut self, number: usize) -> Result<Snapshot, AllocError>
+    pub(crate) fn start_of(&mut self, number: WaveIndex) -> Result<Snapshot, AllocError>
         requires worker { IsWorker self.old }
         requires number { number < length self.old.wave.now.board.cells }
         ensures worker { IsWorker self.new }
@@ -96,7 +97,7 @@ impl<'a> Worker<'a> {
     }
 
     /// Posts what a task wrote. The answer is whether it did.
-    pub(crate) fn post(&mut self, number: usize, layer: &Arc<Layer>) -> bool
+    pub(crate) fn post(&mut self, number: WaveIndex, layer: &Arc<Layer>) -> bool
         requires worker { IsWorker self.old }
         requires number { number < length self.old.wave.now.board.cells }
         ensures worker { IsWorker self.new }
@@ -121,7 +122,7 @@ impl<'a> Worker<'a> {
     }
 
     /// Notes whether the attempt at a task is in conflict with a slow predecessor, or one after that.
-    pub(crate) fn note(&mut self, number: usize, attempt: &Attempt)
+    pub(crate) fn note(&mut self, number: WaveIndex, attempt: &Attempt)
         requires worker { IsWorker self.old }
         requires number { number < length self.old.wave.now.board.cells }
         ensures worker { IsWorker self.new }

@@ -1,7 +1,7 @@
 use Rattle.std.proofs.Common.{rules, ◌≡◌, ap, ◌∙◌}
 use Rattle.std.specs.Prelude.{is_none}
 use Rattle.hp_analysis.specs.Openings.{opening}
-use Rattle.hp_analysis.proofs.First.{mapped_none}
+use Rattle.hp_analysis.proofs.Guarding.{mapped_none}
 use Rattle.hp_analysis.proofs.guards.has_no_opening.Goals as goal
 
 pub returns : goal.returns

@@ -1,4 +1,4 @@
-use Rattle.std.proofs.Common.{rules, arith, List, ◌≡◌, refl, ap, sym, ◌∙◌, subst, [], map, length, true, false}
+use Rattle.std.proofs.Common.{rules, arith, List, ◌≡◌, ◌<◌, ◌≤◌, refl, ap, sym, ◌∙◌, subst, [], ◌∷◌, map, length, true, false}
 use Rattle.std.proofs.Common.{SFits, w64, of_z, to_z, Ok}
 use Rattle.std.proofs.lemmas.Int.{to_z-of_z}
 use Rattle.std.proofs.lemmas.Result.{err_from_is_err_and, IfOk-weaker}
@@ -28,7 +28,7 @@ use Rattle.hp_fire.specs.Runs.{Runs, RunsGroup, Steps, Made, Makes, SubRuns}
 use Rattle.hp_fire.proofs.Decisions.{acts_runs}
 use Rattle.hp_fire.proofs.Making.{steps_halt}
 use Rattle.hp_fire.proofs.Stating.{with_is, veto_is, findings_now, body_under, steps_at, runs_at, signal_makes, found_halt, found_steps}
-use Rattle.hp_fire.proofs.Steps.{runs_answer, runs_ends, runs_value, found_value, sub_over, sub_then, body_each, loop_starts, loop_next, loop_stops, loop_ends}
+use Rattle.hp_fire.proofs.Steps.{runs_answer, runs_ends, runs_value, found_value, sub_over, sub_then, body_each, loop_starts, loop_next, loop_stops, loop_ends, lone_runs}
 use Rattle.hp_fire.proofs.Starting.{signal_starts, signal_ready, then_starts, are_ready, start_none, start_single, single_measure, start_runs, group_measure, none_long, map_none, tasks_at}
 use denote.Param.{param}
 use denote.Param.Send.{IsSync, param_sync, sendable}
@@ -38,25 +38,38 @@ use Rattle.hp_fire.specs.contracts.engine.Engine as EngineRow
 use Rattle.hp_fire.proofs.Sending.{engine_sync}
 use Rattle.hp_fire.proofs.engine.+fire.Goals as goal
 
+-- ---- a lone statement
+
+pub Engine::statements-returns-in-len1 : goal.Engine::statements-returns-in-len1
+Engine::statements-returns-in-len1 g t c =
+    let lib = library c.args.self.now.lib.now in
+    let level = level_at lib c.args.context.now.env.time c.args.context.now.depth in
+    let some : 0 < length c.args.body.now = omega (arith, c.in-len1.len_at_least) in
+    let short : length c.args.body.now ≤ 1 = omega (arith, c.in-len1.len_below) in
+    let only = split_at c.args.body.now 0 c.only-item.result some c.only-item.is ∙ ap (λ ss. c.only-item.result ∷ ss) (drop_of_length-le c.args.body.now short) in
+    IfOk-weaker c.or_aborted.result _ _
+    (λ r ends. lone_runs level (context c.args.context.now) c.args.body.now c.only-item.result only (ends lib _ c.args.view.now c.statement-given.new.view c.statement-given.ensures))
+    c.or_aborted.ensures
+
 -- ---- statements, one after another
 
-pub Engine::statements-loop-stmt-init : goal.Engine::statements-loop-stmt-init
-Engine::statements-loop-stmt-init g t c = loop_starts c.args.body.now c.args.view.now _ c.ended-so_far.ensures (body_each _ _ c.args.body.now)
+pub Engine::in_order-loop-stmt-init : goal.Engine::in_order-loop-stmt-init
+Engine::in_order-loop-stmt-init g t c = loop_starts c.args.body.now c.args.view.now _ c.ended-so_far.ensures (body_each _ _ c.args.body.now)
 
-pub Engine::statements-loop-stmt-preserved : goal.Engine::statements-loop-stmt-preserved
-Engine::statements-loop-stmt-preserved g t c =
+pub Engine::in_order-loop-stmt-preserved : goal.Engine::in_order-loop-stmt-preserved
+Engine::in_order-loop-stmt-preserved g t c =
     let goes : is_done (course c.join.new.self).end ≡ true = search rules in
     loop_next c.stmt-item.result _ (split_at c.args.body.now c.loop-stmt.stmt-index c.stmt-item.result c.loop-stmt-test.true c.stmt-item.is) c.in_ok-join.ensures goes c.loop-stmt.invariant
     (c.in_ok-more.ensures (library c.args.self.now.lib.now) _ c.loop-stmt.view c.statement-result.new.view c.statement-result.ensures)
 
-pub Engine::statements-returns-then-not-is_done : goal.Engine::statements-returns-then-not-is_done
-Engine::statements-returns-then-not-is_done g t c =
+pub Engine::in_order-returns-then-not-is_done : goal.Engine::in_order-returns-then-not-is_done
+Engine::in_order-returns-then-not-is_done g t c =
     let stops : is_done (course c.join.new.self).end ≡ false = search rules in
     loop_stops c.stmt-item.result _ (split_at c.args.body.now c.loop-stmt.stmt-index c.stmt-item.result c.loop-stmt-test.true c.stmt-item.is) c.in_ok-join.ensures stops c.loop-stmt.invariant
     (c.in_ok-more.ensures (library c.args.self.now.lib.now) _ c.loop-stmt.view c.statement-result.new.view c.statement-result.ensures)
 
-pub Engine::statements-returns : goal.Engine::statements-returns
-Engine::statements-returns g t c = loop_ends (drop_of_length-le c.args.body.now c.loop-stmt-test.false) c.loop-stmt.invariant
+pub Engine::in_order-returns : goal.Engine::in_order-returns
+Engine::in_order-returns g t c = loop_ends (drop_of_length-le c.args.body.now c.loop-stmt-test.false) c.loop-stmt.invariant
 
 -- ---- rows, one after another
 
@@ -84,21 +97,21 @@ Engine::each_row-returns g t c = loop_ends (ap (map keyed_row) (drop_of_length-l
 
 -- ---- operations and actions
 
-pub Engine::operated-returns : goal.Engine::operated-returns
-Engine::operated-returns g t c = λ work before made.
+pub Engine::signal_event-returns : goal.Engine::signal_event-returns
+Engine::signal_event-returns g t c = λ work before made.
     let lib = library c.args.self.now.lib.now in
     let is : c.args.made ≡ Ok c.in_ok-prim.prim = search rules in
     let is_made : Made lib (level_at lib c.args.context.now.env.time c.args.context.now.depth) work before c.args.view.now (primitive c.in_ok-prim.prim) = subst (Makes primitive lib (level_at lib c.args.context.now.env.time c.args.context.now.depth) work before c.args.view.now) is made in
     let started = c.start-result.ensures (signal_in (level_at lib c.args.context.now.env.time c.args.context.now.depth) (primitive c.in_ok-prim.prim)) c.args.view.now
     (signal_starts c.args.self.now.lib.now c.args.context.now.env.time c.args.context.now.depth (primitive c.in_ok-prim.prim) c.args.view.now c.trigger-tasks.new.view c.trigger-tasks.result c.trigger-tasks.ensures.triggers c.trigger-tasks.ensures.goes_on) in
-    c.operated_course.ensures lib (level_at lib c.args.context.now.env.time c.args.context.now.depth) work before c.args.view.now c.start-result.new.view is_made started
+    c.event_course.ensures lib (level_at lib c.args.context.now.env.time c.args.context.now.depth) work before c.args.view.now c.start-result.new.view is_made started
 
-pub Engine::operated-start-result-requires : goal.Engine::operated-start-result-requires
-Engine::operated-start-result-requires g t c = λ κs lives.
+pub Engine::signal_event-start-result-requires : goal.Engine::signal_event-start-result-requires
+Engine::signal_event-start-result-requires g t c = λ κs lives.
     (omega (arith, c.decreases), (lives, (search rules, signal_ready c.args.self.now.lib.now c.args.context.now.env.time c.args.context.now.depth (primitive c.in_ok-prim.prim) c.args.view.now c.trigger-tasks.new.view c.trigger-tasks.result c.trigger-tasks.ensures.triggers)))
 
-pub Engine::firing-returns-in_ok-course-in-Acts : goal.Engine::firing-returns-in_ok-course-in-Acts
-Engine::firing-returns-in_ok-course-in-Acts g t c =
+pub Engine::fire_task-returns-in_ok-course-in-Acts : goal.Engine::fire_task-returns-in_ok-course-in-Acts
+Engine::fire_task-returns-in_ok-course-in-Acts g t c =
     let lib = library c.args.self.now.lib.now in
     let fired = task c.args.task.now in
     let found = findings c.findings.result.now in
@@ -126,8 +139,8 @@ Engine::start-returns-then-is_empty g t c = λ work before starts.
     (then_starts c.args.self.now.lib.now c.args.depth work before c.args.view.now c.args.tasks c.in_ok-tasks.tasks is starts).then_runs
     (start_none (library c.args.self.now.lib.now) c.args.depth (ap (map task) none) c.args.view.now _ c.ended.ensures)
 
-pub Engine::start-firing-requires : goal.Engine::start-firing-requires
-Engine::start-firing-requires g t c = λ κs lives.
+pub Engine::start-fire_task-requires : goal.Engine::start-fire_task-requires
+Engine::start-fire_task-requires g t c = λ κs lives.
     let is : c.args.tasks ≡ Ok c.in_ok-tasks.tasks = search rules in
     let ready = are_ready c.args.self.now.lib.now c.args.depth c.args.tasks c.in_ok-tasks.tasks is c.requires in
     (omega (arith, single_measure c.args.self.now.lib.now c.args.depth c.in_ok-tasks.tasks.items c.in-Ok.task ready (ap (map task) c.in-Ok.ensures.one.0), c.decreases), (lives, search rules))
@@ -140,8 +153,8 @@ Engine::start-returns-in-Ok g t c = λ work before starts.
     (runs_answer c.firing_course.ensures
     (start_single (map task c.in_ok-tasks.tasks.items) (task c.in-Ok.task) ready (ap (map task) c.in-Ok.ensures.one.0) c.in-Ok.ensures.one.1 c.in_ok-outcome-in-Ok.ensures))
 
-pub Engine::start-group-requires : goal.Engine::start-group-requires
-Engine::start-group-requires g t c = λ κs lives.
+pub Engine::start-fire_group-requires : goal.Engine::start-fire_group-requires
+Engine::start-fire_group-requires g t c = λ κs lives.
     let is : c.args.tasks ≡ Ok c.in_ok-tasks.tasks = search rules in
     let ready = are_ready c.args.self.now.lib.now c.args.depth c.args.tasks c.in_ok-tasks.tasks is c.requires in
     let long : length c.in_ok-tasks.tasks.items ≡ c.in_ok-tasks.tasks.len = search rules in
@@ -164,10 +177,10 @@ Engine::start-returns g t c = λ work before starts.
     (then_starts c.args.self.now.lib.now c.args.depth work before c.args.view.now c.args.tasks c.in_ok-tasks.tasks is starts).then_runs
     (runs_answer (c.in_ok-course.ensures ∙ (λ i. followed (record { end = done; queued = queued i; detached = apart i; items = no_items }) (group_answer (group c.in_ok-group.group))))
     (start_runs (map task c.in_ok-tasks.tasks.items) ready (λ e. some (map_none task c.in_ok-tasks.tasks.items e))
-    (subst (λ ts. RunsGroup (library c.args.self.now.lib.now) (siblings (fire_task (library c.args.self.now.lib.now)) true ts) c.args.view.now c.group.new.view (group c.in_ok-group.group)) now c.in_ok-group.ensures)))
+    (subst (λ ts. RunsGroup (library c.args.self.now.lib.now) (siblings (fire_task (library c.args.self.now.lib.now)) true ts) c.args.view.now c.fire_group.new.view (group c.in_ok-group.group)) now c.in_ok-group.ensures)))
 
-pub Engine::group-run-requires-sync-F : goal.Engine::group-run-requires-sync-F
-Engine::group-run-requires-sync-F g t c = λ κs lives.
+pub Engine::fire_group-run-requires-sync-F : goal.Engine::fire_group-run-requires-sync-F
+Engine::fire_group-run-requires-sync-F g t c = λ κs lives.
     let r : IsSync g.row.R = search rules in
     let engine : (κ : NamedLft) → IsSync (EngineRow.the_row κ (param 0 g.row.R)) = λ κ. engine_sync κ (param 0 g.row.R) (param_sync 0 g.row.R r) in
     search (engine, heap.crosses, sendable) depth 30 fits 20000
@@ -177,30 +190,30 @@ Engine::group-run-requires-sync-F g t c = λ κs lives.
 pub Engine::statement-returns-in-Create : goal.Engine::statement-returns-in-Create
 Engine::statement-returns-in-Create g t c =
     let is : R.create c.in-Create.class (expression c.deref.result.now) (map assignment c.deref-in-Create.result.now) ≡ statement c.args.stmt.now = search (rules, the_lemmas) in
-    steps_at (library c.args.self.now.lib.now) (level_at (library c.args.self.now.lib.now) c.args.context.now.env.time c.args.context.now.depth) (context c.args.context.now) c.args.view.now c.operated.new.view c.operated.result is (c.operated.ensures _ c.args.view.now c.created-made.ensures)
+    steps_at (library c.args.self.now.lib.now) (level_at (library c.args.self.now.lib.now) c.args.context.now.env.time c.args.context.now.depth) (context c.args.context.now) c.args.view.now c.signal_event.new.view c.signal_event.result is (c.signal_event.ensures _ c.args.view.now c.create_object.ensures)
 
 pub Engine::statement-returns-in-Update : goal.Engine::statement-returns-in-Update
 Engine::statement-returns-in-Update g t c =
     let is : R.update c.in-Update.class (expression c.deref-in-Update.result.now) (map assignment c.deref-in-Update-2.result.now) ≡ statement c.args.stmt.now = search (rules, the_lemmas) in
-    steps_at (library c.args.self.now.lib.now) (level_at (library c.args.self.now.lib.now) c.args.context.now.env.time c.args.context.now.depth) (context c.args.context.now) c.args.view.now c.operated-in-Update.new.view c.operated-in-Update.result is (c.operated-in-Update.ensures _ c.args.view.now c.updated-made.ensures)
+    steps_at (library c.args.self.now.lib.now) (level_at (library c.args.self.now.lib.now) c.args.context.now.env.time c.args.context.now.depth) (context c.args.context.now) c.args.view.now c.signal_event-in-Update.new.view c.signal_event-in-Update.result is (c.signal_event-in-Update.ensures _ c.args.view.now c.update_object.ensures)
 
 pub Engine::statement-returns-in-Delete : goal.Engine::statement-returns-in-Delete
 Engine::statement-returns-in-Delete g t c =
     let is : R.delete c.in-Delete.class (expression c.deref-in-Delete.result.now) ≡ statement c.args.stmt.now = search (rules, the_lemmas) in
-    steps_at (library c.args.self.now.lib.now) (level_at (library c.args.self.now.lib.now) c.args.context.now.env.time c.args.context.now.depth) (context c.args.context.now) c.args.view.now c.operated-in-Delete.new.view c.operated-in-Delete.result is (c.operated-in-Delete.ensures _ c.args.view.now c.deleted-made.ensures)
+    steps_at (library c.args.self.now.lib.now) (level_at (library c.args.self.now.lib.now) c.args.context.now.env.time c.args.context.now.depth) (context c.args.context.now) c.args.view.now c.signal_event-in-Delete.new.view c.signal_event-in-Delete.result is (c.signal_event-in-Delete.ensures _ c.args.view.now c.delete_object.ensures)
 
 pub Engine::statement-returns-in-Signal : goal.Engine::statement-returns-in-Signal
 Engine::statement-returns-in-Signal g t c =
     let is : R.signal c.deref-in-Signal.result.now (map expression c.deref-in-Signal-2.result.now) ≡ statement c.args.stmt.now = search (rules, the_lemmas) in
     let level = level_at (library c.args.self.now.lib.now) c.args.context.now.env.time c.args.context.now.depth in
     let values = values_of (context c.args.context.now).environment (map expression c.deref-in-Signal-2.result.now) in
-    steps_at (library c.args.self.now.lib.now) level (context c.args.context.now) c.args.view.now c.operated-in-Signal.new.view c.operated-in-Signal.result is
-    (c.operated-in-Signal.ensures _ c.args.view.now (signal_makes primitive (library c.args.self.now.lib.now) level c.deref-in-Signal.result.now values c.args.view.now c.signalled-made.result c.signalled-made.ensures))
+    steps_at (library c.args.self.now.lib.now) level (context c.args.context.now) c.args.view.now c.signal_event-in-Signal.new.view c.signal_event-in-Signal.result is
+    (c.signal_event-in-Signal.ensures _ c.args.view.now (signal_makes primitive (library c.args.self.now.lib.now) level c.deref-in-Signal.result.now values c.args.view.now c.make_signal.result c.make_signal.ensures))
 
 pub Engine::statement-returns-in-Emit : goal.Engine::statement-returns-in-Emit
 Engine::statement-returns-in-Emit g t c =
     let is : R.emit (expression c.deref-in-Emit.result.now) ≡ statement c.args.stmt.now = search (rules, the_lemmas) in
-    steps_at (library c.args.self.now.lib.now) (level_at (library c.args.self.now.lib.now) c.args.context.now.env.time c.args.context.now.depth) (context c.args.context.now) c.args.view.now c.args.view.now c.emitted.result is (c.emitted.ensures c.args.view.now (library c.args.self.now.lib.now) (level_at (library c.args.self.now.lib.now) c.args.context.now.env.time c.args.context.now.depth))
+    steps_at (library c.args.self.now.lib.now) (level_at (library c.args.self.now.lib.now) c.args.context.now.env.time c.args.context.now.depth) (context c.args.context.now) c.args.view.now c.args.view.now c.emit.result is (c.emit.ensures c.args.view.now (library c.args.self.now.lib.now) (level_at (library c.args.self.now.lib.now) c.args.context.now.env.time c.args.context.now.depth))
 
 pub Engine::statement-returns-in-If : goal.Engine::statement-returns-in-If
 Engine::statement-returns-in-If g t c =
@@ -253,14 +266,14 @@ Engine::statement-returns-in-Veto g t c =
 pub Engine::statement-returns-in-OnRule : goal.Engine::statement-returns-in-OnRule
 Engine::statement-returns-in-OnRule g t c =
     let is : R.on_rule (rule_operation c.in-OnRule.operation) c.in-OnRule.rule ≡ statement c.args.stmt.now = search (rules, the_lemmas) in
-    steps_at (library c.args.self.now.lib.now) (level_at (library c.args.self.now.lib.now) c.args.context.now.env.time c.args.context.now.depth) (context c.args.context.now) c.args.view.now c.rule_changed.new.view c.rule_changed.result is (c.rule_changed.ensures (level_at (library c.args.self.now.lib.now) c.args.context.now.env.time c.args.context.now.depth) (context c.args.context.now))
+    steps_at (library c.args.self.now.lib.now) (level_at (library c.args.self.now.lib.now) c.args.context.now.env.time c.args.context.now.depth) (context c.args.context.now) c.args.view.now c.change_rule.new.view c.change_rule.result is (c.change_rule.ensures (level_at (library c.args.self.now.lib.now) c.args.context.now.env.time c.args.context.now.depth) (context c.args.context.now))
 
 pub Engine::statement-returns-in-Fire : goal.Engine::statement-returns-in-Fire
 Engine::statement-returns-in-Fire g t c =
     let is : R.fire c.in-Fire.rule ≡ statement c.args.stmt.now = search (rules, the_lemmas) in
     let level = level_at (library c.args.self.now.lib.now) c.args.context.now.env.time c.args.context.now.depth in
     steps_at (library c.args.self.now.lib.now) level (context c.args.context.now) c.args.view.now c.start.new.view c.start.result is
-    (c.start.ensures (run_statement (R.fire c.in-Fire.rule) level (context c.args.context.now)) c.args.view.now (c.fired-tasks.ensures.starts (context c.args.context.now)))
+    (c.start.ensures (run_statement (R.fire c.in-Fire.rule) level (context c.args.context.now)) c.args.view.now (c.make_task-tasks.ensures.starts (context c.args.context.now)))
 
 -- ---- the functions of the statements
 
@@ -287,14 +300,14 @@ Engine::each_found-returns-in_err-rows g t c =
     rw (p.1, p.2)
     (found_halt keyed_rows (λ rows. for_each rows (λ r. run_body (body_in c.args.body.now) (level_at (library c.args.self.now.lib.now) c.args.context.now.env.time c.args.context.now.depth) (with_row c.args.selection.variable.now r (context c.args.context.now))))
     (λ S. answer (context c.args.context.now).environment c.args.selection.variable.now c.args.selection.class (expression c.args.selection.predicate.now) S.objects) c.in_err-rows.field-0.0
-    (library c.args.self.now.lib.now) c.args.view.now c.selected.new.view c.in_err-rows.ensures)
+    (library c.args.self.now.lib.now) c.args.view.now c.select_rows.new.view c.in_err-rows.ensures)
 
 pub Engine::each_found-returns : goal.Engine::each_found-returns
 Engine::each_found-returns g t c =
     let work = λ (r : KeyedRow). run_body (body_in c.args.body.now) (level_at (library c.args.self.now.lib.now) c.args.context.now.env.time c.args.context.now.depth) (with_row c.args.selection.variable.now r (context c.args.context.now)) in
     found_steps (library c.args.self.now.lib.now) (λ S. answer (context c.args.context.now).environment c.args.selection.variable.now c.args.selection.class (expression c.args.selection.predicate.now) S.objects)
-    (λ rs. for_each rs work) (map keyed_row c.in_ok-rows.rows.items) c.args.view.now c.selected.new.view c.each_row.new.view c.each_row.result c.in_ok-rows.ensures
-    (subst (λ rs. Steps (library c.args.self.now.lib.now) (for_each (map keyed_row rs) work) c.selected.new.view c.each_row.new.view c.each_row.result) c.deref.ensures.value c.each_row.ensures)
+    (λ rs. for_each rs work) (map keyed_row c.in_ok-rows.rows.items) c.args.view.now c.select_rows.new.view c.each_row.new.view c.each_row.result c.in_ok-rows.ensures
+    (subst (λ rs. Steps (library c.args.self.now.lib.now) (for_each (map keyed_row rs) work) c.select_rows.new.view c.each_row.new.view c.each_row.result) c.deref.ensures.value c.each_row.ensures)
 
 pub Engine::with_object-returns-in_err-row : goal.Engine::with_object-returns-in_err-row
 Engine::with_object-returns-in_err-row g t c =

@@ -16,45 +16,48 @@ abbrev pub decreases-Engine::statement : goal.decreases-Engine::statement
 decreases-Engine::statement g l = 16 * left l.self.now.lib.now (levels l.self.now.lib.now l.context.now.depth) (goal.size-Engine::statement g l)
 
 abbrev pub decreases-Engine::statements : goal.decreases-Engine::statements
-decreases-Engine::statements g l = 16 * left l.self.now.lib.now (levels l.self.now.lib.now l.context.now.depth) (goal.size-Engine::statements g l) + 1
+decreases-Engine::statements g l = 16 * left l.self.now.lib.now (levels l.self.now.lib.now l.context.now.depth) (goal.size-Engine::statements g l) + 2
+
+abbrev pub decreases-Engine::in_order : goal.decreases-Engine::in_order
+decreases-Engine::in_order g l = 16 * left l.self.now.lib.now (levels l.self.now.lib.now l.context.now.depth) (goal.size-Engine::in_order g l) + 1
 
 abbrev pub decreases-Engine::each_row : goal.decreases-Engine::each_row
-decreases-Engine::each_row g l = 16 * left l.self.now.lib.now (levels l.self.now.lib.now l.context.now.depth) (goal.size-Engine::each_row g l) + 2
+decreases-Engine::each_row g l = 16 * left l.self.now.lib.now (levels l.self.now.lib.now l.context.now.depth) (goal.size-Engine::each_row g l) + 3
 
 abbrev pub decreases-Engine::run_branch : goal.decreases-Engine::run_branch
-decreases-Engine::run_branch g l = 16 * left l.self.now.lib.now (levels l.self.now.lib.now l.context.now.depth) (max (most size-Stmt l.then_body.now) (most size-Stmt l.else_body.now)) + 2
+decreases-Engine::run_branch g l = 16 * left l.self.now.lib.now (levels l.self.now.lib.now l.context.now.depth) (max (most size-Stmt l.then_body.now) (most size-Stmt l.else_body.now)) + 3
 
 abbrev pub decreases-Engine::each_found : goal.decreases-Engine::each_found
-decreases-Engine::each_found g l = 16 * left l.self.now.lib.now (levels l.self.now.lib.now l.context.now.depth) (most size-Stmt l.body.now) + 3
+decreases-Engine::each_found g l = 16 * left l.self.now.lib.now (levels l.self.now.lib.now l.context.now.depth) (most size-Stmt l.body.now) + 4
 
 abbrev pub decreases-Engine::with_object : goal.decreases-Engine::with_object
-decreases-Engine::with_object g l = 16 * left l.self.now.lib.now (levels l.self.now.lib.now l.context.now.depth) (most size-Stmt l.body.now) + 2
+decreases-Engine::with_object g l = 16 * left l.self.now.lib.now (levels l.self.now.lib.now l.context.now.depth) (most size-Stmt l.body.now) + 3
 
 abbrev pub decreases-Engine::with_let : goal.decreases-Engine::with_let
-decreases-Engine::with_let g l = 16 * left l.self.now.lib.now (levels l.self.now.lib.now l.context.now.depth) (most size-Stmt l.body.now) + 2
+decreases-Engine::with_let g l = 16 * left l.self.now.lib.now (levels l.self.now.lib.now l.context.now.depth) (most size-Stmt l.body.now) + 3
 
 abbrev pub decreases-Engine::sub_or_otherwise : goal.decreases-Engine::sub_or_otherwise
-decreases-Engine::sub_or_otherwise g l = 16 * left l.self.now.lib.now (levels l.self.now.lib.now l.context.now.depth) (max (most size-Stmt l.body.now) (most size-Stmt l.otherwise.now)) + 3
+decreases-Engine::sub_or_otherwise g l = 16 * left l.self.now.lib.now (levels l.self.now.lib.now l.context.now.depth) (max (most size-Stmt l.body.now) (most size-Stmt l.otherwise.now)) + 4
 
-abbrev pub decreases-Engine::operated : goal.decreases-Engine::operated
-decreases-Engine::operated g l = 16 * left l.self.now.lib.now (levels l.self.now.lib.now l.context.now.depth) 0 + 3
+abbrev pub decreases-Engine::signal_event : goal.decreases-Engine::signal_event
+decreases-Engine::signal_event g l = 16 * left l.self.now.lib.now (levels l.self.now.lib.now l.context.now.depth) 0 + 3
 
 abbrev pub decreases-Engine::start : goal.decreases-Engine::start
 decreases-Engine::start g l = 16 * left l.self.now.lib.now (levels l.self.now.lib.now l.depth) 0 + 1
 
-abbrev pub decreases-Engine::group : goal.decreases-Engine::group
-decreases-Engine::group g l = 16 * left l.self.now.lib.now (levels l.self.now.lib.now (l.depth + 1)) (deepest l.self.now.lib.now) + 13
+abbrev pub decreases-Engine::fire_group : goal.decreases-Engine::fire_group
+decreases-Engine::fire_group g l = 16 * left l.self.now.lib.now (levels l.self.now.lib.now (l.depth + 1)) (deepest l.self.now.lib.now) + 13
 
-abbrev pub decreases-Engine::group-fire : goal.decreases-Engine::group-fire
-decreases-Engine::group-fire g l = 16 * left l.self.now.lib.now (levels l.self.now.lib.now (l.depth + 1)) (deepest l.self.now.lib.now) + 12
+abbrev pub decreases-Engine::fire_group-fire : goal.decreases-Engine::fire_group-fire
+decreases-Engine::fire_group-fire g l = 16 * left l.self.now.lib.now (levels l.self.now.lib.now (l.depth + 1)) (deepest l.self.now.lib.now) + 12
 
-abbrev pub decreases-Engine::firing : goal.decreases-Engine::firing
-decreases-Engine::firing g l = 16 * left l.self.now.lib.now (levels l.self.now.lib.now l.task.now.depth) (deepest l.self.now.lib.now) + 3
+abbrev pub decreases-Engine::fire_task : goal.decreases-Engine::fire_task
+decreases-Engine::fire_task g l = 16 * left l.self.now.lib.now (levels l.self.now.lib.now l.task.now.depth) (deepest l.self.now.lib.now) + 3
 
 -- ---- loops
 
-abbrev pub invariant-Engine::statements-loop-stmt : goal.invariant-Engine::statements-loop-stmt
-invariant-Engine::statements-loop-stmt g l =
+abbrev pub invariant-Engine::in_order-loop-stmt : goal.invariant-Engine::in_order-loop-stmt
+invariant-Engine::in_order-loop-stmt g l =
     Loop (library l.self.lib.now) (λ s. run_statement (statement s) (level_at (library l.self.lib.now) l.context.env.time l.context.depth) (context l.context))
     (run_body (body_in l.body) (level_at (library l.self.lib.now) l.context.env.time l.context.depth) (context l.context)) (drop l.stmt-index l.body) l.fn.view l.view (course l.so_far)
 

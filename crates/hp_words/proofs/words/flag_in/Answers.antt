@@ -1,4 +1,4 @@
-use Rattle.std.proofs.Common.{ap, codes, ◌∙◌}
+use Rattle.std.proofs.Common.{ap, ◌∙◌}
 use Rattle.clap.proofs.WalkLemmas.{one_text-rows}
 use Rattle.clap.specs.Words.{found_of, one_text}
 use Rattle.hp_words.specs.Words.{flag_in}

@@ -1,4 +1,4 @@
-use Rattle.std.proofs.Common.{rules, arith, ◌≡◌, refl, sym, ap, ◌∙◌, suc, ◌+◌, ◌-◌, ◌<◌, List, ℕ, [], ◌∷◌, ◌++◌, append_assoc, subst, Some, None}
+use Rattle.std.proofs.Common.{rules, arith, ◌≡◌, sym, ap, ◌∙◌, suc, ◌-◌, List, ℕ, [], ◌∷◌, ◌++◌, append_assoc, subst, Some, None}
 use Rattle.std.specs.Prelude.{OnOk}
 use Rattle.std.specs.Option.{option_map_or}
 use Rattle.hp_model.specs.Rules.{rule_at}

@@ -1,4 +1,4 @@
-use Rattle.std.proofs.Common.{◌≡◌, ◌<◌, ◌≤◌, ℕ, nat_lt, false, ◌&&◌}
+use Rattle.std.proofs.Common.{◌≡◌, ◌≤◌, ℕ, nat_lt, false, ◌&&◌}
 use Rattle.hp_analysis.specs.Graphs.{seen}
 use Rattle.hp_analysis.specs.Sets.{is_within}
 use Rattle.hp_analysis.specs.Tables.{within}

@@ -1,7 +1,6 @@
-use Rattle.std.proofs.Common.{rules, arith, ◌≡◌, ap, ◌∙◌, sym, Bool, ◌<◌, ◌≤◌, length}
+use Rattle.std.proofs.Common.{rules, ◌≡◌, ap, ◌∙◌, Bool, ◌<◌, ◌≤◌, length}
 use Rattle.std.specs.List.{slice_index_or}
 use Rattle.std.specs.Global.{Vec}
-use Rattle.std.proofs.lemmas.Grind.{common_steps}
 use Rattle.hp_analysis.specs.Graphs.{seen}
 use Rattle.hp_analysis.specs.Sets.{outside_from}
 use Rattle.hp_analysis.proofs.Witnessed.{entry_found, entry_absent}

@@ -3,7 +3,6 @@ use Rattle.std.specs.Prelude.{IfOk}
 use Rattle.std.specs.Global.{Vec}
 use Rattle.hp_analysis.specs.Graphs.{seen}
 use Rattle.hp_analysis.specs.Sets.{is_within, targets}
-use Rattle.hp_analysis.specs.Tables.{within}
 use Rattle.hp_analysis.proofs.Within.{table_next, each_of}
 use Rattle.hp_rule.specs.Libraries as libraries
 use Rattle.hp_analysis.proofs.Known.{only_known}

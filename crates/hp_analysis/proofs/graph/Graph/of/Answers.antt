@@ -1,6 +1,5 @@
-use Rattle.std.proofs.Common.{rules, ◌≡◌, ◌∙◌, ap, [], List, Bool}
+use Rattle.std.proofs.Common.{rules, ◌≡◌, ◌∙◌, ap, []}
 use Rattle.hp_rule.specs.Libraries as libraries
-use Rattle.hp_analysis.specs.Graphs.{seen}
 use Rattle.hp_analysis.specs.Installed.{with_only}
 use Rattle.hp_analysis.proofs.Least.{ok_to}
 use Rattle.hp_analysis.proofs.Only.{only_all}

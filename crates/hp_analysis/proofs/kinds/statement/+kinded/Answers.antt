@@ -1,5 +1,6 @@
-use Rattle.std.proofs.Common.{rules, ◌≡◌, subst, bytes_eq}
-use Rattle.std.specs.Prelude.{string_bytes, unwrap_or}
+use Rattle.std.proofs.Common.{rules, arith, ◌≡◌, subst, ap, bytes_eq, ◌+◌, ◌∷◌, ◌++◌, drop}
+use Rattle.std.proofs.lemmas.Grind.{common_steps}
+use Rattle.std.specs.Prelude.{OnOk, string_bytes, unwrap_or}
 use Rattle.std.specs.Map.{lookup}
 use Rattle.hp_value.specs.Mapped.{expression}
 use Rattle.hp_model.specs.Rules as R
@@ -11,47 +12,86 @@ use Rattle.hp_rule.specs.Statements.{statement, body_in}
 use Rattle.hp_rule.specs.Places.{steps}
 use Rattle.hp_rule.proofs.Bodies.{row_body_lem}
 use Rattle.hp_analysis.specs.Findings as F
-use Rattle.hp_analysis.specs.Kinded.{Passes}
-use Rattle.hp_analysis.specs.Scopes.{library, declared, scope_in, queries, inner_there, body_there}
+use Rattle.hp_analysis.specs.Kinded.{findings, Notes}
+use Rattle.hp_analysis.specs.Scopes.{library, declared, scope_in, queries, own_there, inner_there, body_there}
+use Rattle.hp_analysis.proofs.Noting.{then_notes, body_noted}
 use Rattle.hp_analysis.proofs.kinds.statement.+kinded.Goals as goal
 
-pub check_inner-returns-in-If : goal.check_inner-returns-in-If
-check_inner-returns-in-If t c =
+pub find_in_body-loop-i-preserved : goal.find_in_body-loop-i-preserved
+find_in_body-loop-i-preserved t c =
+    let s = c.args.scope.now in
+    let path = steps c.args.place.now in
+    let body = c.args.body.now in
+    let i = c.loop-i.i in
+    let st = c.index-body-i.result in
+    let split : drop i body ≡ st ∷ drop (i + 1) body = grind (arith, common_steps, c.index-body-i.is, c.loop-i-test.true) in
+    let own : Notes c.loop-i.notes c.find_own.new.notes (own_there s (item_at path i) (statement st)) = search rules in
+    let inner : Notes c.find_own.new.notes c.find_inside.new.notes (inner_there s (item_at path i) (statement st)) = search rules in
+    body_noted (library s) (declared s) (scope_in s) (queries s) path i (statement st) (body_in (drop i body)) (body_in (drop (i + 1) body)) (findings c.loop-i.notes.items) (findings c.find_own.new.notes.items)
+    (findings c.find_inside.new.notes.items) (findings c.args.notes.now.items ++ body_there s path (body_in body)) (ap body_in split) own inner c.loop-i.invariant
+
+pub find_inside-returns-in_ok-find_in_body-in-If : goal.find_inside-returns-in_ok-find_in_body-in-If
+find_inside-returns-in_ok-find_in_body-in-If t c =
+    let s = c.args.scope.now in
+    let path = steps c.args.place.now in
+    let then_body = body_there s (item_at path 2) (body_in c.deref.result.now) in
+    let else_body = body_there s (item_at path 3) (body_in c.deref-in-If.result.now) in
     let is : R.when (expression c.in-If.condition.value) (body_in c.deref.result.now) (body_in c.deref-in-If.result.now) ≡ statement c.args.s.now = search (rules, the_lemmas, row_body_lem) in
-    let first : Passes c.check_body-first.result (body_there c.args.scope.now (item_at (steps c.args.place.now) 2) (body_in c.deref.result.now)) = search rules in
-    let second : Passes c.check_body-second.result (body_there c.args.scope.now (item_at (steps c.args.place.now) 3) (body_in c.deref-in-If.result.now)) = search rules in
-    subst (λ s. Passes c.both.result (inner_there c.args.scope.now (steps c.args.place.now) s)) is (c.both.ensures _ _ first second)
+    let first : Notes c.args.notes.now c.find_in_body.new.notes then_body = search rules in
+    let second : OnOk c.find_in_body-in-If.result (Notes c.find_in_body.new.notes c.find_in_body-in-If.new.notes else_body) = search rules in
+    subst (λ st. OnOk c.find_in_body-in-If.result (Notes c.args.notes.now c.find_in_body-in-If.new.notes (inner_there s path st))) is
+    (then_notes c.args.notes.now c.find_in_body.new.notes c.find_in_body-in-If.new.notes then_body else_body c.find_in_body-in-If.result first second)
 
-pub check_inner-returns-in-Sub : goal.check_inner-returns-in-Sub
-check_inner-returns-in-Sub t c =
+pub find_inside-returns-in_ok-find_in_body-in-Sub : goal.find_inside-returns-in_ok-find_in_body-in-Sub
+find_inside-returns-in_ok-find_in_body-in-Sub t c =
+    let s = c.args.scope.now in
+    let path = steps c.args.place.now in
+    let body = body_there s (item_at path 1) (body_in c.deref-in-Sub.result.now) in
+    let otherwise = body_there s (item_at path 2) (body_in c.deref-in-Sub-2.result.now) in
     let is : R.subtransaction (body_in c.deref-in-Sub.result.now) (body_in c.deref-in-Sub-2.result.now) ≡ statement c.args.s.now = search (rules, the_lemmas, row_body_lem) in
-    let first : Passes c.check_body-first-in-Sub.result (body_there c.args.scope.now (item_at (steps c.args.place.now) 1) (body_in c.deref-in-Sub.result.now)) = search rules in
-    let second : Passes c.check_body-second-in-Sub.result (body_there c.args.scope.now (item_at (steps c.args.place.now) 2) (body_in c.deref-in-Sub-2.result.now)) = search rules in
-    subst (λ s. Passes c.both-in-Sub.result (inner_there c.args.scope.now (steps c.args.place.now) s)) is (c.both-in-Sub.ensures _ _ first second)
+    let first : Notes c.args.notes.now c.find_in_body-in-Sub.new.notes body = search rules in
+    let second : OnOk c.find_in_body-in-Sub-2.result (Notes c.find_in_body-in-Sub.new.notes c.find_in_body-in-Sub-2.new.notes otherwise) = search rules in
+    subst (λ st. OnOk c.find_in_body-in-Sub-2.result (Notes c.args.notes.now c.find_in_body-in-Sub-2.new.notes (inner_there s path st))) is
+    (then_notes c.args.notes.now c.find_in_body-in-Sub.new.notes c.find_in_body-in-Sub-2.new.notes body otherwise c.find_in_body-in-Sub-2.result first second)
 
-pub check_inner-returns-in-Each : goal.check_inner-returns-in-Each
-check_inner-returns-in-Each t c =
-    let is : R.each (string_bytes c.in-Each.variable) c.in-Each.class (expression c.in-Each.predicate.value) (body_in c.deref-in-Each.result.now) ≡ statement c.args.s.now = search (rules, the_lemmas, row_body_lem) in
-    let inner : Passes c.check_body.result (F.body_check (library c.args.scope.now) (declared c.args.scope.now) (with_name (string_bytes c.in-Each.variable) c.in-Each.class (scope_in c.args.scope.now)) (queries c.args.scope.now) (item_at (steps c.args.place.now) 4) 0 (body_in c.deref-in-Each.result.now)) = search rules in
-    subst (λ s. Passes c.check_body.result (inner_there c.args.scope.now (steps c.args.place.now) s)) is inner
+pub find_inside-returns-in-Each : goal.find_inside-returns-in-Each
+find_inside-returns-in-Each t c =
+    let s = c.args.scope.now in
+    let path = steps c.args.place.now in
+    let x = c.as_str.result.now in
+    let is : R.each x c.in-Each.class (expression c.in-Each.predicate.value) (body_in c.deref-in-Each.result.now) ≡ statement c.args.s.now = search (rules, the_lemmas, row_body_lem) in
+    let inner : OnOk c.find_in_body-in-Each.result (Notes c.args.notes.now c.find_in_body-in-Each.new.notes
+    (F.body_findings (library s) (declared s) (with_name x c.in-Each.class (scope_in s)) (queries s) (item_at path 4) 0 (body_in c.deref-in-Each.result.now))) = search rules in
+    subst (λ st. OnOk c.find_in_body-in-Each.result (Notes c.args.notes.now c.find_in_body-in-Each.new.notes (inner_there s path st))) is inner
 
-pub check_inner-returns-in-For : goal.check_inner-returns-in-For
-check_inner-returns-in-For t c =
-    let is : R.for_answer (string_bytes c.in-For.query) (body_in c.deref-in-For.result.now) ≡ statement c.args.s.now = search (rules, the_lemmas, row_body_lem) in
-    let inner : Passes c.check_body-in-For.result (F.body_check (library c.args.scope.now) (declared c.args.scope.now) (with_name (string_bytes c.in-For.query) (unwrap_or (lookup (bytes_eq (string_bytes c.in-For.query)) (queries c.args.scope.now)) 0) (scope_in c.args.scope.now)) (queries c.args.scope.now) (item_at (steps c.args.place.now) 2) 0 (body_in c.deref-in-For.result.now)) = search rules in
-    subst (λ s. Passes c.check_body-in-For.result (inner_there c.args.scope.now (steps c.args.place.now) s)) is inner
+pub find_inside-returns-in-For : goal.find_inside-returns-in-For
+find_inside-returns-in-For t c =
+    let s = c.args.scope.now in
+    let path = steps c.args.place.now in
+    let x = string_bytes c.in-For.query in
+    let is : R.for_answer x (body_in c.deref-in-For.result.now) ≡ statement c.args.s.now = search (rules, the_lemmas, row_body_lem) in
+    let inner : OnOk c.find_in_body-in-For.result (Notes c.args.notes.now c.find_in_body-in-For.new.notes
+    (F.body_findings (library s) (declared s) (with_name x (unwrap_or (lookup (bytes_eq x) (queries s)) 0) (scope_in s)) (queries s) (item_at path 2) 0 (body_in c.deref-in-For.result.now))) = search rules in
+    subst (λ st. OnOk c.find_in_body-in-For.result (Notes c.args.notes.now c.find_in_body-in-For.new.notes (inner_there s path st))) is inner
 
-pub check_inner-returns-in_ok-given-in-Let : goal.check_inner-returns-in_ok-given-in-Let
-check_inner-returns-in_ok-given-in-Let t c =
-    let name = c.as_str-in-Let.result.now in
+pub find_inside-returns-in-With : goal.find_inside-returns-in-With
+find_inside-returns-in-With t c =
+    let s = c.args.scope.now in
+    let path = steps c.args.place.now in
+    let x = c.as_str-in-With.result.now in
+    let is : R.with_object x c.in-With.class (expression c.in-With.key.value) (body_in c.deref-in-With.result.now) ≡ statement c.args.s.now = search (rules, the_lemmas, row_body_lem) in
+    let inner : OnOk c.find_in_body-in-With.result (Notes c.args.notes.now c.find_in_body-in-With.new.notes
+    (F.body_findings (library s) (declared s) (with_name x c.in-With.class (scope_in s)) (queries s) (item_at path 4) 0 (body_in c.deref-in-With.result.now))) = search rules in
+    subst (λ st. OnOk c.find_in_body-in-With.result (Notes c.args.notes.now c.find_in_body-in-With.new.notes (inner_there s path st))) is inner
+
+pub find_inside-returns-in_ok-given-in-Let : goal.find_inside-returns-in_ok-given-in-Let
+find_inside-returns-in_ok-given-in-Let t c =
+    let s = c.args.scope.now in
+    let path = steps c.args.place.now in
+    let x = c.as_str-in-Let.result.now in
     let a = aggregate c.in-Let.computed in
-    let held : Sort = unwrap_or (aggregate_sort (library c.args.scope.now) (declared c.args.scope.now) (scope_in c.args.scope.now) a) any in
-    let is : R.let_value name a (body_in c.deref-in-Let.result.now) ≡ statement c.args.s.now = search (rules, the_lemmas, row_body_lem) in
-    let inner : Passes c.check_body-in-Let.result (F.body_check (library c.args.scope.now) (declared c.args.scope.now) (with_sort name held (scope_in c.args.scope.now)) (queries c.args.scope.now) (item_at (steps c.args.place.now) 3) 0 (body_in c.deref-in-Let.result.now)) = search rules in
-    subst (λ s. Passes c.check_body-in-Let.result (inner_there c.args.scope.now (steps c.args.place.now) s)) is inner
-
-pub check_inner-returns-in-With : goal.check_inner-returns-in-With
-check_inner-returns-in-With t c =
-    let is : R.with_object (string_bytes c.in-With.variable) c.in-With.class (expression c.in-With.key.value) (body_in c.deref-in-With.result.now) ≡ statement c.args.s.now = search (rules, the_lemmas, row_body_lem) in
-    let inner : Passes c.check_body-in-With.result (F.body_check (library c.args.scope.now) (declared c.args.scope.now) (with_name (string_bytes c.in-With.variable) c.in-With.class (scope_in c.args.scope.now)) (queries c.args.scope.now) (item_at (steps c.args.place.now) 4) 0 (body_in c.deref-in-With.result.now)) = search rules in
-    subst (λ s. Passes c.check_body-in-With.result (inner_there c.args.scope.now (steps c.args.place.now) s)) is inner
+    let held : Sort = unwrap_or (aggregate_sort (library s) (declared s) (scope_in s) a) any in
+    let is : R.let_value x a (body_in c.deref-in-Let.result.now) ≡ statement c.args.s.now = search (rules, the_lemmas, row_body_lem) in
+    let inner : OnOk c.find_in_body-in-Let.result (Notes c.args.notes.now c.find_in_body-in-Let.new.notes
+    (F.body_findings (library s) (declared s) (with_sort x held (scope_in s)) (queries s) (item_at path 3) 0 (body_in c.deref-in-Let.result.now))) = search rules in
+    subst (λ st. OnOk c.find_in_body-in-Let.result (Notes c.args.notes.now c.find_in_body-in-Let.new.notes (inner_there s path st))) is inner

@@ -1,4 +1,4 @@
-use Rattle.std.proofs.Common.{◌≡◌, ap, ◌∙◌}
+use Rattle.std.proofs.Common.{ap, ◌∙◌}
 use Rattle.hp_analysis.specs.Graphs.{seen}
 use Rattle.hp_rule.specs.Statements.{statement}
 use Rattle.hp_analysis.specs.Sets.{marked}

@@ -20,10 +20,10 @@ pub returns-in_ok-outcome-in-Unsatisfied : goal.returns-in_ok-outcome-in-Unsatis
 returns-in_ok-outcome-in-Unsatisfied g c =
     subst (λ (v : Verdict). Follows (library c.args.self.now.lib.now) (task c.args.task.now) v (Over c.in_ok-outcome-in-Unsatisfied.outcome)) (ap verdict (sym c.in-Unsatisfied.is))
     (λ view. unsatisfied_over (library c.args.self.now.lib.now) (task c.args.task.now) (firing c.in_ok-outcome-in-Unsatisfied.outcome) view
-    (c.in_ok-outcome-in-Unsatisfied.ensures ∙ ap (λ (n : Node). standing n None) c.fired-what.ensures))
+    (c.in_ok-outcome-in-Unsatisfied.ensures ∙ ap (λ (n : Node). standing n None) c.node_for-what.ensures))
 
 pub returns-in_ok-outcome-in-Faulty : goal.returns-in_ok-outcome-in-Faulty
 returns-in_ok-outcome-in-Faulty g c =
     subst (λ (v : Verdict). Follows (library c.args.self.now.lib.now) (task c.args.task.now) v (Over c.in_ok-outcome-in-Faulty.outcome)) (ap verdict (sym c.in-Faulty.is))
     (λ view. faulty_over (library c.args.self.now.lib.now) (task c.args.task.now) (cause c.in-Faulty.cause) (firing c.in_ok-outcome-in-Faulty.outcome) view
-    (c.in_ok-outcome-in-Faulty.ensures ∙ (λ i. standing (c.fired-what-in-Faulty.ensures i) (c.in_ok-veto-in-Faulty.ensures i))))
+    (c.in_ok-outcome-in-Faulty.ensures ∙ (λ i. standing (c.node_for-what-in-Faulty.ensures i) (c.in_ok-veto-in-Faulty.ensures i))))

@@ -10,7 +10,7 @@ use Rattle.hp_fire.proofs.engine.Engine.follow_satisfied.Goals as goal
 
 pub returns-in-Immediate : goal.returns-in-Immediate
 returns-in-Immediate g c = λ view.
-    follow_now (library c.args.self.now.lib.now) (task c.args.task.now) (findings c.args.found) _ _ view (sym c.in-Immediate.ensures) c.fired-what.ensures
+    follow_now (library c.args.self.now.lib.now) (task c.args.task.now) (findings c.args.found) _ _ view (sym c.in-Immediate.ensures) c.node_for-what.ensures
 
 pub returns-in_ok-outcome-in_default : goal.returns-in_ok-outcome-in_default
 returns-in_ok-outcome-in_default g c = λ view.

@@ -1,4 +1,4 @@
-use Rattle.std.proofs.Common.{rules, ◌≡◌, ◌∙◌, ap, sym, subst, map, string_bytes, SFits, w64}
+use Rattle.std.proofs.Common.{rules, ◌∙◌, ap, sym, subst, map, string_bytes, SFits, w64}
 use Rattle.std.proofs.lemmas.Int.{to_z-of_z}
 use Rattle.std.proofs.lemmas.Result.{IfOk-weaker}
 use Rattle.hp_rule.specs.Mapped.{library}
