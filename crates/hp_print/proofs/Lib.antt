@@ -1,0 +1,17 @@
+pub mod Aggregates
+pub mod Beginnings
+pub mod BodySteps
+pub mod Chains
+pub mod EventSteps
+pub mod Expressions
+pub mod Finished
+pub mod Levels
+pub mod ListSteps
+pub mod Operands
+pub mod Operations
+pub mod Readings
+pub mod RowSteps
+pub mod ScriptSteps
+pub mod StatementSteps
+pub mod Texts
+pub mod Values

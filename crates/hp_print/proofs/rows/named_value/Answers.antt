@@ -1,0 +1,8 @@
+use Rattle.std.proofs.Common.{ap, ◌∙◌}
+use Rattle.hp_print.specs.Written.{text_with}
+use Rattle.hp_print.proofs.Chains.{then_ok}
+use Rattle.hp_print.proofs.RowSteps.{named_step}
+use Rattle.hp_print.proofs.rows.named_value.Goals as goal
+
+pub returns : goal.returns
+returns c = then_ok c.binding.result (λ last rest. ap (text_with c.args.w.now) (named_step _ _ rest) ∙ c.in_ok-word.ensures _ ∙ last rest) c.binding.ensures

@@ -1,0 +1,9 @@
+use Rattle.std.proofs.Common.{◌≡◌, refl, sym, ap, ◌∙◌, Some, arith}
+use Rattle.serde_json.specs.View.{view}
+use Rattle.hp_print.specs.Written.{text_with, gap_view}
+use Rattle.hp_print.proofs.Chains.{then_ok, onward}
+use Rattle.hp_print.proofs.ScriptSteps.{class_step}
+use Rattle.hp_print.proofs.rule.class.Goals as goal
+
+pub returns-in_ok-mark-in-Some : goal.returns-in_ok-mark-in-Some
+returns-in_ok-mark-in-Some c = then_ok c.fields.result (λ last rest. ap (text_with c.args.w.now) (class_step _ _ _ _ (sym c.in-Some.ensures) rest) ∙ c.in_ok-word.ensures _ ∙ c.in_ok-name.ensures _ ∙ c.in_ok-mark.ensures _ ∙ last rest) c.fields.ensures

@@ -1,0 +1,9 @@
+use Rattle.std.proofs.Common.{◌≡◌, refl, sym, ap, ◌∙◌, Some, arith}
+use Rattle.serde_json.specs.View.{view}
+use Rattle.hp_print.specs.Written.{text_with, gap_view}
+use Rattle.hp_print.proofs.Chains.{then_ok, onward}
+use Rattle.hp_print.proofs.ScriptSteps.{transaction_step}
+use Rattle.hp_print.proofs.rule.transaction.Goals as goal
+
+pub returns : goal.returns
+returns c = then_ok c.any_body.result (λ last rest. ap (text_with c.args.w.now) (transaction_step _ _ rest) ∙ c.in_ok-word.ensures _ ∙ last rest) c.any_body.ensures

@@ -1,0 +1,12 @@
+use Rattle.std.proofs.Common.{◌≡◌, map, drop, Option}
+use Rattle.serde_json.specs.View.{view}
+use Rattle.hp_model.specs.NotationPrint.{Pieces}
+use Rattle.hp_print.specs.Written.{text_with}
+use Rattle.hp_print.specs.Lists.{steps}
+use Rattle.hp_print.specs.Scripts.{part_step}
+use Rattle.hp_print.proofs.script.each.Given as goal
+
+-- the parts that are left come next
+abbrev pub invariant-loop-value : goal.invariant-loop-value
+invariant-loop-value l =
+    (rest : Option Pieces) → text_with l.initial.w (steps (part_step l.kind) (map view l.values) rest) ≡ text_with l.w (steps (part_step l.kind) (map view (drop l.value-index l.values)) rest)

@@ -1,0 +1,10 @@
+use Rattle.std.proofs.Common.{◌≡◌, refl, sym, ap, ◌∙◌, Some, arith}
+use Rattle.serde_json.specs.View.{view}
+use Rattle.hp_print.specs.Written.{text_with, gap_view}
+use Rattle.hp_print.proofs.Chains.{then_ok, onward}
+use Rattle.hp_model.specs.NotationPrint.{statement_pieces}
+use Rattle.hp_print.proofs.Operations.{on_rule_form}
+use Rattle.hp_print.proofs.statement.of_one.Goals as goal
+
+pub returns-in-Some : goal.returns-in-Some
+returns-in-Some c = onward c.on_rule.result c.args.w.now c.on_rule.new.w (λ s. statement_pieces s c.args.depth) _ _ (on_rule_form _ _ _ (sym c.in-Some.ensures)) c.on_rule.ensures

@@ -1,0 +1,10 @@
+pub mod Written
+pub mod Forms
+pub mod Openings
+pub mod Events
+pub mod Rows
+pub mod Lists
+pub mod Statements
+pub mod Rules
+pub mod Scripts
+pub mod Printed
