@@ -1,0 +1,3 @@
+//! Tests of the printer of the notation.
+
+mod printing;
