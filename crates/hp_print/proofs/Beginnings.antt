@@ -195,3 +195,11 @@ pub apart_step : (opening : Opening) (gap : Gap) (r : Bool) (form : Option Expre
 apart_step opening gap r None is rest = refl
 apart_step opening gap r (Some e) is None = refl
 apart_step opening gap r (Some e) is (Some k) = ap (λ b. Some (enclosed_if b (expression_pieces e) gap k)) (opens opening e gap k ∙ sym is)
+
+pub trivially : (opening : Opening) (form : Option Expression) → IfSome form (λ e. false ≡ (if true then false else begins opening e))
+trivially opening None = tt
+trivially opening (Some e) = refl
+
+pub otherwise : (opening : Opening) (r : Bool) (form : Option Expression) → IfSome form (λ e. r ≡ begins opening e) → IfSome form (λ e. r ≡ (if false then false else begins opening e))
+otherwise opening r None is = tt
+otherwise opening r (Some e) is = is
