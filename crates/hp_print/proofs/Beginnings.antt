@@ -127,16 +127,16 @@ operation_begins opening op r low None b level is = tt
 operation_begins opening op r low (Some x) None level is = tt
 operation_begins opening op r low (Some x) (Some y) level is = is ∙ ap (λ c. if c then false else begins opening x) (sym level)
 
-pub begins_operation : {V : Type 0} (f : V → Data) (opening : Opening) (op : F.Operator) (r low : Bool) (n m : ℕ) (d : Data) (word : List ℕ) (vs : List V) (left : V)
-    → n ≡ suc m → form_of d ≡ Some (record { word = word; parts = map f vs }) → 2 ≤ length vs → length vs < 3 → left ≡ get_or vs 0 left → operator_of word ≡ Some op
+pub begins_operation : {V : Type 0} (f : V → Data) (opening : Opening) (op : F.Operator) (r low : Bool) (n m : ℕ) (d : Data) (name : List ℕ) (vs : List V) (left : V)
+    → n ≡ suc m → form_of d ≡ Some (record { word = name; parts = map f vs }) → 2 ≤ length vs → length vs < 3 → left ≡ get_or vs 0 left → operator_of name ≡ Some op
     → IfSome (expression_of m (f left)) (λ e. nat_lt (expression_level e) (left_level op) ≡ low) → IfSome (expression_of m (f left)) (λ e. r ≡ (if low then false else begins opening e))
     → IfSome (expression_of n d) (λ e. r ≡ begins opening e)
-begins_operation f opening op r low n m d word [] left is form least below first operator level begun = absurd (omega (arith, least))
-begins_operation f opening op r low n m d word (v ∷ []) left is form least below first operator level begun = absurd (omega (arith, least))
-begins_operation f opening op r low n m d word (v ∷ u ∷ w ∷ vs) left is form least below first operator level begun = absurd (omega (arith, below))
-begins_operation f opening op r low n m d word (v ∷ u ∷ []) left is form least below first operator level begun =
+begins_operation f opening op r low n m d name [] left is form least below first operator level begun = absurd (omega (arith, least))
+begins_operation f opening op r low n m d name (v ∷ []) left is form least below first operator level begun = absurd (omega (arith, least))
+begins_operation f opening op r low n m d name (v ∷ u ∷ w ∷ vs) left is form least below first operator level begun = absurd (omega (arith, below))
+begins_operation f opening op r low n m d name (v ∷ u ∷ []) left is form least below first operator level begun =
     subst (λ o. IfSome o (λ e. r ≡ begins opening e))
-    (sym (expression_in_form n m d (record { word = word; parts = f v ∷ f u ∷ [] }) is form ∙ operation_form (expression_of m) word op (f v) (f u) operator))
+    (sym (expression_in_form n m d (record { word = name; parts = f v ∷ f u ∷ [] }) is form ∙ operation_form (expression_of m) name op (f v) (f u) operator))
     (operation_begins opening op r low (expression_of m (f v)) (expression_of m (f u))
     (subst (λ x. IfSome (expression_of m (f x)) (λ e. nat_lt (expression_level e) (left_level op) ≡ low)) first level)
     (subst (λ x. IfSome (expression_of m (f x)) (λ e. r ≡ (if low then false else begins opening e))) first begun))
@@ -172,11 +172,12 @@ opens opening (F.integer (negsuc n)) gap k = no_mark opening minus_sign
 opens opening (F.truth true) gap k = no_mark opening true_mark
 opens opening (F.truth false) gap k = no_mark opening false_mark
 opens opening (F.text s) gap k = no_text opening s
-opens opening (F.operation op a b) gap k = go (nat_lt (expression_level a) (left_level op)) _
+opens opening (F.operation op a b) gap k = go (nat_lt (expression_level a) (left_level op)) _ (λ r. opens opening a gap r)
   where
-    go : (low : Bool) (r : Pieces) → first_is (opening_view opening) (enclosed_if low (expression_pieces a) gap r) ≡ (if low then false else begins opening a)
-    go true r = no_mark opening open_parenthesis
-    go false r = opens opening a gap r
+    go : (low : Bool) (r : Pieces) → ((q : Pieces) → first_is (opening_view opening) (expression_pieces a gap q) ≡ begins opening a)
+        → first_is (opening_view opening) (enclosed_if low (expression_pieces a) gap r) ≡ (if low then false else begins opening a)
+    go true r own = no_mark opening open_parenthesis
+    go false r own = own r
 opens opening (F.inverted a) gap k = no_mark opening not_mark
 opens opening (F.negated a) gap k = no_mark opening minus_sign
 opens opening (F.field_of x f) gap k = refl

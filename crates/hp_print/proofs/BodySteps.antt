@@ -1,5 +1,5 @@
 -- Bodies, part by part.
-use Rattle.std.proofs.Common.{◌≡◌, refl, sym, ap, ◌∙◌, subst, ℕ, zero, suc, Bool, true, false, List, [], ◌∷◌, map, Option, Some, None, option_map}
+use Rattle.std.proofs.Common.{◌≡◌, refl, sym, ap, ◌∙◌, subst, arith, length, ◌≤◌, ℕ, zero, suc, Bool, true, false, List, [], ◌∷◌, map, Option, Some, None, option_map}
 use Rattle.std.specs.Prelude.{IfSome, option_and_then}
 use Rattle.serde_json.specs.Data.{Data, null, number, boolean, string, array, object}
 use Rattle.hp_model.specs.Json.{Form, form_of, list_of}
@@ -80,3 +80,31 @@ pub nothing_step : (m : Mark) (depth : ℕ) (form : Option Body) → form ≡ So
     → step (λ b. body_after m (is_empty b) (body_pieces b depth)) form rest ≡ rest
 nothing_step m depth form is None = ap (λ o. step (λ b. body_after m (is_empty b) (body_pieces b depth)) o None) is
 nothing_step m depth form is (Some k) = ap (λ o. step (λ b. body_after m (is_empty b) (body_pieces b depth)) o (Some k)) is
+
+-- ---- whether a body is empty
+
+pub empty_each : (n : ℕ) (d : Data) → list_of d ≡ Some [] → IfSome (body_of n d) (λ b. true ≡ is_empty b)
+empty_each zero d list = subst (λ o. IfSome o (λ b. true ≡ is_empty b)) (sym (no_body d)) tt
+empty_each (suc n) d list = subst (λ o. IfSome o (λ b. true ≡ is_empty b)) (sym (empty_body n d list)) refl
+
+pub some_each : {V : Type 0} (f : V → Data) (n : ℕ) (d : Data) (vs : List V) → list_of d ≡ Some (map f vs) → 1 ≤ length vs → IfSome (body_of n d) (λ b. false ≡ is_empty b)
+some_each f n d [] list least = absurd (omega (arith, least))
+some_each f n d (v ∷ vs) list least = some_body n d (f v) (map f vs) list
+
+pub no_each : (n : ℕ) (d : Data) → list_of d ≡ None → IfSome (body_of n d) (λ b. false ≡ is_empty b)
+no_each n d list = subst (λ o. IfSome o (λ b. false ≡ is_empty b)) (sym (no_list n d list)) tt
+
+pub zero_body : (n : ℕ) (d : Data) → n ≡ 0 → body_of n d ≡ None
+zero_body n d is = ap (λ k. body_of k d) is ∙ no_body d
+
+pub not_nil : {V : Type 0} (f : V → Data) (vs : List V) → (length vs ≡ 0 → ⊥) → map f vs ≡ [] → ⊥
+not_nil f [] some is = some refl
+not_nil f (v ∷ vs) some is = cc
+
+pub five_parts : {V : Type 0} (f : V → Data) (inner : Data → Option Body) (word : List ℕ) (vs : List V) → 5 ≤ length vs → statement_of_form inner word (map f vs) ≡ None
+five_parts f inner word [] least = absurd (omega (arith, least))
+five_parts f inner word (a ∷ []) least = absurd (omega (arith, least))
+five_parts f inner word (a ∷ b ∷ []) least = absurd (omega (arith, least))
+five_parts f inner word (a ∷ b ∷ c ∷ []) least = absurd (omega (arith, least))
+five_parts f inner word (a ∷ b ∷ c ∷ d ∷ []) least = absurd (omega (arith, least))
+five_parts f inner word (a ∷ b ∷ c ∷ d ∷ e ∷ vs) least = refl

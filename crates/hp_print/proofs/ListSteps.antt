@@ -1,5 +1,5 @@
 -- Lists, part by part.
-use Rattle.std.proofs.Common.{◌≡◌, refl, sym, ap, ◌∙◌, ℕ, ◌+◌, ◌<◌, List, [], ◌∷◌, length, map, drop, get_or, Option, Some, None, option_map}
+use Rattle.std.proofs.Common.{◌≡◌, refl, sym, ap, ◌∙◌, arith, ℕ, zero, suc, ◌+◌, ◌<◌, ◌≤◌, List, [], ◌∷◌, length, map, drop, get_or, Option, Some, None, option_map}
 use Rattle.std.proofs.lemmas.List.{drop_more}
 use Rattle.serde_json.specs.Data.{Data}
 use Rattle.hp_model.specs.NotationTokens.{comma, set_mark, open_parenthesis, close_parenthesis, close_brace}
@@ -116,3 +116,13 @@ pub classes_step : (d first : Data) (others : List Data) → list_of d ≡ Some 
     → step classes_pieces (list_form class_form d) rest ≡ step (λ c. class_pieces c paragraph) (class_form first) (steps (λ e. step later_class_pieces (class_form e)) others rest)
 classes_step d first others is rest =
     rw (is, each_list later_class_pieces class_form others rest) (classed (class_form first) (each_of class_form others) rest)
+
+drop_none : {V : Type 0} (vs : List V) (i : ℕ) → length vs ≤ i → drop i vs ≡ []
+drop_none [] zero below = refl
+drop_none [] (suc i) below = refl
+drop_none (v ∷ vs) zero below = absurd (omega (arith, below))
+drop_none (v ∷ vs) (suc i) below = drop_none vs i (omega (arith, below))
+
+-- no value is left
+pub steps_none : {V : Type 0} (each : Data → Step) (view : V → Data) (vs : List V) (i : ℕ) → length vs ≤ i → (rest : Option Pieces) → steps each (map view (drop i vs)) rest ≡ rest
+steps_none each view vs i below rest = ap (λ l. steps each (map view l) rest) (drop_none vs i below)

@@ -203,3 +203,13 @@ unfolding event_of
 event_in_form n m d f ps is form parts =
     ap (λ k. event_of k d) is ∙ ap (λ o. option_and_then (λ (g : Form). event_of_form (event_of m) g.word g.parts) o) form
     ∙ ap (λ qs. event_of_form (event_of m) f.word qs) parts
+
+pub event_holds : (P : F.Event → Type 0) (n : ℕ) (d : Data) (f : Form) → form_of d ≡ Some f → ((part : Data → Option F.Event) → IfSome (event_of_form part f.word f.parts) P) → IfSome (event_of n d) P
+unfolding event_of
+event_holds P zero d f form holds = tt
+event_holds P (suc n) d f form holds = subst (λ o. IfSome o P) (sym (event_in_form (suc n) n d f f.parts refl form refl)) (holds (event_of n))
+
+pub no_event : (P : F.Event → Type 0) (n : ℕ) (d : Data) → form_of d ≡ None → IfSome (event_of n d) P
+unfolding event_of
+no_event P zero d form = tt
+no_event P (suc n) d form = subst (λ o. IfSome (option_and_then (λ (g : Form). event_of_form (event_of n) g.word g.parts) o) P) (sym form) tt

@@ -300,7 +300,7 @@ fn braced(w: &mut Writer, nest: Nest, values: &[Value]) -> Result<(), AllocError
         (statements_within nest.levels (map view values.now)))) }
 {
     w.mark(Gap::Space, Mark::OpenBrace)?;
-    if values.is_empty() {
+    if values.len() == 0 {
         return w.mark(Gap::Tight, Mark::CloseBrace);
     }
     let inner = Nest {
@@ -339,9 +339,12 @@ fn is_empty_list(value: &Value) -> bool
     ensures each { (n : ℕ) → IfSome (body_of n (view value.now)) (λ b. result ≡ is_empty b) }
     ensures empty { result ≡ true → (n : ℕ) → body_of (suc n) (view value.now) ≡ Some empty }
 {
-    match list_of(value) {
-        Some(values) => values.is_empty(),
-        None => false,
+    let Some(values) = list_of(value) else {
+        return false;
+    };
+    match values {
+        [] => true,
+        [_, ..] => false,
     }
 }
 
@@ -353,7 +356,11 @@ fn other_body(w: &mut Writer, nest: Nest, mark: Mark, value: &Value) -> Result<(
         (step (λ b. body_after (mark_view mark) (is_empty b) (body_pieces b nest.depth))
         (body_of nest.levels (view value.now)))) }
 {
-    if nest.levels > 0 && is_empty_list(value) {
+    if nest.levels == 0 {
+        w.refuse();
+        return Ok(());
+    }
+    if is_empty_list(value) {
         return Ok(());
     }
     w.mark(Gap::Space, mark)?;

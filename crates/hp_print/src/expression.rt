@@ -185,6 +185,7 @@ fn of_form(w: &mut Writer, levels: usize, gap: Gap, form: Form<'_>) -> Result<()
 }
 
 /// Writes the expression in a value that is no list, if it is one.
+#[tactic(auto, using(crate::proofs::Readings::integer_literal, crate::proofs::Readings::text_literal))]
 fn literal(w: &mut Writer, gap: Gap, value: &Value) -> Result<(), AllocError>
     ensures { OnOk result (Writes w.old w.new
         (step (λ e. expression_pieces e (gap_view gap)) (literal_of (view value.now)))) }

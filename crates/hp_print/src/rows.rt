@@ -1,7 +1,7 @@
 //! Rows, aggregates and queries.
 
-ghost use Rattle.std.specs.Prelude.{◌≡◌, ◌∷◌, [], Bool, OnOk, option_map, option_and_then};
-ghost use Rattle.serde_json.specs.Find.{as_bool};
+ghost use Rattle.std.specs.Prelude.{◌≡◌, ◌∷◌, [], OnOk, option_map, option_and_then};
+ghost use Rattle.serde_json.specs.Find.{as_bool, as_str};
 ghost use Rattle.serde_json.specs.View.{view};
 ghost use Rattle.hp_model.specs.Parts.{name_of};
 ghost use Rattle.hp_model.specs.NotationForms as F;
@@ -9,7 +9,7 @@ ghost use Rattle.hp_model.specs.NotationPrint.{binding_pieces, aggregate_pieces,
 ghost use Rattle.hp_model.specs.NotationValues as V;
 ghost use Rattle.hp_model.specs.NotationValues.{of_one, of_two, of_three, any_expression, aggregate_of, fold_named, query_of};
 ghost use Rattle.hp_print.specs.Written.{step, Writes};
-ghost use Rattle.hp_print.specs.Rows.{rows_form, fold_view, query_in, said};
+ghost use Rattle.hp_print.specs.Rows.{rows_form, fold_view, query_in, no_rows_of, said};
 
 use crate::expression::{any_expression, apart_from};
 use crate::level::Opening;
@@ -245,8 +245,8 @@ fn query_of_three(
 
 /// Writes a query of four items, of which the first is a word.
 fn query_of_four(w: &mut Writer, first: &Value, parts: RowParts<'_>) -> Result<(), AllocError>
-    ensures { (lets : Bool) → OnOk result (Writes w.old w.new (step query_pieces
-        (query_in lets (view first.now ∷ view parts.entry.name.now ∷ view parts.entry.class.now ∷ view parts.entry.predicate.now ∷ [])))) }
+    ensures { OnOk result (Writes w.old w.new (step query_pieces
+        (no_rows_of (as_str (view first.now)) (rows_form parts.entry)))) }
 {
     match first.as_str() {
         Some("no") => no_rows(w, parts),

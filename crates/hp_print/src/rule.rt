@@ -123,8 +123,8 @@ struct RuleParts<'a> {
 }
 
 /// Writes a rule of these parts.
-fn rule_of(w: &mut Writer, lets: bool, parts: RuleParts<'_>) -> Result<(), AllocError>
-    ensures { OnOk result (Writes w.old w.new (step P.rule_pieces (rule_parts_form lets parts.entry))) }
+fn rule_of(w: &mut Writer, lets: bool, parts: &RuleParts<'_>) -> Result<(), AllocError>
+    ensures { OnOk result (Writes w.old w.new (step P.rule_pieces (rule_parts_form lets parts.now))) }
 {
     w.word(Gap::Paragraph, "rule")?;
     name(w, Gap::Space, parts.name)?;
@@ -157,7 +157,7 @@ pub(crate) fn rule(w: &mut Writer, lets: bool, value: &Value) -> Result<(), Allo
                 action,
                 closed,
             };
-            rule_of(w, lets, parts)
+            rule_of(w, lets, &parts)
         }
         _ => {
             w.refuse();

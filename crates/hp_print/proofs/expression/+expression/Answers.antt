@@ -3,6 +3,7 @@ use Rattle.serde_json.specs.View.{view}
 use Rattle.hp_print.specs.Written.{text_with, gap_view}
 use Rattle.hp_model.specs.NotationPrint.{expression_pieces, expression_level, negated_level}
 use Rattle.hp_print.proofs.Chains.{then_ok, onward}
+use Rattle.hp_model.specs.NotationValues.{expression_of}
 use Rattle.hp_print.proofs.Operands.{value_step}
 use Rattle.hp_print.proofs.Levels.{operation_form, other_form}
 use Rattle.hp_print.proofs.Readings.{one_item, two_items, expression_in_form, expression_in_literal}
@@ -43,10 +44,10 @@ pub of_one-returns-in-value : goal.of_one-returns-in-value
 of_one-returns-in-value t c = rw c.in-value.is (then_ok c.value_name.result (λ last rest. ap (text_with c.args.w.now) (value_step _ _ rest) ∙ last rest) c.value_name.ensures)
 
 pub of_two-returns-in-Some : goal.of_two-returns-in-Some
-of_two-returns-in-Some t c = onward c.operation.result c.args.w.now c.operation.new.w (λ e. expression_pieces e (gap_view c.args.gap)) _ _ (operation_form _ _ _ _ _ (sym c.in-Some.ensures)) c.operation.ensures
+of_two-returns-in-Some t c = onward c.operation.result c.args.w.now c.operation.new.w (λ e. expression_pieces e (gap_view c.args.gap)) _ _ (operation_form (expression_of c.args.levels) c.args.word.now _ (view c.args.first.now) (view c.args.second.now) (sym c.in-Some.ensures)) c.operation.ensures
 
 pub of_two-returns-in-None : goal.of_two-returns-in-None
-of_two-returns-in-None t c = onward c.parts.result c.args.w.now c.parts.new.w (λ e. expression_pieces e (gap_view c.args.gap)) _ _ (other_form _ _ _ _ (sym c.in-None.ensures)) c.parts.ensures
+of_two-returns-in-None t c = onward c.parts.result c.args.w.now c.parts.new.w (λ e. expression_pieces e (gap_view c.args.gap)) _ _ (other_form (expression_of c.args.levels) c.args.word.now (view c.args.first.now) (view c.args.second.now) (sym c.in-None.ensures)) c.parts.ensures
 
 pub expression-returns-in-Some : goal.expression-returns-in-Some
 expression-returns-in-Some t c = onward c.of_form.result c.args.w.now c.of_form.new.w (λ e. expression_pieces e (gap_view c.args.gap)) _ _ (expression_in_form c.args.levels (c.args.levels - 1) _ _ (omega (arith, c.if-levels-eq0.false)) (sym c.in-Some.ensures)) c.of_form.ensures

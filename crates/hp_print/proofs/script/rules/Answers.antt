@@ -1,4 +1,4 @@
-use Rattle.std.proofs.Common.{◌≡◌, refl, sym, ap, ◌∙◌, Some, arith}
+use Rattle.std.proofs.Common.{map, ◌≡◌, refl, sym, ap, ◌∙◌, Some, arith}
 use Rattle.serde_json.specs.View.{view}
 use Rattle.hp_print.specs.Written.{text_with, gap_view}
 use Rattle.hp_print.proofs.Chains.{then_ok, onward}
@@ -12,4 +12,4 @@ use Rattle.hp_print.proofs.script.rules.Goals as goal
 pub returns-in-Some : goal.returns-in-Some
 returns-in-Some c =
     then_ok c.each.result
-    (λ last rest. ap (text_with c.args.w.now) (list_step rules_pieces (rule_form c.args.lets) _ _ (sym c.in-Some.ensures) rest ∙ sym (each_list rule_pieces (rule_form c.args.lets) _ rest)) ∙ last rest) c.each.ensures
+    (λ last rest. ap (text_with c.args.w.now) (list_step rules_pieces (rule_form c.args.lets) (view c.args.value.now) (map view c.in-Some.values.now) (sym c.in-Some.ensures) rest ∙ sym (each_list rule_pieces (rule_form c.args.lets) (map view c.in-Some.values.now) rest)) ∙ last rest) c.each.ensures
