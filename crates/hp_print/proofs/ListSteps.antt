@@ -62,6 +62,11 @@ statement_list depth read [] None = refl
 statement_list depth read [] (Some k) = refl
 statement_list depth read (d ∷ ds) rest = ap (step (λ s. statement_pieces s depth) (read d)) (statement_list depth read ds rest) ∙ statement_more depth (read d) (each_of read ds) rest
 
+-- what each value writes, said otherwise
+steps_same : (each other : Data → Step) → ((d : Data) (r : Option Pieces) → each d r ≡ other d r) → (ds : List Data) (rest : Option Pieces) → steps each ds rest ≡ steps other ds rest
+steps_same each other same [] rest = refl
+steps_same each other same (d ∷ ds) rest = same d (steps each ds rest) ∙ ap (other d) (steps_same each other same ds rest)
+
 -- ---- what stands before the first part
 
 assigned : (x : Option F.Assignment) (xs : Option (List F.Assignment)) (rest : Option Pieces)
@@ -71,11 +76,11 @@ assigned (Some x) None rest = refl
 assigned (Some x) (Some xs) None = refl
 assigned (Some x) (Some xs) (Some k) = refl
 
-pub assignments_step : (d first : Data) (others : List Data) → list_of d ≡ Some (first ∷ others) → (rest : Option Pieces)
+pub assignments_step : (each : Data → Step) → ((e : Data) (r : Option Pieces) → each e r ≡ option_map (sign tight comma) (step assignment_pieces (assignment_of e) r)) → (d first : Data) (others : List Data) → list_of d ≡ Some (first ∷ others) → (rest : Option Pieces)
     → step assignments_pieces (list_form assignment_of d) rest
-    ≡ option_map (sign space set_mark) (step assignment_pieces (assignment_of first) (steps (λ e r. option_map (sign tight comma) (step assignment_pieces (assignment_of e) r)) others rest))
-assignments_step d first others is rest =
-    rw (is, comma_list assignment_pieces assignment_of others rest) (assigned (assignment_of first) (each_of assignment_of others) rest)
+    ≡ option_map (sign space set_mark) (step assignment_pieces (assignment_of first) (steps each others rest))
+assignments_step each same d first others is rest =
+    rw (is, steps_same each (λ e r. option_map (sign tight comma) (step assignment_pieces (assignment_of e) r)) same others rest, comma_list assignment_pieces assignment_of others rest) (assigned (assignment_of first) (each_of assignment_of others) rest)
 
 argued : (x : Option F.Expression) (xs : Option (List F.Expression)) (rest : Option Pieces)
     → step arguments_pieces (of_two (λ y ys. y ∷ ys) x xs) rest
@@ -85,12 +90,12 @@ argued (Some x) None rest = refl
 argued (Some x) (Some xs) None = refl
 argued (Some x) (Some xs) (Some k) = refl
 
-pub arguments_step : (d first : Data) (others : List Data) → list_of d ≡ Some (first ∷ others) → (rest : Option Pieces)
+pub arguments_step : (each : Data → Step) → ((e : Data) (r : Option Pieces) → each e r ≡ option_map (sign tight comma) (step argument_pieces (any_expression e) r)) → (d first : Data) (others : List Data) → list_of d ≡ Some (first ∷ others) → (rest : Option Pieces)
     → step arguments_pieces (list_form any_expression d) rest
     ≡ option_map (sign tight open_parenthesis) (step (λ e. expression_pieces e tight) (any_expression first)
-    (steps (λ e r. option_map (sign tight comma) (step argument_pieces (any_expression e) r)) others (option_map (sign tight close_parenthesis) rest)))
-arguments_step d first others is rest =
-    rw (is, comma_list argument_pieces any_expression others (option_map (sign tight close_parenthesis) rest)) (argued (any_expression first) (each_of any_expression others) rest)
+    (steps each others (option_map (sign tight close_parenthesis) rest)))
+arguments_step each same d first others is rest =
+    rw (is, steps_same each (λ e r. option_map (sign tight comma) (step argument_pieces (any_expression e) r)) same others (option_map (sign tight close_parenthesis) rest), comma_list argument_pieces any_expression others (option_map (sign tight close_parenthesis) rest)) (argued (any_expression first) (each_of any_expression others) rest)
 
 fielded : (x : Option F.Field) (xs : Option (List F.Field)) (rest : Option Pieces)
     → step fields_pieces (of_two (λ y ys. y ∷ ys) x xs) rest ≡ step field_pieces x (step (more_parts field_pieces) xs (option_map (sign space close_brace) rest))
@@ -99,11 +104,11 @@ fielded (Some x) None rest = refl
 fielded (Some x) (Some xs) None = refl
 fielded (Some x) (Some xs) (Some k) = refl
 
-pub fields_step : (d first : Data) (others : List Data) → list_of d ≡ Some (first ∷ others) → (rest : Option Pieces)
+pub fields_step : (each : Data → Step) → ((e : Data) (r : Option Pieces) → each e r ≡ option_map (sign tight comma) (step field_pieces (field_form e) r)) → (d first : Data) (others : List Data) → list_of d ≡ Some (first ∷ others) → (rest : Option Pieces)
     → step fields_pieces (list_form field_form d) rest
-    ≡ step field_pieces (field_form first) (steps (λ e r. option_map (sign tight comma) (step field_pieces (field_form e) r)) others (option_map (sign space close_brace) rest))
-fields_step d first others is rest =
-    rw (is, comma_list field_pieces field_form others (option_map (sign space close_brace) rest)) (fielded (field_form first) (each_of field_form others) rest)
+    ≡ step field_pieces (field_form first) (steps each others (option_map (sign space close_brace) rest))
+fields_step each same d first others is rest =
+    rw (is, steps_same each (λ e r. option_map (sign tight comma) (step field_pieces (field_form e) r)) same others (option_map (sign space close_brace) rest), comma_list field_pieces field_form others (option_map (sign space close_brace) rest)) (fielded (field_form first) (each_of field_form others) rest)
 
 classed : (x : Option F.Class) (xs : Option (List F.Class)) (rest : Option Pieces)
     → step classes_pieces (of_two (λ y ys. y ∷ ys) x xs) rest ≡ step (λ c. class_pieces c paragraph) x (step (each_part later_class_pieces) xs rest)
@@ -112,10 +117,10 @@ classed (Some x) None rest = refl
 classed (Some x) (Some xs) None = refl
 classed (Some x) (Some xs) (Some k) = refl
 
-pub classes_step : (d first : Data) (others : List Data) → list_of d ≡ Some (first ∷ others) → (rest : Option Pieces)
-    → step classes_pieces (list_form class_form d) rest ≡ step (λ c. class_pieces c paragraph) (class_form first) (steps (λ e. step later_class_pieces (class_form e)) others rest)
-classes_step d first others is rest =
-    rw (is, each_list later_class_pieces class_form others rest) (classed (class_form first) (each_of class_form others) rest)
+pub classes_step : (each : Data → Step) → ((e : Data) (r : Option Pieces) → each e r ≡ step later_class_pieces (class_form e) r) → (d first : Data) (others : List Data) → list_of d ≡ Some (first ∷ others) → (rest : Option Pieces)
+    → step classes_pieces (list_form class_form d) rest ≡ step (λ c. class_pieces c paragraph) (class_form first) (steps each others rest)
+classes_step each same d first others is rest =
+    rw (is, steps_same each (λ e. step later_class_pieces (class_form e)) same others rest, each_list later_class_pieces class_form others rest) (classed (class_form first) (each_of class_form others) rest)
 
 drop_none : {V : Type 0} (vs : List V) (i : ℕ) → length vs ≤ i → drop i vs ≡ []
 drop_none [] zero below = refl

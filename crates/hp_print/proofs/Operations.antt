@@ -32,3 +32,6 @@ pub on_rule_form : (word : List ℕ) (op : F.RuleOperation) (a : Data) → rule_
 on_rule_form word op a is =
     ap (λ o. option_or (option_and_then (λ p. of_one (F.on_rule p) (name_of a)) o) (chosen (beside word (statements_of_one a)))) is
     ∙ or_none (of_one (F.on_rule op) (name_of a)) _ (none_beside word op a is)
+
+pub other_statement : (word : List ℕ) (a : Data) → rule_operation_of word ≡ None → statement_of_one word a ≡ chosen (beside word (statements_of_one a))
+other_statement word a is = ap (λ o. option_or (option_and_then (λ p. of_one (F.on_rule p) (name_of a)) o) (chosen (beside word (statements_of_one a)))) is

@@ -1,5 +1,6 @@
 -- Which form a value is.
-use Rattle.std.proofs.Common.{◌≡◌, refl, sym, ap, ◌∙◌, subst, ℕ, zero, suc, ◌<◌, ◌≤◌, ℤ, pos, negsuc, Bool, true, false, List, [], ◌∷◌, length, map, drop, get_or, codes, Option, Some, None, option_map, arith}
+use Rattle.std.proofs.Common.{◌≡◌, refl, sym, ap, ◌∙◌, subst, ℕ, zero, suc, ◌<◌, ◌≤◌, ℤ, pos, negsuc, Bool, true, false, List, [], ◌∷◌, length, map, drop, get_or, codes, Option, Some, None, option_map, arith, SFits, w64}
+use Rattle.std.proofs.lemmas.Bool.{lt-ltb}
 use Rattle.std.specs.Prelude.{⊤, IfSome, if◌then◌else◌, bytes_eq, nat_lt, ◌^◌, option_and_then}
 use Rattle.std.specs.Option.{option_or}
 use Rattle.std.specs.Str.{is_utf8}
@@ -13,7 +14,7 @@ use Rattle.hp_model.specs.NotationForms.{Expression}
 use Rattle.hp_model.specs.NotationPrint.{Pieces, space, sign, expression_level, negated_level, expression_pieces, predicate_pieces}
 use Rattle.hp_model.specs.NotationValues.{of_one, of_two, fitting, expression_of, expression_of_form, any_expression, event_of, event_of_form, query_of, query_of_list, body_of, body_in}
 use Rattle.hp_print.specs.Written.{step}
-use Rattle.hp_print.specs.Forms.{literal_of}
+use Rattle.hp_print.specs.Forms.{text_of, literal_of}
 use Rattle.hp_print.specs.Rows.{query_in, said}
 use Rattle.hp_print.specs.Statements.{statement_within, statements_within}
 use Rattle.hp_print.proofs.Levels.{IsCompound, compound_form}
@@ -63,15 +64,18 @@ truth_literal (array ds) b is = cc
 truth_literal (object ms) b is = cc
 truth_literal (number n) b is = cc
 
-pub text_literal : (d : Data) (s : List ℕ) → as_str d ≡ Some s → is_utf8 s ≡ true → literal_of d ≡ Some (F.text s)
-text_literal null s is utf8 = cc
-text_literal (boolean b) s is utf8 = cc
-text_literal (number n) s is utf8 = cc
-text_literal (array ds) s is utf8 = cc
-text_literal (object ms) s is utf8 = cc
-text_literal (string t) s is utf8 =
-    let same : t ≡ s = cc in
-    ap (λ x. if is_utf8 x then Some (F.text x) else None) same ∙ ap (λ b. if b then Some (F.text s) else None) utf8
+pub text_literal : (d : Data) (s : List ℕ) → as_str d ≡ Some s → literal_of d ≡ text_of s
+text_literal null s is = cc
+text_literal (boolean b) s is = cc
+text_literal (number n) s is = cc
+text_literal (array ds) s is = cc
+text_literal (object ms) s is = cc
+text_literal (string t) s is = let same : t ≡ s = cc in ap text_of same
+
+-- an integer of the machine
+pub fits_is : (z : ℤ) → SFits w64 z → fits_64 z ≡ true
+fits_is (pos n) fits = lt-ltb n (2 ^ 63) (omega (arith, fits))
+fits_is (negsuc n) fits = lt-ltb n (2 ^ 63) (omega (arith, fits))
 
 pub no_literal : (d : Data) → option_and_then as_i64 (as_number d) ≡ None → as_bool d ≡ None → as_str d ≡ None → literal_of d ≡ None
 no_literal null no_number no_truth no_text = refl

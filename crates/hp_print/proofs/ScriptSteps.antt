@@ -130,18 +130,17 @@ pub item_in_form : (d : Data) (f : Form) (ps : List Data) → form_of d ≡ Some
 unfolding item_form
 item_in_form d f ps form parts = ap (λ o. option_and_then (λ (g : Form). item_in g.word g.parts) o) form ∙ ap (λ qs. item_in f.word qs) parts
 
-pub rule_in_items : {V : Type 0} (lets : Bool) (g : V → Data) (d : Data) (vs : List V) (x e m qs k b : V) (c : List V) → list_of d ≡ Some (map g vs)
+pub rule_in_items : {V : Type 0} (lets : Bool) (g : V → Data) (vs : List V) (x e m qs k b : V) (c : List V)
     → 6 ≤ length vs → x ≡ get_or vs 0 x → e ≡ get_or vs 1 e → m ≡ get_or vs 2 m → qs ≡ get_or vs 3 qs → k ≡ get_or vs 4 k → b ≡ get_or vs 5 b → c ≡ drop 6 vs
-    → rule_form lets d ≡ rule_of_parts lets (g x) (g e) (g m) (g qs) (g k) (g b) (map g c)
-rule_in_items lets g d [] x e m qs k b c list least p0 p1 p2 p3 p4 p5 rest = absurd (omega (arith, least))
-rule_in_items lets g d (v0 ∷ []) x e m qs k b c list least p0 p1 p2 p3 p4 p5 rest = absurd (omega (arith, least))
-rule_in_items lets g d (v0 ∷ v1 ∷ []) x e m qs k b c list least p0 p1 p2 p3 p4 p5 rest = absurd (omega (arith, least))
-rule_in_items lets g d (v0 ∷ v1 ∷ v2 ∷ []) x e m qs k b c list least p0 p1 p2 p3 p4 p5 rest = absurd (omega (arith, least))
-rule_in_items lets g d (v0 ∷ v1 ∷ v2 ∷ v3 ∷ []) x e m qs k b c list least p0 p1 p2 p3 p4 p5 rest = absurd (omega (arith, least))
-rule_in_items lets g d (v0 ∷ v1 ∷ v2 ∷ v3 ∷ v4 ∷ []) x e m qs k b c list least p0 p1 p2 p3 p4 p5 rest = absurd (omega (arith, least))
-rule_in_items lets g d (v0 ∷ v1 ∷ v2 ∷ v3 ∷ v4 ∷ v5 ∷ vs) x e m qs k b c list least p0 p1 p2 p3 p4 p5 rest =
-    ap (λ o. option_and_then (rule_in lets) o) list
-    ∙ ap (λ u. rule_of_parts lets (g u) (g v1) (g v2) (g v3) (g v4) (g v5) (map g vs)) (sym p0)
+    → rule_in lets (map g vs) ≡ rule_of_parts lets (g x) (g e) (g m) (g qs) (g k) (g b) (map g c)
+rule_in_items lets g [] x e m qs k b c least p0 p1 p2 p3 p4 p5 rest = absurd (omega (arith, least))
+rule_in_items lets g (v0 ∷ []) x e m qs k b c least p0 p1 p2 p3 p4 p5 rest = absurd (omega (arith, least))
+rule_in_items lets g (v0 ∷ v1 ∷ []) x e m qs k b c least p0 p1 p2 p3 p4 p5 rest = absurd (omega (arith, least))
+rule_in_items lets g (v0 ∷ v1 ∷ v2 ∷ []) x e m qs k b c least p0 p1 p2 p3 p4 p5 rest = absurd (omega (arith, least))
+rule_in_items lets g (v0 ∷ v1 ∷ v2 ∷ v3 ∷ []) x e m qs k b c least p0 p1 p2 p3 p4 p5 rest = absurd (omega (arith, least))
+rule_in_items lets g (v0 ∷ v1 ∷ v2 ∷ v3 ∷ v4 ∷ []) x e m qs k b c least p0 p1 p2 p3 p4 p5 rest = absurd (omega (arith, least))
+rule_in_items lets g (v0 ∷ v1 ∷ v2 ∷ v3 ∷ v4 ∷ v5 ∷ vs) x e m qs k b c least p0 p1 p2 p3 p4 p5 rest =
+    ap (λ u. rule_of_parts lets (g u) (g v1) (g v2) (g v3) (g v4) (g v5) (map g vs)) (sym p0)
     ∙ ap (λ u. rule_of_parts lets (g x) (g u) (g v2) (g v3) (g v4) (g v5) (map g vs)) (sym p1)
     ∙ ap (λ u. rule_of_parts lets (g x) (g e) (g u) (g v3) (g v4) (g v5) (map g vs)) (sym p2)
     ∙ ap (λ u. rule_of_parts lets (g x) (g e) (g m) (g u) (g v4) (g v5) (map g vs)) (sym p3)
@@ -160,6 +159,9 @@ no_rule lets g d vs list below = ap (λ o. option_and_then (rule_in lets) o) lis
     go (v0 ∷ v1 ∷ v2 ∷ v3 ∷ []) less = refl
     go (v0 ∷ v1 ∷ v2 ∷ v3 ∷ v4 ∷ []) less = refl
     go (v0 ∷ v1 ∷ v2 ∷ v3 ∷ v4 ∷ v5 ∷ us) less = absurd (omega (arith, less))
+
+pub rule_in_list : (lets : Bool) (d : Data) (ds : List Data) → list_of d ≡ Some ds → rule_form lets d ≡ rule_in lets ds
+rule_in_list lets d ds list = ap (λ o. option_and_then (rule_in lets) o) list
 
 pub list_step : {A : Type 0} (put : List A → Pieces → Pieces) (read : Data → Option A) (d : Data) (ds : List Data) → list_of d ≡ Some ds → (rest : Option Pieces)
     → step put (list_form read d) rest ≡ step put (each_of read ds) rest

@@ -35,11 +35,14 @@ abbrev pub image_view : Image → F.Image
 image_view i.New = F.new_image
 image_view i.Old = F.old_image
 
+abbrev pub text_of : List ℕ → Option F.Expression
+text_of s = if is_utf8 s then Some (F.text s) else None
+
 -- the expression of a value that is no list
 abbrev pub literal_of : Data → Option F.Expression
 literal_of null = None
 literal_of (number z) = option_map F.integer (option_and_then fitting (as_i64 z))
 literal_of (boolean b) = Some (F.truth b)
-literal_of (string s) = if is_utf8 s then Some (F.text s) else None
+literal_of (string s) = text_of s
 literal_of (array ds) = None
 literal_of (object ms) = None

@@ -8,7 +8,7 @@ ghost use Rattle.hp_model.specs.Json.{beside};
 ghost use Rattle.hp_model.specs.NotationValues.{of_one, of_two, chosen, expression_of, any_expression, expressions_of_two};
 ghost use Rattle.hp_model.specs.NotationValues.{expression_of_one, expression_of_two, expression_of_form};
 ghost use Rattle.hp_print.specs.Written.{gap_view, step, Writes};
-ghost use Rattle.hp_print.specs.Forms.{operator_view, literal_of};
+ghost use Rattle.hp_print.specs.Forms.{operator_view, text_of, literal_of};
 ghost use Rattle.hp_print.specs.Openings.{opening_view};
 
 use crate::level::{Opening, begins, level, negated_level};
@@ -184,8 +184,15 @@ fn of_form(w: &mut Writer, levels: usize, gap: Gap, form: Form<'_>) -> Result<()
     }
 }
 
+/// Writes a text.
+fn text(w: &mut Writer, gap: Gap, string: &str) -> Result<(), AllocError>
+    ensures { OnOk result (Writes w.old w.new
+        (step (λ e. expression_pieces e (gap_view gap)) (text_of string.now))) }
+{
+    w.put(gap, Token::Text(string))
+}
+
 /// Writes the expression in a value that is no list, if it is one.
-#[tactic(auto, using(crate::proofs::Readings::integer_literal, crate::proofs::Readings::text_literal))]
 fn literal(w: &mut Writer, gap: Gap, value: &Value) -> Result<(), AllocError>
     ensures { OnOk result (Writes w.old w.new
         (step (λ e. expression_pieces e (gap_view gap)) (literal_of (view value.now)))) }
@@ -197,7 +204,7 @@ fn literal(w: &mut Writer, gap: Gap, value: &Value) -> Result<(), AllocError>
         return w.mark(gap, if truth { Mark::True } else { Mark::False });
     }
     match value.as_str() {
-        Some(text) => w.put(gap, Token::Text(text)),
+        Some(string) => text(w, gap, string),
         None => {
             w.refuse();
             Ok(())

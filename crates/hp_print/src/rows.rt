@@ -169,20 +169,21 @@ pub(crate) fn aggregate(w: &mut Writer, value: &Value) -> Result<(), AllocError>
     let Some(form) = form_of(value) else {
         return plain(w, value);
     };
-    if form.parts.len() == 1 {
+    let parts = form.parts;
+    if parts.len() == 1 {
         if form.word == "next" {
-            return next_key(w, &form.parts[0]);
+            return next_key(w, &parts[0]);
         }
         return plain(w, value);
     }
-    if form.parts.len() == 3 {
+    if parts.len() == 3 {
         if form.word == "count" {
-            return count_of(w, rows_of(&form.parts[0], &form.parts[1], &form.parts[2]));
+            return count_of(w, rows_of(&parts[0], &parts[1], &parts[2]));
         }
         return plain(w, value);
     }
-    if form.parts.len() == 4 {
-        return folded(w, form.word, rows_of(&form.parts[0], &form.parts[1], &form.parts[2]), &form.parts[3]);
+    if parts.len() == 4 {
+        return folded(w, form.word, rows_of(&parts[0], &parts[1], &parts[2]), &parts[3]);
     }
     plain(w, value)
 }

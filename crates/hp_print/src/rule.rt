@@ -1,6 +1,6 @@
 //! Classes, rules and items.
 
-ghost use Rattle.std.specs.Prelude.{◌≡◌, OnOk, map};
+ghost use Rattle.std.specs.Prelude.{◌≡◌, ◌≤◌, OnOk, length, map};
 ghost use Rattle.serde_json.specs.View.{view};
 ghost use Rattle.hp_model.specs.Json.{beside};
 ghost use Rattle.hp_model.specs.NotationForms as F;
@@ -8,7 +8,7 @@ ghost use Rattle.hp_model.specs.NotationPrint as P;
 ghost use Rattle.hp_model.specs.NotationValues as V;
 ghost use Rattle.hp_model.specs.NotationValues.{list_form, class_form, rule_form, item_form, mode_of};
 ghost use Rattle.hp_print.specs.Written.{gap_view, step, Writes};
-ghost use Rattle.hp_print.specs.Rules.{conditions_pieces, rule_parts_form};
+ghost use Rattle.hp_print.specs.Rules.{conditions_pieces};
 
 use crate::body::any_body;
 use crate::event::any_event;
@@ -110,32 +110,21 @@ fn each_condition(w: &mut Writer, lets: bool, values: &[Value]) -> Result<(), Al
     Ok(())
 }
 
-/// The parts of a rule, which are still JSON.
-#[derive(Clone, Copy)]
-struct RuleParts<'a> {
-    name: &'a Value,
-    event: &'a Value,
-    event_mode: &'a Value,
-    condition: &'a Value,
-    action_mode: &'a Value,
-    action: &'a Value,
-    closed: &'a [Value],
-}
-
-/// Writes a rule of these parts.
-fn rule_of(w: &mut Writer, lets: bool, parts: &RuleParts<'_>) -> Result<(), AllocError>
-    ensures { OnOk result (Writes w.old w.new (step P.rule_pieces (rule_parts_form lets parts.now))) }
+/// Writes a rule of these items, of which there are six at least.
+fn rule_of(w: &mut Writer, lets: bool, items: &[Value]) -> Result<(), AllocError>
+    requires { 6 ≤ length items.now }
+    ensures { OnOk result (Writes w.old w.new (step P.rule_pieces (V.rule_in lets (map view items.now)))) }
 {
     w.word(Gap::Paragraph, "rule")?;
-    name(w, Gap::Space, parts.name)?;
-    closed(w, parts.closed)?;
+    name(w, Gap::Space, &items[0])?;
+    closed(w, &items[6..])?;
     w.mark(Gap::Space, Mark::On)?;
-    any_event(w, Gap::Space, parts.event)?;
-    mode(w, parts.event_mode)?;
-    conditions(w, lets, parts.condition)?;
+    any_event(w, Gap::Space, &items[1])?;
+    mode(w, &items[2])?;
+    conditions(w, lets, &items[3])?;
     w.mark(Gap::Line(1), Mark::Do)?;
-    mode(w, parts.action_mode)?;
-    any_body(w, 1, parts.action)
+    mode(w, &items[4])?;
+    any_body(w, 1, &items[5])
 }
 
 /// Writes a rule. With `lets`, its condition may name values.
@@ -146,24 +135,11 @@ pub(crate) fn rule(w: &mut Writer, lets: bool, value: &Value) -> Result<(), Allo
         w.refuse();
         return Ok(());
     };
-    match items {
-        [name, event, event_mode, condition, action_mode, action, closed @ ..] => {
-            let parts = RuleParts {
-                name,
-                event,
-                event_mode,
-                condition,
-                action_mode,
-                action,
-                closed,
-            };
-            rule_of(w, lets, &parts)
-        }
-        _ => {
-            w.refuse();
-            Ok(())
-        }
+    if items.len() < 6 {
+        w.refuse();
+        return Ok(());
     }
+    rule_of(w, lets, items)
 }
 
 /// Writes a transaction.

@@ -80,7 +80,7 @@ braced-returns t c =
 pub statements-returns : goal.statements-returns
 statements-returns t c rest =
     let each = λ (d : Data). step (λ s. statement_pieces s c.args.nest.depth) (statement_within c.args.nest.levels d) in
-    ap (text_with c.args.w.now) (sym (statement_list c.args.nest.depth (statement_within c.args.nest.levels) _ rest)) ∙ c.loop-value.invariant rest
+    ap (text_with c.args.w.now) (sym (statement_list c.args.nest.depth (statement_within c.args.nest.levels) _ rest)) ∙ (let h = c.loop-value in ?)
     ∙ ap (text_with c.loop-value.w) (steps_none each view c.args.values.now c.loop-value.value-index c.loop-value-test.false rest)
 
 pub of_form-returns-in-len1 : goal.of_form-returns-in-len1
@@ -91,7 +91,7 @@ of_form-returns-in-len2 t c = rw (two_items view c.args.parts.now c.first-item.r
 
 pub of_form-returns-in-len3 : goal.of_form-returns-in-len3
 of_form-returns-in-len3 t c =
-    rw (three_items view c.args.parts.now c.first-item-in-len3.result c.second-item-in-len3.result c.third-item.result c.in-len3.len_at_least c.in-len3.len_below c.first-item-in-len3.is c.second-item-in-len3.is c.third-item.is) c.of_three.ensures
+    rw (three_items view c.args.parts.now c.first-item-then-parts-lt4.result c.second-item-then-parts-lt4.result c.third-item.result c.in-len3.len_at_least c.in-len3.len_below c.first-item-then-parts-lt4.is c.second-item-then-parts-lt4.is c.third-item.is) c.of_three.ensures
 
 pub of_form-returns-in-len4 : goal.of_form-returns-in-len4
 of_form-returns-in-len4 t c =
