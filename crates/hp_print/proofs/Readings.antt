@@ -1,6 +1,7 @@
 -- Which form a value is.
-use Rattle.std.proofs.Common.{◌≡◌, refl, sym, ap, ◌∙◌, subst, ℕ, zero, suc, ◌<◌, ◌≤◌, ℤ, pos, negsuc, Bool, true, false, List, [], ◌∷◌, length, map, drop, get_or, codes, Option, Some, None, option_map, arith, SFits, w64}
+use Rattle.std.proofs.Common.{◌≡◌, refl, sym, ap, ◌∙◌, subst, ℕ, zero, suc, ◌<◌, ◌≤◌, ℤ, pos, negsuc, Bool, true, false, List, [], ◌∷◌, length, map, take, drop, get_or, ◌-◌, codes, Option, Some, None, option_map, arith, SFits, w64}
 use Rattle.std.proofs.lemmas.Bool.{lt-ltb}
+use Rattle.std.proofs.lemmas.List.{length-drop, take_all}
 use Rattle.std.specs.Prelude.{⊤, IfSome, if◌then◌else◌, bytes_eq, nat_lt, ◌^◌, option_and_then}
 use Rattle.std.specs.Option.{option_or}
 use Rattle.std.specs.Str.{is_utf8}
@@ -190,6 +191,10 @@ four_items f (x ∷ y ∷ z ∷ t ∷ []) a b c d least below first second third
     ap (λ u. f u ∷ f y ∷ f z ∷ f t ∷ []) (sym first) ∙ ap (λ u. f a ∷ f u ∷ f z ∷ f t ∷ []) (sym second) ∙ ap (λ u. f a ∷ f b ∷ f u ∷ f t ∷ []) (sym third)
     ∙ ap (λ u. f a ∷ f b ∷ f c ∷ f u ∷ []) (sym fourth)
 four_items f (x ∷ y ∷ z ∷ t ∷ u ∷ vs) a b c d least below first second third fourth = absurd (omega (arith, below))
+
+-- all values from an index on
+pub rest_whole : {V : Type 0} (k : ℕ) (vs : List V) → take (length vs - k) (drop k vs) ≡ drop k vs
+rest_whole k vs = let long : length (drop k vs) ≡ length vs - k = length-drop k vs in take_all (length vs - k) (drop k vs) (omega (arith, long))
 
 -- the first value, and the others
 pub first_item : {V D : Type 0} (f : V → D) (vs : List V) (a : V) (others : List V) → 1 ≤ length vs → a ≡ get_or vs 0 a → others ≡ drop 1 vs → map f vs ≡ f a ∷ map f others

@@ -1,4 +1,4 @@
-use Rattle.std.proofs.Common.{◌≡◌, ◌≤◌, ◌-◌, suc, refl, sym, ap, subst, ◌∙◌, Some, None, false, arith}
+use Rattle.std.proofs.Common.{map, ◌≡◌, ◌≤◌, ◌-◌, suc, refl, sym, ap, subst, ◌∙◌, Some, None, false, arith}
 use Rattle.std.specs.Prelude.{IfSome}
 use Rattle.serde_json.specs.Data.{Data}
 use Rattle.serde_json.specs.View.{view}
@@ -10,7 +10,7 @@ use Rattle.hp_print.specs.Statements.{statement_within}
 use Rattle.hp_print.specs.Written.{step, text_with}
 use Rattle.hp_print.proofs.Chains.{then_ok}
 use Rattle.hp_print.proofs.BodySteps.{body_of_list, body_step, empty_step, braced_step, other_step, nothing_step, zero_body, not_nil, five_parts}
-use Rattle.hp_print.proofs.ListSteps.{steps_none, statement_list}
+use Rattle.hp_print.proofs.ListSteps.{steps_more, steps_none, statement_list}
 use Rattle.hp_print.proofs.Readings.{no_item, one_item, two_items, three_items, four_items}
 use Rattle.hp_print.proofs.StatementSteps.{when_step, each_step, for_step, with_step, let_step, sub_step}
 use Rattle.hp_print.proofs.body.+body.Goals as goal
@@ -80,7 +80,7 @@ braced-returns t c =
 pub statements-returns : goal.statements-returns
 statements-returns t c rest =
     let each = λ (d : Data). step (λ s. statement_pieces s c.args.nest.depth) (statement_within c.args.nest.levels d) in
-    ap (text_with c.args.w.now) (sym (statement_list c.args.nest.depth (statement_within c.args.nest.levels) _ rest)) ∙ (let h = c.loop-value in ?)
+    ap (text_with c.args.w.now) (sym (statement_list c.args.nest.depth (statement_within c.args.nest.levels) (map view c.args.values.now) rest)) ∙ c.loop-value.invariant rest
     ∙ ap (text_with c.loop-value.w) (steps_none each view c.args.values.now c.loop-value.value-index c.loop-value-test.false rest)
 
 pub of_form-returns-in-len1 : goal.of_form-returns-in-len1
@@ -116,3 +116,8 @@ other_body-returns t c =
     (subst (λ r. IfSome (body_of c.args.nest.levels (view c.args.value.now)) (λ b. r ≡ is_empty b)) c.if-is_empty_list.false (c.is_empty_list.ensures.each c.args.nest.levels)) rest)
     ∙ c.in_ok-mark.ensures _ ∙ last rest)
     c.body.ensures
+
+pub statements-loop-value-preserved : goal.statements-loop-value-preserved
+statements-loop-value-preserved t c =
+    steps_more (λ (d : Data). step (λ s. statement_pieces s c.args.nest.depth) (statement_within c.args.nest.levels d)) view c.args.values.now c.loop-value.value-index c.value-item.result c.loop-value.w c.statement.new.w _
+    c.loop-value-test.true c.value-item.is c.in_ok-statement.ensures c.loop-value.invariant

@@ -1,4 +1,5 @@
 use Rattle.std.proofs.Common.{◌≡◌, ◌+◌, ◌*◌, map, drop, Option}
+use Rattle.serde_json.specs.Data.{Data}
 use Rattle.serde_json.specs.View.{view}
 use Rattle.hp_model.specs.NotationPrint.{Pieces, statement_pieces}
 use Rattle.hp_print.specs.Written.{step, text_with}
@@ -50,3 +51,9 @@ decreases-statements l = 8 * l.nest.levels + 6
 
 abbrev pub decreases-statement : goal.decreases-statement
 decreases-statement l = 8 * l.nest.levels + 5
+
+-- the statements that are left come next
+abbrev pub invariant-statements-loop-value : goal.invariant-statements-loop-value
+invariant-statements-loop-value l =
+    let each = λ (d : Data). step (λ s. statement_pieces s l.nest.depth) (statement_within l.nest.levels d) in
+    (rest : Option Pieces) → text_with l.initial.w (steps each (map view l.values) rest) ≡ text_with l.w (steps each (map view (drop l.value-index l.values)) rest)
