@@ -52,6 +52,7 @@ COSTS = {
     "hp_lines": 25,
     "hp_analysis": 100,
     "hp_text": 600,
+    "hp_print": 600,
     "hp_notation": 100,
     "hp_live": 310,
     "hipac": 320,

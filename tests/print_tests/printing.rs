@@ -35,7 +35,8 @@ fn prints_an_empty_script(rt: HostRuntime) -> Result<(), Fail> {
         &rt,
         rt.alloc(),
         r#"{"version": 4, "classes": [], "rules": [], "items": []}"#,
-        "version 4\n",
+        r#"version 4
+"#,
     )
 }
 
@@ -44,8 +45,18 @@ fn prints_a_depth_and_classes(rt: HostRuntime) -> Result<(), Fail> {
     expect(
         &rt,
         rt.alloc(),
-        r#"{"version": 2, "depth": 12, "classes": [["a", []], ["if", [["x", "int"], ["count", "bool"], ["on", "text"]]]], "rules": [], "items": [["clock", 0], ["tx", []]]}"#,
-        "version 2\ndepth 12\n\nclass a {}\nclass `if` { x: int, count: bool, `on`: text }\n\nclock 0\n\ntransaction {}\n",
+        r#"{"version": 2, "depth": 12, "classes": [["a", []], ["if", [["x", "int"], ["count", "bool"], ["on",
+"text"]]]], "rules": [], "items": [["clock", 0], ["tx", []]]}"#,
+        r#"version 2
+depth 12
+
+class a {}
+class `if` { x: int, count: bool, `on`: text }
+
+clock 0
+
+transaction {}
+"#,
     )
 }
 
@@ -54,8 +65,22 @@ fn prints_parentheses_where_levels_need_them(rt: HostRuntime) -> Result<(), Fail
     expect(
         &rt,
         rt.alloc(),
-        r#"{"version": 4, "classes": [], "rules": [], "items": [["tx", [["emit", ["-", 1, ["-", 2, 3]]], ["emit", ["-", ["-", 1, 2], 3]], ["emit", ["*", ["+", 1, 2], ["neg", ["value", "x"]]]], ["emit", ["or", ["and", true, false], ["not", ["or", true, false]]]], ["emit", ["=", ["<", 1, 2], ["+", 1, 2]]], ["emit", ["and", ["and", true, false], true]], ["emit", ["%", ["/", 7, 2], ["*", 2, 3]]]]]]}"#,
-        "version 4\n\ntransaction {\n  emit 1 - (2 - 3)\n  emit 1 - 2 - 3\n  emit (1 + 2) * -x\n  emit true and false or not (true or false)\n  emit (1 < 2) = 1 + 2\n  emit (true and false) and true\n  emit 7 / 2 % (2 * 3)\n}\n",
+        r#"{"version": 4, "classes": [], "rules": [], "items": [["tx", [["emit", ["-", 1, ["-", 2, 3]]],
+["emit", ["-", ["-", 1, 2], 3]], ["emit", ["*", ["+", 1, 2], ["neg", ["value", "x"]]]], ["emit", ["or", ["and", true,
+false], ["not", ["or", true, false]]]], ["emit", ["=", ["<", 1, 2], ["+", 1, 2]]], ["emit", ["and", ["and", true,
+false], true]], ["emit", ["%", ["/", 7, 2], ["*", 2, 3]]]]]]}"#,
+        r#"version 4
+
+transaction {
+  emit 1 - (2 - 3)
+  emit 1 - 2 - 3
+  emit (1 + 2) * -x
+  emit true and false or not (true or false)
+  emit (1 < 2) = 1 + 2
+  emit (true and false) and true
+  emit 7 / 2 % (2 * 3)
+}
+"#,
     )
 }
 
@@ -64,8 +89,20 @@ fn prints_negative_numbers(rt: HostRuntime) -> Result<(), Fail> {
     expect(
         &rt,
         rt.alloc(),
-        r#"{"version": 4, "classes": [], "rules": [], "items": [["tx", [["emit", -7], ["emit", ["neg", 7]], ["emit", ["neg", -7]], ["emit", ["neg", ["neg", ["value", "x"]]]], ["emit", ["-", 1, -2]], ["emit", ["*", -1, -9223372036854775808]]]]]}"#,
-        "version 4\n\ntransaction {\n  emit -7\n  emit -(7)\n  emit -(-7)\n  emit -(-x)\n  emit 1 - -2\n  emit -1 * -9223372036854775808\n}\n",
+        r#"{"version": 4, "classes": [], "rules": [], "items": [["tx", [["emit", -7], ["emit", ["neg", 7]],
+["emit", ["neg", -7]], ["emit", ["neg", ["neg", ["value", "x"]]]], ["emit", ["-", 1, -2]], ["emit", ["*", -1,
+-9223372036854775808]]]]]}"#,
+        r#"version 4
+
+transaction {
+  emit -7
+  emit -(7)
+  emit -(-7)
+  emit -(-x)
+  emit 1 - -2
+  emit -1 * -9223372036854775808
+}
+"#,
     )
 }
 
@@ -74,8 +111,23 @@ fn prints_names_in_backquotes(rt: HostRuntime) -> Result<(), Fail> {
     expect(
         &rt,
         rt.alloc(),
-        r#"{"version": 4, "classes": [], "rules": [], "items": [["tx", [["emit", ["value", "now"]], ["emit", ["now"]], ["emit", ["of", "event", "key"]], ["emit", ["key", "x"]], ["emit", ["value", "then"]], ["veto", ["value", "let"]], ["veto", ["of", "lets", "let"]], ["veto"], ["veto", "no"]]]]}"#,
-        "version 4\n\ntransaction {\n  emit `now`\n  emit now\n  emit `event`.`key`\n  emit x.key\n  emit `then`\n  veto (let)\n  veto lets.let\n  veto\n  veto \"no\"\n}\n",
+        r#"{"version": 4, "classes": [], "rules": [], "items": [["tx", [["emit", ["value", "now"]], ["emit",
+["now"]], ["emit", ["of", "event", "key"]], ["emit", ["key", "x"]], ["emit", ["value", "then"]], ["veto", ["value",
+"let"]], ["veto", ["of", "lets", "let"]], ["veto"], ["veto", "no"]]]]}"#,
+        r#"version 4
+
+transaction {
+  emit `now`
+  emit now
+  emit `event`.`key`
+  emit x.key
+  emit `then`
+  veto (let)
+  veto lets.let
+  veto
+  veto "no"
+}
+"#,
     )
 }
 
@@ -84,8 +136,21 @@ fn prints_the_parts_of_an_event(rt: HostRuntime) -> Result<(), Fail> {
     expect(
         &rt,
         rt.alloc(),
-        r#"{"version": 4, "classes": [], "rules": [], "items": [["tx", [["emit", ["new", 0, "x"]], ["emit", ["old", 2, "if"]], ["emit", ["id", 0]], ["emit", ["time", 1]], ["emit", ["arg", 0, 3]], ["emit", ["arg", 2, 0]], ["emit", ["count"]]]]]}"#,
-        "version 4\n\ntransaction {\n  emit new.x\n  emit old[2].`if`\n  emit event.key\n  emit event[1].time\n  emit event.arg(3)\n  emit event[2].arg(0)\n  emit event.count\n}\n",
+        r#"{"version": 4, "classes": [], "rules": [], "items": [["tx", [["emit", ["new", 0, "x"]], ["emit",
+["old", 2, "if"]], ["emit", ["id", 0]], ["emit", ["time", 1]], ["emit", ["arg", 0, 3]], ["emit", ["arg", 2, 0]],
+["emit", ["count"]]]]]}"#,
+        r#"version 4
+
+transaction {
+  emit new.x
+  emit old[2].`if`
+  emit event.key
+  emit event[1].time
+  emit event.arg(3)
+  emit event[2].arg(0)
+  emit event.count
+}
+"#,
     )
 }
 
@@ -94,8 +159,15 @@ fn prints_texts(rt: HostRuntime) -> Result<(), Fail> {
     expect(
         &rt,
         rt.alloc(),
-        r#"{"version": 4, "classes": [], "rules": [], "items": [["tx", [["emit", "a \"b\" \\ \n\t\u0001 \u00e9\ud83d\ude00"], ["emit", ""]]]]}"#,
-        "version 4\n\ntransaction {\n  emit \"a \\\"b\\\" \\\\ \\n\\t\\u0001 é😀\"\n  emit \"\"\n}\n",
+        r#"{"version": 4, "classes": [], "rules": [], "items": [["tx", [["emit", "a \"b\" \\ \n\t\u0001
+\u00e9\ud83d\ude00"], ["emit", ""]]]]}"#,
+        r#"version 4
+
+transaction {
+  emit "a \"b\" \\ \n\t\u0001 é😀"
+  emit ""
+}
+"#,
     )
 }
 
@@ -104,8 +176,26 @@ fn prints_operations(rt: HostRuntime) -> Result<(), Fail> {
     expect(
         &rt,
         rt.alloc(),
-        r#"{"version": 4, "classes": [], "rules": [], "items": [["tx", [["create", "item", 7, [["stock", 3], ["note", ["=", 1, 2]]]], ["update", "item", ["+", 1, 2], []], ["delete", "item", -7], ["signal", "go", []], ["signal", "go", [1, ["or", true, false]]], ["abort"], ["install", "r"], ["enable", "r"], ["disable", "r"], ["remove", "r"], ["fire", "r"]]]]}"#,
-        "version 4\n\ntransaction {\n  create item(7) set stock = 3, note = (1 = 2)\n  update item(1 + 2)\n  delete item(-7)\n  signal go\n  signal go(1, true or false)\n  abort\n  install r\n  enable r\n  disable r\n  remove r\n  fire r\n}\n",
+        r#"{"version": 4, "classes": [], "rules": [], "items": [["tx", [["create", "item", 7, [["stock", 3],
+["note", ["=", 1, 2]]]], ["update", "item", ["+", 1, 2], []], ["delete", "item", -7], ["signal", "go", []], ["signal",
+"go", [1, ["or", true, false]]], ["abort"], ["install", "r"], ["enable", "r"], ["disable", "r"], ["remove", "r"],
+["fire", "r"]]]]}"#,
+        r#"version 4
+
+transaction {
+  create item(7) set stock = 3, note = (1 = 2)
+  update item(1 + 2)
+  delete item(-7)
+  signal go
+  signal go(1, true or false)
+  abort
+  install r
+  enable r
+  disable r
+  remove r
+  fire r
+}
+"#,
     )
 }
 
@@ -114,8 +204,35 @@ fn prints_bodies(rt: HostRuntime) -> Result<(), Fail> {
     expect(
         &rt,
         rt.alloc(),
-        r#"{"version": 4, "classes": [], "rules": [], "items": [["tx", [["if", true, [["abort"]], []], ["if", ["=", 1, 1], [], [["emit", 1]]], ["each", "i", "item", true, []], ["each", "i", "item", ["<", ["of", "i", "n"], 3], [["for", "q", [["sub", [["abort"]], [["emit", 2]]]]]]], ["with", "o", "item", 3, [["emit", ["key", "o"]]]], ["sub", [], []]]]]}"#,
-        "version 4\n\ntransaction {\n  if true {\n    abort\n  }\n  if 1 = 1 {} else {\n    emit 1\n  }\n  each item i {}\n  each item i where i.n < 3 {\n    for q {\n      sub {\n        abort\n      } otherwise {\n        emit 2\n      }\n    }\n  }\n  with item(3) as o {\n    emit o.key\n  }\n  sub {}\n}\n",
+        r#"{"version": 4, "classes": [], "rules": [], "items": [["tx", [["if", true, [["abort"]], []], ["if",
+["=", 1, 1], [], [["emit", 1]]], ["each", "i", "item", true, []], ["each", "i", "item", ["<", ["of", "i", "n"], 3],
+[["for", "q", [["sub", [["abort"]], [["emit", 2]]]]]]], ["with", "o", "item", 3, [["emit", ["key", "o"]]]], ["sub",
+[], []]]]]}"#,
+        r#"version 4
+
+transaction {
+  if true {
+    abort
+  }
+  if 1 = 1 {} else {
+    emit 1
+  }
+  each item i {}
+  each item i where i.n < 3 {
+    for q {
+      sub {
+        abort
+      } otherwise {
+        emit 2
+      }
+    }
+  }
+  with item(3) as o {
+    emit o.key
+  }
+  sub {}
+}
+"#,
     )
 }
 
@@ -124,8 +241,25 @@ fn prints_aggregates(rt: HostRuntime) -> Result<(), Fail> {
     expect(
         &rt,
         rt.alloc(),
-        r#"{"version": 4, "classes": [], "rules": [], "items": [["tx", [["let", "n", ["count", "o", "item", true], []], ["let", "n", ["sum", "o", "item", ["=", 1, 1], ["of", "o", "n"]], []], ["let", "n", ["least", "o", "item", true, 1], []], ["let", "n", ["greatest", "o", "item", true, 1], []], ["let", "n", ["next", "item"], []], ["let", "now", ["+", 1, 2], []], ["let", "n", ["value", "count"], []], ["let", "n", ["-", ["of", "sum", "x"], 1], []], ["let", "n", ["*", ["+", ["value", "next"], 1], 2], []]]]]}"#,
-        "version 4\n\ntransaction {\n  let n = count item o {}\n  let n = sum o.n over item o where 1 = 1 {}\n  let n = least 1 over item o {}\n  let n = greatest 1 over item o {}\n  let n = next item {}\n  let `now` = 1 + 2 {}\n  let n = (count) {}\n  let n = (sum.x - 1) {}\n  let n = (next + 1) * 2 {}\n}\n",
+        r#"{"version": 4, "classes": [], "rules": [], "items": [["tx", [["let", "n", ["count", "o", "item",
+true], []], ["let", "n", ["sum", "o", "item", ["=", 1, 1], ["of", "o", "n"]], []], ["let", "n", ["least", "o", "item",
+true, 1], []], ["let", "n", ["greatest", "o", "item", true, 1], []], ["let", "n", ["next", "item"], []], ["let",
+"now", ["+", 1, 2], []], ["let", "n", ["value", "count"], []], ["let", "n", ["-", ["of", "sum", "x"], 1], []], ["let",
+"n", ["*", ["+", ["value", "next"], 1], 2], []]]]]}"#,
+        r#"version 4
+
+transaction {
+  let n = count item o {}
+  let n = sum o.n over item o where 1 = 1 {}
+  let n = least 1 over item o {}
+  let n = greatest 1 over item o {}
+  let n = next item {}
+  let `now` = 1 + 2 {}
+  let n = (count) {}
+  let n = (sum.x - 1) {}
+  let n = (next + 1) * 2 {}
+}
+"#,
     )
 }
 
@@ -134,8 +268,24 @@ fn prints_a_rule(rt: HostRuntime) -> Result<(), Fail> {
     expect(
         &rt,
         rt.alloc(),
-        r#"{"version": 4, "classes": [], "rules": [["r", ["or", ["seq", ["create", "item"], ["signal", "go"]], ["closure", ["at", 5], ["every", 1, 10]]], "deferred", [["i", "item", true], ["no", "j", "item", ["=", ["key", "i"], ["key", "j"]]], ["let", "n", ["count", "k", "item", true]]], "separate", [["veto"]], "closed"], ["s", ["seq", ["or", ["update", "item"], ["delete", "item"]], ["seq", ["commit"], ["commit"]]], "immediate", [], "dependent", []]], "items": []}"#,
-        "version 4\n\nrule r closed on (create item then signal go) or closure(moment 5 until every 10 from 1) deferred\n  if some item i\n  if no item j where i.key = j.key\n  if let n = count item k\n  do separate {\n    veto\n  }\n\nrule s on (update item or delete item) then (commit then commit)\n  do dependent {}\n",
+        r#"{"version": 4, "classes": [], "rules": [["r", ["or", ["seq", ["create", "item"], ["signal", "go"]],
+["closure", ["at", 5], ["every", 1, 10]]], "deferred", [["i", "item", true], ["no", "j", "item", ["=", ["key", "i"],
+["key", "j"]]], ["let", "n", ["count", "k", "item", true]]], "separate", [["veto"]], "closed"], ["s", ["seq", ["or",
+["update", "item"], ["delete", "item"]], ["seq", ["commit"], ["commit"]]], "immediate", [], "dependent", []]],
+"items": []}"#,
+        r#"version 4
+
+rule r closed on (create item then signal go) or closure(moment 5 until every 10 from 1) deferred
+  if some item i
+  if no item j where i.key = j.key
+  if let n = count item k
+  do separate {
+    veto
+  }
+
+rule s on (update item or delete item) then (commit then commit)
+  do dependent {}
+"#,
     )
 }
 
@@ -144,8 +294,14 @@ fn prints_a_row_that_is_called_let(rt: HostRuntime) -> Result<(), Fail> {
     expect(
         &rt,
         rt.alloc(),
-        r#"{"version": 1, "classes": [], "rules": [["r", ["commit"], "exclusive", [["let", "item", true]], "immediate", []]], "items": []}"#,
-        "version 1\n\nrule r on commit exclusive\n  if some item let\n  do {}\n",
+        r#"{"version": 1, "classes": [], "rules": [["r", ["commit"], "exclusive", [["let", "item", true]],
+"immediate", []]], "items": []}"#,
+        r#"version 1
+
+rule r on commit exclusive
+  if some item let
+  do {}
+"#,
     )
 }
 
@@ -217,7 +373,8 @@ fn refuses_a_let_in_a_condition_of_version_2(rt: HostRuntime) -> Result<(), Fail
     expect_none(
         &rt,
         rt.alloc(),
-        r#"{"version": 2, "classes": [], "rules": [["r", ["commit"], "immediate", [["let", "n", ["count", "k", "item", true]]], "immediate", []]], "items": []}"#,
+        r#"{"version": 2, "classes": [], "rules": [["r", ["commit"], "immediate", [["let", "n", ["count", "k",
+"item", true]]], "immediate", []]], "items": []}"#,
     )
 }
 
@@ -227,6 +384,6 @@ fn prints_a_line(rt: HostRuntime) -> Result<(), Fail> {
         &rt,
         rt.alloc(),
         r#"["tx", [["if", true, [["emit", 1]], [["abort"]]], ["sub", [], []]]]"#,
-        "transaction { if true { emit 1 } else { abort } sub {} }",
+        r#"transaction { if true { emit 1 } else { abort } sub {} }"#,
     )
 }

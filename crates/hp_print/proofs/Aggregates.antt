@@ -1,13 +1,13 @@
 -- Which aggregate a value is.
-use Rattle.std.proofs.Common.{◌≡◌, refl, sym, ap, ◌∙◌, ℕ, Bool, true, false, List, [], ◌∷◌, length, map, arith, codes, Option, Some, None, option_map}
+use Rattle.std.proofs.Common.{◌≡◌, refl, ap, ◌∙◌, ℕ, Bool, true, false, List, [], ◌∷◌, length, map, arith, codes, Option, Some, None, option_map}
 use Rattle.std.specs.Prelude.{option_and_then, bytes_eq, if◌then◌else◌}
 use Rattle.std.specs.Option.{option_or}
 use Rattle.serde_json.specs.Data.{Data}
 use Rattle.serde_json.specs.Find.{as_str}
-use Rattle.hp_model.specs.Json.{Form, form_of, form_in}
+use Rattle.hp_model.specs.Json.{Form, form_of}
 use Rattle.hp_model.specs.Parts.{name_of}
 use Rattle.hp_model.specs.NotationForms as F
-use Rattle.hp_model.specs.NotationValues.{of_one, of_two, expression_of, expression_of_form, any_expression, rows_of, fold_named, aggregate_of_form, aggregate_of, query_of_list, query_of_form, query_unless_let, is_let_form}
+use Rattle.hp_model.specs.NotationValues.{of_one, of_two, expression_of, expression_of_form, any_expression, rows_of, fold_named, aggregate_of_form, aggregate_of, query_of_list, query_unless_let, is_let_form}
 use Rattle.hp_print.specs.Rows.{query_in, no_rows_of}
 use Rattle.hp_print.proofs.Levels.{or_none}
 use Rattle.hp_print.proofs.Readings.{expression_in_form}

@@ -1,6 +1,6 @@
 -- How tightly the expression of a value holds together, and what it begins with.
 use Rattle.std.proofs.Common.{◌≡◌, refl, sym, ap, ◌∙◌, subst, ℕ, zero, suc, ◌<◌, ◌≤◌, ℤ, pos, negsuc, codes, Bool, true, false, List, [], ◌∷◌, length, map, get_or, Option, Some, None, option_map, arith}
-use Rattle.std.specs.Prelude.{⊤, IfSome, if◌then◌else◌, nat_lt, option_and_then}
+use Rattle.std.specs.Prelude.{IfSome, if◌then◌else◌, nat_lt, option_and_then}
 use Rattle.std.specs.Str.{is_utf8}
 use Rattle.std.proofs.lemmas.Bool.{lt-ltb, le-ltb}
 use Rattle.serde_json.specs.Data.{Num, Data, null, number, boolean, string, array, object}
@@ -11,13 +11,13 @@ use Rattle.hp_model.specs.NotationTokens as N
 use Rattle.hp_model.specs.NotationTokens.{Mark, Token, mark, word, minus_sign, true_mark, false_mark, not_mark, new_mark, old_mark, event_mark, open_parenthesis}
 use Rattle.hp_model.specs.NotationForms as F
 use Rattle.hp_model.specs.NotationForms.{Expression}
-use Rattle.hp_model.specs.NotationPrint.{Gap, Pieces, integer_level, expression_level, negated_level, left_level, enclosed_if, expression_pieces, expression_in, first_is, apart_from}
-use Rattle.hp_model.specs.NotationValues.{fitting, of_two, operator_of, expression_of, expression_of_form, expression_of_two}
+use Rattle.hp_model.specs.NotationPrint.{Gap, Pieces, integer_level, expression_level, negated_level, left_level, enclosed_if, expression_pieces, first_is, apart_from}
+use Rattle.hp_model.specs.NotationValues.{fitting, of_two, operator_of, expression_of, expression_of_form}
 use Rattle.hp_print.specs.declared.level.Opening.{Opening}
 use Rattle.hp_print.specs.declared.level.Opening.TheVariants as o
 use Rattle.hp_print.specs.Openings.{opening_view, begins}
 use Rattle.hp_print.specs.Written.{step}
-use Rattle.hp_print.proofs.Levels.{IsCompound, compound_form, operation_form, if_two}
+use Rattle.hp_print.proofs.Levels.{IsCompound, compound_form, operation_form}
 use Rattle.hp_print.proofs.Readings.{expression_in_form, no_expression}
 
 -- ---- levels of values

@@ -1,13 +1,13 @@
 -- Bodies, part by part.
-use Rattle.std.proofs.Common.{◌≡◌, refl, sym, ap, ◌∙◌, subst, arith, length, ◌≤◌, ℕ, zero, suc, Bool, true, false, List, [], ◌∷◌, map, Option, Some, None, option_map}
+use Rattle.std.proofs.Common.{◌≡◌, refl, sym, ap, ◌∙◌, subst, arith, length, ◌≤◌, ℕ, zero, suc, true, false, List, [], ◌∷◌, map, Option, Some, None, option_map}
 use Rattle.std.specs.Prelude.{IfSome, option_and_then}
-use Rattle.serde_json.specs.Data.{Data, null, number, boolean, string, array, object}
-use Rattle.hp_model.specs.Json.{Form, form_of, list_of}
+use Rattle.serde_json.specs.Data.{Data}
+use Rattle.hp_model.specs.Json.{list_of}
 use Rattle.hp_model.specs.NotationTokens.{Mark, open_brace, close_brace}
 use Rattle.hp_model.specs.NotationForms as F
 use Rattle.hp_model.specs.NotationForms.{Body, empty}
 use Rattle.hp_model.specs.NotationPrint.{Pieces, tight, space, line, sign, is_empty, body_after, body_pieces, statements_pieces}
-use Rattle.hp_model.specs.NotationValues.{of_two, each_of, list_form, body_of, body_in, statement_of_form}
+use Rattle.hp_model.specs.NotationValues.{of_two, each_of, body_of, body_in, statement_of_form}
 use Rattle.hp_print.specs.Written.{step}
 use Rattle.hp_print.specs.Statements.{statement_within, statements_within}
 

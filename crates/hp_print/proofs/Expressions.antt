@@ -3,7 +3,7 @@ use Rattle.std.proofs.Common.{◌≡◌, refl, sym, ap, ◌∙◌, ℕ, nat_lt, 
 use Rattle.hp_model.specs.NotationTokens.{Mark, open_parenthesis, close_parenthesis, not_mark, minus_sign}
 use Rattle.hp_model.specs.NotationForms as F
 use Rattle.hp_model.specs.NotationForms.{operator_mark}
-use Rattle.hp_model.specs.NotationPrint.{Gap, tight, space, Pieces, sign, enclosed_if, expression_level, negated_level, left_level, right_level, expression_pieces, expression_in}
+use Rattle.hp_model.specs.NotationPrint.{Gap, tight, space, Pieces, sign, enclosed_if, negated_level, left_level, right_level, expression_pieces, expression_in}
 use Rattle.hp_model.specs.NotationValues.{of_one, of_two}
 use Rattle.hp_print.specs.Written.{step}
 

@@ -5,7 +5,7 @@ use Rattle.hp_model.specs.NotationForms as F
 use Rattle.hp_model.specs.NotationPrint as P
 use Rattle.hp_model.specs.NotationPrint.{Gap, tight, Pieces, gap_text, token_text, would_join, gap_after, text_after, text_of, line_of, script_pieces, print_script, item_pieces, print_item}
 use Rattle.hp_print.specs.declared.token.Last.{Last}
-use Rattle.hp_print.specs.Written.{nothing, last_of, gap_by, text_by, step, whole}
+use Rattle.hp_print.specs.Written.{nothing, last_of, text_by, step, whole}
 use Rattle.hp_print.specs.Rules.{script_before}
 
 abbrev last_before : Option Token → Last

@@ -1,5 +1,5 @@
 -- Expressions without operands, part by part.
-use Rattle.std.proofs.Common.{◌≡◌, refl, sym, ap, ◌∙◌, ℕ, zero, suc, ◌≢◌, Option, Some, None, option_map, codes}
+use Rattle.std.proofs.Common.{◌≡◌, refl, sym, ap, ◌∙◌, ℕ, Option, Some, None, option_map, codes}
 use Rattle.hp_model.specs.Values.{Name}
 use Rattle.hp_model.specs.NotationTokens.{Mark, point, key_mark, event_mark, open_parenthesis, close_parenthesis}
 use Rattle.hp_model.specs.NotationForms as F

@@ -1,5 +1,5 @@
 -- Statements of a word and a part.
-use Rattle.std.proofs.Common.{◌≡◌, refl, sym, ap, ◌∙◌, Bool, true, false, List, [], ◌∷◌, ℕ, codes, Option, Some, None}
+use Rattle.std.proofs.Common.{◌≡◌, refl, ap, ◌∙◌, Bool, true, false, List, ℕ, codes, Some, None}
 use Rattle.std.specs.Prelude.{if◌then◌else◌, bytes_eq, option_and_then}
 use Rattle.std.specs.Option.{option_or}
 use lib.Pointwise.{bytes_decides}

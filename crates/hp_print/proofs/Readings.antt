@@ -1,9 +1,8 @@
 -- Which form a value is.
-use Rattle.std.proofs.Common.{◌≡◌, refl, sym, ap, ◌∙◌, subst, ℕ, zero, suc, ◌<◌, ◌≤◌, ℤ, pos, negsuc, Bool, true, false, List, [], ◌∷◌, length, map, take, drop, get_or, ◌-◌, codes, Option, Some, None, option_map, arith, SFits, w64}
+use Rattle.std.proofs.Common.{◌≡◌, refl, sym, ap, ◌∙◌, subst, ℕ, zero, suc, ◌<◌, ◌≤◌, ℤ, pos, negsuc, Bool, true, false, List, [], ◌∷◌, length, map, take, drop, get_or, ◌-◌, Option, Some, None, option_map, arith, SFits, w64}
 use Rattle.std.proofs.lemmas.Bool.{lt-ltb}
 use Rattle.std.proofs.lemmas.List.{length-drop, take_all}
-use Rattle.std.specs.Prelude.{⊤, IfSome, if◌then◌else◌, bytes_eq, nat_lt, ◌^◌, option_and_then}
-use Rattle.std.specs.Option.{option_or}
+use Rattle.std.specs.Prelude.{IfSome, if◌then◌else◌, ◌^◌, option_and_then}
 use Rattle.std.specs.Str.{is_utf8}
 use Rattle.serde_json.specs.Data.{Data, null, number, boolean, string, array, object}
 use Rattle.serde_json.specs.Find.{as_i64, as_number, as_bool, as_str}
@@ -12,12 +11,11 @@ use Rattle.hp_model.specs.Json.{Form, form_of, form_in, list_of}
 use Rattle.hp_model.specs.NotationTokens.{where_mark}
 use Rattle.hp_model.specs.NotationForms as F
 use Rattle.hp_model.specs.NotationForms.{Expression}
-use Rattle.hp_model.specs.NotationPrint.{Pieces, space, sign, expression_level, negated_level, expression_pieces, predicate_pieces}
-use Rattle.hp_model.specs.NotationValues.{of_one, of_two, fitting, expression_of, expression_of_form, any_expression, event_of, event_of_form, query_of, query_of_list, body_of, body_in}
+use Rattle.hp_model.specs.NotationPrint.{Pieces, space, sign, expression_pieces, predicate_pieces}
+use Rattle.hp_model.specs.NotationValues.{fitting, expression_of, expression_of_form, any_expression, event_of, event_of_form, query_of, query_of_list}
 use Rattle.hp_print.specs.Written.{step}
 use Rattle.hp_print.specs.Forms.{text_of, literal_of}
 use Rattle.hp_print.specs.Rows.{query_in, said}
-use Rattle.hp_print.specs.Statements.{statement_within, statements_within}
 use Rattle.hp_print.proofs.Levels.{IsCompound, compound_form}
 
 -- ---- expressions

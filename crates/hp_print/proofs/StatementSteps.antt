@@ -4,7 +4,7 @@ use Rattle.hp_model.specs.Values.{Name}
 use Rattle.hp_model.specs.NotationTokens.{Mark, delete_mark, signal_mark, emit_mark, veto_mark, if_mark, else_mark, otherwise_mark, each_mark, for_mark, with_mark, as_mark, sub_mark, open_parenthesis, close_parenthesis}
 use Rattle.hp_model.specs.NotationForms as F
 use Rattle.hp_model.specs.NotationForms.{Rows, setting_mark, operation_mark}
-use Rattle.hp_model.specs.NotationPrint.{Gap, tight, space, line, Pieces, sign, free, name, expression_pieces, object_pieces, assignments_pieces, arguments_pieces, rows_pieces, binding_pieces, apart_from, is_let, is_empty, body_after, body_pieces, statement_pieces}
+use Rattle.hp_model.specs.NotationPrint.{tight, space, line, Pieces, sign, free, name, expression_pieces, object_pieces, assignments_pieces, arguments_pieces, rows_pieces, binding_pieces, apart_from, is_let, is_empty, body_after, body_pieces, statement_pieces}
 use Rattle.hp_model.specs.NotationValues.{of_one, of_two, of_three}
 use Rattle.hp_print.specs.Written.{step}
 

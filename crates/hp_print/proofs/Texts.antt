@@ -1,5 +1,5 @@
 -- Texts, token by token.
-use Rattle.std.proofs.Common.{◌≡◌, ℕ, List, [], ◌∷◌, ◌++◌, Bool, true, false, Option, Some, None, option_map, replicate, ◌+◌, ◌*◌, arith, refl, sym, ap, ◌∙◌, append_assoc}
+use Rattle.std.proofs.Common.{◌≡◌, ℕ, List, [], ◌∷◌, ◌++◌, Bool, false, Option, Some, None, option_map, replicate, ◌+◌, ◌*◌, arith, refl, sym, ap, ◌∙◌, append_assoc}
 use Rattle.std.proofs.lemmas.List.{replicate-append-replicate}
 use Rattle.json.specs.Print.{escape_byte, quoted as json_quoted}
 use Rattle.hp_model.specs.Report.{quoted}

@@ -1,5 +1,5 @@
 -- What the crate's types stand for in the model, and the forms of single values.
-use Rattle.std.specs.Prelude.{ℕ, List, Bool, map, codes, Option, Some, None, option_map, option_and_then, if◌then◌else◌}
+use Rattle.std.specs.Prelude.{ℕ, List, map, Option, Some, None, option_map, option_and_then, if◌then◌else◌}
 use Rattle.std.specs.Str.{is_utf8}
 use Rattle.serde_json.specs.Data.{Data, null, number, boolean, string, array, object}
 use Rattle.serde_json.specs.Find.{as_i64}

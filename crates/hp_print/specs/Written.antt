@@ -1,5 +1,5 @@
 -- What tokens and gaps stand for in the model, and what a writer promises.
-use Rattle.std.specs.Prelude.{◌≡◌, ℕ, List, [], ◌∷◌, ◌++◌, Bool, true, false, ◌||◌, ◌&&◌, Option, Some, None, option_map, String, string_bytes}
+use Rattle.std.specs.Prelude.{◌≡◌, ℕ, List, [], ◌∷◌, ◌++◌, Bool, true, false, ◌||◌, ◌&&◌, Option, Some, None, String, string_bytes}
 use Rattle.std.specs.declared.alloc.Global.{Global}
 use Rattle.hp_model.specs.NotationTokens as N
 use Rattle.hp_model.specs.NotationTokens.{less_sign, greater_sign, equal_sign}

@@ -59,12 +59,7 @@ fn when(
 
 /// Writes a body that runs for each of some rows.
 #[cycle(body)]
-fn each(
-    w: &mut Writer,
-    nest: Nest,
-    parts: RowParts<'_>,
-    inner: &Value,
-) -> Result<(), AllocError>
+fn each(w: &mut Writer, nest: Nest, parts: RowParts<'_>, inner: &Value) -> Result<(), AllocError>
     requires { IsShallow nest }
     ensures { OnOk result (Writes w.old w.new (step (λ s. statement_pieces s nest.depth)
         (V.of_two F.each (rows_form parts.entry) (body_of nest.levels (view inner.now))))) }
@@ -76,12 +71,7 @@ fn each(
 
 /// Writes a body that runs for each answer of a query.
 #[cycle(body)]
-fn for_answer(
-    w: &mut Writer,
-    nest: Nest,
-    query: &Value,
-    inner: &Value,
-) -> Result<(), AllocError>
+fn for_answer(w: &mut Writer, nest: Nest, query: &Value, inner: &Value) -> Result<(), AllocError>
     requires { IsShallow nest }
     ensures { OnOk result (Writes w.old w.new (step (λ s. statement_pieces s nest.depth)
         (V.of_two F.for_answer (name_of (view query.now)) (body_of nest.levels (view inner.now))))) }
@@ -101,12 +91,7 @@ struct Head<'a> {
 
 /// Writes a body that knows an object by a name.
 #[cycle(body)]
-fn with_object(
-    w: &mut Writer,
-    nest: Nest,
-    head: Head<'_>,
-    inner: &Value,
-) -> Result<(), AllocError>
+fn with_object(w: &mut Writer, nest: Nest, head: Head<'_>, inner: &Value) -> Result<(), AllocError>
     requires { IsShallow nest }
     ensures { OnOk result (Writes w.old w.new (step (λ s. statement_pieces s nest.depth)
         (option_and_then (λ x. V.of_three (F.with_object x) (name_of (view head.entry.class.now))

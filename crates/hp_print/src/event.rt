@@ -7,7 +7,8 @@ ghost use Rattle.hp_model.specs.Parts.{name_of};
 ghost use Rattle.hp_model.specs.NotationForms as F;
 ghost use Rattle.hp_model.specs.NotationPrint as P;
 ghost use Rattle.hp_model.specs.NotationPrint.{event_pieces, enclosed_if, is_or, is_then};
-ghost use Rattle.hp_model.specs.NotationValues.{of_one, of_two, natural_of, event_of, event_of_one, event_of_two, event_of_form};
+ghost use Rattle.hp_model.specs.NotationValues.{of_one, of_two, natural_of};
+ghost use Rattle.hp_model.specs.NotationValues.{event_of, event_of_one, event_of_two, event_of_form};
 ghost use Rattle.hp_text.specs.Mapped.{mark_view};
 ghost use Rattle.hp_print.specs.Written.{gap_view, step, Writes};
 ghost use Rattle.hp_print.specs.Events.{change_view, joint_mark, joint_view, is_joint, other_joint};
@@ -71,12 +72,7 @@ fn at_moment(w: &mut Writer, gap: Gap, time: &Value) -> Result<(), AllocError>
 }
 
 /// Writes moments at a distance from each other.
-fn every_moment(
-    w: &mut Writer,
-    gap: Gap,
-    first: &Value,
-    period: &Value,
-) -> Result<(), AllocError>
+fn every_moment(w: &mut Writer, gap: Gap, first: &Value, period: &Value) -> Result<(), AllocError>
     ensures { OnOk result (Writes w.old w.new (step (λ e. event_pieces e (gap_view gap))
         (of_two F.every_moment (natural_of (view first.now)) (natural_of (view period.now))))) }
 {

@@ -5,15 +5,18 @@ ghost use Rattle.serde_json.specs.View.{view};
 ghost use Rattle.hp_model.specs.NotationForms as F;
 ghost use Rattle.hp_model.specs.NotationPrint.{expression_pieces, expression_in, enclosed_if, apart_from};
 ghost use Rattle.hp_model.specs.Json.{beside};
-ghost use Rattle.hp_model.specs.NotationValues.{of_one, of_two, chosen, expression_of, any_expression, expressions_of_two};
+ghost use Rattle.hp_model.specs.NotationValues.{of_one, of_two, chosen};
+ghost use Rattle.hp_model.specs.NotationValues.{expression_of, any_expression, expressions_of_two};
 ghost use Rattle.hp_model.specs.NotationValues.{expression_of_one, expression_of_two, expression_of_form};
 ghost use Rattle.hp_print.specs.Written.{gap_view, step, Writes};
 ghost use Rattle.hp_print.specs.Forms.{operator_view, text_of, literal_of};
 ghost use Rattle.hp_print.specs.Openings.{opening_view};
 
 use crate::level::{Opening, begins, level, negated_level};
-use crate::operand::{Image, argument, field_of, image_field, integer, key_in, key_of, time_of, word_alone};
 use crate::names::value_name;
+use crate::operand::{
+    Image, argument, field_of, image_field, integer, key_in, key_of, time_of, word_alone,
+};
 use crate::operator::{Operator, operator_of};
 use crate::shape::{Form, form_of};
 use crate::token::{Gap, Token};
@@ -35,7 +38,8 @@ fn enclosed(
     value: &Value,
 ) -> Result<(), AllocError>
     ensures { OnOk result (Writes w.old w.new
-        (step (λ e. enclosed_if is_enclosed (expression_pieces e) (gap_view gap)) (expression_of levels (view value.now)))) }
+        (step (λ e. enclosed_if is_enclosed (expression_pieces e) (gap_view gap)) (expression_of levels
+        (view value.now)))) }
 {
     if is_enclosed {
         w.mark(gap, Mark::OpenParenthesis)?;
@@ -255,5 +259,11 @@ pub(crate) fn apart_from(
     ensures { OnOk result (Writes w.old w.new
         (step (λ e. apart_from (opening_view opening) e (gap_view gap)) (any_expression (view value.now)))) }
 {
-    enclosed(w, MAX_LEVELS, gap, begins(opening, MAX_LEVELS, value), value)
+    enclosed(
+        w,
+        MAX_LEVELS,
+        gap,
+        begins(opening, MAX_LEVELS, value),
+        value,
+    )
 }

@@ -6,7 +6,8 @@ ghost use Rattle.serde_json.specs.View.{view};
 ghost use Rattle.hp_model.specs.NotationForms.{Expression};
 ghost use Rattle.hp_model.specs.NotationPrint.{integer_level, expression_level, negated_level};
 ghost use Rattle.hp_model.specs.Json.{beside};
-ghost use Rattle.hp_model.specs.NotationValues.{chosen, expression_of, expression_of_form, expression_of_one, expressions_of_two};
+ghost use Rattle.hp_model.specs.NotationValues.{chosen, expression_of};
+ghost use Rattle.hp_model.specs.NotationValues.{expression_of_form, expression_of_one, expressions_of_two};
 ghost use Rattle.hp_print.specs.Written.{token_view};
 ghost use Rattle.hp_print.specs.Openings.{opening_view, begins};
 
@@ -22,7 +23,8 @@ const PRIMARY: usize = 8;
 /// The level of the expression that a form is, if it is one.
 fn level_of_form(form: Form<'_>) -> usize
     ensures { (operand : Data → Option Expression) →
-        IfSome (expression_of_form operand form.entry.word.now (map view form.entry.parts.now)) (λ e. result ≡ expression_level e) }
+        IfSome (expression_of_form operand form.entry.word.now (map view form.entry.parts.now))
+        (λ e. result ≡ expression_level e) }
 {
     match form.parts {
         [_] => match form.word {
@@ -108,7 +110,8 @@ fn begins_alone(opening: Opening, word: &str, part: &Value) -> bool
 /// Whether the expression of a word and two parts that are no operands begins with a word of another meaning.
 fn begins_row(opening: Opening, word: &str, first: &Value) -> bool
     ensures { (second : Data) →
-        IfSome (chosen (beside word.now (expressions_of_two (view first.now) second))) (λ e. result ≡ begins opening e) }
+        IfSome (chosen (beside word.now (expressions_of_two (view first.now) second)))
+        (λ e. result ≡ begins opening e) }
 {
     let Some(name) = name_of(first) else {
         return false;

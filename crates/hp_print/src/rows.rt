@@ -5,9 +5,11 @@ ghost use Rattle.serde_json.specs.Find.{as_bool, as_str};
 ghost use Rattle.serde_json.specs.View.{view};
 ghost use Rattle.hp_model.specs.Parts.{name_of};
 ghost use Rattle.hp_model.specs.NotationForms as F;
-ghost use Rattle.hp_model.specs.NotationPrint.{binding_pieces, aggregate_pieces, query_pieces, rows_pieces, predicate_pieces};
+ghost use Rattle.hp_model.specs.NotationPrint.{binding_pieces, aggregate_pieces};
+ghost use Rattle.hp_model.specs.NotationPrint.{query_pieces, rows_pieces, predicate_pieces};
 ghost use Rattle.hp_model.specs.NotationValues as V;
-ghost use Rattle.hp_model.specs.NotationValues.{of_one, of_two, of_three, any_expression, aggregate_of, fold_named, query_of};
+ghost use Rattle.hp_model.specs.NotationValues.{of_one, of_two, of_three};
+ghost use Rattle.hp_model.specs.NotationValues.{any_expression, aggregate_of, fold_named, query_of};
 ghost use Rattle.hp_print.specs.Written.{step, Writes};
 ghost use Rattle.hp_print.specs.Rows.{rows_form, fold_view, query_in, no_rows_of, said};
 
@@ -102,12 +104,7 @@ fn fold_named(word: &str) -> Option<Fold>
 }
 
 /// Writes what is made of a value of rows.
-fn fold_of(
-    w: &mut Writer,
-    fold: Fold,
-    parts: RowParts<'_>,
-    value: &Value,
-) -> Result<(), AllocError>
+fn fold_of(w: &mut Writer, fold: Fold, parts: RowParts<'_>, value: &Value) -> Result<(), AllocError>
     ensures { OnOk result (Writes w.old w.new (step aggregate_pieces
         (of_two (F.fold_of (fold_view fold)) (rows_form parts.entry) (any_expression (view value.now))))) }
 {
@@ -143,12 +140,7 @@ fn plain(w: &mut Writer, value: &Value) -> Result<(), AllocError>
 }
 
 /// Writes what is made of a value of rows, if the word says what.
-fn folded(
-    w: &mut Writer,
-    word: &str,
-    parts: RowParts<'_>,
-    value: &Value,
-) -> Result<(), AllocError>
+fn folded(w: &mut Writer, word: &str, parts: RowParts<'_>, value: &Value) -> Result<(), AllocError>
     ensures { OnOk result (Writes w.old w.new (step aggregate_pieces
         (option_and_then (λ f. of_two (F.fold_of f) (rows_form parts.entry) (any_expression (view value.now)))
         (fold_named word.now)))) }
@@ -183,7 +175,12 @@ pub(crate) fn aggregate(w: &mut Writer, value: &Value) -> Result<(), AllocError>
         return plain(w, value);
     }
     if parts.len() == 4 {
-        return folded(w, form.word, rows_of(&parts[0], &parts[1], &parts[2]), &parts[3]);
+        return folded(
+            w,
+            form.word,
+            rows_of(&parts[0], &parts[1], &parts[2]),
+            &parts[3],
+        );
     }
     plain(w, value)
 }

@@ -24,7 +24,8 @@ use std::alloc::AllocError;
 
 /// Writes a class.
 pub(crate) fn class(w: &mut Writer, gap: Gap, value: &Value) -> Result<(), AllocError>
-    ensures { OnOk result (Writes w.old w.new (step (λ c. P.class_pieces c (gap_view gap)) (class_form (view value.now)))) }
+    ensures { OnOk result (Writes w.old w.new (step (λ c. P.class_pieces c (gap_view gap)) (class_form
+        (view value.now)))) }
 {
     match pair_of(value) {
         Some((class, its_fields)) => {
@@ -178,7 +179,8 @@ fn item_of(w: &mut Writer, gap: Gap, word: &str, part: &Value) -> Result<(), All
 /// Writes an item.
 #[tactic(auto, unfolding(hp_model::specs::NotationValues::item_form))]
 pub(crate) fn item(w: &mut Writer, gap: Gap, value: &Value) -> Result<(), AllocError>
-    ensures { OnOk result (Writes w.old w.new (step (λ i. P.item_pieces i (gap_view gap)) (item_form (view value.now)))) }
+    ensures { OnOk result (Writes w.old w.new (step (λ i. P.item_pieces i (gap_view gap)) (item_form
+        (view value.now)))) }
 {
     let Some(form) = form_of(value) else {
         w.refuse();

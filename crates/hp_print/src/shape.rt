@@ -80,5 +80,9 @@ pub(crate) fn natural_of(value: &Value) -> Option<u64>
     ensures { result ≡ natural_of (view value.now) }
 {
     let integer = value.as_number()?.as_i64()?;
-    if integer < 0 { None } else { Some(integer as u64) }
+    if integer < 0 {
+        None
+    } else {
+        Some(integer as u64)
+    }
 }

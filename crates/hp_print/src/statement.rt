@@ -184,12 +184,7 @@ pub(crate) fn of_none(w: &mut Writer, depth: usize, word: &str) -> Result<(), Al
 }
 
 /// Writes the statement of a word and an expression.
-fn of_expression(
-    w: &mut Writer,
-    depth: usize,
-    word: &str,
-    value: &Value,
-) -> Result<(), AllocError>
+fn of_expression(w: &mut Writer, depth: usize, word: &str, value: &Value) -> Result<(), AllocError>
     ensures { OnOk result (Writes w.old w.new (step (λ s. statement_pieces s depth)
         (V.chosen (beside word.now (V.statements_of_one (view value.now)))))) }
 {

@@ -99,7 +99,8 @@ pub(crate) fn gap_before(last: Last, is_line: bool, gap: Gap, token: Token<'_>) 
     ensures { gap_view result ≡ gap_by last is_line (gap_view gap) (token_view token.entry) }
 {
     let gap = laid(is_line, gap);
-    let joins = (last.is_wordlike && is_wordlike(token)) || (last.is_relation && is_equal_sign(token));
+    let joins = (last.is_wordlike && is_wordlike(token))
+        || (last.is_relation && is_equal_sign(token));
     match gap {
         Gap::Tight => if joins { Gap::Space } else { gap },
         _ => gap,

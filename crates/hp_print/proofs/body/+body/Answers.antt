@@ -1,17 +1,17 @@
-use Rattle.std.proofs.Common.{map, ◌≡◌, ◌≤◌, ◌-◌, suc, refl, sym, ap, subst, ◌∙◌, Some, None, false, arith}
+use Rattle.std.proofs.Common.{map, ◌≡◌, ◌-◌, suc, sym, ap, subst, ◌∙◌, Some, arith}
 use Rattle.std.specs.Prelude.{IfSome}
 use Rattle.serde_json.specs.Data.{Data}
 use Rattle.serde_json.specs.View.{view}
 use Rattle.hp_text.specs.Mapped.{mark_view}
 use Rattle.hp_model.specs.NotationForms.{empty}
-use Rattle.hp_model.specs.NotationPrint.{statement_pieces, body_pieces, body_after, is_empty}
+use Rattle.hp_model.specs.NotationPrint.{statement_pieces, body_pieces, is_empty}
 use Rattle.hp_model.specs.NotationValues.{body_of}
 use Rattle.hp_print.specs.Statements.{statement_within}
 use Rattle.hp_print.specs.Written.{step, text_with}
 use Rattle.hp_print.proofs.Chains.{then_ok}
-use Rattle.hp_print.proofs.BodySteps.{body_of_list, body_step, empty_step, braced_step, other_step, nothing_step, zero_body, not_nil, five_parts}
+use Rattle.hp_print.proofs.BodySteps.{body_of_list, body_step, braced_step, other_step, nothing_step, zero_body, not_nil, five_parts}
 use Rattle.hp_print.proofs.ListSteps.{steps_more, steps_none, statement_list}
-use Rattle.hp_print.proofs.Readings.{no_item, one_item, two_items, three_items, four_items}
+use Rattle.hp_print.proofs.Readings.{one_item, two_items, three_items, four_items}
 use Rattle.hp_print.proofs.StatementSteps.{when_step, each_step, for_step, with_step, let_step, sub_step}
 use Rattle.hp_print.proofs.body.+body.Goals as goal
 

@@ -1,8 +1,5 @@
-use Rattle.std.proofs.Common.{◌≡◌, ◌≤◌, ◌-◌, suc, refl, sym, ap, subst, ◌∙◌, Some, None, true, false, arith}
-use lib.Pointwise.{bytes_decides}
+use Rattle.std.proofs.Common.{sym, ap, ◌∙◌, Some}
 use Rattle.serde_json.specs.View.{view}
-use Rattle.hp_print.specs.Written.{step, text_with, gap_view}
-use Rattle.hp_print.proofs.Chains.{then_ok, onward}
 use Rattle.hp_print.proofs.BodySteps.{empty_body, empty_each, some_each, no_each}
 use Rattle.hp_print.proofs.Readings.{no_item}
 use Rattle.hp_print.proofs.body.is_empty_list.Goals as goal

@@ -1,4 +1,4 @@
-use Rattle.std.proofs.Common.{◌≡◌, sym, ap, ◌∙◌, ◌-◌, arith}
+use Rattle.std.proofs.Common.{sym, ap, ◌∙◌, ◌-◌, arith}
 use Rattle.serde_json.specs.View.{view}
 use Rattle.hp_model.specs.NotationValues.{event_of}
 use Rattle.hp_print.specs.Written.{text_with, gap_view}
@@ -6,7 +6,7 @@ use Rattle.hp_model.specs.NotationPrint.{event_pieces}
 use Rattle.hp_print.proofs.Chains.{then_ok, onward}
 use Rattle.hp_print.proofs.Readings.{no_item, one_item, two_items, event_in_form}
 use Rattle.hp_print.proofs.EventSteps.{joined_step, closure_step}
-use Rattle.hp_print.proofs.Expressions.{bare_step, enclosed_step}
+use Rattle.hp_print.proofs.Expressions.{enclosed_step}
 use Rattle.hp_print.proofs.event.+event.Goals as goal
 
 pub enclosed-returns-then-is_enclosed : goal.enclosed-returns-then-is_enclosed

@@ -1,8 +1,4 @@
-use Rattle.std.proofs.Common.{◌≡◌, ◌≤◌, ◌-◌, suc, refl, sym, ap, subst, ◌∙◌, Some, None, true, false, arith}
-use lib.Pointwise.{bytes_decides}
-use Rattle.serde_json.specs.View.{view}
-use Rattle.hp_print.specs.Written.{step, text_with, gap_view}
-use Rattle.hp_print.proofs.Chains.{then_ok, onward}
+use Rattle.std.proofs.Common.{◌≡◌, sym, false}
 use Rattle.hp_print.specs.Events.{is_joint}
 use Rattle.hp_print.proofs.Readings.{event_holds, no_event}
 use Rattle.hp_print.proofs.event.is_joint.Goals as goal

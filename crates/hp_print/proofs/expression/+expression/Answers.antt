@@ -1,4 +1,4 @@
-use Rattle.std.proofs.Common.{◌≡◌, sym, ap, ◌∙◌, refl, ◌-◌, nat_lt, arith}
+use Rattle.std.proofs.Common.{sym, ap, ◌∙◌, refl, ◌-◌, nat_lt, arith}
 use Rattle.serde_json.specs.View.{view}
 use Rattle.hp_print.specs.Written.{text_with, gap_view}
 use Rattle.hp_model.specs.NotationPrint.{expression_pieces, expression_level, negated_level}
@@ -7,7 +7,7 @@ use Rattle.hp_model.specs.NotationValues.{expression_of}
 use Rattle.hp_print.proofs.Operands.{value_step}
 use Rattle.hp_print.proofs.Levels.{operation_form, other_form}
 use Rattle.hp_print.proofs.Readings.{one_item, two_items, expression_in_form, expression_in_literal}
-use Rattle.hp_print.proofs.Expressions.{bare_step, enclosed_step, decided_step, compared, operation_step, inverted_step, negated_step}
+use Rattle.hp_print.proofs.Expressions.{enclosed_step, decided_step, compared, operation_step, inverted_step, negated_step}
 use Rattle.hp_print.proofs.expression.+expression.Goals as goal
 
 pub enclosed-returns-then-is_enclosed : goal.enclosed-returns-then-is_enclosed

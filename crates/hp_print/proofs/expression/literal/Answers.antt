@@ -1,7 +1,5 @@
-use Rattle.std.proofs.Common.{◌≡◌, sym, ap, ◌∙◌, Some, None, rules, SFits, w64, of_z, to_z}
-use Rattle.std.specs.Prelude.{if◌then◌else◌}
+use Rattle.std.proofs.Common.{◌≡◌, sym, ap, ◌∙◌, Some, rules, SFits, w64, of_z, to_z}
 use Rattle.std.proofs.lemmas.Int.{to_z-of_z}
-use Rattle.std.proofs.lemmas.Str.{is_utf8-from_IsUtf8}
 use Rattle.hp_model.specs.NotationForms as F
 use Rattle.hp_model.specs.NotationPrint.{expression_pieces}
 use Rattle.hp_print.specs.Written.{gap_view}

@@ -1,6 +1,5 @@
-use Rattle.std.proofs.Common.{◌≡◌, ◌<◌, ◌≤◌, ◌-◌, sym, subst, false, true, arith}
+use Rattle.std.proofs.Common.{◌<◌, ◌≤◌, ◌-◌, sym, subst, false, true, arith}
 use Rattle.serde_json.specs.View.{view}
-use Rattle.hp_model.specs.NotationPrint.{left_level}
 use Rattle.hp_print.specs.Forms.{operator_view}
 use Rattle.hp_print.proofs.Beginnings.{begins_operation, low_level, high_level, trivially, otherwise}
 use Rattle.hp_print.proofs.level.+begins.Goals as goal

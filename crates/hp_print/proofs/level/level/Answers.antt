@@ -1,5 +1,4 @@
-use Rattle.std.proofs.Common.{rules, ◌≡◌, sym, ap, ◌∙◌, arith}
-use Rattle.serde_json.specs.View.{view}
+use Rattle.std.proofs.Common.{rules, sym}
 use Rattle.hp_print.proofs.Beginnings.{level_in_form, level_of_integer, level_of_literal}
 use Rattle.hp_print.proofs.level.level.Goals as goal
 

@@ -1,4 +1,4 @@
-use Rattle.std.proofs.Common.{◌≡◌, sym, ap, ◌∙◌, arith}
+use Rattle.std.proofs.Common.{sym}
 use Rattle.serde_json.specs.View.{view}
 use Rattle.hp_print.proofs.Levels.{form_level_one, form_level_operation, form_level_other, form_level_more}
 use Rattle.hp_print.proofs.level.level_of_form.Goals as goal

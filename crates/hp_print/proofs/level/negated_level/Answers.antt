@@ -1,5 +1,4 @@
-use Rattle.std.proofs.Common.{◌≡◌, sym, ap, ◌∙◌, arith}
-use Rattle.serde_json.specs.View.{view}
+use Rattle.std.proofs.Common.{sym}
 use Rattle.hp_print.proofs.Beginnings.{negated_integer, negated_other}
 use Rattle.hp_print.proofs.level.negated_level.Goals as goal
 

@@ -1,9 +1,9 @@
-use Rattle.std.proofs.Common.{◌≡◌, refl, sym, ap, ◌∙◌, Some, arith}
+use Rattle.std.proofs.Common.{refl, sym, ap, ◌∙◌, Some}
 use Rattle.serde_json.specs.View.{view}
-use Rattle.hp_print.specs.Written.{text_with, gap_view}
+use Rattle.hp_print.specs.Written.{text_with}
 use Rattle.hp_print.specs.Lists.{comma_step}
 use Rattle.hp_print.specs.declared.lists.Part.TheVariants.{Assignment}
-use Rattle.hp_print.proofs.Chains.{then_ok, onward}
+use Rattle.hp_print.proofs.Chains.{then_ok}
 use Rattle.hp_print.proofs.ListSteps.{assignments_step}
 use Rattle.hp_print.proofs.Readings.{first_item, rest_whole}
 use Rattle.hp_print.proofs.lists.assignments.Goals as goal

@@ -1,8 +1,7 @@
-use Rattle.std.proofs.Common.{◌≡◌, ◌≤◌, ◌-◌, suc, refl, sym, ap, subst, ◌∙◌, Some, None, true, false, arith}
+use Rattle.std.proofs.Common.{sym, ap, ◌∙◌, Some, arith}
 use lib.Pointwise.{bytes_decides}
 use Rattle.serde_json.specs.View.{view}
-use Rattle.hp_print.specs.Written.{step, text_with, gap_view}
-use Rattle.hp_print.proofs.Chains.{then_ok, onward}
+use Rattle.hp_print.proofs.Chains.{onward}
 use Rattle.std.specs.Prelude.{option_and_then}
 use Rattle.hp_model.specs.NotationForms as F
 use Rattle.hp_model.specs.NotationPrint.{aggregate_pieces}

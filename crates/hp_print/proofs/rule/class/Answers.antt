@@ -1,7 +1,6 @@
-use Rattle.std.proofs.Common.{◌≡◌, refl, sym, ap, ◌∙◌, Some, arith}
-use Rattle.serde_json.specs.View.{view}
-use Rattle.hp_print.specs.Written.{text_with, gap_view}
-use Rattle.hp_print.proofs.Chains.{then_ok, onward}
+use Rattle.std.proofs.Common.{sym, ap, ◌∙◌}
+use Rattle.hp_print.specs.Written.{text_with}
+use Rattle.hp_print.proofs.Chains.{then_ok}
 use Rattle.hp_print.proofs.ScriptSteps.{class_step}
 use Rattle.hp_print.proofs.rule.class.Goals as goal
 

@@ -1,8 +1,6 @@
-use Rattle.std.proofs.Common.{◌≡◌, ◌≤◌, ◌-◌, suc, refl, sym, ap, subst, ◌∙◌, Some, None, true, false, arith}
-use lib.Pointwise.{bytes_decides}
+use Rattle.std.proofs.Common.{sym, ap, ◌∙◌}
 use Rattle.serde_json.specs.View.{view}
-use Rattle.hp_print.specs.Written.{step, text_with, gap_view}
-use Rattle.hp_print.proofs.Chains.{then_ok, onward}
+use Rattle.hp_print.specs.Written.{step, text_with}
 use Rattle.hp_model.specs.NotationPrint.{condition_pieces}
 use Rattle.hp_model.specs.NotationValues.{query_of}
 use Rattle.serde_json.specs.Data.{Data}

@@ -1,7 +1,7 @@
-use Rattle.std.proofs.Common.{◌≡◌, refl, sym, ap, ◌∙◌, Some, arith}
+use Rattle.std.proofs.Common.{sym}
 use Rattle.serde_json.specs.View.{view}
-use Rattle.hp_print.specs.Written.{text_with, gap_view}
-use Rattle.hp_print.proofs.Chains.{then_ok, onward}
+use Rattle.hp_print.specs.Written.{gap_view}
+use Rattle.hp_print.proofs.Chains.{onward}
 use Rattle.hp_model.specs.NotationPrint.{item_pieces}
 use Rattle.hp_print.proofs.ScriptSteps.{item_in_form}
 use Rattle.hp_print.proofs.Readings.{one_item}

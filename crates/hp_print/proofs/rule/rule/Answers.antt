@@ -1,8 +1,8 @@
-use Rattle.std.proofs.Common.{◌≡◌, refl, sym, ap, ◌∙◌, Some, arith}
+use Rattle.std.proofs.Common.{sym, ap, ◌∙◌}
 use Rattle.serde_json.specs.View.{view}
 use Rattle.hp_model.specs.NotationPrint.{rule_pieces}
-use Rattle.hp_print.specs.Written.{step, text_with, gap_view}
-use Rattle.hp_print.proofs.Chains.{then_ok, onward}
+use Rattle.hp_print.specs.Written.{step, text_with}
+use Rattle.hp_print.proofs.Chains.{onward}
 use Rattle.hp_print.proofs.ScriptSteps.{rule_in_list, no_rule}
 use Rattle.hp_print.proofs.rule.rule.Goals as goal
 

@@ -1,8 +1,8 @@
-use Rattle.std.proofs.Common.{◌≡◌, refl, sym, ap, ◌∙◌, Some, arith}
+use Rattle.std.proofs.Common.{ap, ◌∙◌}
 use Rattle.serde_json.specs.View.{view}
 use Rattle.hp_model.specs.NotationPrint.{rule_pieces}
-use Rattle.hp_print.specs.Written.{step, text_with, gap_view}
-use Rattle.hp_print.proofs.Chains.{then_ok, onward}
+use Rattle.hp_print.specs.Written.{step, text_with}
+use Rattle.hp_print.proofs.Chains.{then_ok}
 use Rattle.hp_print.proofs.Readings.{rest_whole}
 use Rattle.hp_print.proofs.ScriptSteps.{rule_step, rule_in_items}
 use Rattle.hp_print.proofs.rule.rule_of.Goals as goal

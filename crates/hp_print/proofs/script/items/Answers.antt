@@ -1,7 +1,6 @@
-use Rattle.std.proofs.Common.{◌≡◌, refl, sym, ap, ◌∙◌, Some, arith}
-use Rattle.serde_json.specs.View.{view}
-use Rattle.hp_print.specs.Written.{text_with, gap_view}
-use Rattle.hp_print.proofs.Chains.{then_ok, onward}
+use Rattle.std.proofs.Common.{sym, ap, ◌∙◌}
+use Rattle.hp_print.specs.Written.{text_with}
+use Rattle.hp_print.proofs.Chains.{then_ok}
 use Rattle.hp_model.specs.NotationPrint.{later_item_pieces}
 use Rattle.hp_model.specs.NotationValues.{item_form}
 use Rattle.hp_print.specs.Rules.{items_pieces}

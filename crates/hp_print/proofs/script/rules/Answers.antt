@@ -1,7 +1,7 @@
-use Rattle.std.proofs.Common.{map, ◌≡◌, refl, sym, ap, ◌∙◌, Some, arith}
+use Rattle.std.proofs.Common.{map, sym, ap, ◌∙◌}
 use Rattle.serde_json.specs.View.{view}
-use Rattle.hp_print.specs.Written.{text_with, gap_view}
-use Rattle.hp_print.proofs.Chains.{then_ok, onward}
+use Rattle.hp_print.specs.Written.{text_with}
+use Rattle.hp_print.proofs.Chains.{then_ok}
 use Rattle.hp_model.specs.NotationPrint.{rule_pieces}
 use Rattle.hp_model.specs.NotationValues.{rule_form}
 use Rattle.hp_print.specs.Rules.{rules_pieces}

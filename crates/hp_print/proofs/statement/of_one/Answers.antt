@@ -1,7 +1,6 @@
-use Rattle.std.proofs.Common.{◌≡◌, refl, sym, ap, ◌∙◌, Some, arith}
+use Rattle.std.proofs.Common.{sym}
 use Rattle.serde_json.specs.View.{view}
-use Rattle.hp_print.specs.Written.{text_with, gap_view}
-use Rattle.hp_print.proofs.Chains.{then_ok, onward}
+use Rattle.hp_print.proofs.Chains.{onward}
 use Rattle.hp_model.specs.NotationPrint.{statement_pieces}
 use Rattle.hp_print.proofs.Operations.{on_rule_form, other_statement}
 use Rattle.hp_print.proofs.statement.of_one.Goals as goal
