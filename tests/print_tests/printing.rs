@@ -159,8 +159,8 @@ fn prints_texts(rt: HostRuntime) -> Result<(), Fail> {
     expect(
         &rt,
         rt.alloc(),
-        r#"{"version": 4, "classes": [], "rules": [], "items": [["tx", [["emit", "a \"b\" \\ \n\t\u0001
-\u00e9\ud83d\ude00"], ["emit", ""]]]]}"#,
+        r#"{"version": 4, "classes": [], "rules": [], "items": [["tx", [["emit",
+"a \"b\" \\ \n\t\u0001 \u00e9\ud83d\ude00"], ["emit", ""]]]]}"#,
         r#"version 4
 
 transaction {
