@@ -16,6 +16,6 @@ loop-i-preserved c =
     let n = slice_index_or chain i 0 in
     let split : drop i chain ≡ n ∷ drop (i + 1) chain = grind (arith, common_steps, c.loop-i-test.true) in
     let first : string_bytes c.put_link.new.out ≡ string_bytes c.loop-i.out ++ link_line rs n = search rules in
-    let second : string_bytes c.put_next.new.out ≡ string_bytes c.put_link.new.out ++ next_line library n (drop (i + 1) chain) = search rules in
+    let second = c.in_ok-put_next.ensures in
     chain_put rs library n (drop i chain) (drop (i + 1) chain) (string_bytes c.loop-i.out) (string_bytes c.put_link.new.out) (string_bytes c.put_next.new.out) (string_bytes c.args.out.now ++ chain_lines rs library chain) split first second
     c.loop-i.invariant
