@@ -11,6 +11,7 @@ ghost use Rattle.hp_live.specs.Kept.{manner};
 ghost use Rattle.hp_words.specs.Words.{word_code_of};
 ghost use Rattle.hipac_live.specs.Asked.{manner_of};
 
+use hp_fire::ByThreads;
 use hp_live::{Fault, Options, exit_code, serve};
 use hp_report::{Sink, Source};
 use hp_words::{WordFault, word_code};
@@ -79,7 +80,8 @@ pub fn program<T: Threads + Sync, R: Source, W: Sink>(
 {
     match asked {
         Ok(words) => {
-            let ended = serve(rt, alloc, reader, writer, options_for(words));
+            let threads = ByThreads::new(rt);
+            let ended = serve(&threads, alloc, reader, writer, options_for(words));
             Ended {
                 code: exit_code(&ended),
                 stop: ended.err().map(Stop::Run),

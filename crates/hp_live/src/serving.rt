@@ -9,9 +9,9 @@ ghost use Rattle.hp_live.specs.Ends.{status_of};
 
 use crate::options::Options;
 use crate::server::Server;
+use hp_fire::Workers;
 use hp_report::{Fault, Sink, Source, Status};
 use std::alloc::Global;
-use std::thread::Threads;
 
 /// Reads lines up to the reader's end, and answers each line as soon as it is read. It ends early if the script is
 /// refused.
@@ -19,8 +19,8 @@ use std::thread::Threads;
 /// The reader and the writer must not have failed before. After a fault what was written is a prefix of the answers,
 /// with all those to the lines that were complete before the last read; after `Fault::Read` it is all answers to what
 /// was read, and after `Fault::NoMemory` it is whole answers. No call of a device is repeated.
-pub fn serve<T: Threads + Sync, R: Source, W: Sink>(
-    rt: &T,
+pub fn serve<T: Workers, R: Source, W: Sink>(
+    workers: &T,
     alloc: Global,
     reader: &mut R,
     writer: &mut W,
@@ -65,11 +65,11 @@ pub fn serve<T: Threads + Sync, R: Source, W: Sink>(
             return Ok(Status::Refused);
         }
         if reader.ended() {
-            let status = server.finish(rt, alloc, writer)?;
+            let status = server.finish(workers, alloc, writer)?;
             return Ok(status);
         }
         match reader.read(&mut buf) {
-            Ok(count) => server = server.feed(rt, alloc, writer, &buf[..count])?,
+            Ok(count) => server = server.feed(workers, alloc, writer, &buf[..count])?,
             Err(_) => return Err(Fault::Read),
         }
     }
