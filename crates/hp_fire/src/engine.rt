@@ -54,20 +54,6 @@ impl<'a, W> Engine<'a, W> {
         }
     }
 
-    /// This engine with other workers, and at most `width` threads for a group.
-    pub(crate) fn led_by<'b, V>(&'b self, workers: &'b V, width: usize) -> Engine<'b, V>
-        ensures { result.lib ≡ self.entry.now.lib }
-    {
-        Engine {
-            workers,
-            alloc: self.alloc,
-            lib: self.lib,
-            width,
-            past: self.past,
-            effort: self.effort,
-        }
-    }
-
     /// The engine for an attempt, whose work is counted in `effort`, with at most `width` threads for a group inside
     /// it.
     pub(crate) fn inside<'b>(&'b self, effort: &'b Effort, width: usize) -> Engine<'b, W>

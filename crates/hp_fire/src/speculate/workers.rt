@@ -121,7 +121,14 @@ impl<R: Threads + Sync, G: Gate + Sync> Workers for Gated<'_, R, G> {
         receivers: &mut Vec<Receiver<'_>>,
     ) -> (Result<Vec<Vec<Tried>>, AllocError>, Result<(), AllocError>) {
         let inner = Nested { rt: self.rt };
-        let engine = engine.led_by(&inner, engine.width);
+        let engine = Engine {
+            workers: &inner,
+            alloc: engine.alloc,
+            lib: engine.lib,
+            width: engine.width,
+            past: engine.past,
+            effort: engine.effort,
+        };
         self.try_with(&engine, wave, seats, view, progress, receivers)
     }
 }
@@ -187,7 +194,14 @@ impl<R: Threads + Sync> Workers for Nested<'_, R> {
             rt: self.rt,
             gate: &NoGate,
         };
-        let engine = engine.led_by(&Alone, 1);
+        let engine = Engine {
+            workers: &Alone,
+            alloc: engine.alloc,
+            lib: engine.lib,
+            width: 1,
+            past: engine.past,
+            effort: engine.effort,
+        };
         threads.try_with(&engine, wave, seats, view, progress, receivers)
     }
 }
