@@ -44,8 +44,8 @@ impl From<WordFault> for Unasked {
 }
 
 /// What the process was started with, and the bytes of the file that is named. The contract can't say which words and
-/// which bytes these were, but that the options are those of some words, and that there are bytes exactly if these words
-/// name a file.
+/// which bytes these were, but that the options are those of some words, and that there are bytes exactly if these
+/// words name a file.
 pub fn asked_of<R: Env + Files + AllocGlobal>(rt: &R) -> Result<Asked, Unasked>
     ensures { IfOk result (λ asked. IsOfWords asked) }
 {

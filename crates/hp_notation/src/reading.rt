@@ -80,8 +80,8 @@ pub fn read_script(alloc: Global, bytes: &[u8], is_text: bool) -> Result<Script,
     }
 }
 
-/// Reads a line to a rule base with this library, whose script has this version, and whose clock is at `clock`. The line
-/// is a text in the notation or else JSON.
+/// Reads a line to a rule base with this library, whose script has this version, and whose clock is at `clock`. The
+/// line is a text in the notation or else JSON.
 ///
 /// The errors are those of `read_script`.
 pub fn read_request(

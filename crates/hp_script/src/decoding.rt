@@ -150,8 +150,8 @@ fn script_at(alloc: Global, value: &Value) -> Result<Script, DecodeError>
 /// Reads a script from its JSON value, however the value was written. The bodies of the script are checked against its
 /// own library.
 ///
-/// `Refused` has the first fault, in the order of the checks of `decode` after the JSON text. `Memory` means that memory
-/// ran out.
+/// `Refused` has the first fault, in the order of the checks of `decode` after the JSON text. `Memory` means that
+/// memory ran out.
 pub fn decode_value(alloc: Global, value: &Value) -> Result<Script, DecodeError>
     ensures reads { Gives script result (decode (view value.now)) }
     ensures timed { Gives timed_script result (timed_script_at (view value.now)) }

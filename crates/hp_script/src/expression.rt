@@ -25,8 +25,8 @@ use std::alloc::Global;
 /// The most levels that an expression may have.
 const MAX_LEVELS: usize = 16;
 
-/// The integer in a value, if it is an expression of at most `levels` levels. Most operands of scripts are integers, and
-/// so need no form.
+/// The integer in a value, if it is an expression of at most `levels` levels. Most operands of scripts are integers,
+/// and so need no form.
 #[tactic(auto, using(crate::proofs::Integers::integer_read))]
 fn plain_integer(levels: usize, value: &Value) -> Option<i64>
     ensures { IfSome result (λ z. (setting : S.Setting) (path : Path) →

@@ -158,8 +158,8 @@ fn item_of(
 
 /// Reads what a line asks from its JSON value, however the value was written.
 ///
-/// `Refused` has the first fault, in the order of the checks of `decode_request` after the JSON text. `Memory` means that
-/// memory ran out.
+/// `Refused` has the first fault, in the order of the checks of `decode_request` after the JSON text. `Memory` means
+/// that memory ran out.
 #[tactic(auto, unfolding(crate::specs::Requests::request_at))]
 pub fn decode_request_value(
     alloc: Global,

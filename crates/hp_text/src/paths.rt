@@ -99,8 +99,8 @@ pub fn value_place(text: &[u8], script: &ScriptNode, steps: &[Step<'_>]) -> Opti
     }
 }
 
-/// The place of the value to which some steps lead from a line, as from `read_line` of the same text. There is none where
-/// the steps lead to no value.
+/// The place of the value to which some steps lead from a line, as from `read_line` of the same text. There is none
+/// where the steps lead to no value.
 pub fn node_place(text: &[u8], node: &Node, steps: &[Step<'_>]) -> Option<Place>
     ensures { option_map place_view result
         ≡ option_map (P.place_of text.now) (P.offset_along (map step_view steps.now) (node_view node.now)) }
