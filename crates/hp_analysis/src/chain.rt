@@ -84,7 +84,8 @@ impl Graph<'_> {
         self.chain_of(alloc, &set)
     }
 
-    /// The same of a chain that one of these units begins.
+    /// A chain of more firings than may nest that one of these units begins, by the rules' numbers; empty if there is
+    /// none.
     pub fn too_long_of(&self, alloc: Global, units: &[Unit]) -> Result<Vec<usize>, AllocError>
         ensures { IfOk result (λ chain. chain.items
             ≡ script_chain (seen self.now.triggers) (map unit units.now)) }

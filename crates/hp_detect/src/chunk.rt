@@ -71,7 +71,7 @@ impl Chunk {
 impl Clone for Chunk {
     ghost is_clone = { λ c d. d ≡ c };
 
-    /// The same chunk, shared. It allocates nothing.
+    /// Shares this chunk. It allocates nothing.
     fn clone(&self) -> Result<Chunk, AllocError> {
         let kept = match &self.kept {
             Some(kept) => Some(Arc::try_clone(kept)?),

@@ -90,7 +90,7 @@ impl Eq for Knowledge {
 impl Clone for Knowledge {
     ghost is_clone = { λ k l. l ≡ k };
 
-    /// The same knowledge, shared. It allocates nothing.
+    /// Shares this knowledge. It allocates nothing.
     ///
     /// An error means that an `Arc` could not be cloned.
     fn clone(&self) -> Result<Knowledge, AllocError> {

@@ -212,7 +212,7 @@ impl Queue {
     }
 }
 
-/// The same for the items after the head.
+/// The items after the head from an index of theirs up to the end of the chunk that holds it.
 fn behind<'a>(middle: &'a Option<Arc<Rope>>, tail: &'a Chunk, at: usize) -> &'a [Arc<Occurrence>]
     requires counted { RestIsCounted middle.now }
     requires within { at < length (rest_laid_out middle.now ++ tail.now) }

@@ -60,7 +60,7 @@ pub(crate) fn level(value: &Value) -> usize
     }
 }
 
-/// The same after the minus of a `neg`, where an integer would be read as a negative number.
+/// The level of a value after the minus of a `neg`, where an integer would be read as a negative number.
 pub(crate) fn negated_level(value: &Value) -> usize
     ensures { (n : ℕ) → IfSome (expression_of n (view value.now)) (λ e. result ≡ negated_level e) }
 {

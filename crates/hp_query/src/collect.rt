@@ -29,7 +29,7 @@ pub(crate) fn objects_of<L: Look>(
     }
 }
 
-// The same objects, read one by one: the class's keys first, and then the row of each.
+// The objects of a class, read one by one: the class's keys first, and then the row of each.
 fn collected<L: Look>(
     alloc: Global,
     look: &mut L,

@@ -158,7 +158,7 @@ impl Terms<'_> {
         Ok(so_far)
     }
 
-    // The same with one more object.
+    // What the terms so far merge to with one more object.
     fn with_object(
         &self,
         alloc: Global,

@@ -124,7 +124,7 @@ impl Index {
         true
     }
 
-    // The same of a cell, which may be none of an object of the class.
+    // Renews the place of a cell's object, if the cell is one of an object of the class.
     fn renew_at(&mut self, cell: Cell, old: Option<&CellValue>, new: Option<&CellValue>) -> bool
         ensures { IsTrue result → (cells : Cells) → IsComplete cells self.old →
             IsComplete (with_value cells (mapped.cell cell) (option_map (λ x. cell_value x.now) new.entry)) self.new }

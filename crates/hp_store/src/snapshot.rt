@@ -243,7 +243,8 @@ impl Snapshot {
         self.has_keys_over(&nothing, class, keys)
     }
 
-    /// The same once a layer has been written over the cells. It allocates nothing.
+    /// Whether these are the keys of a class's objects, in rising order, once a layer has been written over the cells.
+    /// It allocates nothing.
     ///
     /// The time goes with the keys, those of the base's objects of the class and the layers' changes of them.
     pub fn has_keys_over(&self, writes: &Layer, class: ClassNo, keys: &[Key]) -> bool

@@ -72,7 +72,7 @@ impl ObjectList {
         self.add(added, are_alike)
     }
 
-    // The same. Whether all rows are known to have the same names after it has been found out before.
+    // Adds an object at the end. Whether all rows then have the same names has been found out before.
     fn add(&mut self, added: KeyedRow, are_alike: bool) -> Result<(), AllocError>
         requires { IsTrue are_alike → AreAlike (self.old ++ keyed_row added ∷ []) }
         ensures ok { OnOk result (self.new ≡ self.old ++ keyed_row added ∷ []) }

@@ -65,7 +65,7 @@ pub fn parse_words(alloc: Global, words: &[String]) -> Result<Options, WordFault
     }
 }
 
-/// The same for a rule base that stays up, whose words may name the file of its script.
+/// The options of a rule base that stays up, whose words may name the file of its script.
 pub fn parse_live_words(alloc: Global, words: &[String]) -> Result<LiveOptions, WordFault>
     ensures ok { IfOk result (λ live. options_for true (map string_bytes words.now) ≡ Some live.options) }
     ensures script { IfOk result (λ live.
@@ -104,7 +104,8 @@ pub fn options_of<R: Env + AllocGlobal>(rt: &R) -> Result<Options, WordFault>
     parse_words(rt.alloc(), words.as_slice())
 }
 
-/// The same for a rule base that stays up.
+/// The options that the process of a rule base that stays up was started with. The contract says that they are those
+/// of some words.
 pub fn live_options_of<R: Env + AllocGlobal>(rt: &R) -> Result<LiveOptions, WordFault>
     ensures { IfOk result (λ live. AreOfLiveWords live.options (option_map string_bytes live.script)) }
 {

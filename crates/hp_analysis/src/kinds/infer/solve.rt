@@ -34,7 +34,7 @@ struct Given {
 }
 
 impl Given {
-    /// The same, and one more.
+    /// These counts with one more value of a kind.
     fn with(self, kind: Kind) -> Given {
         match kind {
             Kind::Int => Given {
