@@ -111,7 +111,8 @@ class Checked(unittest.TestCase):
         self.assertEqual(lines[-1], "  did you mean `i.stock`?")
 
     def test_a_name_alone_that_is_a_text(self) -> None:
-        lines = told("version 4\nclass item { state: text }\nrule r on update item do { if new.state = sold { veto } }\n")
+        lines = told("version 4\nclass item { state: text }\n"
+                     "rule r on update item do { if new.state = sold { veto } }\n")
         self.assertIn("no `let` is called `sold` here", lines[0])
         self.assertEqual(lines[-1], '  no `let` is known here; a text is in quotes: `"sold"`')
 

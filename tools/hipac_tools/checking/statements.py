@@ -122,10 +122,11 @@ def read_signal(parts: list[Place], scope: Scope, level: int) -> None:
 
 def argument_names(argument: Place) -> dict[str, str]:
     """The name before a `=`, where an argument of a signal is written as one with a name, and what is meant."""
-    match argument.node.value:
-        case ["=", [str(word), str(name)], _] if word in OF_A_LET and argument.dialect.is_text:
-            return {name: "arguments have no names: a rule reads them by their order, as `event.arg(0)`"}
-    return {}
+    node = argument.node
+    if not argument.dialect.is_text or first_word(node) != "=" or first_word(node.items[1]) not in OF_A_LET:
+        return {}
+    name = node.items[1].value[1]
+    return {name: "arguments have no names: a rule reads them by their order, as `event.arg(0)`"}
 
 
 def read_emit(parts: list[Place], scope: Scope, level: int) -> None:
