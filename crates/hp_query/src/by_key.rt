@@ -1,6 +1,6 @@
 //! Predicates that begin with a test of the key.
 
-ghost use Rattle.std.specs.Prelude.{IsTrue, IfOk, IfSome, ◌≡◌, is_some, option_map};
+ghost use Rattle.std.specs.Prelude.{IsTrue, IfOk, IfSome, IsOk, None, ◌≡◌, is_some, option_map};
 ghost use Rattle.hp_model.specs.Expressions.{compared, equal, key_of};
 ghost use Rattle.hp_value.specs.Mapped.{environment, expression};
 ghost use Rattle.hp_query.specs.ByKey.{IsFalseElsewhere, AsksFor, first_test, key_asked, key_equated};
@@ -24,6 +24,7 @@ pub(crate) fn asked_key(
         asked ≡ key_asked (environment env.now) name.now (expression predicate.now)) }
     ensures elsewhere { IfOk result (λ asked. IfSome asked (λ key.
         IsFalseElsewhere (environment env.now) name.now (expression predicate.now) key)) }
+    ensures none { key_equated name.now (first_test (expression predicate.now)) ≡ None → IsOk result }
 {
     let Some(wanted) = wanted_key(name, predicate) else {
         return Ok(None);

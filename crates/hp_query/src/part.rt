@@ -1,6 +1,6 @@
 //! Predicates that begin by asking for a part of a class.
 
-ghost use Rattle.std.specs.Prelude.{◌≡◌, ◌&&◌, true, IfOk, IfSome, option_map};
+ghost use Rattle.std.specs.Prelude.{◌≡◌, ◌&&◌, true, IfOk, IfSome, IsOk, None, option_map};
 ghost use Rattle.std.specs.Option.{option_copied};
 ghost use Rattle.hp_model.specs.Expressions.{compared};
 ghost use Rattle.hp_value.specs.Mapped.{attribute, class_part, comparison, environment, expression, value};
@@ -90,6 +90,7 @@ pub(crate) fn asked_part<'e>(
     ensures inside { IfOk result (λ asked. IfSome asked (λ a. a.is_exact ≡ true →
         IsTrueInside (environment env.now) name.now (expression predicate.now)
         (part_compared (attribute a.attribute) (comparison a.comparison) (value a.value)))) }
+    ensures none { attribute_tested name.now (first_test (expression predicate.now)) ≡ None → IsOk result }
 {
     let Some(compared) = compared_attribute(name, predicate) else {
         return Ok(None);

@@ -1,6 +1,6 @@
 //! Why a library or a body isn't well formed.
 
-ghost use Rattle.std.specs.Prelude.{◌≡◌};
+ghost use Rattle.std.specs.Prelude.{◌≡◌, ◌≢◌};
 ghost use Rattle.hp_model.specs.Refusals.{wrong_shape, bad_name, over_limit};
 ghost use Rattle.hp_rule.specs.Faults.{limit, IsFault};
 ghost use Rattle.hp_rule.specs.Places.{steps};
@@ -95,7 +95,8 @@ pub(crate) fn bad_name(alloc: Global, place: &Place<'_>) -> CheckError
 
 /// The fault of an exceeded limit.
 pub(crate) fn over_limit(exceeded: Limit) -> CheckError
-    ensures { IsFault result (over_limit (limit exceeded)) }
+    ensures fault { IsFault result (over_limit (limit exceeded)) }
+    ensures memory { result ≢ CheckError.Memory }
 {
     CheckError::Fault(CheckFault::Limit(exceeded))
 }

@@ -1,6 +1,6 @@
 //! Indexes of fields.
 
-ghost use Rattle.std.specs.Prelude.{◌≡◌, ℤ, Some, Option, true, false, map, IfSome, IfOk};
+ghost use Rattle.std.specs.Prelude.{◌≡◌, ◌↔◌, ℤ, All, Some, Option, true, false, map, IfSome, IfOk};
 ghost use Rattle.std.specs.Prelude.{OnOk, IsTrue, ⊤, option_map, string_bytes, MatchOption};
 ghost use Rattle.std.specs.BTreeMap.{is_at};
 ghost use Rattle.std.specs.BTreeSet.{contains};
@@ -46,7 +46,7 @@ impl Index {
 
     /// Whether it is the index of a field.
     pub(crate) fn is_of(&self, class: ClassNo, field: &str) -> bool
-        ensures { IsTrue result → (self.now.class ≡ class) × (string_bytes self.now.field ≡ field.now) }
+        ensures { IsTrue result ↔ ((self.now.class ≡ class) × (string_bytes self.now.field ≡ field.now)) }
     {
         self.class == class && field == self.field.as_str()
     }
@@ -126,8 +126,14 @@ impl Index {
 
     // Renews the place of a cell's object, if the cell is one of an object of the class.
     fn renew_at(&mut self, cell: Cell, old: Option<&CellValue>, new: Option<&CellValue>) -> bool
-        ensures { IsTrue result → (cells : Cells) → IsComplete cells self.old →
+        ensures complete { IsTrue result → (cells : Cells) → IsComplete cells self.old →
             IsComplete (with_value cells (mapped.cell cell) (option_map (λ x. cell_value x.now) new.entry)) self.new }
+        ensures left { IsTrue result → (key : ℤ) → mapped.cell cell ≡ object_cell self.old.class key →
+            HasLeft self.new.places
+            (place_at (string_bytes self.old.field) key (option_map (λ x. cell_value x.now) old.entry))
+            (place_at (string_bytes self.old.field) key (option_map (λ x. cell_value x.now) new.entry)) }
+        ensures elsewhere { ((key : ℤ) → mapped.cell cell ≡ object_cell self.old.class key → ⊥) →
+            IsTrue result × (self.new ≡ self.old) }
     {
         let Cell::Object(class, key) = cell else {
             return true;
@@ -184,8 +190,10 @@ pub(crate) fn renew_all(
     old: Option<&CellValue>,
     new: Option<&CellValue>,
 )
-    ensures { (cells : Cells) → AreComplete cells indexes.old.items → AreComplete
+    ensures complete { (cells : Cells) → AreComplete cells indexes.old.items → AreComplete
         (with_value cells (mapped.cell cell) (option_map (λ x. cell_value x.now) new.entry)) indexes.new.items }
+    ensures elsewhere { All (λ (i : Index). (key : ℤ) → mapped.cell cell ≡ object_cell i.class key → ⊥)
+        indexes.old.items → indexes.new.items ≡ indexes.old.items }
 {
     for i in 0..indexes.len() {
         if !indexes[i].renew_at(cell, old, new) {

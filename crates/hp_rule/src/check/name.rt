@@ -1,6 +1,6 @@
 //! Names, numbers and limits.
 
-ghost use Rattle.std.specs.Prelude.{◌≡◌};
+ghost use Rattle.std.specs.Prelude.{◌≡◌, ◌≢◌, Err};
 ghost use Rattle.std.specs.List.{list_all};
 ghost use Rattle.hp_model.specs.Parts.{is_name_byte, is_name};
 ghost use Rattle.hp_model.specs.Checked.{name_check, name_unless, number_check, limit_check};
@@ -78,7 +78,8 @@ pub(crate) fn check_number(
 
 /// Checks a count against a limit.
 pub(crate) fn check_limit(most: usize, limited: Limit, count: usize) -> Result<(), CheckError>
-    ensures { Passes result (limit_check most (limit limited) count) }
+    ensures passes { Passes result (limit_check most (limit limited) count) }
+    ensures memory { result ≢ Err CheckError.Memory }
 {
     if count > most {
         return Err(over_limit(limited));

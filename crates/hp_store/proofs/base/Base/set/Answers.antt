@@ -15,4 +15,4 @@ pub returns-clause-complete : goal.returns-clause-complete
 returns-clause-complete c =
     let given : c.in_ok-clone.field-0 ≡ c.args.change.now = search rules in
     complete_set c.args.self.now c.replace.new.self c.renew_all.new.indexes (cell c.args.cell) c.args.change.now c.in_ok-clone.field-0 c.as_ref-2.result given
-    (found_value c.as_ref-2.result ∙ ap (option_map cell_value) c.as_ref-2.ensures.value) c.in_ok-old.ensures.indexes c.in_ok-old.ensures.ok (c.renew_all.ensures (base_cells c.args.self.now))
+    (found_value c.as_ref-2.result ∙ ap (option_map cell_value) c.as_ref-2.ensures.value) c.in_ok-old.ensures.indexes c.in_ok-old.ensures.ok (c.renew_all.ensures.complete (base_cells c.args.self.now))

@@ -7,7 +7,7 @@ use Rattle.hp_store.proofs.index.Index.candidates.Goals as goal
 
 pub returns : goal.returns
 returns c = λ cells all.
-    let same = c.is_of.ensures c.if-not-is_of.false in
+    let same = c.is_of.ensures.0 c.if-not-is_of.false in
     let bounds = c.args.part.now.bounds in
     let none : keys_left c.others-others.result ≡ [] = none_found c.next.result c.is_some.result _ _ c.is_some.ensures c.if-is_some.false c.next.ensures in
     covers_index c.args.self.now bounds (keys_left c.others-others.result) (keys_left c.between.result) c.in-Field.field.now (class_part c.args.part.now) c.args.class cells
