@@ -10,7 +10,8 @@ use Rattle.std.proofs.lemmas.Cmp.{int_eq_equiv, nat_list_cmp_total}
 use Rattle.std.proofs.lemmas.Map.Text.{is_eq-slice_cmp}
 use lib.Pointwise.{bytes_decides}
 use Rattle.hp_model.specs.Values.{Name, Value, integer, boolean, text, KeyedRow, Cause, Outcome, ◌>>=◌}
-use Rattle.hp_model.specs.Expressions.{Expression, Comparison, equal, unequal, less, at_most, greater, at_least, both, compared, Environment, bound, as_boolean, field_in, is_equal, is_below, compare, row_named, value_of}
+use Rattle.hp_model.specs.Expressions.{Expression, Comparison, equal, unequal, less, at_most, greater, at_least, both, compared, Environment, bound, as_boolean, field_in, is_equal}
+use Rattle.hp_model.specs.Expressions.{is_below, compare, row_named, value_of}
 use Rattle.hp_model.specs.ClassParts.{Attribute, key_attribute, field_attribute, attribute_of, lies_within}
 use Rattle.hp_query.specs.Parts.{IsTrueInside, AsksForPart, Compares, expression_of, turned, low_bound, high_bound, part_compared, is_comparison, is_true_at_bounds}
 use Rattle.hp_query.proofs.ByKeyLemmas.{value_stays, no_more, own_row}
@@ -164,7 +165,8 @@ inside_true at_most v w at is = low_enough (compare at_most w v) is
 inside_true greater v w at is = cc
 inside_true at_least v w at is = high_enough (compare at_least w v) is
 
-compared_inside : (op : Comparison) (o : Outcome Value) (v : Value) → is_true_at_bounds op ≡ true → (o >>= λ w. lies_within (low_bound op v) (high_bound op v) w) ≡ Ok true → (o >>= λ w. compare op w v) ≡ Ok true
+compared_inside : (op : Comparison) (o : Outcome Value) (v : Value) → is_true_at_bounds op ≡ true → (o >>= λ w. lies_within (low_bound op v) (high_bound op v) w) ≡ Ok true
+    → (o >>= λ w. compare op w v) ≡ Ok true
 compared_inside op (Ok w) v at is = inside_true op v w at is
 compared_inside op (Err c) v at is = cc
 

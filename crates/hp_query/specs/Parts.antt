@@ -51,7 +51,8 @@ part_compared a op v = record { attribute = a; low = low_bound op v; high = high
 
 -- the predicate is a comparison of the row's attribute with the expression, wherever the name has no meaning yet
 pub record Compares (x : Name) (predicate : Expression) (a : Attribute) (op : Comparison) (wanted : Expression) : Type 0 where
-  pub compares : (env : Environment) (c : Cause) (v : Value) → row_named env x ≡ Err c → value_of env wanted ≡ Ok v → (r : KeyedRow) → boolean_value (bound x r env) predicate ≡ (attribute_of a r >>= λ w. compare op w v)
+  pub compares : (env : Environment) (c : Cause) (v : Value) → row_named env x ≡ Err c → value_of env wanted ≡ Ok v → (r : KeyedRow)
+      → boolean_value (bound x r env) predicate ≡ (attribute_of a r >>= λ w. compare op w v)
 
 -- the predicate begins by comparing the row's attribute with the expression: wherever the name has no meaning yet, the
 -- predicate is false outside the part for the expression's value
