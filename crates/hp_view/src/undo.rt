@@ -1,7 +1,7 @@
 //! Writes that can be taken back.
 
 ghost use Rattle.std.specs.Prelude.{◌≡◌, ◌≤◌, ◌++◌, [], ◌∷◌, length, drop, take};
-ghost use Rattle.std.specs.Prelude.{map, Some, IsSome, OnOk, OnErr, option_map};
+ghost use Rattle.std.specs.Prelude.{map, Some, IsSome, IsOk, OnOk, OnErr, option_map};
 ghost use Rattle.std.specs.Option.{option_or};
 ghost use Rattle.hp_model.specs.Cells.{Cell as ModelCell, with_change};
 ghost use Rattle.hp_value.specs.Mapped as mapped;
@@ -113,6 +113,7 @@ pub(crate) fn take_back(
     ensures undo { OnOk result (map replaced undo.new.items ≡ take at (map replaced undo.old.items)) }
     ensures covered { AreCovered (map replaced undo.new.items) (changes writes.new.value) }
     ensures err { OnErr result ((writes.new.value ≡ writes.old.value) × (undo.new.items ≡ undo.old.items)) }
+    ensures nothing { at ≡ length undo.old.items → IsOk result }
 {
     if undo.len() == at {
         return Ok(());

@@ -235,6 +235,7 @@ impl View {
         ensures restores { OnOk result ((entered : Seen) → GoesOn entered self.old → length entered.undo ≡ mark →
             Restores entered self.new) }
         ensures err { OnErr result (self.new ≡ self.old) }
+        ensures nothing { mark ≡ length self.old.undo → IsOk result }
     {
         let Mark { at } = mark;
         take_back(&mut self.writes, &mut self.undo, at)?;
