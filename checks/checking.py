@@ -7,6 +7,7 @@ Of each script, of version 2 or 4, and every third one made so that each value i
 
 - The verdicts on depth and guards and all findings but those of kinds are those that this script finds by itself.
   Those name something in the script, each something else, and a script that is made so has none.
+- With --text the script's canonical text has the same findings.
 - What hipac_check promises holds in the run, by its report with trees: after `kinds ok` nothing ends with A3 or A6, not
   even a condition; after a known depth nothing with A7; a guard that isn't closed and has no line `open` has no faulty
   condition, and no arithmetic ends its action; no rule fires that is never installed or never reached.
@@ -31,7 +32,8 @@ from harness import TOP, by_pipe, command_of
 
 sys.path.insert(0, os.path.join(TOP, "tools"))
 
-from tests.made_scripts import ScriptMaker  # noqa: E402 (it lies in tools/)
+from hipac_tools.notation.writer import script_text  # noqa: E402 (they lie in tools/)
+from tests.made_scripts import ScriptMaker  # noqa: E402
 from tests.made_version4 import Version4Maker  # noqa: E402
 
 from kinded_scripts import KindedMaker  # noqa: E402
@@ -366,6 +368,8 @@ def check(commands, seed):
     script = made(seed)
     given = json.dumps(script).encode()
     status, wrote, _ = by_pipe(commands["hipac_check"], given)
+    if by_pipe([*commands["hipac_check"], "--text"], script_text(script).encode())[1] != wrote:
+        return "the script's text has other findings", {}
     _, report, _ = by_pipe([*commands["hipac"], "--tree"], given)
     found, lines = wrote.decode().splitlines(), report.decode().splitlines()
     if status != 0 or len(found) < 3 or found[0] not in ("kinds ok", "kinds unknown"):

@@ -1,10 +1,10 @@
 -- What is written of a script, part by part.
-use Rattle.std.proofs.Common.{◌≡◌, refl, sym, ◌∙◌, subst, ℕ, List, [], ◌++◌, take, Option, Some, None, append_assoc, append-nil}
+use Rattle.std.proofs.Common.{◌≡◌, refl, sym, ◌∙◌, subst, ℕ, List, [], ◌++◌, take, Bool, Option, Some, None, append_assoc, append-nil}
 use Rattle.std.specs.Prelude.{IfSome}
 use Rattle.hp_model.specs.Report.{Bytes}
 use Rattle.hp_model.specs.Kinds.{Declared}
 use Rattle.hp_report.specs.Device.{Begins}
-use Rattle.hp_analysis.specs.Checking.{check_output, IsChecked}
+use Rattle.hipac_check.specs.Outputs.{check_output, IsChecked}
 use Rattle.hipac_check.proofs.Longest.{output_of_take}
 
 pub whole_text : (v k c o i t0 t1 t2 t3 t4 t5 : Bytes) → t0 ≡ [] → t1 ≡ t0 ++ v → t2 ≡ t1 ++ k → t3 ≡ t2 ++ c → t4 ≡ t3 ++ o → t5 ≡ t4 ++ i → t5 ≡ v ++ (k ++ (c ++ (o ++ i)))
@@ -25,16 +25,17 @@ begins_before (Some xs) text = ([], text, refl, sym (append-nil xs))
 no_declared : Declared
 no_declared = record { signatures = []; fired = [] }
 
-pub checked_before : (w : Option (List ℕ)) (input : List ℕ) → IsChecked (λ text. Begins w w text) input
-checked_before w input = (no_declared, begins_before w (check_output input no_declared))
+pub checked_before : (w : Option (List ℕ)) (is_text : Bool) (input : List ℕ) → IsChecked (λ text. Begins w w text) is_text input
+checked_before w is_text input = (no_declared, begins_before w (check_output is_text input no_declared))
 
-pub checked_before_all : (w o : Option (List ℕ)) → IfSome o (λ input. IsChecked (λ text. Begins w w text) input)
-checked_before_all w None = tt
-checked_before_all w (Some input) = checked_before w input
+pub checked_before_all : (w o : Option (List ℕ)) (is_text : Bool) → IfSome o (λ input. IsChecked (λ text. Begins w w text) is_text input)
+checked_before_all w None is_text = tt
+checked_before_all w (Some input) is_text = checked_before w is_text input
 
 -- the bytes that are read are enough
-pub checked_all : (demand : Bytes → Type 0) (read : List ℕ) (o : Option (List ℕ)) → IfSome o (λ all. read ≡ take 1048577 all) → IsChecked demand read → IfSome o (λ all. IsChecked demand all)
-checked_all demand read None is h = tt
-checked_all demand read (Some all) is h =
+pub checked_all : (demand : Bytes → Type 0) (is_text : Bool) (read : List ℕ) (o : Option (List ℕ)) → IfSome o (λ all. read ≡ take 1048577 all)
+    → IsChecked demand is_text read → IfSome o (λ all. IsChecked demand is_text all)
+checked_all demand is_text read None is h = tt
+checked_all demand is_text read (Some all) is h =
     let d = h.0 in
-    (d, subst demand (output_of_take all d) (subst (λ bytes. demand (check_output bytes d)) is h.1))
+    (d, subst demand (output_of_take is_text all d) (subst (λ bytes. demand (check_output is_text bytes d)) is h.1))

@@ -6,6 +6,7 @@ ghost use Rattle.hp_report.specs.Device.{Begins};
 ghost use Rattle.hp_report.specs.Text.{Gains};
 ghost use Rattle.hp_rule.specs.Libraries as libraries;
 ghost use Rattle.hp_rule.specs.Mapped.{unit};
+ghost use Rattle.hp_script.specs.Mapped.{script as script_of_model};
 ghost use Rattle.hp_rule.specs.Statements.{rule};
 ghost use Rattle.hp_analysis.specs.Declarations.{declared};
 ghost use Rattle.hp_analysis.specs.Findings.{finds_nothing};
@@ -15,15 +16,17 @@ ghost use Rattle.hp_analysis.specs.Graphs.{seen};
 ghost use Rattle.hp_analysis.specs.Installed.{with_installed};
 ghost use Rattle.hp_analysis.specs.Tables.{script};
 ghost use Rattle.hp_analysis.specs.Witness.{library_chain, script_chain};
-ghost use Rattle.hp_analysis.specs.Checking.{check_output, findings_text, verdicts_of, have_no_opening, chain_lines, chain_text, IsChecked};
+ghost use Rattle.hp_analysis.specs.Checking.{findings_text, verdicts_of, have_no_opening, chain_lines, chain_text};
 ghost use Rattle.hipac_check.specs.Ends.{status_of};
+ghost use Rattle.hipac_check.specs.Outputs.{check_output, IsChecked};
 
 use crate::lines::{put_chain, put_idles, put_kind_lines, put_openings};
 use crate::verdicts::{put_depth, put_guards, put_kinds};
 use hp_analysis::{Declaration, Graph, KindFinding, have_no_opening, infer, kind_findings};
+use hp_notation::{Unread, read_script};
 use hp_report::{Fault, ReadFault, Sink, Source, Status, read_up_to, write_text};
 use hp_rule::{Library, Rule, Unit};
-use hp_script::{DecodeError, decode, refusal_text};
+use hp_script::Script;
 use std::alloc::{AllocError, Global};
 
 /// The most bytes that are read: one more than a script may have is enough to refuse it.
@@ -33,13 +36,15 @@ fn most_read() -> usize
     1_048_577
 }
 
-/// Reads a script up to the reader's end, and writes the findings on it, or the line that refuses it.
+/// Reads a script up to the reader's end, and writes the findings on it, or the line that refuses it. The script is a
+/// text in the notation if `is_text` says so, and else JSON.
 ///
 /// The reader and the writer must not have failed before. After `Fault::Read` and `Fault::NoMemory` nothing was
 /// written; after any fault what was written is a prefix of the text. No call of a device is repeated.
 #[tactic(auto, using(crate::proofs::Longest::output_of_take, crate::proofs::Longest::status_of_take))]
 pub fn check<R: Source, W: Sink>(
     alloc: Global,
+    is_text: bool,
     reader: &mut R,
     writer: &mut W,
 ) -> Result<Status, Fault>
@@ -48,12 +53,12 @@ pub fn check<R: Source, W: Sink>(
 
     // On `Ok` it has written the definition's text for the bytes up to the reader's end, and nothing else.
     ensures output { OnOk result (IfSome (R.remaining reader.old) (λ input.
-        IsChecked (λ text. Appends (W.contents writer.old) (W.contents writer.new) text) input)) }
-    ensures status { IfOk result (λ status. IfSome (R.remaining reader.old) (λ input. status ≡ status_of input)) }
+        IsChecked (λ text. Appends (W.contents writer.old) (W.contents writer.new) text) is_text input)) }
+    ensures status { IfOk result (λ status. IfSome (R.remaining reader.old) (λ input. status ≡ status_of is_text input)) }
 
     // However it ends, what was written is a prefix of that text.
     ensures begins { IfSome (R.remaining reader.old) (λ input.
-        IsChecked (λ text. Begins (W.contents writer.old) (W.contents writer.new) text) input) }
+        IsChecked (λ text. Begins (W.contents writer.old) (W.contents writer.new) text) is_text input) }
 
     // It returns a fault of a device exactly if a call has failed; after a failed read nothing was written.
     ensures read { result ≡ Err Fault.Read ↔ (R.has_failed reader.new ≡ true) }
@@ -63,13 +68,13 @@ pub fn check<R: Source, W: Sink>(
     // If memory ran out, nothing was written.
     ensures memory { result ≡ Err Fault.NoMemory → writer.new ≡ writer.old }
 {
-    let input = read_script(alloc, reader)?;
-    let status = respond(alloc, input.as_slice(), writer)?;
+    let input = read_input(alloc, reader)?;
+    let status = respond(alloc, is_text, input.as_slice(), writer)?;
     Ok(status)
 }
 
 /// Reads the bytes of a script up to the reader's end, or one byte more than the longest script has.
-fn read_script<R: Source>(alloc: Global, reader: &mut R) -> Result<Vec<u8>, ReadFault>
+fn read_input<R: Source>(alloc: Global, reader: &mut R) -> Result<Vec<u8>, ReadFault>
     requires { R.has_failed reader.old ≡ false }
     ensures bytes { IfOk result (λ input. IfSome (R.remaining reader.old) (λ all. input.items ≡ take 1048577 all)) }
     ensures read { result ≡ Err ReadFault.Read ↔ (R.has_failed reader.new ≡ true) }
@@ -86,45 +91,59 @@ struct Answer {
     declaration: Declaration,
 }
 
+/// What is written for a script.
+///
+/// An error means that memory ran out.
+fn reported(alloc: Global, script: &Script) -> Result<Answer, AllocError>
+    ensures text { IfOk result (λ answer. string_bytes answer.text
+        ≡ findings_text (script_of_model script.now) (declared answer.declaration)) }
+    ensures status { IfOk result (λ answer. answer.status ≡ Status.Reported) }
+{
+    let declaration = infer(alloc, &script.library, &script.items)?.declaration;
+    let text = findings(alloc, &script.library, &script.items, &declaration)?;
+    Ok(Answer {
+        text,
+        status: Status::Reported,
+        declaration,
+    })
+}
+
 /// The text that the definitions give for a script's bytes.
 ///
 /// An error means that memory ran out.
-fn answer_to(alloc: Global, input: &[u8]) -> Result<Answer, AllocError>
+fn answer_to(alloc: Global, is_text: bool, input: &[u8]) -> Result<Answer, AllocError>
     ensures text { IfOk result (λ answer. string_bytes answer.text
-        ≡ check_output input.now (declared answer.declaration)) }
-    ensures status { IfOk result (λ answer. answer.status ≡ status_of input.now) }
+        ≡ check_output is_text input.now (declared answer.declaration)) }
+    ensures status { IfOk result (λ answer. answer.status ≡ status_of is_text input.now) }
 {
-    match decode(alloc, input) {
-        Ok(script) => {
-            let declaration = infer(alloc, &script.library, &script.items)?.declaration;
-            let text = findings(alloc, &script.library, &script.items, &declaration)?;
-            Ok(Answer {
-                text,
-                status: Status::Reported,
-                declaration,
-            })
-        }
-        Err(DecodeError::Refused(refusal)) => Ok(Answer {
-            text: refusal_text(alloc, &refusal)?,
+    match read_script(alloc, input, is_text) {
+        Ok(script) => reported(alloc, &script),
+        Err(Unread::Refused(text)) => Ok(Answer {
+            text,
             status: Status::Refused,
             declaration: Declaration::new(alloc),
         }),
-        Err(DecodeError::Memory) => Err(AllocError),
+        Err(Unread::Memory) => Err(AllocError),
     }
 }
 
 /// Writes the text that the definitions give for a script's bytes.
-fn respond<W: Sink>(alloc: Global, input: &[u8], writer: &mut W) -> Result<Status, Fault>
+fn respond<W: Sink>(
+    alloc: Global,
+    is_text: bool,
+    input: &[u8],
+    writer: &mut W,
+) -> Result<Status, Fault>
     requires { W.has_failed writer.old ≡ false }
     ensures output { OnOk result (
-        IsChecked (λ text. Appends (W.contents writer.old) (W.contents writer.new) text) input.now) }
-    ensures status { IfOk result (λ status. status ≡ status_of input.now) }
-    ensures begins { IsChecked (λ text. Begins (W.contents writer.old) (W.contents writer.new) text) input.now }
+        IsChecked (λ text. Appends (W.contents writer.old) (W.contents writer.new) text) is_text input.now) }
+    ensures status { IfOk result (λ status. status ≡ status_of is_text input.now) }
+    ensures begins { IsChecked (λ text. Begins (W.contents writer.old) (W.contents writer.new) text) is_text input.now }
     ensures read { result ≢ Err Fault.Read }
     ensures write { result ≡ Err Fault.Write ↔ (W.has_failed writer.new ≡ true) }
     ensures memory { result ≡ Err Fault.NoMemory → writer.new ≡ writer.old }
 {
-    let answer = answer_to(alloc, input)?;
+    let answer = answer_to(alloc, is_text, input)?;
     write_text(writer, answer.text.as_bytes())?;
     Ok(answer.status)
 }

@@ -3,19 +3,23 @@
 
 mod checking;
 mod lines;
+mod program;
 mod shown;
 mod verdicts;
+mod words;
 
-use checking::check;
-use hp_report::{Watched, exit_code};
+use hp_report::Watched;
+use program::program;
 use std::process::ExitCode;
+use words::is_text_asked;
 
 fn main(rt: HostRuntime) -> ExitCode {
+    let asked = is_text_asked(&rt);
     let mut reader = Watched::new(rt.stdin());
     let mut writer = Watched::new(rt.stdout());
-    let ended = check(rt.alloc(), &mut reader, &mut writer);
-    if let Err(fault) = &ended {
-        let _ = eprintln!(rt; "{fault}");
+    let ended = program(rt.alloc(), asked, &mut reader, &mut writer);
+    if let Some(stop) = ended.stop {
+        let _ = eprintln!(rt; "{stop}");
     }
-    ExitCode::from(exit_code(&ended))
+    ExitCode::from(ended.code)
 }

@@ -6,9 +6,8 @@ use Rattle.hp_model.specs.Kinds.{Sort, only, any, Declared}
 use Rattle.hp_model.specs.Rules.{Rule, no_rule, Library}
 use Rattle.hp_model.specs.Cascade.{Script}
 use Rattle.hp_model.specs.Report.{Bytes, words, line}
-use Rattle.hp_model.specs.Refusals.{Path, to_member, to_item, Refusal}
-use Rattle.hp_model.specs.Decode.{script_of}
-use Rattle.hp_model.specs.Output.{path_text, refusal_text}
+use Rattle.hp_model.specs.Refusals.{Path, to_member, to_item}
+use Rattle.hp_model.specs.Output.{path_text}
 use Rattle.hp_analysis.specs.Depths.{library_depth, script_depth}
 use Rattle.hp_analysis.specs.Findings.{Wanted, of_kind, of_known_kind, of_ordered_kind, Reason, unsuited, no_occurrence, no_such_part, other_form, no_such_field, no_such_argument, too_few_arguments, unset_field, unknown_name, not_fired, finds_nothing}
 use Rattle.hp_analysis.specs.KindFindings.{KindFinding, kind_findings}
@@ -154,15 +153,3 @@ abbrev pub findings_text : Script → Declared → Bytes
 findings_text script d =
     let all = kind_findings script.library d script.units in
     verdicts_of script.library (finds_nothing all) (script_depth (with_installed script)) ++ lines_text script all
-
-abbrev pub check_text : Result Script Refusal → Declared → Bytes
-check_text (Err r) d = refusal_text r
-check_text (Ok script) d = findings_text script d
-
--- the findings on the script in these bytes, or the refusal's line
-abbrev pub check_output : Bytes → Declared → Bytes
-check_output bytes d = check_text (script_of bytes) d
-
--- what was written meets a demand on the text, for one declaration: the promises of the verdicts hold for each
-abbrev pub IsChecked : (Bytes → Type 0) → Bytes → Type 0
-IsChecked demand bytes = (d : Declared) × demand (check_output bytes d)

@@ -1,3 +1,4 @@
 pub mod Placed
 pub mod WithPlaces
 pub mod Told
+pub mod Longest

@@ -6,7 +6,7 @@ use Rattle.hipac_check.proofs.Checked.{checked_before}
 use Rattle.hipac_check.proofs.checking.respond.Goals as goal
 
 pub returns-in_err-answer-clause-begins : goal.returns-in_err-answer-clause-begins
-returns-in_err-answer-clause-begins g c = checked_before (g.W.Sink.contents c.args.writer.now) c.args.input.now
+returns-in_err-answer-clause-begins g c = checked_before (g.W.Sink.contents c.args.writer.now) c.args.is_text c.args.input.now
 
 pub returns-in_err-write_text-clause-begins : goal.returns-in_err-write_text-clause-begins
 returns-in_err-write_text-clause-begins g c =

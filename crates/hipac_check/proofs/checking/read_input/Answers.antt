@@ -1,6 +1,6 @@
 use Rattle.std.proofs.Common.{◌≡◌, subst, take}
 use Rattle.std.specs.Prelude.{IfOk, IfSome}
-use Rattle.hipac_check.proofs.checking.read_script.Goals as goal
+use Rattle.hipac_check.proofs.checking.read_input.Goals as goal
 
 pub returns-clause-bytes : goal.returns-clause-bytes
 returns-clause-bytes g c =
