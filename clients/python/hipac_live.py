@@ -985,6 +985,8 @@ def _lines_of(script: Optional[Script], rules: Optional[Rules]) -> Optional[_Lin
     """The script that is given, if any."""
     if script is not None and rules is not None:
         raise TypeError("a script is given in JSON, or as a text by rules=, and not twice")
+    if isinstance(script, _Lines):
+        return script
     if rules is not None:
         return _TextScript(rules)
     return None if script is None else _JsonScript(script)
@@ -1245,11 +1247,6 @@ class RuleBase:
         lines = _lines_of(script, rules)
         if lines is None:
             raise TypeError("a rule base is given a script, or rules")
-        self._start(lines, program, workers, tree, timeout)
-
-    def _start(self, lines: _Lines, program: Optional[Sequence[str]] = None, workers: Optional[int] = None,
-               tree: bool = False, timeout: Optional[float] = None) -> None:
-        """Starts the program with a script, and reads the answer to it."""
         if workers is not None and not 1 <= workers <= 64:
             raise ValueError(f"there are 1 to 64 workers, and not {workers}")
         opening = lines.opening()
@@ -1292,11 +1289,10 @@ class RuleBase:
             lines = kept.lines()
             first = next(lines, None)
             given = _lines_of(script, rules)
-            begun = given if first is None else _first_of(kept, first, given)
+            begun: Any = given if first is None else _first_of(kept, first, given)
             if begun is None:
                 raise JournalFault(f"{kept.path}: the journal is empty, and no script is given")
-            base = cls.__new__(cls)
-            base._start(begun, **options)
+            base = cls(begun, **options)
             if first is None:
                 kept.append(begun.opening().raw)
             else:
