@@ -32,7 +32,8 @@ from harness import TOP, by_pipe, command_of
 
 sys.path.insert(0, os.path.join(TOP, "tools"))
 
-from hipac_tools.notation.writer import script_text  # noqa: E402 (they lie in tools/)
+from hipac_tools import rulebase  # noqa: E402 (they lie in tools/)
+from hipac_tools.notation.writer import script_text  # noqa: E402
 from tests.made_scripts import ScriptMaker  # noqa: E402
 from tests.made_version4 import Version4Maker  # noqa: E402
 
@@ -368,7 +369,7 @@ def check(commands, seed):
     script = made(seed)
     given = json.dumps(script).encode()
     status, wrote, _ = by_pipe(commands["hipac_check"], given)
-    if by_pipe([*commands["hipac_check"], "--text"], script_text(script).encode())[1] != wrote:
+    if by_pipe([*commands["hipac_check"], "--text"], script_text(rulebase.read(json.dumps(script))).encode())[1] != wrote:
         return "the script's text has other findings", {}
     _, report, _ = by_pipe([*commands["hipac"], "--tree"], given)
     found, lines = wrote.decode().splitlines(), report.decode().splitlines()

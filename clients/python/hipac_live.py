@@ -3,13 +3,14 @@
     from pathlib import Path
     from hipac_live import RuleBase
 
-    with RuleBase(Path("rules.json")) as base:
-        unit = base.tx([["update", "item", 7, [["stock", 1]]]])
+    with RuleBase(rules=Path("stock.rules")) as base:
+        unit = base.transaction("update item(7) set stock = $stock", stock=1)
         print(unit.ending, unit.emits)
         print(base.get("item", 7)["stock"])
 
-`docs/LIVE.md` describes the lines and the answers, `docs/SCRIPT.md` the statements of a transaction. A statement is
-given as the list that a script has, and a value of the language is an int, a bool or a str.
+`docs/LIVE.md` describes the lines and the answers, `docs/SCRIPT.md` the statements of a transaction. A rule base is
+given texts, or else JSON: then a statement is the list that a script has. A value of the language is an int, a bool or
+a str.
 
 A transaction that aborts is an answer, and no exception: its unit says so. These are exceptions:
 
@@ -22,6 +23,7 @@ A transaction that aborts is an answer, and no exception: its unit says so. Thes
 
 from __future__ import annotations
 
+import bisect
 import contextlib
 import fcntl
 import heapq
@@ -46,6 +48,9 @@ PROGRAM = (os.environ.get("HIPAC_LIVE") or str(Path(__file__).resolve().parent.p
 Value = Union[int, bool, str]
 Script = Union[Mapping[str, Any], str, bytes, "os.PathLike[str]"]
 """A script: its JSON as a dict, its JSON text, or the path of its file (a `Path`; a str is always JSON text)."""
+
+Rules = Union[str, bytes, "os.PathLike[str]"]
+"""A script as text in the notation, or the path of its file (a `Path`; a str is always the text itself)."""
 
 _LOG = logging.getLogger("hipac_live")
 
@@ -84,17 +89,21 @@ class HipacError(Exception):
 class Refused(HipacError):
     """A line that is refused. Nothing of it has happened.
 
-    `code` is S1 to S6. S2, S3 and S4 have a `path` into the line's JSON value, and `part` is what stands there, if the
-    path leads anywhere; S5 has a `limit`, the word of the limit.
+    `code` is S1 to S6; S5 has a `limit`, the word of the limit. Of JSON, S2, S3 and S4 have a `path` into the line's
+    value, and `part` is what stands there, if the path leads anywhere. Of a text, S1 to S4 have a `place`, the line and
+    the column in the text that the call was given, both from 1, and `part` is what that line goes on with there.
     """
 
-    def __init__(self, code: str, path: Optional[str] = None, limit: Optional[str] = None, part: Any = None):
-        told = " ".join(word for word in ("refused", code, path, limit) if word) + f" ({REFUSALS[code]})"
-        if path is not None:
-            shown = json.dumps(part, ensure_ascii=False)
+    def __init__(self, code: str, path: Optional[str] = None, limit: Optional[str] = None, part: Any = None,
+                 place: Optional[Tuple[int, int]] = None):
+        at = path if place is None else f"{place[0]}:{place[1]}"
+        reason = REFUSALS[code] if place is None or code != "S1" else "not in the notation"
+        told = " ".join(word for word in ("refused", code, at, limit) if word) + f" ({reason})"
+        if at is not None:
+            shown = json.dumps(part, ensure_ascii=False) if place is None else part or "the end"
             told += ": " + (shown if len(shown) <= _SHOWN else shown[:_SHOWN] + " ..")
         super().__init__(told)
-        self.code, self.path, self.limit, self.part = code, path, limit, part
+        self.code, self.path, self.limit, self.part, self.place = code, path, limit, part, place
 
 
 class ProgramEnded(HipacError):
@@ -335,7 +344,10 @@ _MODE = "(?:immediate|deferred|separate|dependent|exclusive)"
 _LIMIT = "(?:size|classes|fields|rules|expr|event|nesting|text|depth|args|moments)"
 
 _OK = re.compile(rf"ok ({_COUNT})")
-_REFUSED = re.compile(rf"refused (?:(S1|S6)|(S[234]) (/\S*)|(S5) ({_LIMIT}))")
+_OVER = rf"(?P<over>S5) (?P<limit>{_LIMIT})"
+_REFUSED = re.compile(rf"refused (?:(?P<bare>S1|S6)|(?P<pathed>S[234]) (?P<path>/\S*)|{_OVER})")
+_REFUSED_TEXT = re.compile(
+    rf"refused (?:(?P<bare>S6)|(?P<placed>S[1-4]) (?P<line>{_COUNT}):(?P<column>{_COUNT})|{_OVER})")
 
 _UNIT = re.compile(rf"unit ({_COUNT})(?: time ({_COUNT}))? ({_END})")
 _DETACHED = re.compile(rf"(separate|dependent|exclusive) ({_NAME}) ({_END})")
@@ -402,9 +414,10 @@ def _node(text: str) -> Optional[Node]:
 class _Reader:
     """Takes the lines of one answer in, and refuses what can't be the next one."""
 
-    def __init__(self, count: int, trees: bool):
+    def __init__(self, count: int, trees: bool, is_text: bool = False):
         self._answer = Answer(count=count)
         self._trees = trees
+        self._is_text = is_text
         # The transaction of the last heading, and the nodes of its tree that are open.
         self._transaction: Union[Unit, Detached, None] = None
         self._open: List[List[Node]] = []
@@ -417,13 +430,22 @@ class _Reader:
         return last
 
     def _last(self, line: str) -> Union[Answer, Refused, None]:
-        ok, refused = _OK.fullmatch(line), _REFUSED.fullmatch(line)
+        ok = _OK.fullmatch(line)
         if ok and int(ok[1]) == self._answer.count:
             return self._answer
-        if refused and self._transaction is None and not self._has_state():
-            bare, pathed, path, over, limit = refused.groups()
-            return Refused(bare or pathed or over, path, limit)
+        if self._transaction is None and not self._has_state():
+            return self._refused(line)
         return None
+
+    def _refused(self, line: str) -> Optional[Refused]:
+        """A refusal as it is written: its place is that in the line that was sent."""
+        found = (_REFUSED_TEXT if self._is_text else _REFUSED).fullmatch(line)
+        if found is None:
+            return None
+        if not self._is_text:
+            return Refused(found["bare"] or found["pathed"] or found["over"], found["path"], found["limit"])
+        place = (int(found["line"]), int(found["column"])) if found["placed"] else None
+        return Refused(found["bare"] or found["placed"] or found["over"], None, found["limit"], None, place)
 
     def _has_state(self) -> bool:
         return bool(self._answer.state.objects or self._answer.state.rules)
@@ -478,13 +500,17 @@ class _Reader:
         return False
 
 
-# The lines that are sent.
+# The lines that are sent. A rule base has all its lines in one notation: in JSON, or as texts.
+
+_MOST_BYTES = 1_048_576
+
+_PATH_HINT = " (the path of a file is given as a Path)"
 
 
-def _line(value: Any) -> bytes:
-    """A JSON value as one line without its line feed; ValueError or TypeError where it is none."""
+def _json_text(value: Any) -> str:
+    """A JSON value on one line; ValueError or TypeError where it is none."""
     try:
-        return json.dumps(value, ensure_ascii=False, allow_nan=False, separators=(",", ":")).encode("utf-8")
+        return json.dumps(value, ensure_ascii=False, allow_nan=False, separators=(",", ":"))
     except RecursionError:
         raise ValueError("the value is nested too deeply") from None
 
@@ -504,7 +530,9 @@ def _script_value(script: Script) -> Any:
     try:
         return json.loads(text, object_pairs_hook=_no_doubles)
     except json.JSONDecodeError as fault:
-        hint = "" if isinstance(script, os.PathLike) else " (the path of a file is given as a Path)"
+        hint = "" if isinstance(script, os.PathLike) else _PATH_HINT
+        if _BEGINS_TEXT.match(text if isinstance(text, bytes) else text.encode("utf-8", "replace")):
+            hint += " (a text in the notation is given as rules=)"
         raise ValueError(f"the script is no JSON text: {fault}{hint}") from None
 
 
@@ -520,15 +548,451 @@ def _at_path(value: Any, path: str) -> Any:
     return value
 
 
-def _clock_after(items: Any) -> Optional[int]:
-    """Where the last move among these items leaves the clock."""
-    moves = [item[1] for item in items if isinstance(item, (list, tuple)) and len(item) == 2 and item[0] == "clock"]
-    return moves[-1] if moves else None
+# A text on one line. White space and comments mean nothing but that a token ends.
+
+_BEGINS_TEXT = re.compile(rb"[ \t\r\n]*[A-Za-z#]")
+
+_PIECE = re.compile(
+    r"""(?P<space>(?:[ \t\r\n]|\#[^\n]*)+)"""
+    r"""|(?P<text>"(?:[^"\\]|\\.)*"?)"""
+    r"""|\$(?P<value>[A-Za-z_][A-Za-z0-9_]*)"""
+    r"""|`?[A-Za-z][A-Za-z0-9_]*`?|[0-9]+|.""", re.DOTALL)
+
+_RESERVED = frozenset("""
+    on if do where as set else otherwise then until and or not true false new old event key immediate deferred separate
+    dependent exclusive create update delete signal emit each for with sub abort veto install enable disable remove fire
+""".split())
+
+
+def _text_value(value: Value) -> str:
+    """A value as an operand of the notation."""
+    if isinstance(value, bool):
+        return "true" if value else "false"
+    if isinstance(value, int):
+        return str(value) if value >= 0 else f"({value})"
+    if isinstance(value, str):
+        return json.dumps(value, ensure_ascii=False)
+    raise TypeError(f"a value is an int, a bool or a str, and not {value!r}")
+
+
+def _text_name(name: str) -> str:
+    return f"`{name}`" if name in _RESERVED else name
+
+
+class _OneLine:
+    """A text on one line, with values in the place of `$name`. It knows where its tokens stood in the text as it was
+    given: places are shown there."""
+
+    def __init__(self, source: str, values: Optional[Mapping[str, Value]] = None, before: str = "", after: str = ""):
+        self.source = source
+        self.tokens: List[str] = []
+        self.starts: List[int] = []
+        self._origins: List[Tuple[int, int]] = []
+        """Where each token began in the text as it was given, and how many of its characters stood there."""
+        self._line = before
+        left, is_apart = set(values or ()), False
+        for piece in _PIECE.finditer(source):
+            if piece["space"]:
+                is_apart = True
+                continue
+            written, is_value = piece[0], piece["value"] is not None and values is not None
+            if piece["text"]:
+                # A text that isn't closed in its line is a fault there, and mustn't be closed in the next one.
+                written = written.replace("\n", "\x1f")
+            elif is_value:
+                written = _text_value(_given(values or {}, piece["value"]))
+                left.discard(piece["value"])
+            # A name before a value ends there.
+            if (is_apart or is_value) and self._line[-1:] not in ("", " ", "("):
+                self._line += " "
+            self.tokens.append(written)
+            self.starts.append(len(self._line))
+            self._origins.append((piece.start(), 0 if is_value else len(written)))
+            self._line += written
+            is_apart = False
+        if left:
+            raise ValueError(f"the text has no ${min(left)}, for which a value is given")
+        self.text = self._line + after
+
+    def origin(self, column: int) -> int:
+        """Where in the text as it was given that stands which has this column of the line."""
+        at = bisect.bisect_right(self.starts, column - 1) - 1
+        if at < 0 or column - 1 >= len(self._line):
+            return len(self.source.rstrip(" \t\r\n"))
+        begin, length = self._origins[at]
+        return begin + min(column - 1 - self.starts[at], length)
+
+
+def _given(values: Mapping[str, Value], name: str) -> Value:
+    try:
+        return values[name]
+    except KeyError:
+        raise ValueError(f"no value is given for ${name}") from None
+
+
+def _explained(refused: Refused, source: str, offset: int) -> Refused:
+    """A refusal with its place in a text."""
+    line_start = source.rfind("\n", 0, offset) + 1
+    place = source.count("\n", 0, offset) + 1, offset - line_start + 1
+    part = source[offset:].partition("\n")[0].rstrip()
+    return Refused(refused.code, None, refused.limit, part or None, place)
+
+
+# What is sent, and what it asks for.
+
+
+class _Line:
+    """A line: `raw` is what is sent, and `word` is `tx`, `clock` or `show`, if it is one of these."""
+
+    raw: bytes
+    word: Optional[str] = None
+
+    def time(self) -> Optional[int]:
+        """Where it leaves the clock, if it is accepted and moves it."""
+        raise NotImplementedError
+
+    def explain(self, refused: Refused) -> Refused:
+        """The refusal of this line, with the part that is refused."""
+        raise NotImplementedError
+
+
+class _JsonLine(_Line):
+    def __init__(self, value: Any, raw: Optional[bytes] = None):
+        self.value = value
+        self.raw = _json_text(value).encode("utf-8") if raw is None else raw
+        self.word = value[0] if isinstance(value, (list, tuple)) and value and isinstance(value[0], str) else None
+
+    def time(self) -> Optional[int]:
+        items = self.value.get("items", ()) if isinstance(self.value, dict) else [self.value]
+        moves = [it[1] for it in items if isinstance(it, (list, tuple)) and len(it) == 2 and it[0] == "clock"]
+        return moves[-1] if moves else None
+
+    def explain(self, refused: Refused) -> Refused:
+        part = None if refused.path is None else _at_path(self.value, refused.path)
+        return Refused(refused.code, refused.path, refused.limit, part)
+
+
+class _TextLine(_Line):
+    """A line of text; `text` is it in short, if something else is sent, such as a line of a journal with comments."""
+
+    def __init__(self, text: _OneLine, raw: Optional[bytes] = None):
+        self._text, self._is_short = text, raw is None
+        self.raw = text.text.encode("utf-8") if raw is None else raw
+        first, *rest = re.findall(r"[^ {]+", text.text[:40]) or [""]
+        self.word = {"transaction": "tx"}.get(first, first)
+
+    def time(self) -> Optional[int]:
+        moved = re.fullmatch(r"clock ([0-9]+)", self._text.text)
+        return int(moved[1]) if moved else None
+
+    def explain(self, refused: Refused) -> Refused:
+        if refused.place is None:
+            return refused
+        column = refused.place[1]
+        return _explained(refused, self._text.source, self._text.origin(column) if self._is_short else column - 1)
+
+
+class _OpeningText(_Line):
+    """The line of a script as text. If the script is a file's, nothing is sent, and places are in the file."""
+
+    def __init__(self, script: "_TextScript"):
+        self._script = script
+        self.raw = script.text.text.encode("utf-8")
+
+    def time(self) -> Optional[int]:
+        return self._script.time()
+
+    def explain(self, refused: Refused) -> Refused:
+        if refused.place is None:
+            return refused
+        source, (line, column) = self._script.text.source, refused.place
+        if self._script.path is None:
+            return _explained(refused, source, self._script.text.origin(column))
+        before = source.split("\n")[:line - 1]
+        return _explained(refused, source, sum(len(it) + 1 for it in before) + column - 1)
+
+
+# Scripts, and the lines of their rule bases.
+
+
+@dataclass(frozen=True)
+class _Event:
+    """The event of a rule: its patterns in JSON, and whether what it remembers of the past decides when it occurs."""
+
+    patterns: List[List[Any]]
+    is_composite: bool
+
+    def difference(self) -> Optional[str]:
+        """Why an enabled rule with this event doesn't go on in a snapshot as before."""
+        if self.is_composite:
+            return "loses its past"
+        if any(pattern[0] == "commit" for pattern in self.patterns):
+            return "fires once more, at the end of the snapshot's own transaction"
+        return None
+
+
+class _Lines:
+    """The script of a rule base, and how the lines of that rule base are written."""
+
+    is_text: bool
+    words: List[str]
+    """The words of the command line that go with the script."""
+    is_sent = True
+    """Whether the script is sent as the first line, and not read by the program from its file."""
+
+    def opening(self) -> _Line:
+        """The line of the script."""
+        raise NotImplementedError
+
+    def kept(self, raw: bytes) -> _Line:
+        """A later line as it stands in a journal."""
+        raise NotImplementedError
+
+    def item(self, item: Any) -> _Line:
+        raise NotImplementedError
+
+    def show(self, *part: Any) -> _Line:
+        """The question for the state, or for a part of it."""
+        raise NotImplementedError
+
+    def is_same(self, other: "_Lines") -> bool:
+        """Whether the other one is the same script."""
+        raise NotImplementedError
+
+    def has_changed(self) -> bool:
+        """Whether the file of the script has changed since it was read."""
+        return False
+
+    def events(self) -> Dict[str, _Event]:
+        """The events of the rules by their names, in the script's order."""
+        raise NotImplementedError
+
+    def create(self, thing: Object) -> Any:
+        """The statement that creates an object."""
+        raise NotImplementedError
+
+    def on_rule(self, word: str, name: str) -> Any:
+        """The statement that installs a rule, say."""
+        raise NotImplementedError
+
+    def transaction(self, statements: List[Any]) -> Any:
+        """The item that is a transaction."""
+        raise NotImplementedError
+
+    def clock(self, time: int) -> Any:
+        """The item that moves the clock."""
+        raise NotImplementedError
+
+    def without_items(self) -> "_Lines":
+        """The script without its own items."""
+        raise NotImplementedError
+
+    def lines_with(self, items: List[Any]) -> List[bytes]:
+        """The lines of the script with these items before its own: one, or several if that is too long."""
+        raise NotImplementedError
+
+    def size(self, part: Any) -> int:
+        """How many bytes a statement has."""
+        raise NotImplementedError
+
+
+class _JsonScript(_Lines):
+    """A script in JSON; its items and statements are lists."""
+
+    is_text = False
+
+    def __init__(self, script: Script):
+        self.value = _script_value(script)
+        self.words = []
+
+    def opening(self) -> _Line:
+        return _JsonLine(self.value)
+
+    def kept(self, raw: bytes) -> _Line:
+        try:
+            value = json.loads(raw)
+        except (ValueError, RecursionError):
+            value = None
+        return _JsonLine(value, raw)
+
+    def item(self, item: Any) -> _Line:
+        return _JsonLine(item)
+
+    def show(self, *part: Any) -> _Line:
+        return _JsonLine(["show", *part])
+
+    def is_same(self, other: _Lines) -> bool:
+        return isinstance(other, _JsonScript) and self.value == other.value
+
+    def events(self) -> Dict[str, _Event]:
+        return {rule[0]: _Event(list(_patterns(rule[1])), _is_composite(rule[1])) for rule in self.value["rules"]}
+
+    def create(self, thing: Object) -> Any:
+        return ["create", thing.class_name, thing.key, [list(pair) for pair in thing.fields.items()]]
+
+    def on_rule(self, word: str, name: str) -> Any:
+        return [word, name]
+
+    def transaction(self, statements: List[Any]) -> Any:
+        return ["tx", statements]
+
+    def clock(self, time: int) -> Any:
+        return ["clock", time]
+
+    def without_items(self) -> _Lines:
+        return _JsonScript({**self.value, "items": []})
+
+    def lines_with(self, items: List[Any]) -> List[bytes]:
+        all_items = [*items, *self.value["items"]]
+        whole = _JsonLine({**self.value, "items": all_items}).raw
+        if len(whole) <= _MOST_BYTES:
+            return [whole]
+        return [_JsonLine(it).raw for it in ({**self.value, "items": []}, *all_items)]
+
+    def size(self, part: Any) -> int:
+        return len(_json_text(part).encode("utf-8"))
+
+
+def _patterns(event: Sequence[Any]) -> Iterator[List[Any]]:
+    """The patterns of an event."""
+    if event[0] in ("or", "seq", "closure"):
+        for part in event[1:]:
+            yield from _patterns(part)
+    else:
+        yield list(event)
+
+
+def _is_composite(event: Sequence[Any]) -> bool:
+    return event[0] in ("seq", "closure") or event[0] == "or" and any(map(_is_composite, event[1:]))
+
+
+class _TextScript(_Lines):
+    """A script as text, perhaps in a file; its items and statements are texts."""
+
+    is_text = True
+
+    def __init__(self, rules: Rules):
+        self.path = Path(rules) if isinstance(rules, os.PathLike) else None
+        self._content = Path(rules).read_bytes() if isinstance(rules, os.PathLike) else rules
+        # Where the bytes of a file are no UTF-8 the program refuses it.
+        how = "strict" if self.path is None else "replace"
+        text = self._content.decode("utf-8", how) if isinstance(self._content, bytes) else self._content
+        if self.path is None and re.fullmatch(r"\S*", text):
+            raise ValueError(f"the rules are no text in the notation{_PATH_HINT}")
+        self.text = _OneLine(text)
+        self.words = ["--text"] + ([] if self.path is None else ["--script", os.path.abspath(self.path)])
+        self.is_sent = self.path is None
+        self._parts = _begins_of_parts(self.text.tokens)
+
+    def has_changed(self) -> bool:
+        return self.path is not None and self.path.read_bytes() != self._content
+
+    def time(self) -> Optional[int]:
+        """Where the script's own items leave the clock."""
+        tokens = self.text.tokens
+        moves = [tokens[at + 1] for at in self._parts if tokens[at] == "clock" and at + 1 < len(tokens)]
+        return int(moves[-1]) if moves and moves[-1].isdigit() else None
+
+    def opening(self) -> _Line:
+        return _OpeningText(self)
+
+    def kept(self, raw: bytes) -> _Line:
+        return _TextLine(_OneLine(raw.decode("utf-8", "replace")), raw)
+
+    def item(self, item: Any) -> _Line:
+        if not isinstance(item, str):
+            raise TypeError("this rule base is given texts (rules=): its items are texts, and its transactions those "
+                            "of `transaction`")
+        return _TextLine(_OneLine(item))
+
+    def show(self, *part: Any) -> _Line:
+        return _TextLine(_OneLine("show"))
+
+    def is_same(self, other: _Lines) -> bool:
+        return isinstance(other, _TextScript) and self.text.tokens == other.text.tokens
+
+    def events(self) -> Dict[str, _Event]:
+        tokens = self.text.tokens
+        rules = [at for at in self._parts if tokens[at] == "rule"]
+        return {tokens[at + 1].strip("`"): _text_event(tokens[tokens.index("on", at + 2) + 1:]) for at in rules}
+
+    def create(self, thing: Object) -> Any:
+        pairs = [f"{_text_name(name)} = {_text_value(value)}" for name, value in thing.fields.items()]
+        row = " set " + ", ".join(pairs) if pairs else ""
+        return f"create {_text_name(thing.class_name)}({thing.key}){row}"
+
+    def on_rule(self, word: str, name: str) -> Any:
+        return f"{word} {_text_name(name)}"
+
+    def transaction(self, statements: List[Any]) -> Any:
+        return "transaction { " + " ".join(statements) + " }" if statements else "transaction {}"
+
+    def clock(self, time: int) -> Any:
+        return f"clock {time}"
+
+    def _divided(self) -> List[str]:
+        """The script without its items, and its items."""
+        tokens, line = self.text.tokens, self.text.text
+        begins = [self.text.starts[at] for at in self._parts if tokens[at] in ("transaction", "clock")]
+        return [line[begin:end].strip() for begin, end in zip([0, *begins], [*begins, len(line)])]
+
+    def without_items(self) -> _Lines:
+        return _TextScript(self._divided()[0])
+
+    def lines_with(self, items: List[Any]) -> List[bytes]:
+        head, *own = self._divided()
+        parts = [head, *items, *own]
+        whole = " ".join(parts).encode("utf-8")
+        return [whole] if len(whole) <= _MOST_BYTES else [part.encode("utf-8") for part in parts]
+
+    def size(self, part: Any) -> int:
+        return len(part.encode("utf-8"))
+
+
+def _begins_of_parts(tokens: List[str]) -> List[int]:
+    """Where the classes, rules and items begin. Before each, at no depth, stands a number or a closing brace."""
+    begins, depth = [], 0
+    for at, token in enumerate(tokens):
+        follows = depth == 0 and at > 0 and (tokens[at - 1] == "}" or tokens[at - 1].isdigit())
+        if follows and token in ("class", "rule", "transaction", "clock"):
+            begins.append(at)
+        depth += (token == "{") - (token == "}")
+    return begins
+
+
+def _text_event(tokens: List[str]) -> _Event:
+    """The event with which these tokens begin."""
+    patterns: List[List[Any]] = []
+    is_composite, left = False, iter(tokens)
+    for word in left:
+        if word in ("create", "update", "delete", "signal"):
+            patterns.append([word, next(left)])
+        elif word == "moment":
+            patterns.append(["at", int(next(left))])
+        elif word == "every":
+            period, _, first = int(next(left)), next(left), int(next(left))
+            patterns.append(["every", first, period])
+        elif word == "commit":
+            patterns.append([word])
+        elif word in ("then", "closure"):
+            is_composite = True
+        elif word in ("if", "do", "immediate", "deferred", "separate", "dependent", "exclusive"):
+            break
+    return _Event(patterns, is_composite)
+
+
+def _lines_of(script: Optional[Script], rules: Optional[Rules]) -> Optional[_Lines]:
+    """The script that is given, if any."""
+    if script is not None and rules is not None:
+        raise TypeError("a script is given in JSON, or as a text by rules=, and not twice")
+    if isinstance(script, _Lines):
+        return script
+    if rules is not None:
+        return _TextScript(rules)
+    return None if script is None else _JsonScript(script)
 
 
 # Snapshots: the lines of a new rule base that stands as another does.
-
-_MOST_BYTES = 1_048_576
 
 # The most moments of a move of the clock.
 _MOST_MOMENTS = 1_000
@@ -537,32 +1001,9 @@ _MOST_MOMENTS = 1_000
 _MOST_MOVED = 1_000_000
 
 
-def _patterns(event: Sequence[Any]) -> Iterator[Sequence[Any]]:
-    """The patterns of an event."""
-    if event[0] in ("or", "seq", "closure"):
-        for part in event[1:]:
-            yield from _patterns(part)
-    else:
-        yield event
-
-
-def _is_composite(event: Sequence[Any]) -> bool:
-    """Whether what an event remembers of the past decides when it occurs."""
-    return event[0] in ("seq", "closure") or event[0] == "or" and any(map(_is_composite, event[1:]))
-
-
-def _difference(event: Sequence[Any]) -> Optional[str]:
-    """Why an enabled rule with this event doesn't go on in a snapshot as before."""
-    if _is_composite(event):
-        return "loses its past"
-    if any(pattern[0] == "commit" for pattern in _patterns(event)):
-        return "fires once more, at the end of the snapshot's own transaction"
-    return None
-
-
-def _moments_up_to(rules: Sequence[Any], time: int) -> Iterator[int]:
+def _moments_up_to(events: Iterable[_Event], time: int) -> Iterator[int]:
     """The moments up to a time that events name, in ascending order, each once."""
-    named = [pattern[1:] for rule in rules for pattern in _patterns(rule[1]) if pattern[0] in ("at", "every")]
+    named = [it[1:] for event in events for it in event.patterns if it[0] in ("at", "every")]
     streams = [range(first, time + 1, *period) if period else [first] for first, *period in named]
     previous = 0
     for moment in heapq.merge(*streams):
@@ -571,49 +1012,46 @@ def _moments_up_to(rules: Sequence[Any], time: int) -> Iterator[int]:
             previous = moment
 
 
-def _moves(rules: Sequence[Any], time: int) -> Iterator[List[Any]]:
+def _moves(events: Iterable[_Event], time: int) -> Iterator[int]:
     """Moves of the clock from 0 to a time, each with as many moments as it may have."""
     count, last = 0, 0
-    for moment in _moments_up_to(rules, time):
+    for moment in _moments_up_to(events, time):
         if count == _MOST_MOVED:
             raise SnapshotFault({"the clock": f"has passed more than {_MOST_MOVED:,} moments"})
         if count and count % _MOST_MOMENTS == 0:
-            yield ["clock", last]
+            yield last
         count, last = count + 1, moment
     if time:
-        yield ["clock", time]
+        yield time
 
 
-def _transactions(statements: Iterable[List[Any]]) -> Iterator[List[Any]]:
+def _transactions(lines: _Lines, statements: Iterable[Any]) -> Iterator[Any]:
     """Transactions of these statements, none of which is too long for a line."""
     body: List[Any] = []
     size = 0
     for statement in statements:
-        length = len(_line(statement)) + 1
+        length = lines.size(statement) + 1
         if body and size + length > _MOST_BYTES // 2:
-            yield ["tx", body]
+            yield lines.transaction(body)
             body, size = [], 0
         body.append(statement)
         size += length
     if body:
-        yield ["tx", body]
+        yield lines.transaction(body)
 
 
-def _snapshot(script: Mapping[str, Any], state: State, time: int) -> List[bytes]:
+def _snapshot(lines: _Lines, state: State, time: int) -> List[bytes]:
     """The lines of a rule base of this script that has the objects, the rules' statuses and the time of another one.
 
     The objects come before the rules, and the clock before both: so no rule fires but those on `commit`.
     """
-    creates = [["create", it.class_name, it.key, [list(pair) for pair in it.fields.items()]] for it in state.objects]
-    known = [rule[0] for rule in script["rules"]]
+    events = lines.events()
     # In this order, and in one transaction, the definitions of a snapshot restore the rules.
     operations: Dict[str, List[str]] = {"absent": [], "enabled": ["install"], "disabled": ["install", "disable"]}
-    rules = [[word, name] for name in known for word in operations[state.rules.get(name, "absent")]]
-    items = [*_moves(script["rules"], time), *_transactions(creates), ["tx", rules]]
-    whole = _line({**script, "items": [*items, *script["items"]]})
-    if len(whole) <= _MOST_BYTES:
-        return [whole]
-    return [_line({**script, "items": []}), *map(_line, [*items, *script["items"]])]
+    rules = [lines.on_rule(word, name) for name in events for word in operations[state.rules.get(name, "absent")]]
+    return lines.lines_with([
+        *map(lines.clock, _moves(events.values(), time)),
+        *_transactions(lines, map(lines.create, state.objects)), lines.transaction(rules)])
 
 
 _SomeJournal = TypeVar("_SomeJournal", bound="Journal")
@@ -777,8 +1215,21 @@ class _Program:
         return self._process.returncode, "".join(self._errors)
 
 
+def _first_of(journal: Journal, first: bytes, given: Optional[_Lines]) -> _Lines:
+    """The script of a journal: that of its first line, or the given file's if it has the same."""
+    kept = _TextScript(first) if _BEGINS_TEXT.match(first) else _JsonScript(first)
+    if given is None:
+        return kept
+    if not given.is_same(kept):
+        raise JournalFault(f"{journal.path}: the journal begins with another script than the one given")
+    return kept if given.is_sent else given
+
+
 class RuleBase:
     """A rule base in a program that stays up. Several threads may share it: each call is one line and its answer.
+
+    It is given a `script` in JSON, and then its items are JSON (`tx`); or the `rules` as text in the notation, and then
+    its items are texts (`transaction`). The program reads the text from its file, if it is given as a `Path`.
 
     - `program`: the words that start the program, else `PROGRAM`. The launcher makes it first if need be, which takes
       a minute or two. What is said on standard error is logged as warnings of "hipac_live".
@@ -790,14 +1241,16 @@ class RuleBase:
     What a call answered has happened, and is lost with the program unless there is a journal (`recover`).
     """
 
-    def __init__(self, script: Script, *, program: Optional[Sequence[str]] = None, workers: Optional[int] = None,
-                 tree: bool = False, timeout: Optional[float] = None):
+    def __init__(self, script: Optional[Script] = None, *, rules: Optional[Rules] = None,
+                 program: Optional[Sequence[str]] = None, workers: Optional[int] = None, tree: bool = False,
+                 timeout: Optional[float] = None):
+        lines = _lines_of(script, rules)
+        if lines is None:
+            raise TypeError("a rule base is given a script, or rules")
         if workers is not None and not 1 <= workers <= 64:
             raise ValueError(f"there are 1 to 64 workers, and not {workers}")
-        value = _script_value(script)
-        self._script = value
-        self._script_line = _line(value)
-        self._tree, self._timeout = tree, timeout
+        opening = lines.opening()
+        self._lines, self._tree, self._timeout = lines, tree, timeout
         self._journal: Optional[Journal] = None
         self._lock = threading.Lock()
         self._ended: Optional[ProgramEnded] = None
@@ -809,37 +1262,39 @@ class RuleBase:
         """How many lines of a journal were sent again, the script among them."""
         self.last_replayed: Union[Answer, Refused, None] = None
         """The answer to the last of these lines: perhaps nobody has had it yet."""
-        words = (["--workers", str(workers)] if workers else []) + (["--tree"] if tree else [])
+        words = [*(["--workers", str(workers)] if workers else []), *(["--tree"] if tree else []), *lines.words]
         self._program = _Program([*(program or PROGRAM), *words])
         try:
-            self.opening: List[Unit] = self._exchange(self._script_line, value).units
+            self.opening: List[Unit] = self._exchange(opening, is_sent=lines.is_sent).units
             """The units of the script's own items."""
+            if lines.has_changed():
+                raise HipacError("the file of the rules was changed while the program read it")
         except BaseException:
             self.close()
             raise
 
     @classmethod
-    def recover(cls, journal: Union[Journal, str, "os.PathLike[str]"], script: Optional[Script] = None,
-                **options: Any) -> "RuleBase":
+    def recover(cls, journal: Union[Journal, str, "os.PathLike[str]"], script: Optional[Script] = None, *,
+                rules: Optional[Rules] = None, **options: Any) -> "RuleBase":
         """The rule base of a journal, which goes on with it: each later item is in it before it is sent.
 
-        The journal's first line is the script. An empty journal begins with the script given here. If the journal has
-        another script than the one given here, it is a JournalFault. A line that was in the journal and had no answer
-        runs once, with the others; `last_replayed` has the answer to the last one. The options are those of a new one.
+        The journal's first line is the script. An empty journal begins with the script given here, in JSON or as
+        `rules`. If the journal has another script than the one given here, it is a JournalFault; white space and
+        comments are no difference. A line that was in the journal and had no answer runs once, with the others;
+        `last_replayed` has the answer to the last one. The options are those of a new one.
         """
         kept = journal if isinstance(journal, Journal) else Journal(journal)
         base = None
         try:
             lines = kept.lines()
             first = next(lines, None)
-            if first is not None and script is not None and _script_value(first) != _script_value(script):
-                raise JournalFault(f"{kept.path}: the journal begins with another script than the one given")
-            begun = script if first is None else first
+            given = _lines_of(script, rules)
+            begun: Any = given if first is None else _first_of(kept, first, given)
             if begun is None:
                 raise JournalFault(f"{kept.path}: the journal is empty, and no script is given")
             base = cls(begun, **options)
             if first is None:
-                kept.append(base._script_line)
+                kept.append(begun.opening().raw)
             else:
                 base.replay(lines)
                 base.replayed += 1
@@ -856,48 +1311,60 @@ class RuleBase:
         """The number of the program's process."""
         return self._program.pid
 
+    def transaction(self, statements: str, /, **values: Value) -> Unit:
+        """Runs a transaction, of statements as text; of a rule base that was given `rules`.
+
+        `$name` in the text stands for the value of that name: so no text that is a value needs quotes.
+        """
+        if not self._lines.is_text:
+            raise TypeError("this rule base is given JSON: its transactions are lists (tx)")
+        return self._ask(_TextLine(_OneLine(statements, values, "transaction { ", " }")), self._journal).units[0]
+
     def tx(self, body: Sequence[Any]) -> Unit:
-        """Runs a transaction: a list of statements."""
+        """Runs a transaction, a list of statements; of a rule base that was given JSON."""
         return self.item(["tx", body])[0]
 
     def clock(self, t: int) -> List[Unit]:
         """Moves the clock, and gives a unit for each moment that was due."""
-        return self.item(["clock", t])
+        return self.item(self._lines.clock(t))
 
-    def item(self, item: Sequence[Any]) -> List[Unit]:
-        """Runs an item of a script, `["tx", body]` or `["clock", t]`, and gives its units."""
-        return self._ask(item, self._journal).units
+    def item(self, item: Union[Sequence[Any], str]) -> List[Unit]:
+        """Runs an item of a script, and gives its units: `["tx", body]` or `["clock", t]`, or else its text."""
+        return self._ask(self._lines.item(item), self._journal).units
 
     def show(self) -> State:
         """The objects and the rules as they are."""
-        return self._ask(["show"]).state
+        return self._ask(self._lines.show()).state
 
     def get(self, class_name: str, key: int) -> Optional[Object]:
-        """The object as it is, or None if there is none. The cost doesn't grow with the number of objects."""
-        return self._ask(["show", class_name, key]).state.find(class_name, key)
+        """The object as it is, or None if there is none. With JSON the cost doesn't grow with the number of objects.
+        With texts it is that of `show`, since no text asks for a part of the state."""
+        return self._ask(self._lines.show(class_name, key)).state.find(class_name, key)
 
     def rows(self, class_name: str) -> List[Object]:
-        """The objects of a class as they are, in rising key order. The cost goes with their number."""
-        return self._ask(["show", class_name]).state.objects
+        """The objects of a class as they are, in rising key order. With JSON the cost goes with their number, with
+        texts it is that of `show`."""
+        return self._ask(self._lines.show(class_name)).state.all(class_name)
 
-    def snapshot(self, script: Optional[Script] = None, *, lose_pasts: bool = False) -> List[bytes]:
+    def snapshot(self, script: Optional[Script] = None, *, rules: Optional[Rules] = None,
+                 lose_pasts: bool = False) -> List[bytes]:
         """The lines of a journal whose rule base stands as this one does: a script, and items if it is too long.
 
         The new rule base has the objects, the rules' statuses and the clock's time. Its units are numbered anew. An
         enabled rule with `seq` or `closure` in its event loses its past, and one on `commit` fires once more; where
-        there is such a rule, and `lose_pasts` isn't set, it is a SnapshotFault. If a script is given, its classes and
-        rules take the place of this one's: a rule has the status of the old one of its name, and the script's own items
-        follow.
+        there is such a rule, and `lose_pasts` isn't set, it is a SnapshotFault. If a script is given, in JSON or as
+        `rules`, its classes and rules take the place of this one's: a rule has the status of the old one of its name,
+        and the script's own items follow.
         """
-        value = _script_value(script) if script is not None else {**self._script, "items": []}
+        lines = _lines_of(script, rules) or self._lines.without_items()
         with self._lock:
             self._raise_if_ended()
-            state, time_now = self._exchange(_line(["show"]), ["show"]).state, self.time
-        found = {rule[0]: _difference(rule[1]) for rule in value["rules"] if state.rules.get(rule[0]) == "enabled"}
+            state, time_now = self._exchange(self._lines.show()).state, self.time
+        found = {name: it.difference() for name, it in lines.events().items() if state.rules.get(name) == "enabled"}
         differences = {name: why for name, why in found.items() if why is not None}
         if differences and not lose_pasts:
             raise SnapshotFault(differences)
-        return _snapshot(value, state, time_now)
+        return _snapshot(lines, state, time_now)
 
     def replay(self, lines: Iterable[Union[str, bytes]]) -> None:
         """Sends the later lines of a journal (`Journal.lines`), and skips their answers and refusals."""
@@ -905,14 +1372,11 @@ class RuleBase:
             raw = line.encode("utf-8") if isinstance(line, str) else line
             if b"\n" in raw:
                 raise ValueError("a line has no line feed")
-            try:
-                value = json.loads(raw)
-            except (ValueError, RecursionError):
-                value = None
+            kept = self._lines.kept(raw)
             with self._lock:
                 self._raise_if_ended()
                 try:
-                    self.last_replayed = self._exchange(raw, value)
+                    self.last_replayed = self._exchange(kept)
                 except Refused as refused:
                     self.last_replayed = refused
                 self.replayed += 1
@@ -932,37 +1396,37 @@ class RuleBase:
     def __exit__(self, *_: object) -> None:
         self.close()
 
-    def _ask(self, value: Sequence[Any], journal: Optional[Journal] = None) -> Answer:
-        line = _line(value)
+    def _ask(self, line: _Line, journal: Optional[Journal] = None) -> Answer:
         with self._lock:
             self._raise_if_ended()
-            return self._exchange(line, value, journal, self._timeout)
+            return self._exchange(line, journal, self._timeout)
 
     def _raise_if_ended(self) -> None:
         """An exception of its own for each call, whose line isn't kept: no such line gets into the journal."""
         if self._ended is not None:
             raise type(self._ended)(self._ended.status, self._ended.errors, self._ended.why)
 
-    def _exchange(self, line: bytes, value: Any, journal: Optional[Journal] = None,
-                  timeout: Optional[float] = None) -> Answer:
+    def _exchange(self, line: _Line, journal: Optional[Journal] = None, timeout: Optional[float] = None,
+                  is_sent: bool = True) -> Answer:
         """Sends a line and reads its answer. Where that is broken off in any way, the program is of no more use."""
         is_kept = False
         with self._limited(timeout) as late:
             try:
                 if journal is not None:
-                    journal.append(line)
+                    journal.append(line.raw)
                     is_kept = True
-                answer = self._answer_to(line)
+                if is_sent:
+                    self._program.send(line.raw)
+                answer = self._answer()
                 if isinstance(answer, Answer):
-                    self._take_in(value, answer)
+                    self._take_in(line, answer)
             except JournalFault:
                 # The line is neither in the journal nor sent.
                 raise
             except BaseException as fault:
                 self._give_up(fault, late.is_set(), is_kept)
         if isinstance(answer, Refused):
-            part = None if answer.path is None else _at_path(value, answer.path)
-            raise Refused(answer.code, answer.path, answer.limit, part)
+            raise line.explain(answer)
         return answer
 
     @contextlib.contextmanager
@@ -984,9 +1448,8 @@ class RuleBase:
         finally:
             timer.cancel()
 
-    def _answer_to(self, line: bytes) -> Union[Answer, Refused]:
-        reader = _Reader(self.units, self._tree)
-        self._program.send(line)
+    def _answer(self) -> Union[Answer, Refused]:
+        reader = _Reader(self.units, self._tree, self._lines.is_text)
         while True:
             told = self._program.read()
             if told is None:
@@ -995,14 +1458,14 @@ class RuleBase:
             if answer is not None:
                 return answer
 
-    def _take_in(self, value: Any, answer: Answer) -> None:
+    def _take_in(self, line: _Line, answer: Answer) -> None:
         """Notes how matters stand, if what was answered is what was asked for."""
-        asked = value[0] if isinstance(value, (list, tuple)) and value else None
+        asked = line.word
         if (asked == "tx" and len(answer.units) != 1) or (asked == "show" and answer.units):
             raise AnswerFault(f"the answer to {asked!r} has {len(answer.units)} units")
         if asked != "show" and answer.state != State():
             raise AnswerFault(f"the answer to {asked!r} is a state")
-        moment = _clock_after(value.get("items", ()) if isinstance(value, dict) else [value])
+        moment = line.time()
         self.units, self.time = answer.count, self.time if moment is None else moment
 
     def _give_up(self, fault: BaseException, is_late: bool, is_kept: bool) -> NoReturn:

@@ -18,7 +18,8 @@ These are the requests, one a line; each number is a whole number:
 
 An answer is what the rules emit, a line each and indented, and then `done` or `no: ` with the reason. A desk that is
 still reading its journal answers `wait: ` with how far it is, and `ask` asks again.
-`rules.rules` says what is allowed and what follows: the desk only refuses numbers that no rule would ask about.
+`rules.rules` says what is allowed and what follows; the program reads it. The desk only refuses numbers that no rule
+would ask about.
 """
 
 from __future__ import annotations
@@ -32,15 +33,13 @@ import sys
 import threading
 import time
 from pathlib import Path
-from typing import Any, Callable, Dict, Iterable, Iterator, List, Optional
+from typing import Dict, Iterable, Iterator, List, Optional
 
-TOP = Path(__file__).resolve().parents[2]
-sys.path[:0] = [str(TOP / "clients" / "python"), str(TOP / "tools")]
+sys.path.insert(0, str(Path(__file__).resolve().parents[2] / "clients" / "python"))
 
 import page  # noqa: E402 - it stands beside this file
 from hipac_live import (  # noqa: E402 - found by the path above
     HipacError, Journal, JournalFault, ProgramEnded, Refused, RuleBase, Unit, Value)
-from hipac_tools.notation.reader import read_bytes  # noqa: E402 - found by the path above
 
 RULES = Path(__file__).with_name("rules.rules")
 ADDRESS = ("127.0.0.1", int(os.environ.get("DESK_PORT", "7070")))
@@ -56,16 +55,25 @@ REASONS = {
     "A9": "the numbers are too large",
 }
 
-
-# The words that follow the first word of each request.
+# The words that follow the first word of each request. A name may have several words.
 REQUESTS = {
     "product": "NUMBER STOCK LOW NAME", "order": "NUMBER PRODUCT COUNT", "pay": "NUMBER", "ship": "NUMBER",
     "cancel": "NUMBER", "deliver": "PRODUCT COUNT", "complain": "PRODUCT", "clock": "MINUTE", "show": "",
 }
 
+# The transactions of the requests that have one. `$number` is the word NUMBER of the request.
+TRANSACTIONS = {
+    "product": "create product($number) set name = $name, stock = $stock, low = $low, awaited = false",
+    "order": 'create order($number) set product = $product, count = $count, state = "open", reminded = false',
+    "pay": 'update order($number) set state = "paid"',
+    "ship": 'update order($number) set state = "shipped"',
+    "cancel": 'update order($number) set state = "cancelled"',
+    "deliver": "with product($product) as p { update product(p.key) set stock = p.stock + $count, awaited = false }",
+    "complain": "with product($product) as p { signal complaint(p.key) }",
+}
 
-# Why a request is refused before it runs, by the code of the refusal.
-REFUSALS = {"S3": "a number is too large", "S5": "that is too long"}
+# The least and the largest number.
+NUMBERS = range(-2 ** 63, 2 ** 63)
 
 
 class NoRequest(Exception):
@@ -83,34 +91,26 @@ def usage_of(word: str) -> str:
     return f"the requests are {', '.join(REQUESTS)}"
 
 
-def product(number: int, stock: int, low: int, *name: Value) -> List[Any]:
-    if any(isinstance(it, int) and it < 0 for it in (number, stock, low)):
+def value_of(word: str) -> Value:
+    """A word of a request: a number, or else a text."""
+    if not re.fullmatch("-?[0-9]+", word):
+        return word
+    if int(word) not in NUMBERS:
+        raise Unfit("a number is too large")
+    return int(word)
+
+
+def values_of(word: str, words: List[str]) -> Dict[str, Value]:
+    """The words of a request by their names."""
+    names = REQUESTS.get(word, "").lower().split()
+    if names[-1:] == ["name"]:
+        words = [*words[:len(names) - 1], " ".join(words[len(names) - 1:])]
+    if not names or len(words) != len(names):
+        raise NoRequest
+    values = {name: it if name == "name" else value_of(it) for name, it in zip(names, words)}
+    if word == "product" and any(isinstance(it, int) and it < 0 for it in values.values()):
         raise Unfit("a product's number, its stock and the least stock aren't negative")
-    fields = [["name", " ".join(map(str, name))], ["stock", stock], ["low", low], ["awaited", False]]
-    return [["create", "product", number, fields]]
-
-
-def order(number: int, of: int, count: int) -> List[Any]:
-    return [["create", "order", number, [["product", of], ["count", count], ["state", "open"], ["reminded", False]]]]
-
-
-def deliver(number: int, count: int) -> List[Any]:
-    more = ["+", ["of", "p", "stock"], count]
-    return [["with", "p", "product", number, [["update", "product", number, [["stock", more], ["awaited", False]]]]]]
-
-
-def step(state: str) -> Callable[[int], List[Any]]:
-    return lambda number: [["update", "order", number, [["state", state]]]]
-
-
-def complain(number: int) -> List[Any]:
-    return [["with", "p", "product", number, [["signal", "complaint", [number]]]]]
-
-
-TRANSACTIONS: Dict[str, Callable[..., List[Any]]] = {
-    "product": product, "order": order, "deliver": deliver, "complain": complain,
-    "pay": step("paid"), "ship": step("shipped"), "cancel": step("cancelled"),
-}
+    return values
 
 
 def news(units: Iterable[Unit]) -> List[str]:
@@ -134,20 +134,20 @@ def end_of(units: List[Unit]) -> str:
 
 def reason_of(refused: Refused, word: str, base: RuleBase) -> str:
     """Why a request was refused, in the words of a client, who has seen no rules and no paths."""
-    if refused.code == "S2" and word == "clock":
+    if word == "clock" and refused.limit is None:
         return f"the clock doesn't go back: it is minute {base.time}"
-    return REFUSALS.get(refused.code, "that can't be asked")
+    return "that is too long" if refused.limit else "that can't be asked"
 
 
-def run(base: RuleBase, word: str, words: List[Value]) -> List[Unit]:
+def run(base: RuleBase, word: str, words: List[str]) -> List[Unit]:
     """The units of a request."""
-    if word == "clock" and len(words) == 1 and isinstance(words[0], int):
-        return base.clock(words[0])
-    try:
-        body = TRANSACTIONS[word](*words)
-    except (KeyError, TypeError):
-        raise NoRequest from None
-    return [base.tx(body)]
+    values = values_of(word, words)
+    if word in TRANSACTIONS:
+        return [base.transaction(TRANSACTIONS[word], **values)]
+    minute = values["minute"]
+    if not isinstance(minute, int):
+        raise NoRequest
+    return base.clock(minute)
 
 
 def answer(base: RuleBase, request: str) -> List[str]:
@@ -156,7 +156,7 @@ def answer(base: RuleBase, request: str) -> List[str]:
     if word == "show" and not rest:
         return [f"  {it}" for it in base.show().objects] + ["done"]
     try:
-        units = run(base, word, [int(it) if re.fullmatch("-?[0-9]{1,19}", it) else it for it in rest])
+        units = run(base, word, rest)
     except NoRequest:
         return [f"no: {usage_of(word)}"]
     except (JournalFault, Unfit) as fault:
@@ -256,15 +256,10 @@ def listening(*servers: socketserver.BaseServer) -> Iterator[List[threading.Thre
             server.shutdown()
 
 
-def rules() -> Dict[str, Any]:
-    """The script of the desk's rules, as JSON has it."""
-    return read_bytes(RULES.read_bytes()).value
-
-
 def serve(path: str) -> int:
     """Takes requests while the journal is read, and answers them from then on."""
     with CountedJournal(path) as journal, Desk(journal) as desk, page.PageServer(desk) as pages:
-        with listening(desk, pages) as threads, RuleBase.recover(journal, rules()) as base:
+        with listening(desk, pages) as threads, RuleBase.recover(journal, rules=RULES) as base:
             desk.base = base
             print(f"desk: open on port {ADDRESS[1]}, with a page at {pages.url}; lines replayed: {base.replayed}; "
                   f"units so far: {base.units}", file=sys.stderr)

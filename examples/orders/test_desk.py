@@ -96,7 +96,7 @@ class Client:
 class PageTest(DeskTest):
     def test_the_page_is_as_it_is_written(self):
         steps: List[Tuple[str, str]] = STEP.findall((HERE / "README.md").read_text(encoding="utf-8"))
-        self.assertEqual(len(steps), 9)
+        self.assertEqual(len(steps), 10)
         pipes = {"stdin": subprocess.PIPE, "stdout": subprocess.PIPE, "text": True}
         shell = subprocess.Popen(["bash"], start_new_session=True, **pipes, **self.how)
         try:

@@ -24,6 +24,9 @@ STANDARD_INPUT = "-"
 MOST_BYTES = 1_048_576
 """So many bytes may a script have."""
 
+SCRIPT_OPTION = "--script"
+"""Names the file of a journal's script. Whoever takes a journal takes this option."""
+
 MOST_REPORT_BYTES = 1 << 28
 """So many bytes of a report are read. A report may be much longer than its script."""
 
@@ -63,10 +66,27 @@ def is_journal(content: bytes) -> bool:
 def begins_journal(content: bytes) -> bool:
     """Whether the first line is a script by itself."""
     first = content.partition(b"\n")[0]
+    return is_script(first)
+
+
+def begins_with_item(content: bytes) -> bool:
+    """Whether the first line is an item, or `show`: so begins a journal whose script is in a file."""
+    first = content.lstrip().partition(b"\n")[0]
     if is_text(first):
-        return is_read(read_bytes, first)
+        return is_read(read_line, decoded(first))
     try:
-        return isinstance(json.loads(first), dict)
+        value = json.loads(first)
+    except (ValueError, RecursionError):
+        return False
+    return isinstance(value, list) and value[:1] in (["tx"], ["clock"], ["show"])
+
+
+def is_script(content: bytes) -> bool:
+    """Whether all this is a script as it is written, on any number of lines."""
+    if is_text(content):
+        return is_read(read_bytes, content)
+    try:
+        return isinstance(json.loads(content), dict)
     except (ValueError, RecursionError):
         return False
 
@@ -82,7 +102,7 @@ def is_read(read: Callable[[Text], Node], text: Text) -> bool:
 
 def _read_script(file: BinaryIO, most: int) -> bytes:
     content = _read(file, most)
-    if len(content) > most and is_journal(content):
+    if len(content) > most and (is_journal(content) or begins_with_item(content)):
         content += _read(file, MOST_REPORT_BYTES)
     return content
 
@@ -102,6 +122,20 @@ def _read(file: BinaryIO, most: int) -> bytes:
 def shown(name: str) -> str:
     """A file as messages name it."""
     return "standard input" if name == STANDARD_INPUT else name
+
+
+def unread(fault: OSError, name: str) -> str:
+    """The file that can't be read, and why. The name is for standard input, which has none of its own."""
+    return f"{fault.filename or shown(name)}: {fault.strerror or fault}"
+
+
+def without_script(arguments: Iterable[str]) -> tuple[list[str], Optional[str]]:
+    """The words without `--script FILE`, and that file. The option without a file stays, and is then one too many."""
+    words = list(arguments)
+    if SCRIPT_OPTION not in words[:-1]:
+        return words, None
+    at = words.index(SCRIPT_OPTION)
+    return words[:at] + words[at + 2:], words[at + 1]
 
 
 def wrong_words(word: str, usage: str, arguments: Iterable[str] = (), known: Iterable[str] = ()) -> int:

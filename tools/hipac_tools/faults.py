@@ -7,17 +7,20 @@ from typing import Iterator, List, Optional, Set, Tuple
 
 from . import reasons
 from .account import Account, NoAccount, account_of
-from .command import DONE, REFUSED, bytes_of, shown, unknown_option, wrong_words
+from .command import (
+    DONE, REFUSED, SCRIPT_OPTION, bytes_of, shown, unknown_option, unread, without_script, wrong_words,
+)
 from .faulting import Fault, consequence, faults_in, vetoes
 from .notes import undone_by
 from .report import Transaction, Unit
 from .why import WIDTH, Lines, head_of
 from .wording import SOME, counted, sentence, some_of
 
-USAGE = """usage: hipac-tools faults SCRIPT
+USAGE = """usage: hipac-tools faults SCRIPT [--script FILE]
 
 Lists the conditions and actions that ended with a fault, unit by unit: the cause, the place, and what triggered the
-rule. Of a rule that vetoes it says that it didn't. `-` is standard input.
+rule. Of a rule that vetoes it says that it didn't. `-` is standard input. SCRIPT may be a journal; if its script is in
+a file, --script names that.
 The exit status is 0, 2 for a script that is refused, 3 for wrong words, 4 where the program failed, 5 where the program
 gives another report than following the script does."""
 
@@ -29,16 +32,17 @@ def main(arguments: List[str]) -> int:
     if arguments in (["--help"], ["-h"]):
         print(USAGE)
         return DONE
-    if len(arguments) != 1 or unknown_option(arguments):
-        return wrong_words("faults", USAGE, arguments)
-    name = arguments[0]
+    words, script_file = without_script(arguments)
+    if len(words) != 1 or unknown_option(words):
+        return wrong_words("faults", USAGE, arguments, [SCRIPT_OPTION])
+    name = words[0]
     try:
-        text = list_of_faults(account_of(bytes_of(name)))
+        text = list_of_faults(account_of(bytes_of(name), script_file=script_file))
     except NoAccount as fault:
         print(f"faults: {shown(name)}: {fault}", file=sys.stderr)
         return fault.status
     except OSError as fault:
-        print(f"faults: {shown(name)}: {fault.strerror}", file=sys.stderr)
+        print(f"faults: {unread(fault, name)}", file=sys.stderr)
         return REFUSED
     sys.stdout.buffer.write(text.encode("utf-8"))
     return DONE

@@ -1,7 +1,7 @@
 """Journals of a rule base that stays up: the words `journal` and `snapshot`, and journals in place of scripts.
 
-A journal has a script on its first line, and each later line is what was sent to `./hipac-live`. Its accepted items are
-found by running it.
+A journal has what was sent to `./hipac-live`, a line each. Its script is the first line, or in a file beside it. Its
+accepted items are found by running it.
 """
 
 from __future__ import annotations
@@ -15,24 +15,29 @@ from pathlib import Path
 from typing import Any, Iterator, List, Optional, Tuple
 
 from .command import (
-    DONE, FAILED, REFUSED, WRONG_WORDS, begins_journal, bytes_of, is_text, shown, wrong_words,
+    DONE, FAILED, REFUSED, SCRIPT_OPTION, WRONG_WORDS, begins_journal, begins_with_item, bytes_of, is_journal,
+    is_script, is_text, shown, unread, without_script, wrong_words,
 )
 from .notation.reader import decoded, read_bytes, read_line
 from .notation.tokens import NotText
-from .program import REPOSITORY
+from .program import REPOSITORY, words_for
 
-JOURNAL_USAGE = """usage: hipac-tools journal JOURNAL [--until N]
+JOURNAL_USAGE = """usage: hipac-tools journal JOURNAL [--until N] [--script FILE]
 
-Writes the script of a journal: the first line's script, with the items of the accepted later lines. They are found by
-running the journal. With --until it ends with unit N. For JOURNAL `-` is standard input.
+Writes the script of a journal: the journal's own script, with the items of the accepted later lines. They are found by
+running the journal. With --until it ends with unit N. For JOURNAL `-` is standard input. If the journal doesn't begin
+with its script, --script names the file that has it; if it does, places are then those in the file.
 The exit status is 0, 2 for what is no journal, 3 for wrong words, 4 where the program failed."""
 
-SNAPSHOT_USAGE = """usage: hipac-tools snapshot JOURNAL [--until N] [--lose-pasts]
+SNAPSHOT_USAGE = """usage: hipac-tools snapshot JOURNAL [--until N] [--lose-pasts] [--script FILE]
 
 Writes the lines of a new rule base that stands as the journal's does: the objects, the rules' statuses and the clock.
 It is a script on one line, or a journal if that is too long. Rules that would not go on as before are named, and then
-nothing is written unless --lose-pasts is given. With --until it stands as after unit N.
+nothing is written unless --lose-pasts is given. With --until it stands as after unit N. If the journal doesn't begin
+with its script, --script names the file that has it.
 The exit status is 0, 2 for what is no journal or would differ, 3 for wrong words, 4 where the program failed."""
+
+NO_SCRIPT = "this begins with an item, as a journal whose script is in a file: --script FILE names that"
 
 
 class NoJournal(Exception):
@@ -43,18 +48,55 @@ class NoJournal(Exception):
         self.status = status
 
 
+@dataclass(frozen=True)
+class Opening:
+    """The script of a journal: its first line, or the content of a file."""
+
+    content: bytes
+    is_text: bool
+    file: Optional[str] = None
+
+    @property
+    def value(self) -> Any:
+        """The script as JSON has it, or None if it is none."""
+        try:
+            return read_bytes(self.content).value if self.is_text else json.loads(self.content)
+        except (NotText, ValueError, RecursionError):
+            return None
+
+    @property
+    def show(self) -> bytes:
+        """The line that asks for the state."""
+        return b"show" if self.is_text else b'["show"]'
+
+    def clock(self, moment: str) -> bytes:
+        """The line that moves the clock."""
+        return f"clock {moment}".encode() if self.is_text else f'["clock", {moment}]'.encode()
+
+    def is_item(self, line: bytes) -> bool:
+        """Whether an accepted line is an item, and asks for no state."""
+        value = read_line(decoded(line)).value if self.is_text else json.loads(line)
+        return bool(value[0] != "show")
+
+
 @dataclass
 class Ran:
-    """A journal that was run: the script of its accepted items, and the report on that with trees."""
+    """A journal that was run: its script, its accepted items, and the report on all of them with trees."""
 
-    script: Any
+    opening: Opening
+    items: List[bytes] = field(default_factory=list)
     report: List[str] = field(default_factory=list)
 
     @property
     def script_text(self) -> str:
-        """The script as JSON, an item to a line."""
-        head = {name: value for name, value in self.script.items() if name != "items"}
-        items = ",\n".join(json.dumps(item, ensure_ascii=False) for item in self.script["items"])
+        """The script with the items: as text the lines themselves, as JSON an item to a line."""
+        if self.opening.is_text:
+            parts = [self.opening.content.removesuffix(b"\n"), *self.items]
+            return b"".join(part + b"\n" for part in parts).decode("utf-8")
+        value = self.opening.value
+        head = {name: member for name, member in value.items() if name != "items"}
+        items = ",\n".join(json.dumps(item, ensure_ascii=False)
+                           for item in [*value["items"], *map(json.loads, self.items)])
         return json.dumps(head, ensure_ascii=False)[:-1] + ', "items": [\n' + items + "\n]}\n"
 
     @property
@@ -67,9 +109,14 @@ def program_path() -> str:
     return os.environ.get("HIPAC_LIVE") or str(REPOSITORY / "hipac-live")
 
 
-def answers_to(content: bytes) -> Iterator[List[str]]:
-    """The answers to lines with their trees, each a list of lines."""
-    ended = subprocess.run([program_path(), "--tree"], input=content, capture_output=True, check=False)
+def answers_to(opening: Opening, lines: List[bytes]) -> Iterator[List[str]]:
+    """The answers to a script and to lines, with their trees, each a list of lines."""
+    words = [program_path(), "--tree", *words_for(opening.is_text)]
+    if opening.file is not None:
+        words += [SCRIPT_OPTION, os.path.abspath(opening.file)]
+    sent = lines if opening.file is not None else [opening.content, *lines]
+    content = b"".join(line + b"\n" for line in sent)
+    ended = subprocess.run(words, input=content, capture_output=True, check=False)
     if ended.returncode not in (DONE, REFUSED):
         raise NoJournal(f"the program failed: {ended.stderr.decode('utf-8', 'replace').strip()}", FAILED)
     answer: List[str] = []
@@ -86,30 +133,31 @@ def whole_lines(content: bytes) -> List[bytes]:
     return content.split(b"\n")[:-1]
 
 
-NO_LINE = b"-"
+def divided(content: bytes, script_file: Optional[str]) -> Tuple[Opening, List[bytes]]:
+    """The script of a journal, and its later lines."""
+    lines = whole_lines(content)
+    if script_file is None:
+        if begins_with_item(content):
+            raise NoJournal(NO_SCRIPT)
+        if b"\n" not in content or not begins_journal(content):
+            raise NoJournal("the first line is no script by itself")
+        return Opening(lines[0], is_text(lines[0])), lines[1:]
+    script = bytes_of(script_file)
+    opening = Opening(script, is_text(script, script_file), script_file)
+    is_known = begins_with_item(content) or begins_journal(content)
+    if is_known and opening.is_text != is_text(content):
+        names = ("JSON", "text in the notation")
+        raise NoJournal(f"its lines are {names[not opening.is_text]}, and {script_file} is {names[opening.is_text]}")
+    if lines and begins_journal(content):
+        if Opening(lines[0], opening.is_text).value != opening.value:
+            raise NoJournal(f"the journal begins with another script than {script_file} has")
+        return opening, lines[1:]
+    if is_script(content):
+        raise NoJournal(f"this is a script, and no journal for {script_file}")
+    return opening, lines
 
 
-def as_json(content: bytes) -> bytes:
-    """The lines of a journal as JSON. What is no line of the notation isn't JSON either, so that it is refused all the
-    same."""
-    if not is_text(content):
-        return content
-    first, *later = whole_lines(content)
-    return b"".join(line + b"\n" for line in [json_line(read_bytes(first).value), *map(json_of_line, later)])
-
-
-def json_of_line(line: bytes) -> bytes:
-    try:
-        return json_line(read_line(decoded(line)).value)
-    except NotText:
-        return NO_LINE
-
-
-def json_line(value: Any) -> bytes:
-    return json.dumps(value, ensure_ascii=False).encode("utf-8")
-
-
-def until_unit(item: List[Any], answer: List[str], last: int) -> Tuple[List[Any], List[str]]:
+def until_unit(opening: Opening, item: bytes, answer: List[str], last: int) -> Tuple[bytes, List[str]]:
     """An item and its answer, up to a unit. Only a move of the clock has several units: it then ends at that one's
     moment."""
     units = [at for at, line in enumerate(answer) if line.startswith("unit ")]
@@ -117,54 +165,47 @@ def until_unit(item: List[Any], answer: List[str], last: int) -> Tuple[List[Any]
     if not numbers or numbers[-1] <= last:
         return item, answer
     stop = units[numbers.index(last) + 1]
-    moment = answer[units[numbers.index(last)]].split(" ")[3]
-    return ["clock", int(moment)], answer[:stop]
+    return opening.clock(answer[units[numbers.index(last)]].split(" ")[3]), answer[:stop]
 
 
-def accepted(content: bytes) -> Iterator[Tuple[Any, List[str]]]:
-    """The values of the accepted lines that are the script or items, with the lines of their reports."""
-    lines = whole_lines(content)
-    answers = answers_to(content)
-    for number, line in enumerate(lines):
-        answer = next(answers, None)
-        if answer is None or (number == 0 and answer[-1].startswith("refused ")):
-            raise NoJournal(f"the first line is refused: {answer[-1] if answer else 'no answer'}")
-        if answer[-1].startswith("refused "):
-            continue
-        value = json.loads(line)
-        if number == 0 or value[0] != "show":
-            yield value, answer
+def accepted(opening: Opening, lines: List[bytes]) -> Iterator[Tuple[bytes, List[str]]]:
+    """The script and the accepted items, with the lines of their reports."""
+    answers = answers_to(opening, lines)
+    first = next(answers, None)
+    if first is None or first[-1].startswith("refused "):
+        what = "the first line" if opening.file is None else opening.file
+        raise NoJournal(f"{what} is refused: {first[-1] if first else 'no answer'}")
+    yield opening.content, first
+    for line, answer in zip(lines, answers):
+        if not answer[-1].startswith("refused ") and opening.is_item(line):
+            yield line, answer
 
 
-def state_after(script: Any) -> List[str]:
-    """The lines of the final state of a script, which may be longer than a script may be."""
-    lines = [{**script, "items": []}, *script["items"], ["show"]]
-    content = b"".join(json.dumps(line).encode() + b"\n" for line in lines)
-    return list(answers_to(content))[-1][:-1]
-
-
-def run(content: bytes, last: Optional[int] = None) -> Ran:
+def run(content: bytes, last: Optional[int] = None, script_file: Optional[str] = None) -> Ran:
     """Runs a journal, up to a unit if one is given."""
-    if b"\n" not in content or not begins_journal(content):
-        raise NoJournal("the first line is no script by itself")
-    content = as_json(content)
-    ran: Optional[Ran] = None
-    count = 0
-    for value, answer in accepted(content):
-        if ran is None:
-            ran = Ran({**value, "items": list(value["items"])})
-        else:
-            value, answer = (value, answer) if last is None else until_unit(value, answer, last)
-            ran.script["items"].append(value)
+    opening, lines = divided(content, script_file)
+    ran, count, is_first = Ran(opening), 0, True
+    for item, answer in accepted(opening, lines):
+        if not is_first:
+            item, answer = (item, answer) if last is None else until_unit(opening, item, answer, last)
+            ran.items.append(item)
+        is_first = False
         ran.report += [line for line in answer if not line.startswith("ok ")]
         count += sum(line.startswith("unit ") for line in answer)
         if last is not None and count >= last:
             break
-    assert ran is not None
     if last is not None and not 0 < last <= count:
         raise NoJournal(f"there is no unit {last}: the journal has {count}")
-    ran.report += ["final", *state_after(ran.script), "end"]
+    state = list(answers_to(opening, [*ran.items, opening.show]))[-1][:-1]
+    ran.report += ["final", *state, "end"]
     return ran
+
+
+def run_if_one(content: bytes, script_file: Optional[str] = None) -> Optional[Ran]:
+    """Runs what is given in place of a script, if it is a journal: so it is if it has its script in a file."""
+    if script_file is None and begins_with_item(content):
+        raise NoJournal(NO_SCRIPT)
+    return run(content, script_file=script_file) if script_file is not None or is_journal(content) else None
 
 
 @dataclass(frozen=True)
@@ -174,11 +215,13 @@ class Words:
     journal: str
     until: Optional[int] = None
     lose_pasts: bool = False
+    script_file: Optional[str] = None
 
 
 def words_of(arguments: List[str]) -> Optional[Words]:
     """The words in any order; None if they are wrong."""
-    left, until, lose_pasts = list(arguments), None, False
+    left, script_file = without_script(arguments)
+    until, lose_pasts = None, False
     names: List[str] = []
     while left:
         word = left.pop(0)
@@ -190,7 +233,7 @@ def words_of(arguments: List[str]) -> Optional[Words]:
             return None
         else:
             names.append(word)
-    return Words(names[0], until, lose_pasts) if len(names) == 1 else None
+    return Words(names[0], until, lose_pasts, script_file) if len(names) == 1 else None
 
 
 def main(arguments: List[str]) -> int:
@@ -204,12 +247,11 @@ def main_snapshot(arguments: List[str]) -> int:
 
 
 def _write_snapshot(words: Words, ran: Ran) -> None:
-    client = _client()
-    items = ran.script["items"]
+    client, opening = _client(), ran.opening
+    given = {"rules" if opening.is_text else "script": opening.content if opening.file is None else Path(opening.file)}
     try:
-        with client.RuleBase({**ran.script, "items": []}, program=[program_path()]) as base:
-            for item in items:
-                base.item(item)
+        with client.RuleBase(**given, program=[program_path()]) as base:
+            base.replay(ran.items)
             lines = base.snapshot(lose_pasts=words.lose_pasts)
     except client.SnapshotFault as fault:
         raise NoJournal(f"{fault}; with --lose-pasts it is written all the same") from None
@@ -230,12 +272,12 @@ def _main(word: str, usage: str, arguments: List[str], write: Any) -> int:
         return DONE
     words = words_of(arguments)
     if words is None or (words.lose_pasts and word == "journal"):
-        options = ["--until"] if word == "journal" else ["--until", "--lose-pasts"]
+        options = ["--until", SCRIPT_OPTION] + (["--lose-pasts"] if word == "snapshot" else [])
         return wrong_words(word, usage, arguments, options)
     try:
-        write(words, run(bytes_of(words.journal), words.until))
+        write(words, run(bytes_of(words.journal), words.until, words.script_file))
     except OSError as fault:
-        print(f"{word}: {shown(words.journal)}: {fault.strerror or fault}", file=sys.stderr)
+        print(f"{word}: {unread(fault, words.journal)}", file=sys.stderr)
         return WRONG_WORDS
     except NoJournal as fault:
         print(f"{word}: {shown(words.journal)}: {fault}", file=sys.stderr)

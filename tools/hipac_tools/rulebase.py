@@ -139,9 +139,10 @@ def _told_at(text: str, offset: int) -> str:
     return f"line {line}:{column}"
 
 
-def read_file(name: str) -> RuleBase:
-    """The script in a file, or `Refused`; of a journal the script of its accepted lines. `-` is standard input."""
-    return read_text(name, text_of(name))
+def read_file(name: str, script_file: str | None = None) -> RuleBase:
+    """The script in a file, or `Refused`; of a journal the script of its accepted lines, which may have its own script
+    in another file. `-` is standard input."""
+    return read_text(name, text_of(name, script_file))
 
 
 def read_text(name: str, text: str) -> RuleBase:
@@ -152,18 +153,19 @@ def read_text(name: str, text: str) -> RuleBase:
         raise Refused(f"{command.shown(name)}: {fault}") from fault
 
 
-def text_of(name: str) -> str:
+def text_of(name: str, script_file: str | None = None) -> str:
     """The text of the script in a file, or `Refused`."""
     shown = command.shown(name)
     try:
         content = command.bytes_of(name)
-        if command.is_journal(content):
-            return journal.run(content).script_text
+        ran = journal.run_if_one(content, script_file)
+        if ran is not None:
+            return ran.script_text
         if len(content) > command.MOST_BYTES:
             raise Refused(f"a script has at most {command.MOST_BYTES:,} bytes, and this has more")
         return content.decode("utf-8")
     except OSError as fault:
-        raise Unreadable(f"{shown}: {fault.strerror}") from fault
+        raise Unreadable(command.unread(fault, name)) from fault
     except UnicodeDecodeError as fault:
         raise Refused(f"{shown}: this is no text in UTF-8: run ./hipac-tools check on it") from fault
     except (Refused, journal.NoJournal) as fault:

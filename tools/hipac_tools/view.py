@@ -14,20 +14,22 @@ from typing import Any, Dict, List, Optional
 from . import graph
 from .account import Account, NoAccount, account_of
 from .command import (
-    DONE, MOST_REPORT_BYTES, REFUSED, bytes_of, shown, unknown_option, write_file, wrong_words,
+    DONE, MOST_REPORT_BYTES, REFUSED, SCRIPT_OPTION, bytes_of, shown, unknown_option, unread, without_script,
+    write_file, wrong_words,
 )
 from .model import page_model
 from .notation.writer import rule_text
 
-USAGE = """usage: hipac-tools view SCRIPT [REPORT] [--out FILE.html]
+USAGE = """usage: hipac-tools view SCRIPT [REPORT] [--out FILE.html] [--script FILE]
 
 Makes a page that shows the script's units, the tree of what each did, rules, objects and their histories. REPORT is one
 that ./hipac wrote with --tree; where it isn't given the program is run. The page goes to standard output or to FILE.
-For SCRIPT or REPORT `-` is standard input.
+For SCRIPT or REPORT `-` is standard input. Without REPORT, SCRIPT may be a journal; if its script is in a file,
+--script names that.
 The exit status is 0, 2 for a script or a report that can't be shown, 3 for wrong words, 4 where the program failed, 5
 for a report that isn't the one that following the script gives."""
 
-OPTIONS = ("--out",)
+OPTIONS = ("--out", SCRIPT_OPTION)
 
 PAGE = Path(__file__).with_name("page")
 CODE = ("data.js", "tree.js", "panels.js", "search.js", "overview.js", "main.js")
@@ -35,11 +37,13 @@ CODE = ("data.js", "tree.js", "panels.js", "search.js", "overview.js", "main.js"
 
 @dataclass(frozen=True)
 class Words:
-    """The command line: the script, the report if one is given, and the file for the page."""
+    """The command line: the script, the report if one is given, the file for the page, and that of a journal's
+    script."""
 
     script: str
     report: Optional[str] = None
     out: Optional[str] = None
+    script_file: Optional[str] = None
 
 
 def main(arguments: List[str]) -> int:
@@ -55,7 +59,7 @@ def main(arguments: List[str]) -> int:
         print(f"view: {shown(words.script)}: {fault}", file=sys.stderr)
         return fault.status
     except OSError as fault:
-        print(f"view: {fault.filename or shown(words.script)}: {fault.strerror}", file=sys.stderr)
+        print(f"view: {unread(fault, words.script)}", file=sys.stderr)
         return REFUSED
     if words.out is not None:
         return write_file("view", words.out, page)
@@ -65,7 +69,7 @@ def main(arguments: List[str]) -> int:
 
 def _words(arguments: List[str]) -> Optional[Words]:
     """The words in any order; None if they are wrong."""
-    names = list(arguments)
+    names, script_file = without_script(arguments)
     out = None
     if "--out" in names:
         place = names.index("--out")
@@ -73,15 +77,16 @@ def _words(arguments: List[str]) -> Optional[Words]:
             return None
         out = names[place + 1]
         del names[place:place + 2]
-    if len(names) not in (1, 2) or unknown_option(names):
+    if len(names) not in (1, 2) or unknown_option(names) or len(names) == 2 and script_file is not None:
         return None
-    return Words(names[0], names[1] if len(names) == 2 else None, out)
+    return Words(names[0], names[1] if len(names) == 2 else None, out, script_file)
 
 
 def page_of(words: Words) -> bytes:
     report_text = None if words.report is None else _report_text(words.report)
     name = Path(shown(words.script)).name
-    return page_text(account_of(bytes_of(words.script), report_text), name).encode("utf-8")
+    account = account_of(bytes_of(words.script), report_text, script_file=words.script_file)
+    return page_text(account, name).encode("utf-8")
 
 
 def _report_text(name: str) -> str:

@@ -10,7 +10,9 @@ from typing import Any, Dict, List, Optional
 from . import fates, faulting, reasons
 from .account import Account, NoAccount, account_of
 from .answers import RuleAnswer, Silence, rule_answer, status_by_report
-from .command import DONE, REFUSED, WRONG_WORDS, bytes_of, unknown_option, wrong_words
+from .command import (
+    DONE, REFUSED, SCRIPT_OPTION, WRONG_WORDS, bytes_of, unknown_option, without_script, wrong_words,
+)
 from .course import STEPS
 from .language import DETACHED
 from .near import nearest
@@ -22,11 +24,12 @@ from .reasons import STATUS_WORDS, Teller
 from .report import Act, Fire, Sub, Transaction, Unit, walk
 from .wording import ALL, Most, SOME, some_of, times
 
-USAGE = """usage: hipac-tools why SCRIPT UNIT [RULE] [--all]
+USAGE = """usage: hipac-tools why SCRIPT UNIT [RULE] [--all] [--script FILE]
 
 Says why the unit of that number ended as it did: what aborted, by which cause, and what led there. With a rule it says
 what the rule did in that unit and why, or why it wasn't triggered. Units are numbered from 1, as in the report; `-` is
-standard input. Of long lists only the first things are told; with --all it is everything.
+standard input. Of long lists only the first things are told; with --all it is everything. SCRIPT may be a journal; if
+its script is in a file, --script names that.
 The exit status is 0, 2 for a script that is refused, 3 for wrong words, 4 where the program failed, 5 where the program
 gives another report than following the script does."""
 
@@ -43,15 +46,16 @@ def main(arguments: List[str]) -> int:
         print(USAGE)
         return DONE
     most = ALL if EVERYTHING in arguments else SOME
-    words = [word for word in arguments if word != EVERYTHING]
+    words, script_file = without_script(word for word in arguments if word != EVERYTHING)
     if len(words) not in (2, 3) or unknown_option(words):
-        return wrong_words("why", USAGE, arguments, [EVERYTHING])
+        return wrong_words("why", USAGE, arguments, [EVERYTHING, SCRIPT_OPTION])
     if not words[1].isdigit():
         print(f"why: {words[1]} is no unit's number; the words are SCRIPT UNIT [RULE]", file=sys.stderr)
         return WRONG_WORDS
     name, number = words[0], int(words[1])
     try:
-        text = explanation(bytes_of(name), number, words[2] if len(words) == 3 else None, most)
+        account = account_of(bytes_of(name), watch=words[2:], script_file=script_file)
+        text = explained(account, number, words[2] if len(words) == 3 else None, most)
     except (OSError, NoAccount) as fault:
         print(f"why: {name}: {fault}", file=sys.stderr)
         return fault.status if isinstance(fault, NoAccount) else REFUSED
@@ -64,8 +68,13 @@ def main(arguments: List[str]) -> int:
 
 def explanation(script_bytes: bytes, number: int, rule: Optional[str] = None, most: Most = SOME, steps: int = STEPS,
                 width: int = WIDTH) -> str:
-    """The whole answer as one text, its lines folded at a width."""
+    """The whole answer for a script as one text."""
     account = account_of(script_bytes, watch=[] if rule is None else [rule], steps=steps)
+    return explained(account, number, rule, most, width)
+
+
+def explained(account: Account, number: int, rule: Optional[str] = None, most: Most = SOME, width: int = WIDTH) -> str:
+    """The whole answer as one text, its lines folded at a width."""
     if not 1 <= number <= len(account.report.units):
         raise WrongWords(f"there is no unit {number}; the last one is unit {len(account.report.units)}")
     if rule is not None and rule not in account.rules:
